@@ -1,4 +1,4 @@
--- The entries that the steps of a caller add, one after another, and those of a transfer.
+-- The entries that a caller's steps add, one after another, and the entries of a transfer.
 use Rattle.std.proofs.Common.{◌≡◌, ℕ, ◌+◌, cond, true, false, List, [], ◌∷◌, ◌++◌, Option, unwrap_or, refl, sym, ap, subst, ◌∙◌, append_assoc, append-nil, eq-eqb}
 use Rattle.txn_words.specs.declared.entry.Entry.{Entry}
 use Rattle.txn_words.specs.declared.entry.Entry.TheVariants.{Asked, Did}
@@ -36,7 +36,7 @@ own_did : (c d : ℕ) (op : Op) (reply : Option ℕ) → d ≡ c → own c (Aske
 own_did c d op reply is =
     ap (λ b. cond b (Asked d op ∷ cond b (Did d reply ∷ []) []) (cond b (Did d reply ∷ []) [])) (eq-eqb d c is)
 
--- An operation adds its question and its reply.
+-- An operation adds an `Asked` and a `Did`.
 added_did : (a b c : Caller) (es : List Entry) (op : Op) (reply : Option ℕ) → HasAdded a es b → IsStep b (Asked (number b) op ∷ Did (number b) reply ∷ []) c
     → HasAdded a (es ++ Asked (number a) op ∷ Did (number a) reply ∷ []) c
 added_did a b c es op reply so_far step =

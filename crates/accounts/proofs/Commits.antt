@@ -1,5 +1,5 @@
--- The meaning of a transfer's commit: in a legal history that ends with it, the transaction has run
--- alone on the map that the commits before it leave.
+-- The meaning of a transfer's commit. Let a legal history end with the commit. Then the transaction
+-- has the same replies as if it ran alone on the map that the earlier commits leave.
 use Rattle.std.proofs.Common.{◌≡◌, ◌≢◌, ℕ, zero, suc, ◌+◌, Bool, true, false, cond, List, [], ◌∷◌, ◌++◌, Some, Option, is_some, IsSome, slice_get, refl, sym, ap, subst, ◌∙◌, append_assoc, append-nil}
 use Rattle.std.specs.List.{filter}
 use Rattle.std.proofs.lemmas.Bool.{eqb-true, eq-eqb}
@@ -29,7 +29,8 @@ use Rattle.striped_map.proofs.Within.{since_then, since_began}
 use Rattle.accounts.specs.Transfers.{HasTransferred, HasWorked, HasWritten, Makes}
 use Rattle.accounts.proofs.Works.{made}
 
--- The facts about a transfer's commit: its place, that it ran alone, and the map that it leaves.
+-- The facts about a transfer's commit: its place, the transaction's replies, and the map that the
+-- commit leaves.
 pub record Ends (c txn place : ℕ) (inner before : List Entry) : Type 0 where
   pub counted : place ≡ how_many is_commit before + 1
   pub replied : IsSome (alone (serial before) (Began c txn ∷ inner ++ Committed c place ∷ []))

@@ -1,4 +1,5 @@
--- If a work implies another relation, its tries are tries of that relation too.
+-- A work is given as a relation. If one relation implies another, the failed tries of the first
+-- are failed tries of the second.
 use Rattle.std.proofs.Common.{◌≡◌, ℕ, ◌≤◌, zero, suc, Bool, subst}
 use Rattle.std.specs.Prelude.{Result, Ok, Err}
 use Rattle.map_answers.specs.declared.stop.Stop.{Stop}
@@ -25,8 +26,8 @@ busy_so work wider zero a b is same = same
 busy_so work wider (suc n) a c is (b, holder, so_far, failed) =
     (b, holder, busy_so work wider n a b is so_far, fails_so work wider b c (Busy holder) is failed)
 
--- `did` relates the values before and after a work on values that hold callers. If each `Ok` of the
--- work is a transfer's work on the callers, the relation between the callers implies `Works`.
+-- `did` is a relation of values that hold a caller. If it implies a transfer's work (`HasWorked`)
+-- for each `Ok`, then `did` as a relation of the held callers (`on_callers`) implies `Works`.
 works_so : {H : Type 0} (caller_of : H → Caller) (did : H → Result Bool Stop → H → Type 0) (from to sum : ℕ) → ((h : H) (moved : Bool) (k : H) → did h (Ok moved) k → HasWorked from to sum moved (caller_of h) (caller_of k))
     → (a : Caller) (r : Result Bool Stop) (b : Caller) → on_callers caller_of did a r b → Works from to sum a r b
 works_so caller_of did from to sum is a (Ok moved) b (h, k, done, first, last) =

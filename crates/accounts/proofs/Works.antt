@@ -9,14 +9,14 @@ use Rattle.txn_words.specs.declared.entry.Entry.TheVariants.{Began, Asked, Did, 
 use Rattle.txn_words.specs.declared.op.Op.{Op}
 use Rattle.txn_words.specs.declared.op.Op.TheVariants.{Put, Get}
 use Rattle.txn_words.specs.Map.{Map, get, insert, reply_of}
-use Rattle.txn_trace.specs.Alone.{Run, act, act_did, alone, last_map, map_after, with_op, start}
+use Rattle.txn_trace.specs.Alone.{AloneRun, act, act_did, alone, last_map, map_after, with_op, start}
 use Rattle.txn_trace.proofs.Now.{same_option}
 use Rattle.bank.specs.Transfers.{balance}
 use Rattle.bank.proofs.Sums.{transferred}
 use Rattle.accounts.specs.Transfers.{Makes, CannotMove, HasWritten, reading, writing}
 
 -- The run after these entries; None if it is not defined.
-abbrev going : Option Run → List Entry → Option Run
+abbrev going : Option AloneRun → List Entry → Option AloneRun
 going run es = fold (λ o e. option_and_then (λ r. act r e) o) run es
 
 nothing_goes : (es : List Entry) → IsSome (going None es) → ⊥
@@ -24,21 +24,24 @@ nothing_goes [] some = false≢true some
 nothing_goes (e ∷ es) some = nothing_goes es some
 
 -- The run after an operation.
-abbrev did : Run → Op → Run
+abbrev did : AloneRun → Op → AloneRun
 did run op = record (with_op (record run { pending = Some op }) op) { pending = None }
 
-tested : (b : Bool) (run : Run) (es : List Entry) → IsSome (going (cond b (Some run) None) es) → (b ≡ true) × (going (cond b (Some run) None) es ≡ going (Some run) es)
+tested : (b : Bool) (run : AloneRun) (es : List Entry) → IsSome (going (cond b (Some run) None) es) → (b ≡ true) × (going (cond b (Some run) None) es ≡ going (Some run) es)
 tested true run es some = (refl, refl)
 tested false run es some = absurd (nothing_goes es some)
 
--- If the run after an operation is defined, the operation had the reply of the run's map before it.
-replied : (run : Run) (c : ℕ) (op : Op) (reply : Option ℕ) (es : List Entry) → IsSome (going (Some run) (Asked c op ∷ Did c reply ∷ es))
+-- A run goes on with an operation and then with the entries `es`. If the result is defined, `reply`
+-- is the operation's reply on the map `run.last`.
+replied : (run : AloneRun) (c : ℕ) (op : Op) (reply : Option ℕ) (es : List Entry)
+    → IsSome (going (Some run) (Asked c op ∷ Did c reply ∷ es))
     → (reply ≡ reply_of run.last op) × (going (Some run) (Asked c op ∷ Did c reply ∷ es) ≡ going (Some (did run op)) es)
 replied run c op reply es some =
     let (is, goes) = tested (option_eq nat_eq reply (reply_of run.last op)) (did run op) es some in
     (same_option reply (reply_of run.last op) is, goes)
 
--- Both reads had the replies of the map, and leave the map unchanged.
+-- The replies of the two reads are the values of `m` at the two keys. The reads leave the map
+-- unchanged.
 read : (m : Map) (c txn from to : ℕ) (had has : Option ℕ) (es : List Entry) → IsSome (alone m (Began c txn ∷ reading c from to had has ++ es))
     → (had ≡ get m from) × (has ≡ get m to) × (alone m (Began c txn ∷ reading c from to had has ++ es) ≡ going (Some (start m)) es)
 read m c txn from to had has es some =

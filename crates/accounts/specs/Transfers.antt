@@ -21,14 +21,14 @@ use Rattle.bank.specs.Transfers.{balance, IsTransfer}
 abbrev pub CannotMove : ℕ → ℕ → ℕ → Type 0
 CannotMove sum had has = (had < sum) ⊎ (2 ^ 64 ≤ has + sum)
 
--- The effect of a transfer on a map: the sum went over, or could not and nothing changed.
+-- The effect of a transfer on a map: the sum was moved, or it cannot be moved and nothing changed.
 abbrev pub Makes : ℕ → ℕ → ℕ → Bool → Map → Map → Type 0
 Makes from to sum true old new = IsTransfer from to sum old new
 Makes from to sum false old new = (new ≡ old) × CannotMove sum (balance old from) (balance old to)
 
 -- The caller has committed one transaction more. The history that it has now seen is legal, begins
--- with all entries that it had seen before, and ends with this commit. The commits before it leave
--- a map, and this commit turns that map into the map after the transfer.
+-- with all entries that it had seen before, and ends with this commit. The earlier commits result
+-- in a map, and this commit turns that map into the map after the transfer.
 pub record HasTransferred (from to sum : ℕ) (moved : Bool) (a b : Caller) : Type 0 where
   pub map_is : b.map ≡ a.map
   pub number_is : number b ≡ number a
@@ -81,7 +81,7 @@ Works from to sum a (Ok moved) b = HasWorked from to sum moved a b
 Works from to sum a (Err stop) b = Unit {0}
 
 -- The transfer was tried, and given up: each try before the last was busy, and the last failed. If
--- that one was busy too, no further try was allowed.
+-- the last try was busy too, no further try was allowed.
 pub record GivesUp (from to sum tries : ℕ) (stop : Stop) (a b : Caller) : Type 0 where
   pub busy : ℕ
   pub within : busy ≤ tries

@@ -1,8 +1,8 @@
 //! Accounts in a striped map: a key is an account, and its value is the account's balance.
 //!
 //! An example of a caller of `striped_map`. Proved: a transfer is one transaction of its caller,
-//! whatever other callers do in their threads meanwhile. The commits before it leave a map. In that
-//! map the transfer moves the sum, or it leaves the map unchanged.
+//! whatever other callers do in their threads meanwhile. The earlier commits result in a map. The
+//! transfer moves the sum in that map, or changes nothing.
 #![tactic(auto)]
 
 ghost use Rattle.std.specs.Prelude.{◌≡◌, ◌≢◌, false, IfErr, IfOk, OnErr};
@@ -12,20 +12,22 @@ ghost use Rattle.accounts.specs.Transfers.{GivesUp, HasTransferred, HasWorked};
 
 use striped_map::{Caller, Stop, Transaction};
 
-/// Moves a sum from one account to another, in a separate transaction, and answers whether it did.
-/// It does not if the first account has too little, or if the second would have 2^64 or more. An
-/// account without a key has 0.
+/// Moves a sum from one account to another, in a separate transaction, and answers whether the sum
+/// was moved. It is not moved if the first account has too little, or if the second would have 2^64
+/// or more. An account without a key has 0.
 ///
 /// If a stripe is busy, the transaction aborts and the transfer is tried again, at most `tries`
-/// times more.
+/// more times.
 ///
 /// # Errors
 ///
-/// Those of `Caller::transact`; nothing is committed. `Busy` only after all tries were busy.
+/// Those of `Caller::transact`; nothing is committed. `Busy` is answered only after all tries were
+/// busy.
 ///
 /// # Cost
 ///
-/// For each try a begin, at most two `get`s and two `put`s, and a commit, or an abort if it fails.
+/// For each try a begin, at most two `get`s and two `put`s, and a commit, or an abort if the try
+/// fails.
 pub fn transfer(caller: &mut Caller, tries: u64, from: u64, to: u64, sum: u64) -> Result<bool, Stop>
     requires { from ≢ to }
     ensures closed { caller.old.is_open ≡ false → caller.new.is_open ≡ false }

@@ -19,13 +19,13 @@ use Rattle.serial_check.specs.Serializable as serial
 use Rattle.history_check.proofs.Seating.{each-set, if_some, at_some}
 use Rattle.bad_entry.specs.declared.desks.Desk.{Desk}
 use Rattle.bad_entry.specs.declared.desks.Desks.{Desks}
-use Rattle.bad_entry.specs.Desks.{HaveNoted, IsAt}
+use Rattle.bad_entry.specs.Desks.{HaveNoted, IsDeskOf}
 
 -- The desk of a caller that has done nothing.
 abbrev pub IsFresh : Desk → Type 0
 IsFresh desk = (desk.waiting ≡ None) × (desk.txn ≡ None)
 
-fresh_at : (desks : List Desk) → All IsFresh desks → (c k : ℕ) → IfSome (slice_get desks k) (IsAt [] c)
+fresh_at : (desks : List Desk) → All IsFresh desks → (c k : ℕ) → IfSome (slice_get desks k) (IsDeskOf [] c)
 fresh_at [] all c k = tt
 fresh_at (x ∷ xs) all c zero = let fresh = All-head IsFresh x xs all in record { waiting = fresh.0; txn = fresh.1 }
 fresh_at (x ∷ xs) all c (suc k) = fresh_at xs (All-tail IsFresh x xs all) c k
@@ -34,9 +34,9 @@ pub noted-none : (desks : Desks) → All IsFresh desks.table.items → HaveNoted
 noted-none desks fresh = record { each = λ c. fresh_at desks.table.items fresh c c }
 
 -- The desk at an index of the table.
-pub noted_at : (h : List Entry) (desks : Desks) (c : ℕ) (desk : Desk) → HaveNoted h desks → c < 64 → desk ≡ get_or desks.table.items c desk → IsAt h c desk
+pub noted_at : (h : List Entry) (desks : Desks) (c : ℕ) (desk : Desk) → HaveNoted h desks → c < 64 → desk ≡ get_or desks.table.items c desk → IsDeskOf h c desk
 noted_at h desks c desk noted below is =
-    at_some (IsAt h c) (slice_get desks.table.items c) desk
+    at_some (IsDeskOf h c) (slice_get desks.table.items c) desk
     (slice_get_read desks.table.items (vec_len desks.table) c desk desks.table.ok.0 (let all : vec_len desks.table ≡ 64 = desks.all in omega arith) is)
     (noted.each c)
 
@@ -45,17 +45,17 @@ txn-other before (Began d t) c other = rw (ne_eqb d c (λ is. other (sym is))) r
 txn-other before _ c other = refl
 
 -- The desks after one more entry, which updates its caller's desk.
-pub noted-push : (h : List Entry) (e : Entry) (old new : Desks) (before after : Desk) → HaveNoted h old → IsAt h (caller_of e) before
+pub noted-push : (h : List Entry) (e : Entry) (old new : Desks) (before after : Desk) → HaveNoted h old → IsDeskOf h (caller_of e) before
     → ((log : Log) → log.pending ≡ before.waiting → (log_step log e).pending ≡ after.waiting)
     → ((txns : ℕ → Option ℕ) → txns (caller_of e) ≡ before.txn → txn_after txns e (caller_of e) ≡ after.txn)
     → new.table.items ≡ set old.table.items (caller_of e) after → HaveNoted (h ++ e ∷ []) new
 noted-push h e old new before after noted there waits is_in table_is = record {
-  each = λ c. subst (λ xs. IfSome (slice_get xs c) (IsAt (h ++ e ∷ []) c)) (sym table_is)
-      (each-set (IsAt (h ++ e ∷ [])) old.table.items (caller_of e) after (record {
+  each = λ c. subst (λ xs. IfSome (slice_get xs c) (IsDeskOf (h ++ e ∷ []) c)) (sym table_is)
+      (each-set (IsDeskOf (h ++ e ∷ [])) old.table.items (caller_of e) after (record {
         waiting = sym (waits (log_after (own (caller_of e) h)) (sym there.waiting)) ∙ sym (ap (λ (l : Log). l.pending) (log_after-own h e));
         txn = sym (is_in (serial.txn_in h) (sym there.txn)) ∙ sym (ap (λ (f : ℕ → Option ℕ). f (caller_of e)) (txn_in-push h e));
       })
-      (λ d other. if_some (IsAt h d) (IsAt (h ++ e ∷ []) d) (slice_get old.table.items d)
+      (λ d other. if_some (IsDeskOf h d) (IsDeskOf (h ++ e ∷ []) d) (slice_get old.table.items d)
       (λ desk sits. record {
         waiting = sits.waiting ∙ sym (ap (λ (l : Log). l.pending) (log_after-other d h e other));
         txn = sits.txn ∙ sym (ap (λ (f : ℕ → Option ℕ). f d) (txn_in-push h e) ∙ txn-other (serial.txn_in h) e d other);

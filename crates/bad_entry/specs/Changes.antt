@@ -11,9 +11,9 @@ use Rattle.bad_entry.specs.declared.change.Change.{Change}
 use Rattle.bad_entry.specs.declared.change.Fate.{Fate}
 use Rattle.bad_entry.specs.declared.change.Fate.TheVariants.{Open, Committed, Undone}
 use Rattle.bad_entry.specs.Desks.{txn_in, waiting_in}
-use Rattle.bad_entry.specs.Places.{last_of}
+use Rattle.bad_entry.specs.Places.{last_answer}
 
--- Whether a reply to an operation, if one waits, makes a change of the key.
+-- Whether an operation waits and, with this reply, is a change of the key.
 abbrev pub changes_key : ℕ → Option Op → Option ℕ → Bool
 changes_key k None r = false
 changes_key k (Some op) r = (key_of op == k) && changes op r
@@ -28,9 +28,9 @@ change_at k i g _ = None
 
 -- The last change of the key, whether taken back or not.
 abbrev pub last_change : ℕ → List Entry → Option Change
-last_change k h = last_of (λ g e. change_at k (length g) g e) h
+last_change k h = last_answer (λ g e. change_at k (length g) g e) h
 
--- Whether a reply to an operation, if one waits, makes a change.
+-- Whether an operation waits and, with this reply, is a change.
 abbrev pub is_change : Option Op → Option ℕ → Bool
 is_change None r = false
 is_change (Some op) r = changes op r
@@ -43,7 +43,7 @@ decided_by above (entries.Aborted c) = Some Undone
 decided_by above (entries.Undone c) = if above == 0 then Some Undone else None
 decided_by above _ = None
 
--- The fate that an entry gives a change of caller c, if it gives one. Only an entry of c does.
+-- The fate that an entry gives a change of caller c, if it gives one. Only an entry of c gives one.
 abbrev pub decided : ℕ → ℕ → Entry → Option Fate
 decided c above e = if caller_of e == c then decided_by above e else None
 

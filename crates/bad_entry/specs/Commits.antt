@@ -8,19 +8,20 @@ use Rattle.txn_words.specs.Map.{get}
 use Rattle.txn_trace.specs.Serial.{serial}
 use Rattle.serial_check.specs.Commits.{IsTorn, RunsSomewhere}
 use Rattle.serial_check.specs.Serializable.{txn_in}
-use Rattle.bad_entry.specs.Places.{last_of}
+use Rattle.bad_entry.specs.Places.{last_answer}
 
 -- The index and the caller of an entry, if it is a commit that changes the value of a key from
 -- `before` to `after`.
-abbrev pub settled : ℕ → Entry → Option ℕ → Option ℕ → Option (ℕ × ℕ)
-settled i (Committed c p) before after =
+abbrev pub settling_commit : ℕ → Entry → Option ℕ → Option ℕ → Option (ℕ × ℕ)
+settling_commit i (Committed c p) before after =
     if option_eq nat_eq before after then None else Some (i, c)
-settled i _ before after = None
+settling_commit i _ before after = None
 
 -- The last commit that changed the key's value in the map of the committed transactions.
 abbrev pub last_commit : ℕ → List Entry → Option (ℕ × ℕ)
 last_commit k h =
-    last_of (λ g e. settled (length g) e (get (serial g) k) (get (serial (g ++ e ∷ [])) k)) h
+    last_answer (λ g e. settling_commit (length g) e (get (serial g) k)
+    (get (serial (g ++ e ∷ [])) k)) h
 
 -- The replies of the caller's open transaction contradict one another.
 abbrev pub IsTornIn : List Entry → ℕ → Type 0

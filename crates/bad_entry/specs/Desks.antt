@@ -5,23 +5,19 @@ use Rattle.txn_words.specs.declared.entry.Entry.{Entry}
 use Rattle.txn_words.specs.declared.op.Op.{Op}
 use Rattle.txn_trace.specs.Log.{log_after}
 use Rattle.txn_words.specs.Shape.{own}
-use Rattle.serial_check.specs.Serializable.{txn_in as the_txn_in}
+pub use Rattle.serial_check.specs.Serializable.{txn_in}
 use Rattle.bad_entry.specs.declared.desks.Desk.{Desk}
 use Rattle.bad_entry.specs.declared.desks.Desks.{Desks}
-
--- The transaction that a caller began last.
-abbrev pub txn_in : List Entry → ℕ → Option ℕ
-txn_in h c = the_txn_in h c
 
 -- The operation for whose reply a caller waits.
 abbrev pub waiting_in : List Entry → ℕ → Option Op
 waiting_in h c = (log_after (own c h)).pending
 
 -- The desk of a caller is what its entries make it.
-pub record IsAt (h : List Entry) (c : ℕ) (desk : Desk) : Type 0 where
+pub record IsDeskOf (h : List Entry) (c : ℕ) (desk : Desk) : Type 0 where
   pub waiting : desk.waiting ≡ waiting_in h c
   pub txn : desk.txn ≡ txn_in h c
 
 -- Each desk is what its caller's entries make it.
 pub record HaveNoted (h : List Entry) (desks : Desks) : Type 0 where
-  pub each : (c : ℕ) → IfSome (slice_get desks.table.items c) (IsAt h c)
+  pub each : (c : ℕ) → IfSome (slice_get desks.table.items c) (IsDeskOf h c)

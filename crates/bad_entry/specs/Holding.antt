@@ -8,7 +8,7 @@ use Rattle.txn_trace.specs.Locks.{asks_in, holder_of, stripe_of}
 use Rattle.txn_words.specs.Map.{key_of}
 use Rattle.bad_entry.specs.declared.held.Held.{Held}
 use Rattle.bad_entry.specs.Desks.{txn_in}
-use Rattle.bad_entry.specs.Places.{first_of}
+use Rattle.bad_entry.specs.Places.{first_answer}
 
 -- The holder of a stripe after one more entry, by the holder before it: an Asked for a key of the
 -- stripe takes it, and a Committed or an Aborted gives it back if its caller holds it.
@@ -21,19 +21,19 @@ next_holder stripes s held (Aborted c) = if option_eq nat_eq held (Some c) then 
 next_holder stripes s held e = held
 
 -- The index of an entry, if it asks for a key of the stripe in the transaction `wanted`.
-abbrev pub asked_in : Option ℕ → Option ℕ → ℕ → ℕ → ℕ → Entry → Option ℕ
-asked_in txn wanted stripes s i e =
+abbrev pub asked_at : Option ℕ → Option ℕ → ℕ → ℕ → ℕ → Entry → Option ℕ
+asked_at txn wanted stripes s i e =
     if asks_in stripes s e && option_eq nat_eq txn wanted then Some i else None
 
 -- The first entry by which a transaction asked for a key of the stripe: the transaction holds the
 -- stripe since then.
 abbrev pub held_since : Option ℕ → ℕ → ℕ → List Entry → Option ℕ
 held_since txn stripes s h =
-    first_of (λ g e. asked_in (txn_in g (caller_of e)) txn stripes s (length g) e) h
+    first_answer (λ g e. asked_at (txn_in g (caller_of e)) txn stripes s (length g) e) h
 
 -- The stripe is free, or this caller holds it, in this transaction, since this entry.
-abbrev pub IsHeld : ℕ → ℕ → List Entry → Option Held → Type 0
-IsHeld stripes s h None = holder_of stripes s h ≡ None
-IsHeld stripes s h (Some held) =
+abbrev pub IsHeldSince : ℕ → ℕ → List Entry → Option Held → Type 0
+IsHeldSince stripes s h None = holder_of stripes s h ≡ None
+IsHeldSince stripes s h (Some held) =
     (holder_of stripes s h ≡ Some held.caller) × (held.txn ≡ txn_in h held.caller)
     × (held.since ≡ held_since held.txn stripes s h)

@@ -12,8 +12,8 @@ last_from test g [] last = last
 last_from test g (e ∷ h) last = last_from test (g ++ e ∷ []) h (option_or (test g e) last)
 
 -- The last answer of a test over a history.
-abbrev pub last_of : {X : Type 0} → (List Entry → Entry → Option X) → List Entry → Option X
-last_of test h = last_from test [] h None
+abbrev pub last_answer : {X : Type 0} → (List Entry → Entry → Option X) → List Entry → Option X
+last_answer test h = last_from test [] h None
 
 -- The answer of a test to the first entry of h for which it has an answer. The entries g precede h.
 abbrev pub first_from : {X : Type 0} → (List Entry → Entry → Option X) → List Entry → List Entry
@@ -22,5 +22,5 @@ first_from test g [] = None
 first_from test g (e ∷ h) = option_or (test g e) (first_from test (g ++ e ∷ []) h)
 
 -- The first answer of a test over a history.
-abbrev pub first_of : {X : Type 0} → (List Entry → Entry → Option X) → List Entry → Option X
-first_of test h = first_from test [] h
+abbrev pub first_answer : {X : Type 0} → (List Entry → Entry → Option X) → List Entry → Option X
+first_answer test h = first_from test [] h

@@ -19,7 +19,7 @@ use Rattle.bad_entry.specs.declared.reason.Reason.TheVariants as reasons
 use Rattle.bad_entry.specs.Changes.{IsLast}
 use Rattle.bad_entry.specs.Commits.{IsTornSince, last_commit}
 use Rattle.bad_entry.specs.Desks.{txn_in, waiting_in}
-use Rattle.bad_entry.specs.Holding.{IsHeld}
+use Rattle.bad_entry.specs.Holding.{IsHeldSince}
 
 -- The caller waits for `op`, `due` is the reply to `op` by the map now, and `last` is the last
 -- change of its key. Or the caller waits for no operation, and the reason is `Nothing`.
@@ -32,11 +32,11 @@ IsReplyReason h c _ = ⊥
 -- The reason names the stripe of the operation's key, and its holder.
 abbrev pub IsLockReason : ℕ → Op → List Entry → Reason → Type 0
 IsLockReason stripes op h (reasons.Lock stripe holder) =
-    (stripe ≡ stripe_of stripes (key_of op)) × IsHeld stripes stripe h holder
+    (stripe ≡ stripe_of stripes (key_of op)) × IsHeldSince stripes stripe h holder
 IsLockReason stripes op h _ = ⊥
 
--- The caller is in this phase, this is its newest change that stands, and `committed` transactions
--- committed.
+-- The caller is in this phase, this is its newest change that stands, and `committed` is the number
+-- of commits.
 abbrev pub IsShapeReason : List Entry → ℕ → Reason → Type 0
 IsShapeReason h c (reasons.Shape phase newest began committed) =
     IsIn h c phase × (newest ≡ slice_get (log_of c h) 0) × (committed ≡ how_many is_commit h)
@@ -53,9 +53,9 @@ IsReasonByLocks rules.Locks stripes h e reason = Unit {0}
 IsReasonByLocks rules.Shape stripes h e reason = IsShapeReason h (caller_of e) reason
 
 -- Misread: the caller's open transaction read a value that the committed map does not have, and
--- `commit` is the last commit that changed the key. Torn: the transaction has the replies of
--- running alone on the committed map, or no map gives it all of its replies; and `since` is as
--- `IsTornSince` says.
+-- `commit` is the last commit that changed the key. Torn: no map gives the transaction all of its
+-- replies, or the committed map gives it all of them. In the second case its commit would be right.
+-- In both cases `since` is as `IsTornSince` says.
 abbrev pub IsCommitReason : List Entry → ℕ → Reason → Type 0
 IsCommitReason h c (reasons.Misread key read due commit) =
     ((t : ℕ) → txn_in h c ≡ Some t → is_open t h ≡ true

@@ -54,7 +54,8 @@ fn change_at(desks: &Desks, key: u64, index: u64, entry: Entry) -> Option<Change
     }
 }
 
-/// The last change of a key in a history, whose callers are below 64, also one that was taken back.
+/// The last change of a key in a history, even if it was taken back. The callers of the history
+/// must be below 64.
 ///
 /// # Errors
 ///
@@ -81,7 +82,7 @@ pub fn last_change(
     Ok(last)
 }
 
-/// Whether a reply to the operation that waits is a change.
+/// Whether an operation waits and, with this reply, is a change.
 fn is_change(waiting: Option<Op>, reply: Reply) -> bool
     ensures { result ≡ is_change waiting reply }
 {
@@ -170,7 +171,8 @@ pub fn fate_of(entries: &[SmallEntry], change: Change) -> Fate
     fate_in(&entries[did + 1..], change.caller)
 }
 
-/// The last change of a key in a history, whose callers are below 64, with its fate.
+/// The last change of a key in a history, with its fate. The callers of the history must be below
+/// 64.
 ///
 /// # Errors
 ///

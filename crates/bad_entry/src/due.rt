@@ -13,7 +13,7 @@ ghost use Rattle.txn_words.specs.declared.holder.Holder.{Holder};
 ghost use Rattle.history_check.specs.Fed as locks;
 ghost use Rattle.serial_check.specs.Fed as commits;
 ghost use Rattle.serial_check.specs.Serializable.{IsSerializable};
-ghost use Rattle.bad_entry.specs.Commits.{IsTornSince, last_commit, settled};
+ghost use Rattle.bad_entry.specs.Commits.{IsTornSince, last_commit, settling_commit};
 
 use std::alloc::{AllocError, Global};
 use txn_trace::{Entry, Holder, Reply, SmallEntry};
@@ -51,8 +51,8 @@ pub(crate) fn fed_by_commits(
     Ok(checker)
 }
 
-/// The value of a key after a legal history, including the changes of open transactions: the reply
-/// that is due to an operation on it.
+/// The value of a key after a legal history, including the changes of open transactions. It is the
+/// reply that is due to an operation on the key.
 ///
 /// # Errors
 ///
@@ -138,9 +138,9 @@ pub fn torn_since(
     Ok(since)
 }
 
-/// The index of the entry since which replies contradict one another, after the entry at `index`;
-/// `since` is the same index before this entry. Answers `None` if the replies do not contradict one
-/// another after this entry (`is_torn` is false).
+/// The index of the entry with which the replies begin to contradict one another, given the entries
+/// up to `index`. `since` is the answer for the entries before `index`. The answer is `None` if the
+/// replies up to `index` do not contradict one another (`is_torn` is false).
 fn since_after(is_torn: bool, index: u64, since: Option<u64>) -> Option<u64>
     ensures { result ≡ (if is_torn then option_or since (Some index) else None) }
 {
@@ -150,7 +150,7 @@ fn since_after(is_torn: bool, index: u64, since: Option<u64>) -> Option<u64>
 /// The index and the caller of an entry, if it is a commit that changes the value of a key from
 /// `before` to `after`.
 fn settled(index: u64, entry: Entry, before: Reply, after: Reply) -> Option<(u64, u64)>
-    ensures { result ≡ settled index entry before after }
+    ensures { result ≡ settling_commit index entry before after }
 {
     match entry {
         Entry::Committed(caller, _) if before != after => Some((index, caller)),

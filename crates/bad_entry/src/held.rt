@@ -8,7 +8,7 @@ ghost use Rattle.txn_words.specs.Kinds.{caller_of};
 ghost use Rattle.txn_trace.specs.Legal.{IsLegal};
 ghost use Rattle.txn_words.specs.declared.holder.Holder.{Holder};
 ghost use Rattle.bad_entry.specs.Desks.{txn_in};
-ghost use Rattle.bad_entry.specs.Holding.{IsHeld, asked_in, held_since, next_holder};
+ghost use Rattle.bad_entry.specs.Holding.{IsHeldSince, asked_at, held_since, next_holder};
 
 use crate::desks::Desks;
 use std::alloc::{AllocError, Global};
@@ -61,7 +61,7 @@ fn asked_in(
     entry: Entry,
 ) -> Option<u64>
     requires { 0 < stripes }
-    ensures { result ≡ asked_in txn wanted stripes stripe index entry }
+    ensures { result ≡ asked_at txn wanted stripes stripe index entry }
 {
     match entry {
         Entry::Asked(_, op) if op.key() % stripes == stripe && txn == wanted => Some(index),
@@ -138,7 +138,7 @@ pub fn held_by(
     requires stripes { 0 < stripes }
     requires callers { All (λ entry. caller_of entry < 64) entries.now }
     ensures { IfOk result (λ found. (holder : Holder) → IsLegal holder stripes entries.now →
-        IsHeld stripes stripe entries.now found) }
+        IsHeldSince stripes stripe entries.now found) }
 {
     let Some(caller) = holder_in(entries, stripes, stripe) else {
         return Ok(None);

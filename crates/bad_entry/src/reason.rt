@@ -54,8 +54,8 @@ pub enum Reason {
         /// The index of the first reply that contradicts those before it.
         since: Option<u64>,
     },
-    /// The lock of the operation's key is held by another caller, or the entry is a Busy that may
-    /// not name the caller that it names.
+    /// Another caller holds the lock of the operation's key, or the entry is a Busy and names a
+    /// caller that it may not name.
     Lock {
         /// The stripe of the key.
         stripe: u64,
@@ -91,7 +91,7 @@ fn waiting_in(alloc: Global, entries: &[SmallEntry], caller: u64) -> Result<Opti
     Ok(desks.at(caller).waiting)
 }
 
-/// The reason for a wrong reply, by locks.
+/// By locks: why a reply to this caller is wrong.
 fn reply_reason(
     alloc: Global,
     entries: &[SmallEntry],
@@ -138,8 +138,8 @@ fn began_in(entries: &[SmallEntry]) -> u64 {
         .count() as u64
 }
 
-/// The reason if the rule of shape is broken: the caller's phase and newest change, and the counts,
-/// which tell the entries that the caller may have instead.
+/// The reason if the rule of shape is broken: the caller's phase, its newest change and the counts.
+/// Together they tell which entries are allowed in place of the bad entry.
 fn shape_reason(callers: &Callers, began: u64, caller: u64) -> Reason
     requires { caller < 64 }
     ensures { (h : List Entry) → HaveEntered h callers.now → IsShapeReason h caller result }
@@ -152,7 +152,7 @@ fn shape_reason(callers: &Callers, began: u64, caller: u64) -> Reason
     }
 }
 
-/// The reason for an entry that breaks this rule after a legal history, by locks.
+/// By locks: why the entry `bad` breaks this rule after the legal history `entries`.
 ///
 /// # Errors
 ///
@@ -193,7 +193,7 @@ pub fn by_locks(
     }
 }
 
-/// The reason for a transaction that may not commit.
+/// The reason why this caller's transaction may not commit.
 fn commit_reason(alloc: Global, entries: &[SmallEntry], caller: u64) -> Result<Reason, AllocError>
     requires caller { caller < 64 }
     requires callers { All (λ entry. caller_of entry < 64) entries.now }
@@ -214,8 +214,8 @@ fn commit_reason(alloc: Global, entries: &[SmallEntry], caller: u64) -> Result<R
     })
 }
 
-/// The reason for an entry that breaks this rule after a serializable history, by the order of
-/// commits.
+/// By the order of commits: why the entry `bad` breaks this rule after the serializable history
+/// `entries`.
 ///
 /// # Errors
 ///

@@ -4,9 +4,9 @@ use Rattle.std.specs.Prelude.{IsSome, codes, is_some, option_and_then, reverse, 
 use Rattle.std.proofs.lemmas.List.{drop_all, drop_more, reverse-append, take-append-drop, take_all, take_more}
 use Rattle.std.proofs.lemmas.Option.{slice_get-get_or}
 use Rattle.serde_json.specs.Data.{Data, null, number, string, array, object, unsigned, no_items, no_members}
-use Rattle.bad_file.specs.Flaws.{Begins, IsFault, entry_in}
-use Rattle.bad_file.specs.Following.{after}
-use Rattle.bad_file.specs.Meets.{is_met, is_of}
+use Rattle.bad_file.specs.Flaws.{BeginsEntry, IsFault, entry_in}
+use Rattle.bad_file.specs.Following.{expected_after}
+use Rattle.bad_file.specs.Meets.{is_met, is_as_expected}
 use Rattle.bad_file.specs.declared.expected.Expected.{Expected}
 use Rattle.bad_file.specs.declared.expected.Expected.TheVariants as expected
 use Rattle.bad_file.proofs.Reading.{accepts, is_entry}
@@ -18,7 +18,7 @@ unfoldable pub rest_of : Bool → Bool → List Data → List Expected → Optio
 rest_of is_old ranged [] es = Some es
 rest_of is_old ranged (d ∷ ds) [] = None
 rest_of is_old ranged (d ∷ ds) (e ∷ es) =
-    if is_of ranged e d then rest_of is_old ranged ds (after is_old e d ++ es) else None
+    if is_as_expected ranged e d then rest_of is_old ranged ds (expected_after is_old e d ++ es) else None
 
 -- Whether elements are exactly what is still expected after earlier ones; false if one of the
 -- earlier elements is not as expected.
@@ -34,7 +34,7 @@ accepts-append : (o r : Bool) (p q : List Data) (es : List Expected) → accepts
 unfolding rest_of
 accepts-append o r [] q es = refl
 accepts-append o r (d ∷ p) q [] = refl
-accepts-append o r (d ∷ p) q (e ∷ es) = gated o r q (is_of r e d) _ _ (accepts-append o r p q (after o e d ++ es))
+accepts-append o r (d ∷ p) q (e ∷ es) = gated o r q (is_as_expected r e d) _ _ (accepts-append o r p q (expected_after o e d ++ es))
 
 stopped : (b : Bool) (x : Option (List Expected)) (f : List Expected → Option (List Expected)) (y : Option (List Expected))
     → y ≡ option_and_then f x → (if b then y else None) ≡ option_and_then f (if b then x else None)
@@ -45,7 +45,7 @@ rest-append : (o r : Bool) (p q : List Data) (es : List Expected) → rest_of o 
 unfolding rest_of
 rest-append o r [] q es = refl
 rest-append o r (d ∷ p) q [] = refl
-rest-append o r (d ∷ p) q (e ∷ es) = stopped (is_of r e d) _ (rest_of o r q) _ (rest-append o r p q (after o e d ++ es))
+rest-append o r (d ∷ p) q (e ∷ es) = stopped (is_as_expected r e d) _ (rest_of o r q) _ (rest-append o r p q (expected_after o e d ++ es))
 
 -- ---- for each expectation, elements that meet it
 
@@ -108,13 +108,13 @@ both false b is also = is
 
 next_met : (o r : Bool) (left : List Expected) (d : Data) (more : List Data) → accepts o r (d ∷ more) left ≡ true → is_met r (next_of left) (Some d) ≡ true
 next_met o r [] d more is = is
-next_met o r (e ∷ es) d more is = left_true (is_of r e d) _ is
+next_met o r (e ∷ es) d more is = left_true (is_as_expected r e d) _ is
 
 may_go_on : (o r : Bool) (left : List Expected) (d : Data) → is_met r (next_of left) (Some d) ≡ true → (more : List Data) × (accepts o r (d ∷ more) left ≡ true)
 may_go_on o r [] d is = ([], is)
-may_go_on o r (e ∷ es) d is = (completion (after o e d ++ es), both (is_of r e d) _ is (completed o r (after o e d ++ es)))
+may_go_on o r (e ∷ es) d is = (completion (expected_after o e d ++ es), both (is_as_expected r e d) _ is (completed o r (expected_after o e d ++ es)))
 
--- `left` are the elements that are still expected after the first i elements.
+-- `left` has the elements that are still expected after the first i elements.
 module _ (o r : Bool) (ds : List Data) (i : ℕ) (left : List Expected) (rest : rest_of o r (take i ds) (expected.EntryName ∷ []) ≡ Some left) where
   goes_on : (q : List Data) → is_some (entry_in o r (take i ds ++ q)) ≡ accepts o r q left
   goes_on q = is_entry o r (take i ds ++ q) ∙ accepts-append o r (take i ds) q (expected.EntryName ∷ []) ∙ ap (left_accepts o r q) rest
@@ -122,14 +122,14 @@ module _ (o r : Bool) (ds : List Data) (i : ℕ) (left : List Expected) (rest : 
   pub whole_is : is_some (entry_in o r ds) ≡ accepts o r (drop i ds) left
   whole_is = subst (λ xs. is_some (entry_in o r xs) ≡ accepts o r (drop i ds) left) (take-append-drop i ds) (goes_on (drop i ds))
 
-  begins : Begins o r (take i ds)
+  begins : BeginsEntry o r (take i ds)
   begins = (completion left, goes_on (completion left) ∙ completed o r left)
 
-  next_begins : (d : Data) → Begins o r (take i ds ++ d ∷ []) → is_met r (next_of left) (Some d) ≡ true
+  next_begins : (d : Data) → BeginsEntry o r (take i ds ++ d ∷ []) → is_met r (next_of left) (Some d) ≡ true
   next_begins d b =
       next_met o r left d b.0 (sym (goes_on (d ∷ b.0)) ∙ ap (λ xs. is_some (entry_in o r xs)) (sym (append_assoc (take i ds) (d ∷ []) b.0)) ∙ b.1)
 
-  met_begins : (d : Data) → is_met r (next_of left) (Some d) ≡ true → Begins o r (take i ds ++ d ∷ [])
+  met_begins : (d : Data) → is_met r (next_of left) (Some d) ≡ true → BeginsEntry o r (take i ds ++ d ∷ [])
   met_begins d is =
       let more = may_go_on o r left d is in
       (more.0, ap (λ xs. is_some (entry_in o r xs)) (append_assoc (take i ds) (d ∷ []) more.0) ∙ goes_on (d ∷ more.0) ∙ more.1)
@@ -154,7 +154,7 @@ from_here : (ds : List Data) (i : ℕ) (d : Data) → i < length ds → d ≡ ge
 from_here ds i d below at = drop_more ds i d below ∙ ap (λ (x : Data). x ∷ drop (i + 1) ds) (sym at)
 
 pub turn : (o r : Bool) (ds : List Data) (i : ℕ) (d : Data) (e : Expected) (old popped new : List Expected) → i < length ds → d ≡ get_or ds i d
-    → rest_of o r (take i ds) (expected.EntryName ∷ []) ≡ Some (reverse old) → old ≡ popped ++ e ∷ [] → is_of r e d ≡ true → reverse new ≡ after o e d ++ reverse popped
+    → rest_of o r (take i ds) (expected.EntryName ∷ []) ≡ Some (reverse old) → old ≡ popped ++ e ∷ [] → is_as_expected r e d ≡ true → reverse new ≡ expected_after o e d ++ reverse popped
     → rest_of o r (take (i + 1) ds) (expected.EntryName ∷ []) ≡ Some (reverse new)
 unfolding rest_of
 turn o r ds i d e old popped new below at rest was is now =
@@ -162,7 +162,7 @@ turn o r ds i d e old popped new below at rest was is now =
     let longer : take (i + 1) ds ≡ take i ds ++ d ∷ [] = take_more ds i d below ∙ ap (λ (x : Data). take i ds ++ x ∷ []) (sym at) in
     ap (λ xs. rest_of o r xs (expected.EntryName ∷ [])) longer ∙ rest-append o r (take i ds) (d ∷ []) (expected.EntryName ∷ [])
     ∙ ap (option_and_then (rest_of o r (d ∷ []))) before
-    ∙ ap (λ b. if b then Some (after o e d ++ reverse popped) else None) is
+    ∙ ap (λ b. if b then Some (expected_after o e d ++ reverse popped) else None) is
     ∙ ap (λ (x : List Expected). Some x) (sym now)
 
 pub too_many : (o r : Bool) (ds : List Data) (i : ℕ) (d : Data) (old : List Expected) → i < length ds → d ≡ get_or ds i d
@@ -172,11 +172,11 @@ too_many o r ds i d old below at rest none =
     fault o r ds i [] before (ap (is_met r None) (there ds i d below at)) (ap (λ q. accepts o r q []) (from_here ds i d below at))
 
 pub not_expected : (o r : Bool) (ds : List Data) (i : ℕ) (d : Data) (e : Expected) (old popped : List Expected) → i < length ds → d ≡ get_or ds i d
-    → rest_of o r (take i ds) (expected.EntryName ∷ []) ≡ Some (reverse old) → old ≡ popped ++ e ∷ [] → is_of r e d ≡ false → IsFault o r ds i (Some e)
+    → rest_of o r (take i ds) (expected.EntryName ∷ []) ≡ Some (reverse old) → old ≡ popped ++ e ∷ [] → is_as_expected r e d ≡ false → IsFault o r ds i (Some e)
 not_expected o r ds i d e old popped below at rest was is =
     let before : rest_of o r (take i ds) (expected.EntryName ∷ []) ≡ Some (e ∷ reverse popped) = rest ∙ ap (λ (x : List Expected). Some x) (ap reverse was ∙ pushed popped e) in
     fault o r ds i (e ∷ reverse popped) before (ap (is_met r (Some e)) (there ds i d below at) ∙ is)
-    (ap (λ q. accepts o r q (e ∷ reverse popped)) (from_here ds i d below at) ∙ ap (λ b. b && accepts o r (drop (i + 1) ds) (after o e d ++ reverse popped)) is)
+    (ap (λ q. accepts o r q (e ∷ reverse popped)) (from_here ds i d below at) ∙ ap (λ b. b && accepts o r (drop (i + 1) ds) (expected_after o e d ++ reverse popped)) is)
 
 past : (ds : List Data) → slice_get ds (length ds) ≡ None
 past [] = refl

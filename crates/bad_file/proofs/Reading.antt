@@ -9,13 +9,13 @@ use Rattle.txn_words.specs.declared.entry.Entry.{Entry}
 use Rattle.txn_words.specs.declared.entry.Entry.TheVariants.{Began, Asked, Did, Saved, Leave, Undone, Returned, Committed, Busy, Aborted}
 use Rattle.txn_words.specs.declared.op.Op.{Op}
 use Rattle.txn_words.specs.declared.op.Op.TheVariants.{Put, Take, Get, PutIf}
-use Rattle.piece_files.specs.Elements.{◌>>=◌, number_of, number_at, optional, optional_at, word_at, one_of, end_of, optional_of}
+use Rattle.piece_files.specs.Elements.{◌>>=◌, whole_number, number_at, optional, optional_at, leading_text, one_of, ends_here, optional_of}
 use Rattle.txn_files.specs.Entries.{busy_of, entry_named, entry_of, is_old_entry, transaction_entry}
 use Rattle.txn_files.specs.HistoryFile.{is_in_range, max_caller}
 use Rattle.txn_files.specs.Operations.{is_old_op, op_at, op_of, put_if_at}
 use Rattle.bad_file.specs.Flaws.{entry_in}
-use Rattle.bad_file.specs.Following.{after, after_entry_name, after_op_name, after_word, op_name}
-use Rattle.bad_file.specs.Meets.{in_range, is_entry_name, is_named, is_of, is_old_op_name, is_op_name}
+use Rattle.bad_file.specs.Following.{expected_after, after_entry_name, after_op_name, after_word, op_name}
+use Rattle.bad_file.specs.Meets.{in_range, is_entry_name, is_named, is_as_expected, is_old_op_name, is_op_name}
 use Rattle.bad_file.specs.declared.expected.Expected.{Expected}
 use Rattle.bad_file.specs.declared.expected.Expected.TheVariants.{EntryName, Caller, Number, NumberOrNull}
 
@@ -25,7 +25,7 @@ abbrev pub accepts : Bool → Bool → List Data → List Expected → Bool
 accepts o r [] [] = true
 accepts o r [] (e ∷ es) = false
 accepts o r (d ∷ ds) [] = false
-accepts o r (d ∷ ds) (e ∷ es) = is_of r e d && accepts o r ds (after o e d ++ es)
+accepts o r (d ∷ ds) (e ∷ es) = is_as_expected r e d && accepts o r ds (expected_after o e d ++ es)
 
 -- A test of the value that was read and of the elements after it; false if no value was read.
 abbrev then_test : {A : Type 0} → Option (A × List Data) → (A → List Data → Bool) → Bool
@@ -61,12 +61,12 @@ over_caller r (Some n) ds f = ap (λ (b : Bool). (not r || (b && nat_le n max_ca
 number_first : (o r : Bool) (es : List Expected) (ds : List Data) → accepts o r ds (Number ∷ es) ≡ then_test (number_at ds) (λ n rest. accepts o r rest es)
 unfolding number_at
 number_first o r es [] = refl
-number_first o r es (d ∷ ds) = over (number_of d) ds (λ rest. accepts o r rest es)
+number_first o r es (d ∷ ds) = over (whole_number d) ds (λ rest. accepts o r rest es)
 
 caller_first : (o r : Bool) (es : List Expected) (ds : List Data) → accepts o r ds (Caller ∷ es) ≡ then_test (number_at ds) (λ c rest. ok r c && accepts o r rest es)
 unfolding number_at
 caller_first o r es [] = refl
-caller_first o r es (d ∷ ds) = over_caller r (number_of d) ds (λ rest. accepts o r rest es)
+caller_first o r es (d ∷ ds) = over_caller r (whole_number d) ds (λ rest. accepts o r rest es)
 
 optional_first : (o r : Bool) (es : List Expected) (ds : List Data) → accepts o r ds (NumberOrNull ∷ es) ≡ then_test (optional_at ds) (λ n rest. accepts o r rest es)
 unfolding optional_at
@@ -109,7 +109,7 @@ put_if_next false r es k ds =
     ∙ sym (bind (optional_at ds) (λ e. number_at e.1 >>= λ v. Some (PutIf k e.0 v.0, v.1)) (kept_op false r es)
     ∙ (λ i. then_test (optional_at ds) (λ e rest. bind (number_at rest) (λ v. Some (PutIf k e v.0, v.1)) (kept_op false r es) i)))
 
--- `op_by` reads the operation on the key k, and answers it with the elements after it;
+-- `op_by` reads the operation on the key k. Its value is this operation and the elements after it.
 -- `after_op_by` has the elements that are expected after the operation's word. For both, the first
 -- true flag tells the word: "put", "take", "get" or "put_if".
 abbrev op_by : Bool → Bool → Bool → Bool → ℕ → List Data → Option (Op × List Data)
@@ -192,7 +192,7 @@ old_op r es ds None = refl
 old_op r es ds (Some w) = old_words r es ds (bytes_eq w (codes "put")) (bytes_eq w (codes "take")) (bytes_eq w (codes "get")) (bytes_eq w (codes "put_if"))
 
 op_first : (o r : Bool) (es : List Expected) (ds : List Data) → accepts o r ds (op_name o ∷ es) ≡ then_test (op_at ds) (kept_op o r es)
-unfolding op_at word_at
+unfolding op_at leading_text
 op_first true r es [] = refl
 op_first true r es (d ∷ ds) = old_op r es ds (as_str d)
 op_first false r es [] = refl
@@ -231,8 +231,8 @@ optional_last : (o r : Bool) (c : ℕ) (f : Option ℕ → Entry) → ((n : Opti
 unfolding optional_of
 optional_last o r c f is ds = ap (λ b. ok r c && b) (optional_first o r [] ds) ∙ one_last o r c f is (optional_at ds)
 
-end_last : (o r : Bool) (c : ℕ) (e : Entry) → kept o r (Some e) ≡ ok r c → (ds : List Data) → (ok r c && accepts o r ds []) ≡ kept o r (end_of ds >>= λ none. Some e)
-unfolding end_of
+end_last : (o r : Bool) (c : ℕ) (e : Entry) → kept o r (Some e) ≡ ok r c → (ds : List Data) → (ok r c && accepts o r ds []) ≡ kept o r (ends_here ds >>= λ none. Some e)
+unfolding ends_here
 end_last o r c e is ds = ap (λ b. ok r c && b) (none_left o r ds) ∙ last o r c tt (λ none. e) is (length ds == 0)
 
 swap : (a q : Bool) → (a && (q && true)) ≡ (q && a)
@@ -308,13 +308,13 @@ entry_by b1 b2 b3 b4 b5 b6 b7 b8 b9 b10 c ds =
     if b1 then (op_of ds >>= λ op. Some (Asked c op))
     else if b2 then busy_of c ds
     else if b3 then (optional_of ds >>= λ n. Some (Did c n))
-    else if b4 then (end_of ds >>= λ none. Some (Undone c))
+    else if b4 then (ends_here ds >>= λ none. Some (Undone c))
     else if b5 then (one_of ds >>= λ n. Some (Began c n))
-    else if b6 then (end_of ds >>= λ none. Some (Saved c))
+    else if b6 then (ends_here ds >>= λ none. Some (Saved c))
     else if b7 then (optional_of ds >>= λ n. Some (Leave c n))
     else if b8 then (one_of ds >>= λ n. Some (Returned c n))
     else if b9 then (one_of ds >>= λ n. Some (Committed c n))
-    else if b10 then (end_of ds >>= λ none. Some (Aborted c))
+    else if b10 then (ends_here ds >>= λ none. Some (Aborted c))
     else None
 
 abbrev after_by : Bool → (b1 b2 b3 b4 b5 b6 b7 b8 b9 b10 : Bool) → List Expected
@@ -341,13 +341,13 @@ named : (o r : Bool) (ds : List Data) (b1 b2 b3 b4 b5 b6 b7 b8 b9 b10 : Bool)
 named o r ds true b2 b3 b4 b5 b6 b7 b8 b9 b10 = caller_case o r (op_name o ∷ []) (λ c rest. op_of rest >>= λ op. Some (Asked c op)) (asked_last o r) ds
 named o r ds false true b3 b4 b5 b6 b7 b8 b9 b10 = caller_case o r (op_name o ∷ Caller ∷ []) busy_of (busy_last o r) ds
 named o r ds false false true b4 b5 b6 b7 b8 b9 b10 = caller_case o r (NumberOrNull ∷ []) (λ c rest. optional_of rest >>= λ n. Some (Did c n)) (λ c. optional_last o r c (Did c) (λ n. keeps o (ok r c))) ds
-named o r ds false false false true b5 b6 b7 b8 b9 b10 = caller_case o r [] (λ c rest. end_of rest >>= λ none. Some (Undone c)) (λ c. end_last o r c (Undone c) (keeps o (ok r c))) ds
+named o r ds false false false true b5 b6 b7 b8 b9 b10 = caller_case o r [] (λ c rest. ends_here rest >>= λ none. Some (Undone c)) (λ c. end_last o r c (Undone c) (keeps o (ok r c))) ds
 named o r ds false false false false true b6 b7 b8 b9 b10 = caller_case o r (Number ∷ []) (λ c rest. one_of rest >>= λ n. Some (Began c n)) (λ c. number_last o r c (Began c) (λ n. keeps o (ok r c))) ds
-named o r ds false false false false false true b7 b8 b9 b10 = caller_case o r [] (λ c rest. end_of rest >>= λ none. Some (Saved c)) (λ c. end_last o r c (Saved c) (keeps o (ok r c))) ds
+named o r ds false false false false false true b7 b8 b9 b10 = caller_case o r [] (λ c rest. ends_here rest >>= λ none. Some (Saved c)) (λ c. end_last o r c (Saved c) (keeps o (ok r c))) ds
 named o r ds false false false false false false true b8 b9 b10 = caller_case o r (NumberOrNull ∷ []) (λ c rest. optional_of rest >>= λ n. Some (Leave c n)) (λ c. optional_last o r c (Leave c) (λ n. keeps o (ok r c))) ds
 named o r ds false false false false false false false true b9 b10 = caller_case o r (Number ∷ []) (λ c rest. one_of rest >>= λ n. Some (Returned c n)) (λ c. number_last o r c (Returned c) (λ n. keeps o (ok r c))) ds
 named o r ds false false false false false false false false true b10 = caller_case o r (Number ∷ []) (λ c rest. one_of rest >>= λ n. Some (Committed c n)) (λ c. number_last o r c (Committed c) (λ n. keeps o (ok r c))) ds
-named o r ds false false false false false false false false false true = caller_case o r [] (λ c rest. end_of rest >>= λ none. Some (Aborted c)) (λ c. end_last o r c (Aborted c) (keeps o (ok r c))) ds
+named o r ds false false false false false false false false false true = caller_case o r [] (λ c rest. ends_here rest >>= λ none. Some (Aborted c)) (λ c. end_last o r c (Aborted c) (keeps o (ok r c))) ds
 named o r ds false false false false false false false false false false = no_entry_word o r (number_at ds)
 
 abbrev read_entry : Option (List ℕ × List Data) → Option Entry
@@ -361,9 +361,10 @@ entry_word o r ds (Some w) =
     named o r ds (bytes_eq w (codes "asked")) (bytes_eq w (codes "busy")) (bytes_eq w (codes "did")) (bytes_eq w (codes "undone")) (bytes_eq w (codes "began"))
     (bytes_eq w (codes "saved")) (bytes_eq w (codes "leave")) (bytes_eq w (codes "returned")) (bytes_eq w (codes "committed")) (bytes_eq w (codes "aborted"))
 
--- Elements are an entry exactly if they are what is expected, beginning with the word of an entry.
+-- Suppose that the word of an entry is expected first. Then `accepts` is true exactly if the
+-- elements are an entry that counts (`kept`).
 pub entry_accepted : (o r : Bool) (ds : List Data) → accepts o r ds (EntryName ∷ []) ≡ kept o r (entry_of ds)
-unfolding entry_of word_at
+unfolding entry_of leading_text
 entry_accepted o r [] = refl
 entry_accepted o r (d ∷ ds) = entry_word o r ds (as_str d)
 

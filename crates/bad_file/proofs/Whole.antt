@@ -12,14 +12,14 @@ use Rattle.txn_words.specs.Sizes.{max_stripes}
 use Rattle.piece_files.specs.declared.file_fault.FileFault.{FileFault}
 use Rattle.piece_files.specs.declared.file_fault.FileFault.TheVariants as faults
 use Rattle.piece_files.specs.declared.part.Part.TheVariants as parts
-use Rattle.piece_files.specs.Elements.{elements_of, number_of}
+use Rattle.piece_files.specs.Elements.{elements_of, whole_number}
 use Rattle.piece_files.specs.Faults.{◌>>=◌, or_fault}
 use Rattle.piece_files.specs.Files.{contents_from, contents_of, is_version, max_version, version}
 use Rattle.piece_files.specs.Json.{json_of, number_named}
 use Rattle.piece_files.specs.Pieces.{old_of, pieces_from}
 use Rattle.txn_files.specs.Entries.{entry_of, is_old_entry}
 use Rattle.txn_files.specs.HistoryFile.{entries_from, history_file, history_of, is_in_range, max_entries}
-use Rattle.bad_file.specs.Flaws.{AreEntries, IsFlaw, IsFlawAt, IsFlawOfEntry, TellsOf, Tells, entry_in, flaw_at, flaw_in_members, history_in, is_old_file, is_one, wrong}
+use Rattle.bad_file.specs.Flaws.{AreEntries, IsFlaw, IsFlawAt, IsFlawOfEntry, TellsOf, TellsFlaw, entry_in, flaw_at, flaw_in_members, history_in, is_old_file, is_one, wrong}
 use Rattle.bad_file.specs.Meets.{are_few, in_range, is_met}
 use Rattle.bad_file.specs.Places.{at, entries_of, entry_at}
 use Rattle.bad_file.specs.declared.expected.Expected.{Expected}
@@ -40,13 +40,13 @@ number_met : (least most : ℕ) (x : Option ℕ) → in_range false least most x
 number_met least most None = refl
 number_met least most (Some n) = refl
 
-version_met : (x : Option Data) → is_met false (Some expected.Version) x ≡ is_some (option_and_then number_of x)
+version_met : (x : Option Data) → is_met false (Some expected.Version) x ≡ is_some (option_and_then whole_number x)
 version_met None = refl
-version_met (Some d) = number_met 1 max_version (number_of d)
+version_met (Some d) = number_met 1 max_version (whole_number d)
 
-stripes_met : (x : Option Data) → is_met false (Some expected.Stripes) x ≡ is_some (option_and_then number_of x)
+stripes_met : (x : Option Data) → is_met false (Some expected.Stripes) x ≡ is_some (option_and_then whole_number x)
 stripes_met None = refl
-stripes_met (Some d) = number_met 1 max_stripes (number_of d)
+stripes_met (Some d) = number_met 1 max_stripes (whole_number d)
 
 array_met : (x : Option (List Data)) → are_few false max_entries x ≡ is_some x
 array_met None = refl
@@ -60,13 +60,13 @@ number_ranged : (least most n : ℕ) (x : Option ℕ) → x ≡ Some n → in_ra
 number_ranged least most n None is = absurd (cc is)
 number_ranged least most n (Some m) is = let same : m ≡ n = cc is in ap (λ (k : ℕ). nat_le least k && nat_le k most) same
 
-version_ranged : (n : ℕ) (x : Option Data) → option_and_then number_of x ≡ Some n → is_met true (Some expected.Version) x ≡ is_version n
+version_ranged : (n : ℕ) (x : Option Data) → option_and_then whole_number x ≡ Some n → is_met true (Some expected.Version) x ≡ is_version n
 version_ranged n None is = absurd (cc is)
-version_ranged n (Some d) is = number_ranged 1 max_version n (number_of d) is
+version_ranged n (Some d) is = number_ranged 1 max_version n (whole_number d) is
 
-stripes_ranged : (n : ℕ) (x : Option Data) → option_and_then number_of x ≡ Some n → is_met true (Some expected.Stripes) x ≡ (nat_le 1 n && nat_le n max_stripes)
+stripes_ranged : (n : ℕ) (x : Option Data) → option_and_then whole_number x ≡ Some n → is_met true (Some expected.Stripes) x ≡ (nat_le 1 n && nat_le n max_stripes)
 stripes_ranged n None is = absurd (cc is)
-stripes_ranged n (Some d) is = number_ranged 1 max_stripes n (number_of d) is
+stripes_ranged n (Some d) is = number_ranged 1 max_stripes n (whole_number d) is
 
 array_ranged : (ds : List Data) (x : Option (List Data)) → x ≡ Some ds → are_few true max_entries x ≡ nat_le (length ds) max_entries
 array_ranged ds None is = absurd (cc is)
@@ -383,17 +383,17 @@ module _ (d : Data) (o : Bool) (ds : List Data) (first : Option Flaw) (old : o �
 
 -- ---- the bytes
 
-pub too_long : (bytes : List ℕ) → json_of bytes ≡ Err faults.Limit → Tells bytes (Some TooLong)
+pub too_long : (bytes : List ℕ) → json_of bytes ≡ Err faults.Limit → TellsFlaw bytes (Some TooLong)
 too_long bytes is =
     (faults.Limit, ap (λ (r : Result Data FileFault). (r >>= contents_of history_file) >>= λ file. entries_from file.0 file.1 file.2) is, subst (λ r. IsFlaw faults.Limit r TooLong) (sym is) refl)
 
-pub not_json : (bytes : List ℕ) (line column : ℕ) → json_of bytes ≡ Err faults.NotJson → Tells bytes (Some (NotJson line column))
+pub not_json : (bytes : List ℕ) (line column : ℕ) → json_of bytes ≡ Err faults.NotJson → TellsFlaw bytes (Some (NotJson line column))
 not_json bytes line column is =
     (faults.NotJson, ap (λ (r : Result Data FileFault). (r >>= contents_of history_file) >>= λ file. entries_from file.0 file.1 file.2) is, subst (λ r. IsFlaw faults.NotJson r (NotJson line column)) (sym is) (line, column, refl))
 
 of_value : (bytes : List ℕ) (d : Data) → json_of bytes ≡ Ok d → history_of bytes ≡ history_in d
 of_value bytes d is = ap (λ (r : Result Data FileFault). (r >>= contents_of history_file) >>= λ file. entries_from file.0 file.1 file.2) is
 
-pub told : (bytes : List ℕ) (d : Data) (found : Option Flaw) → json_of bytes ≡ Ok d → TellsOf d found → Tells bytes found
+pub told : (bytes : List ℕ) (d : Data) (found : Option Flaw) → json_of bytes ≡ Ok d → TellsOf d found → TellsFlaw bytes found
 told bytes d None is tells = ap is_ok (of_value bytes d is) ∙ tells
 told bytes d (Some flaw) is tells = (tells.0, of_value bytes d is ∙ tells.1, subst (λ r. IsFlaw tells.0 r flaw) (sym is) tells.2)

@@ -23,16 +23,17 @@ use Rattle.bad_file.specs.declared.place.Place.TheVariants.{File, Version, Strip
 
 -- ---- the elements of an entry
 
--- The entry that these elements are, if they are one. An entry that version 1 lacks does not count
--- in version 1. If the range is asked for, an entry with a caller out of range does not count.
+-- The entry with these elements, if there is one. Two flags leave some entries out:
+-- - If `is_old` is true, an entry counts only if it is allowed in version 1.
+-- - If `ranged` is true, an entry counts only if its callers are in range.
 abbrev pub entry_in : Bool → Bool → List Data → Option TheEntry
 entry_in is_old ranged ds =
     option_and_then (λ e. if (not is_old || is_old_entry e) && (not ranged || is_in_range e) then Some e else None)
     (entry_of ds)
 
 -- Some entry begins with these elements.
-abbrev pub Begins : Bool → Bool → List Data → Type 0
-Begins is_old ranged ds = (more : List Data) × IsSome (entry_in is_old ranged (ds ++ more))
+abbrev pub BeginsEntry : Bool → Bool → List Data → Type 0
+BeginsEntry is_old ranged ds = (more : List Data) × IsSome (entry_in is_old ranged (ds ++ more))
 
 -- The elements are no entry, the element at index i is the first at fault, and `wanted` is what is
 -- allowed there. The elements before index i begin some entry. Followed by one more element, they
@@ -42,8 +43,8 @@ Begins is_old ranged ds = (more : List Data) × IsSome (entry_in is_old ranged (
 pub record IsFault (is_old ranged : Bool) (ds : List Data) (i : ℕ) (wanted : Option Expected)
     : Type 0 where
   pub refused : entry_in is_old ranged ds ≡ None
-  pub before : Begins is_old ranged (take i ds)
-  pub next : (d : Data) → Begins is_old ranged (take i ds ++ d ∷ []) ↔ (is_met ranged wanted (Some d) ≡ true)
+  pub before : BeginsEntry is_old ranged (take i ds)
+  pub next : (d : Data) → BeginsEntry is_old ranged (take i ds ++ d ∷ []) ↔ (is_met ranged wanted (Some d) ≡ true)
   pub here : is_met ranged wanted (slice_get ds i) ≡ false
 
 -- ---- the file
@@ -130,7 +131,7 @@ IsFlaw fault (Err other) flaw = flaw ≡ TooLong
 
 -- The flaw of the history file that has these bytes: none if the file is taken, else the cause of
 -- the refusal.
-abbrev pub Tells : List ℕ → Option Flaw → Type 0
-Tells bytes None = IsOk (history_of bytes)
-Tells bytes (Some flaw) =
+abbrev pub TellsFlaw : List ℕ → Option Flaw → Type 0
+TellsFlaw bytes None = IsOk (history_of bytes)
+TellsFlaw bytes (Some flaw) =
     (fault : FileFault) × (history_of bytes ≡ Err fault) × IsFlaw fault (json_of bytes) flaw

@@ -42,8 +42,8 @@ after_word follows (Some word) = follows word
 
 -- The elements that are expected after this element, as its word says. There are none if this
 -- element is no word of an entry or an operation.
-abbrev pub after : Bool → Expected → Data → List Expected
-after is_old EntryName d = after_word (after_entry_name is_old) (as_str d)
-after is_old OpName d = after_word after_op_name (as_str d)
-after is_old OldOpName d = after_word after_op_name (as_str d)
-after is_old e d = []
+abbrev pub expected_after : Bool → Expected → Data → List Expected
+expected_after is_old EntryName d = after_word (after_entry_name is_old) (as_str d)
+expected_after is_old OpName d = after_word after_op_name (as_str d)
+expected_after is_old OldOpName d = after_word after_op_name (as_str d)
+expected_after is_old e d = []

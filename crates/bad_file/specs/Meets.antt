@@ -5,7 +5,7 @@ use Rattle.std.specs.Str.{bytes_eq}
 use Rattle.serde_json.specs.Data.{Num, unsigned, negative, float, Data, null, boolean, number, string, array, object}
 use Rattle.serde_json.specs.Find.{as_object, as_str}
 use Rattle.txn_words.specs.Sizes.{max_stripes}
-use Rattle.piece_files.specs.Elements.{number_of, elements_of, list_of, optional}
+use Rattle.piece_files.specs.Elements.{whole_number, elements_of, list_of, optional}
 use Rattle.piece_files.specs.Files.{max_version}
 use Rattle.txn_files.specs.HistoryFile.{max_caller, max_entries}
 use Rattle.bad_file.specs.declared.expected.Expected.{Expected}
@@ -61,7 +61,7 @@ in_range ranged least most (Some n) = not ranged || (nat_le least n && nat_le n 
 
 -- Whether a value is a whole number. If its range is asked for, it must also be in this range.
 abbrev pub is_number : Bool → ℕ → ℕ → Data → Bool
-is_number ranged least most d = in_range ranged least most (number_of d)
+is_number ranged least most d = in_range ranged least most (whole_number d)
 
 -- Whether there are elements. If their number is asked for, they must also be no more than `most`.
 abbrev pub are_few : Bool → ℕ → Option (List Data) → Bool
@@ -72,23 +72,23 @@ are_few ranged most (Some ds) = not ranged || nat_le (length ds) most
 abbrev pub is_array : Bool → ℕ → Data → Bool
 is_array ranged most d = are_few ranged most (elements_of d)
 
--- Whether a value is what is expected: its range counts only if it is asked for.
-abbrev pub is_of : Bool → Expected → Data → Bool
-is_of ranged expected.Object d = is_some (as_object d)
-is_of ranged expected.Version d = is_number ranged 1 max_version d
-is_of ranged expected.Stripes d = is_number ranged 1 max_stripes d
-is_of ranged expected.Entries d = is_array ranged max_entries d
-is_of ranged expected.Entry d = is_some (elements_of d)
-is_of ranged expected.EntryName d = is_named is_entry_name (as_str d)
-is_of ranged expected.OpName d = is_named is_op_name (as_str d)
-is_of ranged expected.OldOpName d = is_named is_old_op_name (as_str d)
-is_of ranged expected.Caller d = is_number ranged 0 max_caller d
-is_of ranged expected.Number d = is_some (number_of d)
-is_of ranged expected.NumberOrNull d = is_some (optional d)
+-- Whether a value is what is expected. Its range counts only if `ranged` is true.
+abbrev pub is_as_expected : Bool → Expected → Data → Bool
+is_as_expected ranged expected.Object d = is_some (as_object d)
+is_as_expected ranged expected.Version d = is_number ranged 1 max_version d
+is_as_expected ranged expected.Stripes d = is_number ranged 1 max_stripes d
+is_as_expected ranged expected.Entries d = is_array ranged max_entries d
+is_as_expected ranged expected.Entry d = is_some (elements_of d)
+is_as_expected ranged expected.EntryName d = is_named is_entry_name (as_str d)
+is_as_expected ranged expected.OpName d = is_named is_op_name (as_str d)
+is_as_expected ranged expected.OldOpName d = is_named is_old_op_name (as_str d)
+is_as_expected ranged expected.Caller d = is_number ranged 0 max_caller d
+is_as_expected ranged expected.Number d = is_some (whole_number d)
+is_as_expected ranged expected.NumberOrNull d = is_some (optional d)
 
 -- Whether the value at a place is as expected. If None is expected, there must be no value.
 abbrev pub is_met : Bool → Option Expected → Option Data → Bool
 is_met ranged None None = true
 is_met ranged None (Some d) = false
 is_met ranged (Some e) None = false
-is_met ranged (Some e) (Some d) = is_of ranged e d
+is_met ranged (Some e) (Some d) = is_as_expected ranged e d

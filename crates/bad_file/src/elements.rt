@@ -4,7 +4,7 @@
 ghost use Rattle.std.specs.Prelude.{◌≡◌, ◌++◌, IfOk, MatchOption, OnOk, IsSome, map, reverse};
 ghost use Rattle.serde_json.specs.View.{view};
 ghost use Rattle.bad_file.specs.Flaws.{IsFault, entry_in};
-ghost use Rattle.bad_file.specs.Following.{after, after_entry_name, after_op_name, op_name};
+ghost use Rattle.bad_file.specs.Following.{expected_after, after_entry_name, after_op_name, op_name};
 
 use crate::expected::Expected;
 use crate::values::is_of;
@@ -21,8 +21,8 @@ fn op_name(is_old: bool) -> Expected
     }
 }
 
-/// Pushes the elements that are expected after the word of an entry. The last of the stack is
-/// expected next.
+/// Pushes the elements that are expected after the word of an entry. The last element of the stack
+/// is expected next.
 fn push_after_entry_name(
     stack: &mut Vec<Expected>,
     is_old: bool,
@@ -70,7 +70,7 @@ fn push_after(
     value: &Value,
 ) -> Result<(), AllocError>
     ensures { OnOk result (reverse stack.new.items
-        ≡ after is_old expected (view value.now) ++ reverse stack.old.items) }
+        ≡ expected_after is_old expected (view value.now) ++ reverse stack.old.items) }
 {
     let Some(word) = value.as_str() else {
         return Ok(());
@@ -84,7 +84,8 @@ fn push_after(
 
 /// The first fault in elements that are no entry: the index of the element at fault, and the value
 /// that is expected there (`None` if no value is allowed). Answers `None` if the elements are an
-/// entry. Version 1 lacks some entries. The range of callers counts only if it is asked for.
+/// entry. If `is_old` is true, an entry counts only if it is allowed in version 1. If `ranged` is
+/// true, an entry counts only if its callers are in range.
 ///
 /// # Errors
 ///

@@ -5,7 +5,7 @@ ghost use Rattle.std.specs.Prelude.{◌≡◌, ℕ, map, option_map, slice_get, 
 ghost use Rattle.serde_json.specs.Data.{Data};
 ghost use Rattle.serde_json.specs.View.{view};
 ghost use Rattle.piece_files.specs.Elements.{elements_of};
-ghost use Rattle.bad_file.specs.Flaws.{AreEntries, IsEntry, IsFlawAt, IsFlawOfEntry, Tells, TellsOf, flaw_at, flaw_in_members, is_old_file};
+ghost use Rattle.bad_file.specs.Flaws.{AreEntries, IsEntry, IsFlawAt, IsFlawOfEntry, TellsFlaw, TellsOf, flaw_at, flaw_in_members, is_old_file};
 ghost use Rattle.bad_file.specs.Meets.{is_met};
 ghost use Rattle.bad_file.specs.Places.{at, entries_of, entry_at};
 
@@ -21,7 +21,7 @@ use std::alloc::{AllocError, Global};
 /// The length that a file may have, in bytes.
 const MAX_BYTES: usize = 16_777_216;
 
-/// Whether a value is as expected. Its range counts only if it is asked for.
+/// Whether a value is as expected. Its range counts only if `ranged` is true.
 fn is_met(ranged: bool, expected: Expected, value: Option<&Value>) -> bool
     ensures { result ≡ is_met ranged (Some expected) (option_map (λ v. view v.now) value.entry) }
 {
@@ -31,7 +31,7 @@ fn is_met(ranged: bool, expected: Expected, value: Option<&Value>) -> bool
     }
 }
 
-/// The flaw of a place that has this value, if it is not as expected.
+/// The flaw of a place that has this value, if the value is not as expected.
 #[tactic(auto, using(crate::proofs::Places::flaw_none, crate::proofs::Places::flaw_some))]
 fn flaw_at(ranged: bool, place: Place, value: Option<&Value>, expected: Expected) -> Option<Flaw>
     ensures { (d : Data) → at place d ≡ option_map (λ v. view v.now) value.entry
@@ -158,7 +158,7 @@ fn entries_in(file: &Value) -> Option<&[Value]>
     elements_in(file.get("entries")?)
 }
 
-/// The flaw of a file in JSON.
+/// The flaw of a file that is JSON, if it has one.
 ///
 /// # Errors
 ///
@@ -204,7 +204,7 @@ fn flaw_in_value(alloc: Global, file: &Value) -> Result<Option<Flaw>, AllocError
 /// Time and memory in proportion to the bytes: the JSON value of the whole file is kept. Small
 /// objects take the most, about 110 bytes for each byte of the file.
 pub fn flaw_in(alloc: Global, bytes: &[u8]) -> Result<Option<Flaw>, AllocError>
-    ensures { IfOk result (Tells bytes.now) }
+    ensures { IfOk result (TellsFlaw bytes.now) }
 {
     if bytes.len() > MAX_BYTES {
         return Ok(Some(Flaw::TooLong));

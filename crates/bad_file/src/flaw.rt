@@ -9,12 +9,12 @@ use crate::found::Found;
 use crate::place::Place;
 use std::fmt;
 
-/// The flaw of a history file. It is printed as one line without its line feed.
+/// The flaw of a history file. A flaw is printed as one line, without a line feed.
 #[derive(Clone, Copy, Debug, PartialEq, Eq)]
 pub enum Flaw {
-    /// It has more than 16,777,216 bytes.
+    /// The file has more than 16,777,216 bytes.
     TooLong,
-    /// It is no JSON, or nests too deep, or a number in it is too large for a float.
+    /// The file is no JSON, or nests too deep, or has a number that is too large for a float.
     NotJson {
         /// The line where the fault shows, counted from 1.
         line: usize,

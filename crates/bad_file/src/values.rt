@@ -5,7 +5,7 @@ ghost use Rattle.std.specs.Prelude.{◌≡◌, map, is_some, option_map};
 ghost use Rattle.piece_files.specs.Elements.{elements_of, optional};
 ghost use Rattle.serde_json.specs.Find.{as_str};
 ghost use Rattle.serde_json.specs.View.{view};
-ghost use Rattle.bad_file.specs.Meets.{is_array, is_entry_name, is_named, is_number, is_of, is_op_name, is_old_op_name};
+ghost use Rattle.bad_file.specs.Meets.{is_array, is_entry_name, is_named, is_number, is_as_expected, is_op_name, is_old_op_name};
 
 use crate::expected::Expected;
 use serde_json::Value;
@@ -17,7 +17,7 @@ const MAX_VERSION: u64 = 3;
 /// How many entries a file may have.
 const MAX_ENTRIES: usize = 1_000_000;
 
-/// The elements of an array.
+/// The elements of a value that is an array.
 pub(crate) fn elements_in(value: &Value) -> Option<&[Value]>
     ensures { option_map (λ values. map view values.now) result ≡ elements_of (view value.now) }
 {
@@ -120,9 +120,9 @@ fn is_old_op_word(value: &Value) -> bool
     }
 }
 
-/// Whether a value is what is expected. Its range counts only if it is asked for.
+/// Whether a value is what is expected. Its range counts only if `ranged` is true.
 pub(crate) fn is_of(ranged: bool, expected: Expected, value: &Value) -> bool
-    ensures { result ≡ is_of ranged expected (view value.now) }
+    ensures { result ≡ is_as_expected ranged expected (view value.now) }
 {
     match expected {
         Expected::Object => value.is_object(),

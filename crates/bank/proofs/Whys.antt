@@ -1,4 +1,4 @@
--- The reason why nothing was moved, as it is said of the map before the transaction.
+-- The reason why nothing was moved, in terms of the map before the transaction.
 use Rattle.std.proofs.Common.{◌≡◌, ◌<◌, ◌≤◌, ◌+◌, ◌^◌, ℕ, refl, subst, sym}
 use Rattle.std.specs.Prelude.{Result, Ok, Err, IfErr}
 use Rattle.txn_words.specs.declared.step.Step.TheVariants.{Begin, Commit}
@@ -6,7 +6,7 @@ use Rattle.txn_trace.specs.Now.{now}
 use Rattle.map_answers.specs.declared.stop.Stop.{Stop}
 use Rattle.boost_core.specs.State.{State}
 use Rattle.owned_map.specs.Effects.{HasBegun, IsStopped}
-use Rattle.owned_map.specs.Within.{IsBeside}
+use Rattle.owned_map.specs.Within.{OnlyWorked}
 use Rattle.owned_map.proofs.Only.{after, same}
 use Rattle.bank.specs.declared.NotMoved.{NotMoved}
 use Rattle.bank.specs.declared.NotMoved.TheVariants.{TooLittle, TooMuch, Stopped}
@@ -23,7 +23,7 @@ at_begin c from to sum stop why old new is stopped = subst (λ w. IsWhy c from t
     (record { before = old; beside = same c old old refl; step = Begin c; whose = refl; after = new; is = stopped })
 
 -- The commit was stopped.
-pub at_commit : (c from to sum : ℕ) (stop : Stop) (why : NotMoved) (old done left : State) → why ≡ Stopped stop → IsBeside c old done → IsStopped done (Commit c) stop left → IsWhy c from to sum why old
+pub at_commit : (c from to sum : ℕ) (stop : Stop) (why : NotMoved) (old done left : State) → why ≡ Stopped stop → OnlyWorked c old done → IsStopped done (Commit c) stop left → IsWhy c from to sum why old
 at_commit c from to sum stop why old done left is beside stopped = subst (λ w. IsWhy c from to sum w old) (sym is)
     (record { before = done; beside = beside; step = Commit c; whose = refl; after = left; is = stopped })
 

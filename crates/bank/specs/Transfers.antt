@@ -8,7 +8,7 @@ use Rattle.boost_core.specs.Refusals.{owner_of}
 use Rattle.boost_core.specs.declared.owner.Owner.TheVariants.{Caller}
 use Rattle.boost_core.specs.State.{State}
 use Rattle.owned_map.specs.Effects.{IsStopped}
-use Rattle.owned_map.specs.Within.{IsBeside}
+use Rattle.owned_map.specs.Within.{OnlyWorked}
 use Rattle.bank.specs.declared.NotMoved.{NotMoved}
 use Rattle.bank.specs.declared.NotMoved.TheVariants.{TooLittle, TooMuch, Stopped}
 
@@ -27,7 +27,7 @@ pub record IsTransfer (from to sum : ℕ) (old new : Map) : Type 0 where
 -- anything and nothing was committed.
 pub record WasStopped (c : ℕ) (stop : Stop) (old : State) : Type 0 where
   pub before : State
-  pub beside : IsBeside c old before
+  pub beside : OnlyWorked c old before
   pub step : Step
   pub whose : owner_of step ≡ Some (Caller c)
   pub after : State

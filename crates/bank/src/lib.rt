@@ -1,7 +1,8 @@
 //! A bank in a transactional map: a key is an account, and its value is the account's balance.
 //!
 //! An example of a caller of `owned_map`. Proved: a transfer moves a sum between two accounts and
-//! touches no other, or leaves the map unchanged; and no other caller's transaction is touched.
+//! touches no other account, or it leaves the map unchanged. No other caller's transaction is
+//! touched.
 #![tactic(auto)]
 
 ghost use Rattle.std.specs.Prelude.{◌≡◌, ◌≢◌, IfErr, IfOk, OnOk, OnErr};

@@ -58,8 +58,8 @@ pub(crate) fn put(
     }
 }
 
-/// The value of the node with this sort key, sought from a dummy; a dummy has the value 0. Unlinks
-/// the marked nodes that it passes.
+/// The value of the node with this sort key; a dummy has the value 0. The search starts at the
+/// dummy `from`, and unlinks the marked nodes that it passes.
 pub(crate) fn value_of(list: &mut NodeList, from: NodeRef, at: SortKey) -> Option<u64> {
     if !is_start(list, from, at) {
         return None;
@@ -71,7 +71,7 @@ pub(crate) fn value_of(list: &mut NodeList, from: NodeRef, at: SortKey) -> Optio
     }
 }
 
-/// Writes the value of the regular node with this sort key, and answers the one that it had.
+/// Writes a value into the regular node with this sort key, and answers the node's former value.
 pub(crate) fn write(list: &mut NodeList, from: NodeRef, at: SortKey, value: u64) -> Option<u64> {
     if !is_start(list, from, at) {
         return None;

@@ -1,6 +1,6 @@
 //! Times the core, one step after the other: puts on few keys, or the steps of a step file. There
-//! are no threads here, no lock and no tokens, unlike in `shared_runs`. The sum of the answers can
-//! be compared with that of another program; it is made after the clock has stopped.
+//! are no threads here, no lock and no tokens, unlike in `shared_runs`. The sum of the answers is
+//! made after the clock has stopped. It can be compared with the sum of another program.
 use crate::keys::number_at;
 use crate::stopwatch::{Lap, Stopwatch};
 use anyhow::{Context, Result, anyhow};
@@ -11,10 +11,10 @@ use std::rt::{Clock, Runtime};
 use txn_files::read_steps;
 use txn_words::{Answer, Limits, Op, Step, answer_text};
 
-/// The number of keys of the steps, if no file names any.
+/// The number of keys that the steps use, if there is no step file.
 const HOT_KEYS: u64 = 64;
 
-/// This number of transactions of caller 0, each of one put.
+/// The steps of `puts` transactions of caller 0, each of one put.
 fn put_steps(alloc: Global, puts: u64) -> Result<Vec<Step>, AllocError> {
     let mut steps = Vec::new(alloc);
     for position in 0..puts {
@@ -35,7 +35,7 @@ fn sum_with(sum: u64, byte: u8) -> u64 {
     (sum ^ u64::from(byte)).wrapping_mul(0x0100_0000_01b3)
 }
 
-/// A number that differs if the lines of the answers differ, except by chance.
+/// A hash of the answers, each written as a line.
 fn sum_of(alloc: Global, answers: &[Answer]) -> Result<u64, AllocError> {
     let mut sum = 0xcbf2_9ce4_8422_2325;
     for answer in answers {
@@ -48,8 +48,8 @@ fn sum_of(alloc: Global, answers: &[Answer]) -> Result<u64, AllocError> {
     Ok(sum)
 }
 
-/// Runs the steps on a new core, which is made before the clock starts, and answers the time and
-/// the answers.
+/// Runs the steps on a new core. Answers the time that this took, and the core's answers. The core
+/// is made before the clock starts.
 fn run_timed<R: AllocGlobal + Clock>(
     rt: &R,
     limits: Limits,
@@ -73,8 +73,8 @@ fn report<R: AllocGlobal + Eprint>(
     Ok(())
 }
 
-/// Runs the steps twice: the first run has to take its memory from the system, and the second one
-/// finds it there.
+/// Runs the steps twice. The first run has to take its memory from the system, and the second run
+/// reuses that memory.
 fn time_runs<R: AllocGlobal + Clock + Eprint>(
     rt: &R,
     limits: Limits,
@@ -94,7 +94,7 @@ pub(crate) fn time_puts<R: AllocGlobal + Clock + Eprint>(rt: &R, puts: u64) -> R
     time_runs(rt, limits, &steps)
 }
 
-/// Times the steps of a step file, and before them the reading of the file's bytes as steps.
+/// Times the reading of a step file's bytes as steps, and then the steps.
 pub(crate) fn time_file<R: Runtime + AllocGlobal>(rt: &R, file: &str) -> Result<()> {
     let bytes = fs::read(rt, file).context("the step file")?;
     let watch = Stopwatch::start(rt)?;

@@ -3,20 +3,20 @@
 //! atomic words.
 //!
 //! Each phase writes one line on standard error: what it did, the number of operations, the time,
-//! and the sum of their answers, by which another program that does the same can be compared. Three
-//! kinds of lines have another number in place of the sum: the shared map writes the number of
-//! commits, the reading of a step file the number of bytes, and the words the number of granted
-//! takes. The striped map writes how many transactions it does a second, the processor time of one,
-//! and the outcomes. Nothing is written on standard output.
+//! and the sum of the operations' answers. By its sum a phase can be compared with another program
+//! that does the same. Three kinds of lines have another number in place of the sum: the shared map
+//! writes the number of commits, the reading of a step file the number of bytes, and the words the
+//! number of granted takes. The striped map writes how many transactions it does a second, the
+//! processor time of one, and the outcomes. Nothing is written on standard output.
 //!
-//! The first argument is `nodes`, `maps`, `core`, `shared`, `words` or `striped`, for only that
-//! part, or `all`, which is the default. For all parts but `striped`, the second argument is the
-//! number of keys (`nodes` and `maps`), of puts (`core` and `shared`) or of takes of each thread
-//! (`words`); without it, 10,000. Three parts have a third argument:
+//! The first argument names the part to run: `nodes`, `maps`, `core`, `shared`, `words` or
+//! `striped`. The default, `all`, runs all parts. For all parts but `striped`, the second argument
+//! is the number of keys (`nodes` and `maps`), of puts (`core` and `shared`) or of takes of each
+//! thread (`words`); the default is 10,000. Three parts have a third argument:
 //!
 //! - `core`: a step file, whose steps the core takes in place of puts on few keys.
 //! - `shared`: a script file, whose scripts are run in place of puts on few keys.
-//! - `words`: the number of threads, up to 64; without it, two.
+//! - `words`: the number of threads, up to 64; the default is two.
 //!
 //! With `all`, these three are the third, the fourth and the fifth argument. `striped` is followed
 //! by the numbers of threads, keys, transactions of each thread and stripes, or by the first few of

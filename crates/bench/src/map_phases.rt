@@ -1,6 +1,7 @@
 //! Times the table beside the sorted map and the hash map of std: each is filled with the keys, and
-//! then does a mix of operations. The table is timed twice, with different largest sizes, since it
-//! stops growing at its largest. `docs/speed/growth.sh` compares the times with plain Rust.
+//! then does a mix of operations. The table is timed twice, with different largest sizes, since a
+//! table stops growing at its largest size. `docs/speed/growth.sh` compares the times with plain
+//! Rust.
 use crate::any_map::{AnyMap, store_bucket};
 use crate::keys::number_at;
 use crate::stopwatch::Stopwatch;
@@ -74,7 +75,8 @@ fn large_table(alloc: Global) -> Result<Table, AllocError> {
     Table::new(alloc, MANY_BUCKETS, 1)
 }
 
-/// Times a new table, which has two buckets, the first of them stored.
+/// Times a new table. It has two buckets, and only the first is stored; so the second is stored
+/// before the clock starts.
 fn time_table<R: Clock + Eprint>(
     rt: &R,
     name: &str,
@@ -86,8 +88,8 @@ fn time_table<R: Clock + Eprint>(
     time_map(rt, name, table, keys, operations)
 }
 
-/// Times the table at two largest sizes, the sorted map and the hash map of the standard library,
-/// one after the other.
+/// Times two tables with different largest sizes, and the sorted map and the hash map of the
+/// standard library, one after the other.
 pub(crate) fn time_maps<R: AllocGlobal + Clock + Eprint>(
     rt: &R,
     keys: u64,

@@ -1,6 +1,6 @@
-//! Keys in a list of nodes, which are sought from the dummies of a fixed number of buckets. All
-//! dummies are linked when the table is made. So the later phases time only nodes and cursors: no
-//! bucket is stored in them, and no table doubles.
+//! A list of nodes, in which a key is sought from the dummy of its bucket. The number of buckets is
+//! fixed. All dummies are linked when the table is made. So the later phases time only nodes and
+//! cursors: no bucket is stored in them, and no table doubles.
 use crate::at_split::{put, take, value_of, write};
 use list_steps::{SweepOutcome, sweep};
 use node_list::{Kind, NodeList, NodeRef, SpareFault};
@@ -17,7 +17,8 @@ pub(crate) struct NodeTable {
     dummies: Vec<NodeRef>,
 }
 
-/// Puts the dummies of all buckets into a new list, each sought from its parent's.
+/// Puts the dummies of all buckets into a new list. Each dummy's place is sought from the dummy of
+/// the parent bucket.
 fn put_dummies(list: &mut NodeList, dummies: &mut Vec<NodeRef>) -> Result<(), SpareFault> {
     let head = list.head();
     dummies.push(head).map_err(|_| SpareFault::NoMemory)?;
@@ -32,7 +33,7 @@ fn put_dummies(list: &mut NodeList, dummies: &mut Vec<NodeRef>) -> Result<(), Sp
 }
 
 impl NodeTable {
-    /// The dummies of all buckets, each sought from its parent's.
+    /// A new list with the dummies of all buckets.
     pub(crate) fn new(alloc: Global) -> Result<NodeTable, SpareFault> {
         let mut list = NodeList::new(alloc, 0).map_err(|_| SpareFault::NoMemory)?;
         let mut dummies = Vec::new(alloc);
@@ -48,7 +49,7 @@ impl NodeTable {
         }
     }
 
-    /// Puts in a key that is not there, and says whether it did.
+    /// Puts a key in, unless it is there already. Answers whether the key was put in.
     pub(crate) fn insert(&mut self, key: Key, value: u64) -> Result<bool, SpareFault> {
         let from = self.dummy_of(key);
         let node = put(
@@ -61,13 +62,13 @@ impl NodeTable {
         Ok(node.is_some())
     }
 
-    /// The value of a key. Unlinks the marked nodes that it passes.
+    /// The value of a key. The search unlinks the marked nodes that it passes.
     pub(crate) fn get(&mut self, key: Key) -> Option<u64> {
         let from = self.dummy_of(key);
         value_of(&mut self.list, from, SortKey::regular(key))
     }
 
-    /// Writes the value of a key that is there, and answers the one that it had.
+    /// Writes a new value at a key that is there, and answers the former value.
     pub(crate) fn swap(&mut self, key: Key, value: u64) -> Option<u64> {
         let from = self.dummy_of(key);
         write(&mut self.list, from, SortKey::regular(key), value)

@@ -13,10 +13,10 @@ use thread_runs::{Open, run_scripts};
 use txn_files::read_scripts;
 use txn_words::{Action, Entry, Limits, Op, Script, SmallEntry, Unpacked};
 
-/// The number of keys of the scripts, if no file names any.
+/// The number of keys that the scripts use, if there is no script file.
 const HOT_KEYS: u64 = 64;
 
-/// How often a script is tried again at most.
+/// The largest number of times that a script is tried again.
 const TRIES: u64 = 1000;
 
 /// This number of scripts, each of one put.
@@ -60,7 +60,7 @@ fn time_run<R: Runtime + AllocGlobal + Threads + Wait + Sync>(
     Ok(())
 }
 
-/// Times scripts of one put each by two workers, on few keys.
+/// Times two workers that run scripts of one put each, on few keys.
 pub(crate) fn time_put_scripts<R: Runtime + AllocGlobal + Threads + Wait + Sync>(
     rt: &R,
     puts: u64,

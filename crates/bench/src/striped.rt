@@ -42,8 +42,8 @@ impl Dice {
     }
 }
 
-/// A thread's caller, and the outcomes of its transactions. Two of them, side by side in a list,
-/// share no cache line.
+/// A thread's caller, and the outcomes of its transactions. Two workers that are side by side in a
+/// list share no cache line.
 #[derive(Drop)]
 struct Worker {
     caller: Caller,
@@ -65,7 +65,8 @@ fn operate(caller: &mut Caller, op: Op) -> std::result::Result<Reply, Stop> {
     }
 }
 
-/// One transaction of these operations, and the sum of their answers.
+/// Runs these operations as one transaction, which then commits or aborts. Answers the sum of the
+/// replies.
 fn transact(caller: &mut Caller, ops: &[Op; 4], aborts: bool) -> std::result::Result<u64, Stop> {
     let mut sum = 0u64;
     caller.begin()?;
@@ -208,8 +209,9 @@ fn time_workers<R: Threads + Wait + Sync + Clock + CpuClock + Eprint>(
     Ok(())
 }
 
-/// Has each of `threads` threads do `transactions` transactions, and writes one line on standard
-/// error: how many they do a second, the processor time of one, and the outcomes.
+/// Runs `threads` threads, each of which does `transactions` transactions. Writes one line on
+/// standard error: the number of transactions a second, the processor time of one, and the
+/// outcomes.
 pub(crate) fn time_striped<R: Threads + Wait + Sync + AllocGlobal + Clock + CpuClock + Eprint>(
     rt: &R,
     threads: u64,

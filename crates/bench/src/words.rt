@@ -17,11 +17,11 @@ use std::time::{Clock, Instant};
 /// The number of stripes.
 const STRIPES: u64 = 4096;
 
-/// From one take to the next a thread goes on by this number times the number of threads, so that
-/// the two stripes are not side by side.
+/// From one take to the next, the stripe of a thread rises by this number times the number of
+/// threads. So two stripes that a thread takes one after the other are not side by side.
 const STRIDE: u64 = 1021;
 
-/// A thread's seat at the words. Two of them, side by side in a list, share no cache line.
+/// A thread's seat at the words. Two takers that are side by side in a list share no cache line.
 #[derive(Drop)]
 struct Taker {
     words: Arc<KeyWords, Global>,
@@ -98,8 +98,8 @@ fn run_all<R: Threads + Wait + Sync>(rt: &R, takers: &mut [Taker], takes: u64) {
     });
 }
 
-/// Has each of `threads` threads, 1 to 64, do `takes` takes, and writes one line on standard error:
-/// the time of a take and a give together, and how many takes were granted.
+/// Runs `threads` threads, 1 to 64, each of which does `takes` takes. Writes one line on standard
+/// error: the time of a take and a give together, and how many takes were granted.
 pub(crate) fn time_words<R: Threads + Wait + Sync + AllocGlobal + Clock + Eprint>(
     rt: &R,
     threads: u64,

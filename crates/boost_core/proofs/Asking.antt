@@ -1,9 +1,9 @@
--- An operation that is asked for.
--- When stripes are words, a right may be stale, and a word may name a caller or none.
+-- The outcomes of an ask: the operation waits, the stripe has another holder, the ask is refused
+-- memory or a stamp, or the claim is stale. A savepoint that is refused memory is here too.
 use Rattle.std.proofs.Common.{◌≡◌, ℕ, ◌+◌, ◌-◌, ◌^◌, ◌<◌, ◌==◌, ◌||◌, true, false, cond, List, [], ◌++◌, length, Option, Some, None, refl, sym, ap, subst, ◌∙◌, arith, slice_get, slice_set, map, nat_eq, not, eq-eqb, ne_eqb, append-nil, inl, inr, ◌⊎◌, option_map, Bool}
-use Rattle.boost_core.proofs.Vocabulary.{option_eq, slice_get_within, Op, Refusal, key_of, takes_node, PendingAt, Step, serial, now, Opened, Waiting, LeavingToEnd, RoomySeat, TableAt, cursor_changes, map_of, nodes_of, false≢true, cases_eq, and_from, or_right, Now, stripe_of, is_locked, holder_of, same_is, is_locked-asked, is_locked-busy, Prepares, IsRefused, entries_of, held_by, Session, Owner, Caller, Helper, holder_by, refusal_of, has_stamp_for, MayLack, times_of, times_in, IsCovered, World, Tells, IsFresh, state_of, session_changes, gap_if, may_stand, Move, Claim, Lock, Goes, Side, side_of, KeepsPlaced, times_kept, StaysIn, AsksIn, MeetsIn, NoMemory, StampsUsedUp, Ask, Save, log_of, last_of, or_left, StaleWord, Right, Held, Stale, is_taken, nodes_at, gap_by, helper_gaps_of, KeepsNodes}
+use Rattle.boost_core.proofs.Vocabulary.{option_eq, slice_get_within, Op, Refusal, key_of, takes_node, PendingAt, Step, serial, now, Opened, Waiting, LeavingToEnd, RoomySeat, TableAt, cursor_changes, map_of, nodes_of, false≢true, cases_eq, and_from, or_right, Now, stripe_of, is_locked, holder_of, same_is, is_locked-asked, is_locked-busy, Prepares, IsRefused, entries_of, held_by, Session, Owner, Caller, Helper, holder_by, refusal_of, has_stamp_for, MayLack, times_of, times_in, IsCovered, World, Tells, LastPlacedFits, state_of, session_changes, gap_if, may_stand, Move, Claim, Lock, Goes, Side, side_of, KeepsPlaced, times_kept, StaysIn, AsksIn, MeetsIn, NoMemory, StampsUsedUp, Ask, Save, log_of, last_of, or_left, StaleWord, Right, Held, Stale, is_taken, nodes_at, gap_by, helper_gaps_of, KeepsNodes}
 use Rattle.boost_core.proofs.Numbers.{no_more}
-use Rattle.boost_core.proofs.Moves.{Runs, changes_same, gaps_same, lacks, none_dropped, runs_same, state_is, nodes_runs}
+use Rattle.boost_core.proofs.Moves.{changes_same, gaps_same, lacks, none_dropped, state_is}
 use Rattle.boost_core.proofs.Grow.{Stays, world_after, seated_as, set_cases}
 use Rattle.boost_core.proofs.Outcomes.{Comes, Called, CalledBy, entered, idle_cursor, nothing_waits, quiet}
 use Rattle.boost_core.proofs.Spares.{spent, given_for, open_to, nodes_then, buckets_same}
@@ -17,7 +17,8 @@ module _ (w : World) (tells : Tells w) (c : ℕ) (x : Session) (at : slice_get w
   -- The cursor that was placed last still fits if the nodes, the buckets and the caller's cursor
   -- are unchanged.
   pub fresh_kept : (y : Session) → y.cursor ≡ x.cursor → (t' : TableAt) → nodes_of t' ≡ nodes_of w.table → t'.buckets ≡ w.table.buckets
-      → (seat' : RoomySeat) (o : Option Owner) → IsFresh w.table w.sessions o → IsFresh t' (slice_set w.sessions c (seated_as y seat')) o
+      → (seat' : RoomySeat) (o : Option Owner) → LastPlacedFits w.table w.sessions o
+      → LastPlacedFits t' (slice_set w.sessions c (seated_as y seat')) o
   fresh_kept y same t' nodes buckets seat' None fresh = tt
   fresh_kept y same t' nodes buckets seat' (Some (Helper d)) fresh = same_helper w.table t' d nodes buckets ∙ fresh
   fresh_kept y same t' nodes buckets seat' (Some (Caller d)) fresh =
@@ -96,10 +97,6 @@ module _ (w : World) (tells : Tells w) (c : ℕ) (x : Session) (at : slice_get w
         (given_for w.table t' (takes_node op) pending.spare prepares.given).covered (λ p s. others p s + times_in x.log.jobs p s)
         (λ p s. omega (arith, rw nothing at (covered p s)))
 
-    prepared_runs : (t' : TableAt) (pending : PendingAt) → Prepares w.table t' op pending → Runs w.table t'
-    prepared_runs t' pending prepares =
-        let gives = given_for w.table t' (takes_node op) pending.spare prepares.given in nodes_runs w.table t' prepares.nodes gives.rises gives.most
-
     -- The stripe is free or the caller's, and the operation waits.
     module _ (y : Session) (t' : TableAt) (locks' : List (Option ℕ)) (asks : AsksIn c stripe op x w.table w.locks y t' locks') (keeps : KeepsPlaced w.table t') (within : stripe < w.limits.stripes) where
       abbrev holder : ℕ → Option ℕ
@@ -129,7 +126,7 @@ module _ (w : World) (tells : Tells w) (c : ℕ) (x : Session) (at : slice_get w
             and_from (has_stamp_for (state_of w) op) (may_stand (state_of w) (entry.Asked c op))
                 (given_for w.table t' (takes_node op) asks.pending.spare asks.prepares.given).stamped locked,
           )
-          (prepared_runs t' asks.pending asks.prepares) (λ kept. asks.prepares.nodes.changes)
+          asks.prepares.nodes.linked
           (record {
             seat = record { phase = Waiting op; standing = x.seat.seat.standing; kept = x.seat.seat.kept };
             committed = serial w.history;
@@ -170,11 +167,6 @@ module _ (w : World) (tells : Tells w) (c : ℕ) (x : Session) (at : slice_get w
       busy_kept : KeepsNodes w.table t'
       busy_kept = nodes_then w.table meets.between t' meets.prepares.nodes meets.back.nodes
 
-      pub busy_runs : Runs w.table t'
-      busy_runs =
-          let was = prepared_runs meets.between meets.pending meets.prepares in
-          nodes_runs w.table t' busy_kept (omega (arith, meets.back.last, was.last)) (omega (arith, meets.back.last, was.one_last))
-
       pub busy_covered : (others : ℕ → ℕ → ℕ) → IsCovered (λ place stamp. others place stamp + times_kept (side_of x) place stamp) w.table → IsCovered (λ place stamp. others place stamp + times_kept (side_of x) place stamp) t'
       busy_covered others covered place stamp =
           rw nothing (omega (arith, spent meets.between t' meets.pending.spare (λ p s. others p s + times_in x.log.jobs p s) meets.back.spares (spares_before meets.between meets.pending meets.prepares others covered) place stamp))
@@ -184,7 +176,7 @@ module _ (w : World) (tells : Tells w) (c : ℕ) (x : Session) (at : slice_get w
           entered w c x y t' locks' (Ask c op) (answers.Busy holder) (entry.Busy c op holder)
           (map session_changes w.sessions) refl refl refl (none_dropped w.sessions c x at no_cursor_there)
           (none, and_from (w.words || has_stamp_for (state_of w) op) (may_stand (state_of w) (entry.Busy c op holder)) (or_right w.words (has_stamp_for (state_of w) op) busy_stamped) (stands words))
-          busy_runs (λ kept. busy_kept.changes)
+          busy_kept.linked
           (record {
             seat = record { phase = LeavingToEnd; standing = x.seat.seat.standing; kept = x.seat.seat.kept };
             committed = serial w.history;
@@ -234,7 +226,7 @@ module _ (w : World) (tells : Tells w) (c : ℕ) (x : Session) (at : slice_get w
       stale_state : (seat' : RoomySeat) → state_of (world_after w c (seated_as y seat') (w.history ++ []) w.counts t' locks' w.placed)
           ≡ record (state_of w) { stamp = last_of t'; nodes = nodes_at t'; gaps = map (gap_by t') (slice_set w.sessions c (seated_as y seat')); helper_gaps = helper_gaps_of t' }
       stale_state seat' =
-          state_is w (w.history ++ []) w.history w.counts t' (map session_changes w.sessions) (slice_set w.sessions c (seated_as y seat')) locks' w.placed busy_runs (append-nil w.history)
+          state_is w (w.history ++ []) w.history w.counts t' (map session_changes w.sessions) (slice_set w.sessions c (seated_as y seat')) locks' w.placed busy_kept.buckets busy_kept.linked (append-nil w.history)
           (changes_same w.sessions c x (seated_as y seat') at (ap (λ (s : Side). option_map cursor_changes s.cursor) meets.becomes))
           ∙ ap (λ (noted : ℕ). record (state_of w) { changes = noted; stamp = last_of t'; nodes = nodes_at t'; gaps = map (gap_by t') (slice_set w.sessions c (seated_as y seat')); helper_gaps = helper_gaps_of t' }) busy_kept.changes
 
@@ -246,8 +238,6 @@ module _ (w : World) (tells : Tells w) (c : ℕ) (x : Session) (at : slice_get w
           free = none;
           stale = and_from (has_stamp_for (state_of w) op) (is_taken (state_of w) c op) busy_stamped taken;
           state = stale_state seat';
-          stamp = busy_runs.last;
-          one_stamp = busy_runs.one_last;
         });
         fresh = λ seat'. fresh_kept y
             (ap (λ (s : Side). s.cursor) meets.becomes) t' busy_kept.all busy_kept.buckets.all seat' w.placed tells.fresh;
@@ -262,7 +252,7 @@ module _ (w : World) (tells : Tells w) (c : ℕ) (x : Session) (at : slice_get w
           none,
           and_from (w.words || has_stamp_for (state_of w) op) (may_stand (state_of w) (entry.Busy c op named))
               (or_left w.words (has_stamp_for (state_of w) op) words) stands,
-        ) (runs_same w.table) (λ kept. refl)
+        ) refl
         (quiet w tells c x at (entry.Busy c op named) x
         (record { phase = LeavingToEnd; standing = x.seat.seat.standing; kept = x.seat.seat.kept }) x.log.kept (log_of c w.history)
         (serial w.history) (λ s. holder_of w.limits.stripes s w.history) w.locks w.counts
@@ -274,5 +264,5 @@ module _ (w : World) (tells : Tells w) (c : ℕ) (x : Session) (at : slice_get w
     -- If the word names no caller that may hold the stripe, the ask is refused and nothing changes.
     pub word_stale_called : CalledBy Stale w c x (Ask c op) (answers.Refused StaleWord) x w.table w.locks
     word_stale_called = lacking_called Stale (Ask c op) StaleWord
-        (inl (record { refused = refl; free = none; stale = refl; state = refl; stamp = omega arith; one_stamp = omega arith }))
+        (inl (record { refused = refl; free = none; stale = refl; state = refl }))
         opened x (record { becomes = refl }) refl

@@ -1,6 +1,6 @@
 -- The outcome of each step of a caller.
-use Rattle.std.proofs.Common.{◌≡◌, ℕ, ◌+◌, ◌-◌, ◌^◌, ◌<◌, ◌≤◌, Bool, true, false, List, Option, Some, None, is_some, refl, sym, ap, subst, ◌∙◌, arith, slice_get, slice_set, map, inr, leb-false}
-use Rattle.boost_core.proofs.Vocabulary.{false≢true, slice_get_within, slice_get-map, Step, Answer, TableAt, table_changes, key_of, Op, stripe_of, Counts, Session, Caller, caller_changes, refusal_of, owner_of, Claim, Lock, Right, Held, Stale, IsClaim, times_in, World, Tells, state_of, session_changes, all_times, side_of, Does, ActsIn, Saves, IsAsked, AsksBy, unless_busy, KeepsPlaced, Takes, spare_if, times_kept, NoMemory}
+use Rattle.std.proofs.Common.{◌≡◌, ℕ, ◌-◌, ◌^◌, ◌<◌, ◌≤◌, Bool, true, false, List, Option, Some, None, is_some, refl, sym, ap, subst, ◌∙◌, arith, slice_get, slice_set, map, inr, leb-false}
+use Rattle.boost_core.proofs.Vocabulary.{false≢true, slice_get_within, slice_get-map, Step, Answer, TableAt, key_of, Op, stripe_of, Counts, Session, Caller, caller_changes, refusal_of, owner_of, Claim, Lock, Right, Held, Stale, IsClaim, times_in, World, Tells, state_of, session_changes, all_times, side_of, HasEffect, ActsIn, Saves, IsAsked, AsksBy, unless_busy, KeepsPlaced, MayTakeStep, spare_if, times_kept, NoMemory}
 use Rattle.boost_core.proofs.Outcomes.{Called, CalledBy}
 use Rattle.boost_core.proofs.Spares.{owns_if}
 use Rattle.boost_core.proofs.Grow.{one_of_sum}
@@ -16,7 +16,7 @@ no_words : (words : Bool) → (words ≡ true → true ≡ false) → words ≡ 
 no_words true claims = absurd (false≢true (sym (claims refl)))
 no_words false claims = refl
 
-module _ (w : World) (tells : Tells w) (x : Session) (y : Session) (t' : TableAt) (locks' : List (Option ℕ)) (keeps : KeepsPlaced w.table t') (rises : table_changes w.table ≤ table_changes t') where
+module _ (w : World) (tells : Tells w) (x : Session) (y : Session) (t' : TableAt) (locks' : List (Option ℕ)) (keeps : KeepsPlaced w.table t') where
   asked : (c : ℕ) (op : Op) → slice_get w.sessions c ≡ Some x → refusal_of (state_of w) (steps.Ask c op) ≡ None → stripe_of w.limits.stripes (key_of op) < w.limits.stripes → w.words ≡ false → (answer : Answer)
       → IsAsked c (stripe_of w.limits.stripes (key_of op)) op x w.table w.locks answer y t' locks' → Called w c x (steps.Ask c op) answer y t' locks'
   asked c op at none within words answers.Asked does = asked_called w tells c x at op none y t' locks' does keeps within
@@ -43,8 +43,8 @@ module _ (w : World) (tells : Tells w) (x : Session) (y : Session) (t' : TableAt
 
   acted : (c : ℕ) → slice_get w.sessions c ≡ Some x → refusal_of (state_of w) (steps.Act c) ≡ None → (answer : Answer) → ActsIn c x w.table w.locks answer y t' locks' → Called w c x (steps.Act c) answer y t' locks'
   acted c at none answers.Again does = rw does.2 (again_called w tells c x at none does.0 y t' does.1)
-  acted c at none (answers.Done reply) does = rw does.1 (did_called w tells c x at none reply y t' does.0 keeps rises)
-  acted c at none answers.Undone does = rw does.2 (undone_called w tells c x at none does.0 y t' does.1 keeps rises)
+  acted c at none (answers.Done reply) does = rw does.1 (did_called w tells c x at none reply y t' does.0 keeps)
+  acted c at none answers.Undone does = rw does.2 (undone_called w tells c x at none does.0 y t' does.1 keeps)
   acted c at none (answers.Returned n) does = rw (does.2, does.1.locks_stay) (returned w tells c x at none does.0 n y (rw does.1.locks_stay at does.1))
   acted c at none answers.Aborted does = rw does.2 (ended w tells c x at none does.0 y locks' does.1)
   acted c at none _ does = absurd does
@@ -54,14 +54,14 @@ module _ (w : World) (tells : Tells w) (x : Session) (y : Session) (t' : TableAt
   saved_here c at none (answers.Refused NoMemory) does table same = save_refused w tells c x at none y t' locks' does table same
   saved_here c at none _ does table same = absurd does
 
-  -- The outcome of each step that claims no word.
+  -- The outcome of each step with the claim `Lock`.
   locked : (step : Step) → slice_get w.sessions (caller_in (owner_of step)) ≡ Some x → refusal_of (state_of w) step ≡ None
       → 0 < w.limits.stripes → IsClaim Lock (state_of w) step → (answer : Answer)
-      → Does Lock w.limits.stripes w.counts step x w.table w.locks answer y t' locks'
+      → HasEffect Lock w.limits.stripes w.counts step x w.table w.locks answer y t' locks'
       → Called w (caller_in (owner_of step)) x step answer y t' locks'
   locked (steps.Begin c) at none some claims (answers.Began n) does = rw (does.2, does.3) (begun w tells c x at none n y does.0 does.1)
   locked (steps.Ask c op) at none some claims answer does = asked c op at none (grind arith) (no_words w.words claims) answer does
-  locked (steps.Seek c) at none some claims answers.Placed does = rw does.1 (sought_called w tells c x at none y t' does.0 keeps rises)
+  locked (steps.Seek c) at none some claims answers.Placed does = rw does.1 (sought_called w tells c x at none y t' does.0 keeps)
   locked (steps.Act c) at none some claims answer does = acted c at none answer does
   locked (steps.Save c) at none some claims answer does = saved_here c at none answer does.0 does.1 does.2
   locked (steps.Back c n) at none some claims answers.Leaving does = rw (does.1, does.2) (left w tells c x at n none y does.0)
@@ -71,7 +71,7 @@ module _ (w : World) (tells : Tells w) (x : Session) (y : Session) (t' : TableAt
 
   claimed : (claim : Claim) (step : Step) → slice_get w.sessions (caller_in (owner_of step)) ≡ Some x → refusal_of (state_of w) step ≡ None
       → 0 < w.limits.stripes → IsClaim claim (state_of w) step → (answer : Answer)
-      → Does claim w.limits.stripes w.counts step x w.table w.locks answer y t' locks'
+      → HasEffect claim w.limits.stripes w.counts step x w.table w.locks answer y t' locks'
       → CalledBy claim w (caller_in (owner_of step)) x step answer y t' locks'
   claimed Lock step at none some claims answer does = locked step at none some claims answer does
   claimed claim (steps.Ask c op) at none some claims answer does = asked_by claim c op at none (grind arith) claims answer does
@@ -79,14 +79,14 @@ module _ (w : World) (tells : Tells w) (x : Session) (y : Session) (t' : TableAt
 
   -- The outcome of each step, by its claim.
   pub called : (claim : Claim) (c : ℕ) (step : Step) → owner_of step ≡ Some (Caller c) → slice_get w.sessions c ≡ Some x → refusal_of (state_of w) step ≡ None → 0 < w.limits.stripes → IsClaim claim (state_of w) step → (answer : Answer)
-      → (stripes : ℕ) → stripes ≡ w.limits.stripes → Does claim stripes w.counts step x w.table w.locks answer y t' locks' → CalledBy claim w c x step answer y t' locks'
+      → (stripes : ℕ) → stripes ≡ w.limits.stripes → HasEffect claim stripes w.counts step x w.table w.locks answer y t' locks' → CalledBy claim w c x step answer y t' locks'
   called claim c step owner at none some claims answer stripes same does =
       subst (λ k. CalledBy claim w k x step answer y t' locks') (ap caller_in owner)
       (claimed claim step (subst (λ k. slice_get w.sessions k ≡ Some x) (sym (ap caller_in owner)) at) none some claims answer (rw same at does))
 
 -- If nothing refuses a step, its caller's side meets the requirements of the step.
 pub takes : (w : World) → Tells w → (c : ℕ) (x : Session) → slice_get w.sessions c ≡ Some x → (step : Step) → owner_of step ≡ Some (Caller c) → refusal_of (state_of w) step ≡ None
-    → w.limits.callers ≤ 64 → 0 < w.limits.stripes → w.counts.began < 2 ^ 63 → w.counts.committed < 2 ^ 63 → Takes w.limits.stripes w.counts step x w.table w.locks
+    → w.limits.callers ≤ 64 → 0 < w.limits.stripes → w.counts.began < 2 ^ 63 → w.counts.committed < 2 ^ 63 → MayTakeStep w.limits.stripes w.counts step x w.table w.locks
 takes w tells c x at step owner none callers some began done = record {
   goes = record {
     agrees = (tells.seated c x at).agrees;
@@ -114,9 +114,9 @@ takes w tells c x at step owner none callers some began done = record {
     most : (place stamp : ℕ) → times_kept (side_of x) place stamp ≤ all_times w.sessions place stamp
     most place stamp = one_of_sum (λ s. times_kept (side_of s) place stamp) w.sessions c x at
 
--- A step with the answer `Placed` leaves its caller a cursor.
-pub placed_cursor : (claim : Claim) (stripes : ℕ) (counts : Counts) (step : Step) (x : Session) (t : TableAt) (locks : List (Option ℕ)) (answer : Answer) (y : Session) (t' : TableAt) (locks' : List (Option ℕ)) → Does claim stripes counts step x t locks answer y t' locks' → answer ≡ answers.Placed → is_some y.cursor ≡ true
-placed_cursor claim stripes counts step x t locks answer y t' locks' does is = at step (subst (λ a. Does claim stripes counts step x t locks a y t' locks') is does)
+-- After a step with the answer `Placed`, the step's caller has a cursor.
+pub placed_cursor : (claim : Claim) (stripes : ℕ) (counts : Counts) (step : Step) (x : Session) (t : TableAt) (locks : List (Option ℕ)) (answer : Answer) (y : Session) (t' : TableAt) (locks' : List (Option ℕ)) → HasEffect claim stripes counts step x t locks answer y t' locks' → answer ≡ answers.Placed → is_some y.cursor ≡ true
+placed_cursor claim stripes counts step x t locks answer y t' locks' does is = at step (subst (λ a. HasEffect claim stripes counts step x t locks a y t' locks') is does)
   where
     not_own : (own : Answer) (c : ℕ) (op : Op) → answers.Placed ≡ unless_busy own → IsAsked c (stripe_of stripes (key_of op)) op x t locks own y t' locks' → ⊥
     not_own answers.Asked c op is does = cc is
@@ -129,7 +129,7 @@ placed_cursor claim stripes counts step x t locks answer y t' locks' does is = a
     never_placed Right c op does = not_own does.0 c op does.1 does.2
     never_placed _ c op does = cc (does.0)
 
-    at : (step : Step) → Does claim stripes counts step x t locks answers.Placed y t' locks' → is_some y.cursor ≡ true
+    at : (step : Step) → HasEffect claim stripes counts step x t locks answers.Placed y t' locks' → is_some y.cursor ≡ true
     at (steps.Seek c) does = ap (λ (s : Session). is_some s.cursor) does.0.becomes
     at (steps.Ask c op) does = absurd (never_placed claim c op does)
     at (steps.Save c) does = absurd does.0

@@ -1,8 +1,8 @@
 -- Several steps of one caller in a row: if the first is not refused, no later step is refused, and
--- no step has the answer `again`.
+-- no step has the answer `Again`.
 use Rattle.std.proofs.Common.{◌≡◌, ℕ, ◌-◌, ◌<◌, ◌≤◌, ◌&&◌, ◌||◌, Bool, true, false, cond, List, [], ◌∷◌, ◌++◌, Option, Some, None, is_some, refl, sym, ap, ◌∙◌, arith, nat_le, not, unwrap_or, slice_index, eqb-true, ltb-true, ne_eqb, append-nil, inl, inr, ◌⊎◌, All, option_and_then}
-use Rattle.boost_core.proofs.Vocabulary.{and-false, or-true, false≢true, and_parts, Op, Entry, Refusal, Step, Answer, Map, Sizes, caller_of, Phase, Opened, Waiting, LeavingTo, LeavingToEnd, Seat, closed_seat, row, seat_after, own, All-head, All-tail, Ask, Seek, Act, Back, Abort, Refused, Asked, Placed, Again, Done, Undone, Leaving, Returned, Aborted, own-push_in, seat_after-push, State, Caller, seat_in, caller_changes, refusal_of, lacks_in, MayLack, is_closed, is_waiting, is_leaving, has_job, has_target, IsReply, is_back_at, is_at_end, may_be_stale, Move, Event, Operates, Returns, Aborts, NoSuchCaller, NotOpen, NothingToSeek, Unplaced}
-use Rattle.boost_core.specs.Answers.{end_of}
+use Rattle.boost_core.proofs.Vocabulary.{and-false, or-true, false≢true, and_parts, Op, Entry, Refusal, Step, Answer, Map, Sizes, caller_of, Phase, Opened, Waiting, LeavingTo, LeavingToEnd, Seat, closed_seat, row, seat_after, own, All-head, All-tail, Ask, Seek, Act, Back, Abort, Refused, Asked, Placed, Again, Done, Undone, Leaving, Returned, Aborted, own-push_in, seat_after-push, State, Caller, seat_in, caller_changes, refusal_of, lacks_in, MayLack, is_closed, is_waiting, is_leaving, has_job, has_target, IsReply, is_back_at, is_at_end, may_be_stale, Move, Happens, Operates, Returns, Aborts, NoSuchCaller, NotOpen, NothingToSeek, Unplaced}
+use Rattle.boost_core.specs.Answers.{end_answer}
 use Rattle.boost_core.proofs.Moves.{just_placed}
 use Rattle.boost_core.proofs.Refused.{or_else, refusal_parts, free, three_tests}
 use Rattle.txn_words.specs.declared.entry.Entry.TheVariants as entry
@@ -52,7 +52,7 @@ never_again state c placed is =
 pub and_none : (b : Bool) → (b && false) ≡ false
 and_none b = and-false b
 
--- An operation that waits is done, if its cursor was placed last.
+-- If the cursor of a waiting operation was placed last, an act does the operation.
 pub act_does : (old new : State) (c : ℕ) (op : Op) (answer : Answer) → nat_le old.limits.callers c ≡ false → (seat_in old.history c).phase ≡ Waiting op → is_some (caller_changes old.cursors c) ≡ true → old.placed ≡ Some (Caller c)
     → Move old (Act c) answer new → (reply : Option ℕ) × (answer ≡ Done reply)
 act_does old new c op answer within waits cursor placed move = at answer move
@@ -77,11 +77,11 @@ no_reply : (q : Phase) (m : Map) (reply : Option ℕ) → is_leaving q ≡ true 
 no_reply (Waiting op) m reply leaves is = false≢true leaves
 no_reply _ m reply leaves is = is
 
-back_end : (q : Phase) (n : ℕ) → is_back_at n q ≡ true → Returned n ≡ end_of q
+back_end : (q : Phase) (n : ℕ) → is_back_at n q ≡ true → Returned n ≡ end_answer q
 back_end (LeavingTo m) n is = ap Returned (eqb-true n m is)
 back_end _ n is = absurd (false≢true is)
 
-at_end : (q : Phase) → is_at_end q ≡ true → Aborted ≡ end_of q
+at_end : (q : Phase) → is_at_end q ≡ true → Aborted ≡ end_answer q
 at_end LeavingToEnd is = refl
 at_end _ is = absurd (false≢true is)
 
@@ -91,7 +91,7 @@ leaving_open LeavingToEnd leaves = (refl, refl)
 leaving_open _ leaves = absurd (false≢true leaves)
 
 pub act_ends : (old new : State) (c : ℕ) (answer : Answer) → nat_le old.limits.callers c ≡ false → is_leaving (seat_in old.history c).phase ≡ true → has_job (seat_in old.history c) ≡ false
-    → Move old (Act c) answer new → answer ≡ end_of (seat_in old.history c).phase
+    → Move old (Act c) answer new → answer ≡ end_answer (seat_in old.history c).phase
 act_ends old new c answer within leaves rests move = at answer move
   where
     no_target : has_target (seat_in old.history c) ≡ false
@@ -100,7 +100,7 @@ act_ends old new c answer within leaves rests move = at answer move
     none : refusal_of old (Act c) ≡ None
     none = act_free old c within (leaving_open (seat_in old.history c).phase leaves).0 (ap (λ b. b || is_waiting (seat_in old.history c).phase) leaves) (ap (λ b. b && not (is_some (caller_changes old.cursors c))) no_target)
 
-    at : (answer : Answer) → Move old (Act c) answer new → answer ≡ end_of (seat_in old.history c).phase
+    at : (answer : Answer) → Move old (Act c) answer new → answer ≡ end_answer (seat_in old.history c).phase
     at (Refused refusal) move = absurd (never_refused old (Act c) refusal none move.allowed)
     at (Done reply) move = absurd (no_reply (seat_in old.history c).phase _ reply leaves move.allowed.1)
     at Again move = absurd (false≢true (sym no_target ∙ (and_parts (has_target (seat_in old.history c)) _ move.allowed.1).0))
@@ -109,7 +109,7 @@ act_ends old new c answer within leaves rests move = at answer move
     at Aborted move = at_end (seat_in old.history c).phase (and_parts (not (has_job (seat_in old.history c))) (is_at_end (seat_in old.history c).phase) move.allowed.1).1
     at _ move = absurd move.allowed.1
 
--- The newest change is taken back, if its cursor was placed last.
+-- If the cursor for the newest change was placed last, an act takes this change back.
 pub act_undoes : (old new : State) (c : ℕ) (answer : Answer) → nat_le old.limits.callers c ≡ false → is_leaving (seat_in old.history c).phase ≡ true → has_job (seat_in old.history c) ≡ true → is_some (caller_changes old.cursors c) ≡ true → old.placed ≡ Some (Caller c)
     → Move old (Act c) answer new → answer ≡ Undone
 act_undoes old new c answer within leaves job cursor placed move = at answer move
@@ -166,8 +166,8 @@ took_back old between new c first second within leaves job seeks cursor acts =
       fewer = omega (arith, standing, was, rows.1);
     }
 
--- An operation that was asked for is done.
-pub operated : (old asked sought new : State) (c : ℕ) (op : Op) (first second : Answer) → Event old (Ask c op) Asked asked → Event asked (Seek c) first sought → (first ≡ Placed → is_some (caller_changes sought.cursors c) ≡ true) → Event sought (Act c) second new
+-- After an ask with the answer `Asked`, a seek and an act do the operation.
+pub operated : (old asked sought new : State) (c : ℕ) (op : Op) (first second : Answer) → Happens old (Ask c op) Asked asked → Happens asked (Seek c) first sought → (first ≡ Placed → is_some (caller_changes sought.cursors c) ≡ true) → Happens sought (Act c) second new
     → Operates old c op second new
 operated old asked sought new c op first second asks seeks cursor acts =
     let is_free = free old c (Ask c op) refl asks.move.allowed.0 in
@@ -176,24 +176,24 @@ operated old asked sought new c op first second asks seeks cursor acts =
     let waits : (seat_in asked.history c).phase ≡ Waiting op = ap (λ (s : Seat). s.phase) seat in
     let within : nat_le asked.limits.callers c ≡ false = ap (λ (s : State). nat_le s.limits.callers c) asks.move.state ∙ is_free.within in
     let is_placed : first ≡ Placed = seek_places asked sought c first (seek_free asked c within (ap is_closed waits) (ap (λ q. is_waiting q || has_job (seat_in asked.history c)) waits)) seeks.move in
-    let seeks_so : Event asked (Seek c) Placed sought = rw is_placed at seeks in
+    let seeks_so : Happens asked (Seek c) Placed sought = rw is_placed at seeks in
     let same : seat_in sought.history c ≡ seat_in asked.history c = ap (λ (h : List Entry). seat_in h c) (ap (λ (s : State). s.history) seeks_so.move.state ∙ append-nil asked.history) in
     let done = act_does sought new c op second (ap (λ (s : State). nat_le s.limits.callers c) seeks_so.move.state ∙ within) (ap (λ (s : Seat). s.phase) same ∙ waits) (cursor is_placed) (ap (λ (s : State). s.placed) seeks_so.move.state) acts.move in
     rw done.1 (asked, asks, (sought, seeks_so, (new, rw done.1 at acts, refl)))
 
--- An operation that is not granted, a return to a level that is refused, or an abort that is
--- refused: the first step is the whole call.
-pub stopped : (old new : State) (c : ℕ) (op : Op) (answer : Answer) → (answer ≡ Asked → ⊥) → Event old (Ask c op) answer new → Operates old c op answer new
+-- If an operation is not granted, or if a return or an abort is refused, the first step is the
+-- whole call.
+pub stopped : (old new : State) (c : ℕ) (op : Op) (answer : Answer) → (answer ≡ Asked → ⊥) → Happens old (Ask c op) answer new → Operates old c op answer new
 stopped old new c op Asked other event = absurd (other refl)
 stopped old new c op (Done reply) other event = absurd event.move.allowed.1
 stopped old new c op _ other event = event
 
-pub stayed : (old new : State) (c level : ℕ) (answer : Answer) → (answer ≡ Leaving → ⊥) → Event old (Back c level) answer new → Returns old c level answer new
+pub stayed : (old new : State) (c level : ℕ) (answer : Answer) → (answer ≡ Leaving → ⊥) → Happens old (Back c level) answer new → Returns old c level answer new
 stayed old new c level Leaving other event = absurd (other refl)
 stayed old new c level (Returned n) other event = absurd event.move.allowed.1
 stayed old new c level _ other event = event
 
-pub unaborted : (old new : State) (c : ℕ) (answer : Answer) → (answer ≡ Leaving → ⊥) → is_at_end (seat_in old.history c).phase ≡ false → Event old (Abort c) answer new → Aborts old c answer new
+pub unaborted : (old new : State) (c : ℕ) (answer : Answer) → (answer ≡ Leaving → ⊥) → is_at_end (seat_in old.history c).phase ≡ false → Happens old (Abort c) answer new → Aborts old c answer new
 unaborted old new c Leaving other there event = absurd (other refl)
 unaborted old new c Aborted other there event = absurd event.move.allowed.1
 unaborted old new c _ other there event = (there, event)

@@ -1,5 +1,5 @@
 -- A caller's call for help while nobody else takes steps on the core: the invariant of each phase
--- of its drive, the number of steps left, a round of the call's loop, and its outcome.
+-- of the call's drive, the number of steps left, a round of the loop, and the outcome of the call.
 use Rattle.std.proofs.Common.{◌≡◌, ℕ, ◌+◌, ◌*◌, ◌-◌, ◌^◌, ◌%◌, ◌<◌, ◌≤◌, Bool, true, false, if◌then◌else◌, Option, Some, None, refl, sym, ap, subst, ◌∙◌, arith, nat_le, unwrap_or, ◌≢◌, inl, inr, zero, suc, pow_pos}
 use Rattle.boost_core.proofs.Vocabulary.{false≢true, Step, Answer, Drive, IsAncestor, mod_below, is_bad_key, Sizes, are_limits, Way, first_phase, step_in, sized_in, towards, told_help, told_init_seek, told_link, told_store, told_in, new_drive, step_of, sized_of, turn_in, ended_by, end_of, told_of, IsAncestor-root, child_towards-le, State, Helper, is_set, Move, IsWhole, IsOnWay, HelpSuits, is_ask, Drives, Helps, outcome_of, cases_lt, parent_of, highest_cleared, child_within, child_towards, parent_of-zero, parent_of-child_towards, BadKey, NoMemory, StampsUsedUp}
 use Rattle.txn_drive.specs.declared.call.Call.{Call}
@@ -61,7 +61,7 @@ rises last bucket small is other =
           ]
     ]
 
--- If the phase is to link a dummy, the helper's cursor was placed last.
+-- In the phase that links a dummy, the cursor that was placed last is the helper's.
 abbrev pub IsPlaced : State → ℕ → Phase → Type 0
 IsPlaced state c (phases.Linking way again) = state.placed ≡ Some (Helper c)
 IsPlaced state c phase = Unit {0}
@@ -80,7 +80,7 @@ left (phases.Linking way again) = 3 * (way.target - way.bucket) + 2
 left (phases.Storing way) = 3 * (way.target - way.bucket) + 1
 left phase = 0
 
--- The next phase keeps its invariant, and fewer steps are left.
+-- The invariant of this phase holds, and fewer than `bound` steps are left.
 pub record Goes (state : State) (c key bound : ℕ) (phase : Phase) : Type 0 where
   pub fits : Fits state c key phase
   pub fewer : left phase < bound
@@ -99,7 +99,7 @@ towards_nears state c last target small ancestor =
     at_towards (Nears state c (3 * (target - last) + 1)) last target (λ same. record { placed = tt; fewer = omega arith })
     (λ other. record { placed = tt; fewer = omega (arith, rises last target small ancestor other, child_towards-le last target) })
 
--- After the doubling.
+-- `Nears` holds after the doubling.
 doubled_nears : (state new : State) (c key : ℕ) (answer : Answer) → new.size < 2 ^ 32 → 0 < new.size → Move state (steps.Double state.size) answer new → Nears new c (3 * 2 ^ 32 + 4) (told_help key state.size answer)
 doubled_nears state new c key answer small some move =
     let rest = mod_below key new.size some in
@@ -109,7 +109,7 @@ doubled_nears state new c key answer small some move =
     (weaker new c (3 * (key % new.size - 0) + 1) (3 * 2 ^ 32 + 4) (towards 0 (key % new.size)) (omega arith) (towards_nears new c 0 (key % new.size) rest_small (IsAncestor-root (key % new.size) rest_small)))
     (λ none. record { placed = tt; fewer = omega arith }))
 
--- After the position of a bucket's dummy was sought.
+-- `Nears` holds after a seek for the position of a bucket's dummy.
 sought_nears : (state new : State) (c again : ℕ) (way : Way) (answer : Answer) → way.target < 2 ^ 32 → IsOnWay state way → Move state (steps.InitSeek c way.bucket) answer new → Nears new c (3 * (way.target - way.bucket) + 3) (told_init_seek way again answer)
 sought_nears state new c again way answers.Ready small on move =
     weaker new c (3 * (way.target - way.bucket) + 1) (3 * (way.target - way.bucket) + 3) (towards way.bucket way.target) (omega arith) (towards_nears new c way.bucket way.target small on.ancestor)
@@ -117,20 +117,20 @@ sought_nears state new c again way answers.Placed small on move = record { place
 sought_nears state new c again way (answers.Refused refusal) small on move = at_refused (Nears new c (3 * (way.target - way.bucket) + 3)) refusal (λ r. record { placed = tt; fewer = omega arith })
 sought_nears state new c again way _ small on move = record { placed = tt; fewer = omega arith }
 
--- After the answer to linking the dummy.
+-- `Nears` holds after the answer to linking the dummy.
 linked_nears : (state new : State) (c again : ℕ) (way : Way) (answer : Answer) → state.placed ≡ Some (Helper c) → Move state (steps.InitLink c) answer new → Nears new c (3 * (way.target - way.bucket) + 2) (told_link way again answer)
 linked_nears state new c again way answers.Again placed move =
     absurd (false≢true (sym (just_placed state (Helper c) placed) ∙ move.allowed.1))
 linked_nears state new c again way (answers.Refused refusal) placed move = at_refused (Nears new c (3 * (way.target - way.bucket) + 2)) refusal (λ r. record { placed = tt; fewer = omega arith })
 linked_nears state new c again way _ placed move = record { placed = tt; fewer = omega arith }
 
--- After the answer to storing the dummy.
+-- `Nears` holds after the answer to storing the dummy.
 stored_nears : (new : State) (c : ℕ) (way : Way) (answer : Answer) → way.target < 2 ^ 32 → IsAncestor way.bucket way.target → Nears new c (3 * (way.target - way.bucket) + 1) (told_store way answer)
 stored_nears new c way answers.Stored small ancestor = towards_nears new c way.bucket way.target small ancestor
 stored_nears new c way (answers.Refused refusal) small ancestor = at_refused (Nears new c (3 * (way.target - way.bucket) + 1)) refusal (λ r. record { placed = tt; fewer = omega arith })
 stored_nears new c way _ small ancestor = record { placed = tt; fewer = omega arith }
 
--- The invariant of a phase has `HelpSuits` as a part, and its parts together give the invariant.
+-- `HelpSuits` is a part of each phase's invariant. The parts together give the invariant.
 fits_suits : (state : State) (c key : ℕ) (phase : Phase) (step : Step) → Fits state c key phase → step_in c (calls.Help key) (sized_in state.size phase) ≡ Some step → HelpSuits state c phase
 fits_suits state c key (phases.Doubling seen) step fits is = tt
 fits_suits state c key (phases.Refused refusal) step fits is = absurd (cc is)
@@ -141,8 +141,8 @@ fits_all state c key (phases.Doubling seen) suits reaches placed = tt
 fits_all state c key (phases.Refused BadKey) suits reaches placed = tt
 fits_all state c key phase suits reaches placed = (suits, reaches, placed)
 
--- After a step of the drive and its answer, the next phase keeps its invariant, and fewer steps are
--- left.
+-- After a step of the drive and its answer, the invariant of the next phase holds, and fewer steps
+-- are left.
 pub goes : (state new : State) (c key : ℕ) (phase : Phase) (step : Step) (answer : Answer) → IsWhole state → state.limits.buckets ≤ 65536 → nat_le state.limits.callers c ≡ false → Fits state c key phase
     → step_in c (calls.Help key) (sized_in state.size phase) ≡ Some step → Move state step answer new → Goes new c key (left phase) (told_in (calls.Help key) (sized_in state.size phase) answer)
 goes state new c key phase step answer whole most within fits is move =
@@ -189,7 +189,7 @@ goes state new c key phase step answer whole most within fits is move =
     by (phases.Refused refusal) fits is move = absurd (cc is)
     by phase fits is move = absurd fits.0
 
--- The phase of a new drive keeps its invariant.
+-- The invariant of a new drive's phase holds.
 pub fits_first : (state : State) (c key : ℕ) → Fits state c key (first_phase state.limits.half (calls.Help key))
 fits_first state c key = at (is_bad_key state.limits.half key)
   where
@@ -201,7 +201,7 @@ fits_first state c key = at (is_bad_key state.limits.half key)
 step_here : (c key size : ℕ) (drive : Drive) (next : Option Step) → drive.caller ≡ c → drive.call ≡ calls.Help key → next ≡ step_of (sized_of size drive) → next ≡ step_in c (calls.Help key) (sized_in size drive.phase)
 step_here c key size drive next caller call is = is ∙ (λ i. step_in (caller i) (call i) (sized_in size drive.phase))
 
--- A round of the loop: the next phase keeps its invariant, and fewer steps are left.
+-- After a round of the loop the invariant of the next phase holds, and fewer steps are left.
 pub round : (state new : State) (c key : ℕ) (drive : Drive) (step : Step) (answer : Answer) → IsWhole state → state.limits.buckets ≤ 65536 → nat_le state.limits.callers c ≡ false → drive.caller ≡ c → drive.call ≡ calls.Help key → Fits state c key drive.phase
     → step_of (sized_of state.size drive) ≡ Some step → Move state step answer new → Goes new c key (left drive.phase) (told_of (sized_of state.size drive) answer).phase
 round state new c key drive step answer whole most within caller call fits is move =
@@ -219,11 +219,6 @@ no_ask c key phase = refl
 
 pub help_asks_nothing : (key size : ℕ) (drive : Drive) (step : Step) → drive.call ≡ calls.Help key → step_of (sized_of size drive) ≡ Some step → is_ask step ≡ false
 help_asks_nothing key size drive step call is = sym (ap asks is) ∙ ap (λ made. asks (step_in drive.caller made (sized_in size drive.phase))) call ∙ no_ask drive.caller key (sized_in size drive.phase)
-
--- A step leaves the limits unchanged.
-pub limits_stay : (old new : State) (step : Step) (answer : Answer) → Move old step answer new → new.limits ≡ old.limits
-limits_stay old new step (answers.Refused refusal) move = ap (λ (s : State). s.limits) move.state
-limits_stay old new step _ move = ap (λ (s : State). s.limits) move.state
 
 -- The caller's number and the limits are in range, as the call has tested.
 pub within_there : (inside here : Sizes) (c n m : ℕ) → inside ≡ here → c < n → n ≡ m → m ≡ inside.callers → nat_le here.callers c ≡ false

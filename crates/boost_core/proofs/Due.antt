@@ -2,7 +2,7 @@
 use Rattle.std.proofs.Common.{◌≡◌, ℕ, ◌==◌, true, false, cond, List, [], ◌∷◌, ◌++◌, Option, Some, None, is_some, refl, sym, ap, subst, ◌∙◌, IsSome, map, reverse, option_to_list, nat_eq, eq-eqb, ne_eqb, append-nil, inl, inr}
 use Rattle.boost_core.proofs.Vocabulary.{option_eq, AllByRecursion, cases_Bool, cases_eq, reverse-append, SpareAt, Op, Put, Take, Get, PutIf, MapJob, Relink, Map, get, key_of, reply_of, after, set_at, changes, same_map, get-insert-here, get-remove-here, get-set_at, after_unchanged, get-after_other, changes-reply, takes_node, key_of_job, value_before, IsDue, unput, relink, job_of, change_of, changes_of, AreDue}
 
--- Each job is of a key that passes the test.
+-- The key of each of these jobs has this property.
 abbrev pub AllOf : (ℕ → Type 0) → List MapJob → Type 0
 AllOf P jobs = AllByRecursion (λ (job : MapJob). P (key_of_job job)) jobs
 
@@ -78,8 +78,8 @@ changes_noted m op spare jobs (Some job) is =
     ap (λ b. cond b ((key_of op, reply_of m op) ∷ changes_of jobs) (changes_of jobs)) is.is_change ∙ ap (λ (change : ℕ × Option ℕ). change ∷ changes_of jobs) (sym is.change)
     ∙ ap (map change_of) (sym (reverse-append jobs (job ∷ [])))
 
--- After an operation its job is due, and once this job has run, so are the jobs that were due
--- before the operation.
+-- After an operation, its job is due. Once this job has run, the jobs that were due before the
+-- operation are due again.
 pub due_noted : (m : Map) (op : Op) (spare : Option SpareAt) (jobs : List MapJob) (job : Option MapJob) → NotedIf m op spare job → AreDue m (reverse jobs) → AreDue (after m op) (reverse (jobs ++ option_to_list job))
 due_noted m op spare jobs None is due = rw (append-nil jobs, after_unchanged m op (sym (changes-reply m op) ∙ is)) due
 due_noted m op spare jobs (Some job) is due =

@@ -25,9 +25,8 @@ found_later : (m : NodeAt) (rest : List NodeAt) (place : ℕ) → (m.place == pl
 unfolding node_of
 found_later m rest place apart = rw apart refl
 
--- `Stay` still holds if the same node is put before both lists, or if the node that is put before
--- the new list has the place, the sort key and the stamp of the node that is put before the old
--- list.
+-- `Stay` still holds if a node is put before each of the two lists and these nodes agree in place,
+-- sort key and stamp.
 stay_like : (m m' : NodeAt) (old new : List NodeAt) → (m'.place ≡ m.place) × (m'.at ≡ m.at) × (m'.stamp ≡ m.stamp) → Stay old new → Stay (m ∷ old) (m' ∷ new)
 stay_like m m' old new same stay place n is live = elim (cases_Bool (m.place == place)) [
   | inl here ↦
@@ -124,7 +123,7 @@ next_found (m ∷ rest) place n spread is =
 stay_behind : (x : NodeAt) (rest : List NodeAt) → AbsentFrom x.place rest → Stay rest (x ∷ rest)
 stay_behind x rest absent place n is live = record { node = n; is = found_later x rest place (not_here x rest place n absent is) ∙ is; at = refl; stamp = refl }
 
--- If nodes have different places, one more node changes none of the others.
+-- If all nodes have different places, linking one more node leaves the others linked.
 pub stay_linked : (nodes : List NodeAt) (place : ℕ) (x : NodeAt) → IsSpread (linked_after nodes place x) → Stay nodes (linked_after nodes place x)
 unfolding linked_after IsSpread
 stay_linked [] place x spread = stay_same [] [] refl
@@ -133,7 +132,7 @@ stay_linked (m ∷ rest) place x spread = elim (cases_Bool (m.place == place)) [
   | inr apart ↦ rw apart (stay_cons m rest (linked_after rest place x) (stay_linked rest place x (rw apart at spread).1))
 ]
 
--- Unmarked nodes are not unlinked.
+-- Sweeps and seeks leave each unmarked node linked.
 pub stay_swept : (nodes : List NodeAt) → Stay nodes (without_first_marked nodes)
 unfolding without_first_marked
 stay_swept [] = stay_same [] [] refl
@@ -186,7 +185,7 @@ first_one (k ∷ rest) q n m rising next is same =
       | inr apart ↦ absurd (apart_keys n.at m.at (sym same) (subst (λ j. IsBefore j.at m.at) k_is (each_at (IsNodeBefore k) rest q m rising.0 (node_later k rest q (Some m) is apart))))
     ]
 
--- In a list that rises, two nodes of one sort key are the same.
+-- In a list that rises, two nodes with equal sort keys are the same node.
 pub one_of_key : (nodes : List NodeAt) (p q : ℕ) (n m : NodeAt) → IsRising nodes → next_of nodes p ≡ Some n → node_of nodes q ≡ Some m → m.at ≡ n.at → m ≡ n
 unfolding IsRising
 one_of_key [] p q n m rising next is same = absurd (next_none p n next)

@@ -1,6 +1,6 @@
--- The effect on the cursors: of each step of a caller, and of each step of the table or a helper.
+-- How each step of a caller, of the table or of a helper affects the cursors.
 use Rattle.std.proofs.Common.{◌≡◌, ◌≢◌, ℕ, inl, inr, List, length, set, Option, Some, is_some, sym, ap, subst, ◌∙◌, arith, map, slice_get, slice_set, length-set, get_or-set_other, None, Result, Ok, Err, refl, slice_index_or}
-use Rattle.boost_core.proofs.Vocabulary.{cases_lt, regular_at, Op, key_of, stripe_of, Refusal, Step, Answer, nodes_of, IsSound, slice_get_within, slice_get_past, slice_get-get_or, Session, State, Gap, Caller, Helper, gap_in, gap_for, owner_of, Claim, Lock, Right, AreNeighbours, Cursors, Fits, KeepsGaps, StandsAt, mover_of, next_key, Side, Does, ActsIn, SeeksIn, IsAsked, AsksBy, World, Tells, state_of, nodes_at, gap_by, gap_if, NoMemory, dummy_at, InitSeek, InitLink, SweepOutcome, dummy_node, Sweeps, found_fits, found_placed, TableHelper, Idle, Seeking, Holding, SeekChanges, LinkChanges, StoreChanges, link_answer_of, seek_answer, TableAt, KeepsList, cursor_in, helper_cursor, size_of, stored_of, helps_of, Serves, StampsUsedUp}
+use Rattle.boost_core.proofs.Vocabulary.{cases_lt, regular_at, Op, key_of, stripe_of, Refusal, Step, Answer, nodes_of, IsSound, slice_get_within, slice_get_past, slice_get-get_or, Session, State, Gap, Caller, Helper, gap_in, gap_for, owner_of, Claim, Lock, Right, AreNeighbours, Cursors, Fits, KeepsGaps, StandsAt, mover_of, next_key, Side, HasEffect, ActsIn, SeeksIn, IsAsked, AsksBy, World, Tells, state_of, nodes_at, gap_by, gap_if, NoMemory, dummy_at, InitSeek, InitLink, SweepOutcome, dummy_node, Sweeps, found_fits, found_placed, TableHelper, Idle, Seeking, Holding, SeekChanges, LinkChanges, StoreChanges, link_answer_of, seek_answer, TableAt, KeepsList, cursor_in, helper_cursor, size_of, stored_of, helps_of, Serves, StampsUsedUp}
 use Rattle.boost_core.proofs.Refused.{set_here}
 use Rattle.boost_core.proofs.Moves.{gaps_same}
 use Rattle.boost_core.proofs.NodeSteps.{next_is}
@@ -46,7 +46,7 @@ module _ (w : World) (tells : Tells w) (c : ℕ) (x : Session) (at : slice_get w
       own _ is = absurd is
   asked_stays _ d stripe op refusal is = (ap (λ (s : Session). s.cursor) is.1, ap nodes_of is.2)
 
-  stays : (claim : Claim) (step : Step) (refusal : Refusal) (stripes : ℕ) → Does claim stripes w.counts step x w.table w.locks (answers.Refused refusal) y w'.table locks' → (y.cursor ≡ x.cursor) × (nodes_of w'.table ≡ nodes_of w.table)
+  stays : (claim : Claim) (step : Step) (refusal : Refusal) (stripes : ℕ) → HasEffect claim stripes w.counts step x w.table w.locks (answers.Refused refusal) y w'.table locks' → (y.cursor ≡ x.cursor) × (nodes_of w'.table ≡ nodes_of w.table)
   stays claim (steps.Ask d op) refusal stripes is = asked_stays claim d (stripe_of stripes (key_of op)) op refusal is
   stays claim (steps.Save d) NoMemory stripes is = (ap (λ (s : Side). s.cursor) is.0.becomes, ap nodes_of is.1)
   stays claim (steps.Save d) _ stripes is = absurd is.0
@@ -58,7 +58,7 @@ module _ (w : World) (tells : Tells w) (c : ℕ) (x : Session) (at : slice_get w
       (λ i. map (λ (s : Session). same_gap w.table w'.table s.cursor nodes i) (sides i))
       ∙ gaps_same w.table w.sessions c x z at (ap (gap_if w.table) (same ∙ cursor))
 
-  other_kept : (claim : Claim) (step : Step) → owner_of step ≡ Some (Caller c) → (stripes : ℕ) (answer : Answer) → Does claim stripes w.counts step x w.table w.locks answer y w'.table locks' → Stay (nodes_of w.table) (nodes_of w'.table)
+  other_kept : (claim : Claim) (step : Step) → owner_of step ≡ Some (Caller c) → (stripes : ℕ) (answer : Answer) → HasEffect claim stripes w.counts step x w.table w.locks answer y w'.table locks' → Stay (nodes_of w.table) (nodes_of w'.table)
       → (d : ℕ) (gap : Gap) → mover_of step answer ≢ Some (Caller d) → gap_for (state_of w) (Caller d) ≡ Some gap → AreNeighbours (nodes_at w'.table) gap → gap_for (state_of w') (Caller d) ≡ Some gap
   other_kept claim step owner stripes (answers.Refused refusal) does stay d gap other is near =
       let both = stays claim step refusal stripes does in
@@ -67,7 +67,7 @@ module _ (w : World) (tells : Tells w) (c : ℕ) (x : Session) (at : slice_get w
       let apart : d ≢ c = λ e. other (owner ∙ ap (λ k. Some (Caller k)) (sym e)) in
       gap_kept w w' tells.sound.spread sound.rising stay d gap (ap (λ ss. slice_get ss d) sides ∙ set_other w.sessions c d z apart) is near
 
-  keeps : (claim : Claim) (step : Step) → owner_of step ≡ Some (Caller c) → (stripes : ℕ) (answer : Answer) → Does claim stripes w.counts step x w.table w.locks answer y w'.table locks' → KeepsGaps (state_of w) step answer (state_of w')
+  keeps : (claim : Claim) (step : Step) → owner_of step ≡ Some (Caller c) → (stripes : ℕ) (answer : Answer) → HasEffect claim stripes w.counts step x w.table w.locks answer y w'.table locks' → KeepsGaps (state_of w) step answer (state_of w')
   keeps claim step owner stripes answer does (Caller d) gap other is near =
       other_kept claim step owner stripes answer does
       (does_stay w.table w'.table sound.spread x y w.locks locks' claim stripes w.counts step answer does).nodes d gap other is near
@@ -89,16 +89,25 @@ module _ (w : World) (tells : Tells w) (c : ℕ) (x : Session) (at : slice_get w
   acted answers.Aborted is = tt
   acted _ is = absurd is
 
-  fits : (claim : Claim) (step : Step) → owner_of step ≡ Some (Caller c) → (stripes : ℕ) (answer : Answer) → Does claim stripes w.counts step x w.table w.locks answer y w'.table locks' → Fits (state_of w) step answer (state_of w')
+  fits : (claim : Claim) (step : Step) → owner_of step ≡ Some (Caller c) → (stripes : ℕ) (answer : Answer) → HasEffect claim stripes w.counts step x w.table w.locks answer y w'.table locks' → Fits (state_of w) step answer (state_of w')
   fits claim (steps.Seek d) owner stripes answers.Placed is = let own : d ≡ c = cc owner in rw own (sought is.0)
   fits claim (steps.Seek d) owner stripes _ is = absurd is
   fits claim (steps.Act d) owner stripes answer is = let own : d ≡ c = cc owner in rw own (acted answer (rw own at is))
+  fits claim (steps.Begin d) owner stripes (answers.Began t) is = tt
+  fits claim (steps.Ask d op) owner stripes answers.Asked is = tt
+  fits claim (steps.Save d) owner stripes (answers.Saved n) is = tt
+  fits claim (steps.Back d n) owner stripes answers.Leaving is = tt
+  fits claim (steps.Commit d) owner stripes (answers.Committed p) is = tt
+  fits claim (steps.Abort d) owner stripes answers.Leaving is = tt
+  fits claim steps.Sweep owner stripes answer is = absurd is
   fits claim (steps.InitSeek h b) owner stripes answer is = absurd is
   fits claim (steps.InitLink h) owner stripes answer is = absurd is
-  fits claim _ owner stripes answer is = tt
+  fits claim (steps.InitStore h) owner stripes answer is = absurd is
+  fits claim (steps.Double seen) owner stripes answer is = absurd is
+  fits claim _ owner stripes _ is = tt
 
   -- The effect of each step of a caller on the cursors.
-  pub does_cursors : (claim : Claim) (step : Step) → owner_of step ≡ Some (Caller c) → (stripes : ℕ) (answer : Answer) → Does claim stripes w.counts step x w.table w.locks answer y w'.table locks' → Cursors (state_of w) step answer (state_of w')
+  pub does_cursors : (claim : Claim) (step : Step) → owner_of step ≡ Some (Caller c) → (stripes : ℕ) (answer : Answer) → HasEffect claim stripes w.counts step x w.table w.locks answer y w'.table locks' → Cursors (state_of w) step answer (state_of w')
   does_cursors claim step owner stripes answer is = record {
     fits = fits claim step owner stripes answer is;
     keeps = keeps claim step owner stripes answer is;
@@ -139,7 +148,7 @@ module _ (t t' : TableAt) (h : ℕ) where
       → helper_cursor t' h ≡ helper_cursor t h
   moved k now is other = other_cursor t t' k h now is (λ e. other (ap (λ n. Some (Helper n)) (sym e)))
 
-  sought_cursor : (k b : ℕ) (outcome : Result InitSeek Refusal) → SeekChanges t t' k b outcome → mover_of (steps.InitSeek k b) (said.sought outcome) ≢ Some (Helper h) → helper_cursor t' h ≡ helper_cursor t h
+  sought_cursor : (k b : ℕ) (outcome : Result InitSeek Refusal) → SeekChanges t t' k b outcome → mover_of (steps.InitSeek k b) (said.answer_to_seek outcome) ≢ Some (Helper h) → helper_cursor t' h ≡ helper_cursor t h
   sought_cursor k b (Ok seeks.Ready) changes other = moved k Idle (ap (λ d. d.helpers) changes.0) other
   sought_cursor k b (Ok seeks.Placed) changes other = moved k (Seeking b changes.cursor) (ap (λ d. d.helpers) changes.now) other
   sought_cursor k b (Err refusal) changes other = ap (λ u. helper_cursor u h) changes
@@ -167,7 +176,7 @@ module _ (t t' : TableAt) (h : ℕ) where
 module _ (w w' : World) (tells : Tells w) (sound : IsSound w'.table.list) where
   sought_fits : (h b : ℕ) (outcome : Result InitSeek Refusal)
       → outcome ≡ seek_answer (size_of w.table) (stored_of w.table) (slice_get (helps_of w.table) h) b
-      → SeekChanges w.table w'.table h b outcome → Fits (state_of w) (steps.InitSeek h b) (said.sought outcome) (state_of w')
+      → SeekChanges w.table w'.table h b outcome → Fits (state_of w) (steps.InitSeek h b) (said.answer_to_seek outcome) (state_of w')
   sought_fits h b (Ok seeks.Placed) says changes =
       helper_stands w' h b changes.cursor sound.spread (seeker_is w.table w'.table h b changes (seeker_there w.table h b (sym says)))
       (found_placed w'.table.list changes.cursor changes.found sound) changes.at (found_fits w'.table.list changes.cursor changes.found)
@@ -182,11 +191,15 @@ module _ (w w' : World) (tells : Tells w) (sound : IsSound w'.table.list) where
   linked_fits h (Err _) says no_memory = tt
 
   serves_fits : (step : Step) (answer : Answer) → Serves step w.table answer w'.table → Fits (state_of w) step answer (state_of w')
-  serves_fits (steps.Seek c) answer is = absurd is
-  serves_fits (steps.Act c) answer is = absurd is
+  serves_fits steps.Sweep answers.Swept is = tt
+  serves_fits steps.Sweep _ is = tt
   serves_fits (steps.InitSeek h b) answer is = subst (λ a. Fits (state_of w) (steps.InitSeek h b) a (state_of w')) (sym is.answer_is) (sought_fits h b is.outcome is.says is.changes)
   serves_fits (steps.InitLink h) answer is = subst (λ a. Fits (state_of w) (steps.InitLink h) a (state_of w')) (sym is.answer_is) (linked_fits h is.outcome is.says is.no_memory)
-  serves_fits _ answer is = tt
+  serves_fits (steps.InitStore h) answers.Stored is = tt
+  serves_fits (steps.InitStore h) _ is = tt
+  serves_fits (steps.Double seen) answers.Light is = tt
+  serves_fits (steps.Double seen) _ is = tt
+  serves_fits _ answer is = absurd is
 
   serves_keeps : w'.sessions ≡ w.sessions → (step : Step) (answer : Answer) → Serves step w.table answer w'.table → KeepsGaps (state_of w) step answer (state_of w')
   serves_keeps sides step answer is (Caller d) gap other had near = gap_kept w w' tells.sound.spread sound.rising (serves_stay w.table w'.table sound step answer is) d gap (ap (λ ss. slice_get ss d) sides) had near

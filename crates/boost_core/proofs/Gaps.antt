@@ -82,7 +82,7 @@ pub stands : (w' : World) (c key : ℕ) (y : Session) (cursor : Cursor) → slic
 stands w' c key y cursor at had spread placed fitting =
     stands_at w' (Caller c) cursor (regular_at key) (gap_by_side w'.table w'.sessions c y (Some cursor) at had) spread placed.list placed.at_is fitting
 
--- Whether a cursor fits depends only on the nodes, and so does its position.
+-- The nodes decide whether a cursor fits and which nodes are beside it.
 pub same_fits : (t t' : TableAt) (cursor : Cursor) → nodes_of t' ≡ nodes_of t → fits t' cursor ≡ fits t cursor
 unfolding list_fits
 same_fits t t' cursor same = λ i. is_noted (node_of (same i) (pred_of cursor)) cursor.pred.stamp && is_next_noted (next_of (same i) (pred_of cursor)) cursor.cur
@@ -105,7 +105,7 @@ helper_kept t t' spread rising stay h gap same is near =
 pub cursors_stay : (t t' : TableAt) (h : ℕ) → t'.buckets ≡ t.buckets → helper_cursor t' h ≡ helper_cursor t h
 cursors_stay t t' h same = ap (λ d. slice_index_or (map cursor_in d.helpers) h None) same
 
--- Whether a helper's cursor fits, given that cursor.
+-- Whether there is a cursor and it fits.
 abbrev pub fits_if : TableAt → Option Cursor → Bool
 fits_if t None = false
 fits_if t (Some cursor) = fits t cursor

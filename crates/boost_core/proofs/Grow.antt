@@ -1,6 +1,6 @@
 -- After one caller's side changes, the invariants of a core still hold.
 use Rattle.std.proofs.Common.{◌≡◌, ◌≢◌, ℕ, ◌+◌, ◌-◌, ◌<◌, ◌≤◌, true, cond, List, [], ◌∷◌, ◌++◌, length, get_or, set, Option, Some, None, refl, sym, ap, subst, ◌∙◌, arith, slice_get, slice_set, sum_by, reverse, length-set, get_or-set_same, get_or-set_other, ◌⊎◌, inl, inr, option_and_then}
-use Rattle.boost_core.proofs.Vocabulary.{cases_eq, slice_get_within, get_or_from_slice_get, slice_get-get_or, Entry, Map, get, caller_of, is_began, is_commit, now, Phase, Closed, LeavingTo, Seat, RoomySeat, row, seat_after, own, log_of, stripe_of, holder_of, IsLevelIn, seat_leveled, MapJob, TableAt, Cursor, content, IsPlaced, largest_of, helps_of, length-map, length-reverse, sum_by-set, get_or-le-sum_by, All-push, is_saved, IsLegal, is_running, how_many-push, Next, seat-own, log_held, held_by, Counts, Session, Owner, holder_by, IsCovered, Side, side_of, level_of, target_in, target_of, KeepsPlaced, IsSought, IsSoughtAt, Waits, Agrees, change_of, times_kept, changes_of, AreDue, World, Tells, IsSeated, IsFresh, all_times, KeepsBuckets}
+use Rattle.boost_core.proofs.Vocabulary.{cases_eq, slice_get_within, get_or_from_slice_get, slice_get-get_or, Entry, Map, get, caller_of, is_began, is_commit, now, Phase, Closed, LeavingTo, Seat, RoomySeat, row, seat_after, own, log_of, stripe_of, holder_of, IsLevelIn, seat_leveled, MapJob, TableAt, Cursor, content, IsPlaced, largest_of, helps_of, length-map, length-reverse, sum_by-set, get_or-le-sum_by, All-push, is_saved, IsLegal, is_running, how_many-push, Next, seat-own, log_held, held_by, Counts, Session, Owner, holder_by, IsCovered, Side, side_of, level_of, target_in, target_of, KeepsPlaced, IsSought, IsSoughtAt, Waits, Agrees, change_of, times_kept, changes_of, AreDue, World, Tells, IsSeated, LastPlacedFits, all_times, KeepsBuckets}
 use Rattle.txn_words.specs.declared.holder.Holder.{Holder}
 use Rattle.txn_trace.proofs.Entries.{length-log_of}
 use Rattle.boost_core.proofs.Due.{all_of_changes, due_same}
@@ -22,8 +22,8 @@ sum_changed f sessions c x y at = rw (get_or_from_slice_get sessions c x x at) a
 pub one_of_sum : (f : Session → ℕ) (sessions : List Session) (c : ℕ) (x : Session) → slice_get sessions c ≡ Some x → f x ≤ sum_by f sessions
 one_of_sum f sessions c x at = rw (get_or_from_slice_get sessions c x x at) at (get_or-le-sum_by f sessions c x (slice_get_within sessions c x at))
 
--- If a change keeps the spares of one session covered beside any other spares, it keeps the spares
--- of all sessions covered.
+-- Suppose that a change of one session leaves `IsCovered` true, whichever spares the others keep.
+-- Then the change leaves `IsCovered` true for the spares of all sessions.
 pub traded : (t t' : TableAt) (sessions : List Session) (c : ℕ) (x y : Session) → slice_get sessions c ≡ Some x
     → ((others : ℕ → ℕ → ℕ) → IsCovered (λ place stamp. others place stamp + times_kept (side_of x) place stamp) t → IsCovered (λ place stamp. others place stamp + times_kept (side_of y) place stamp) t')
     → IsCovered (all_times sessions) t → IsCovered (all_times (slice_set sessions c y)) t'
@@ -35,13 +35,12 @@ traded t t' sessions c x y at trade covered place stamp =
     most : (p s : ℕ) → times_kept (side_of x) p s ≤ all_times sessions p s
     most p s = one_of_sum (λ session. times_kept (side_of session) p s) sessions c x at
 
--- A cursor stays placed.
+-- If every placed cursor stays placed, a caller's cursor stays placed for its target.
 pub still_sought_at : (t t' : TableAt) (cursor : Option Cursor) (target : Option ℕ) → ((cursor : Cursor) (key : ℕ) → IsPlaced t cursor key → IsPlaced t' cursor key) → IsSoughtAt t cursor target → IsSoughtAt t' cursor target
 still_sought_at t t' None target keeps sought = tt
 still_sought_at t t' (Some cursor) None keeps sought = sought
 still_sought_at t t' (Some cursor) (Some key) keeps sought = keeps cursor key sought
 
--- The jobs of a caller stay due if the values of its keys are unchanged.
 closed_due : (m : Map) (jobs : List MapJob) → length jobs ≡ 0 → AreDue m jobs
 closed_due m [] none = tt
 closed_due m (job ∷ jobs) none = absurd (omega arith)
@@ -50,6 +49,7 @@ closed_due m (job ∷ jobs) none = absurd (omega arith)
 changes_long : (jobs : List MapJob) → length (changes_of jobs) ≡ length jobs
 changes_long jobs = length-map (reverse jobs) change_of ∙ length-reverse jobs
 
+-- The jobs of a caller stay due if the values of its keys are unchanged.
 still_due : {holder : Holder} (stripes : ℕ) (h : List Entry) (d : ℕ) (s : Side) (room : ℕ) (current : Map) → IsLegal holder stripes h → IsSeated h d s room
     → ((k : ℕ) → holder_of stripes (stripe_of stripes k) h ≡ Some d → get current k ≡ get (now h) k) → AreDue current (reverse s.jobs)
 still_due stripes h d s room current legal is same = at s.seat.phase refl
@@ -65,9 +65,9 @@ still_due stripes h d s room current legal is same = at s.seat.phase refl
         closed_due current (reverse s.jobs) (length-reverse s.jobs ∙ sym is.agrees.standing ∙ none)
     at q is_q = keyed (rw (is.seat, is_q) refl)
 
--- A step that adds an entry. The record has the history after the entry (`next`), the caller's side
--- before its seat enters the entry (`side`; the caller has no cursor), and the proof that no other
--- caller is disturbed (`apart`).
+-- A step that adds an entry. `next` describes the history after the entry. After the step the
+-- caller's side is `side`, but still with the seat from before the entry, and without a cursor.
+-- `apart` says that the step disturbs no other caller.
 pub record Grows (w : World) (c : ℕ) (x y : Session) (t' : TableAt) (locks' : List (Option ℕ)) (counts' : Counts) (e : Entry) : Type 0 where
   pub seat : Seat
   pub committed : Map
@@ -108,7 +108,7 @@ pub record Stays (w : World) (c : ℕ) (x y : Session) (t' : TableAt) (locks' : 
 abbrev pub world_after : World → ℕ → Session → List Entry → Counts → TableAt → List (Option ℕ) → Option Owner → World
 world_after w c z h' counts' t' locks' placed' = record { limits = w.limits; history = h'; counts = counts'; table = t'; sessions = slice_set w.sessions c z; locks = locks'; placed = placed'; words = w.words }
 
--- The caller's side after its seat has entered the added entry.
+-- The caller's side with this seat, which is the seat after the added entry.
 abbrev pub seated_as : Session → RoomySeat → Session
 seated_as y seat = record { seat = seat; pending = y.pending; cursor = y.cursor; log = y.log }
 
@@ -120,7 +120,7 @@ module _ (w : World) (tells : Tells w) (c : ℕ) (x y : Session) (at : slice_get
   within : c < length w.sessions
   within = slice_get_within w.sessions c x at
 
-  -- The caller's seat allows the entry, and entering it gives the seat of `Grows`.
+  -- The caller's seat allows the entry. The seat after the entry is the `seat` of `Grows`.
   pub row_there : (e : Entry) (is : Grows w c x y t' locks' counts' e) → row x.seat.seat x.seat.seat.phase e ≡ Some is.seat
   row_there e is =
       let seat : seat_after (own (caller_of e) w.history) ≡ Some x.seat.seat = ap (λ k. seat_after (own k w.history)) is.mine ∙ (tells.seated c x at).seat in
@@ -150,7 +150,8 @@ module _ (w : World) (tells : Tells w) (c : ℕ) (x y : Session) (at : slice_get
       agrees = agrees_then;
     })
 
-    pub grown : IsFresh t' (slice_set w.sessions c z) placed' → Tells (world_after w c z (w.history ++ e ∷ []) counts' t' locks' placed')
+    pub grown : LastPlacedFits t' (slice_set w.sessions c z) placed'
+        → Tells (world_after w c z (w.history ++ e ∷ []) counts' t' locks' placed')
     grown fresh = record {
       legal = is.next.legal;
       callers = All-push (λ f. caller_of f < w.limits.callers) w.history e tells.callers (let count = tells.count in let mine = is.mine in let here = within in omega arith);
@@ -184,7 +185,7 @@ module _ (w : World) (tells : Tells w) (c : ℕ) (x y : Session) (at : slice_get
     }
 
   -- The step adds no entry.
-  pub stayed : Stays w c x y t' locks' counts' → (placed' : Option Owner) → IsFresh t' (slice_set w.sessions c y) placed' → Tells (world_after w c y w.history counts' t' locks' placed')
+  pub stayed : Stays w c x y t' locks' counts' → (placed' : Option Owner) → LastPlacedFits t' (slice_set w.sessions c y) placed' → Tells (world_after w c y w.history counts' t' locks' placed')
   stayed is placed' fresh = record {
     legal = tells.legal;
     callers = tells.callers;
@@ -217,9 +218,9 @@ module _ (w : World) (tells : Tells w) (c : ℕ) (x y : Session) (at : slice_get
     sound = is.placed.sound tells.sound;
   }
 
--- No caller's side changes, and the map is unchanged.
+-- The invariants of a core still hold if no caller's side changes and the map is unchanged.
 pub table_stayed : (w : World) → Tells w → (t' : TableAt) (placed' : Option Owner) → content t' ≡ content w.table → KeepsPlaced w.table t'
-    → IsCovered (all_times w.sessions) t' → largest_of t' ≡ largest_of w.table → length (helps_of t') ≡ length (helps_of w.table) → IsFresh t' w.sessions placed'
+    → IsCovered (all_times w.sessions) t' → largest_of t' ≡ largest_of w.table → length (helps_of t') ≡ length (helps_of w.table) → LastPlacedFits t' w.sessions placed'
     → Tells (record { limits = w.limits; history = w.history; counts = w.counts; table = t'; sessions = w.sessions; locks = w.locks; placed = placed'; words = w.words })
 table_stayed w tells t' placed' same keeps spares largest helpers fresh = record {
   legal = tells.legal;

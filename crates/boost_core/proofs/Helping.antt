@@ -1,13 +1,13 @@
 -- The steps of the table and of its helpers.
-use Rattle.std.proofs.Common.{◌≡◌, ◌≢◌, ℕ, ◌≤◌, ◌&&◌, Bool, true, false, cond, List, [], ◌++◌, length, Option, Some, None, Result, Ok, Err, refl, sym, ap, ◌∙◌, arith, slice_get, slice_set, unwrap_or, map, nat_le, not, le-leb, append-nil, inl, inr}
-use Rattle.boost_core.proofs.Vocabulary.{false≢true, cases_lt, slice_get_within, slice_get-get_or, unwrap_or-slice_get, InitSeek, Refusal, Step, Answer, InitRefusal, is_stored, answer_for, seek_answer, store_answer, LacksSegment, TableAt, Help, Nothing, Sought, Dummy, Follows, Keeps, KeepsList, KeepsSpares, map_of, regular, size_of, stored_of, linked_of, helps_of, table_changes, last_of, largest_of, State, Owner, Helper, is_set, help_in, bucket_at, refusal_of, has_dummy, keeps_list, Move, IsAllowed, World, Tells, IsFresh, state_of, session_changes, all_times, Idle, Holding, with_helper, Seeks, Stores, HelperOutOfOrder, NoMemory, NoSuchBucket, NoSuchHelper, ParentMissing}
+use Rattle.std.proofs.Common.{◌≡◌, ◌≢◌, ℕ, ◌&&◌, Bool, true, false, cond, List, [], ◌++◌, length, Option, Some, None, Result, Ok, Err, refl, sym, ap, ◌∙◌, arith, slice_get, slice_set, unwrap_or, map, nat_le, not, le-leb, append-nil, inl, inr}
+use Rattle.boost_core.proofs.Vocabulary.{cases_lt, slice_get_within, slice_get-get_or, unwrap_or-slice_get, InitSeek, Refusal, Step, Answer, InitRefusal, is_stored, answer_for, seek_answer, store_answer, LacksSegment, TableAt, Help, Nothing, Sought, Dummy, Follows, KeepsTable, KeepsList, KeepsSpares, map_of, regular, size_of, stored_of, linked_of, helps_of, table_changes, last_of, largest_of, State, Owner, Helper, is_set, help_in, bucket_at, refusal_of, holds_dummy, Move, IsAllowed, World, Tells, LastPlacedFits, state_of, session_changes, all_times, Idle, Holding, with_helper, Seeks, Stores, HelperOutOfOrder, NoMemory, NoSuchBucket, NoSuchHelper, ParentMissing}
 use Rattle.map_ops.specs.Buckets.{parent_of}
-use Rattle.boost_core.specs.Answers.{after}
+use Rattle.boost_core.specs.Machine.{after}
 use Rattle.boost_core.proofs.Tables.{Becomes, help_is, idle_becomes, sought_becomes, stored_becomes}
 use Rattle.boost_core.proofs.Spares.{still_covered}
 use Rattle.boost_core.proofs.Refused.{le_false}
 use Rattle.boost_core.proofs.Grow.{table_stayed}
-use Rattle.boost_core.proofs.Moves.{keeps_runs, refused, lacks, state_is, move_is, Runs, with_nodes}
+use Rattle.boost_core.proofs.Moves.{refused, lacks, state_is, with_nodes}
 use Rattle.map_ops.specs.InitSeek.TheVariants as seeks
 use Rattle.bucket_table.specs.declared.answer.InitRefusal.TheVariants as inits
 use Rattle.txn_words.specs.declared.step.Step.TheVariants as steps
@@ -20,33 +20,30 @@ served w t' placed' = record { limits = w.limits; history = w.history; counts = 
 -- The invariants of a core still hold if the pairs, the spares, the largest size and the number of
 -- helpers are unchanged.
 pub tells_table : (w : World) → Tells w
-    → (t' : TableAt) (placed' : Option Owner) → regular t' ≡ regular w.table → Follows w.table t' → KeepsSpares w.table t' → largest_of t' ≡ largest_of w.table → length (helps_of t') ≡ length (helps_of w.table) → IsFresh t' w.sessions placed'
+    → (t' : TableAt) (placed' : Option Owner) → regular t' ≡ regular w.table → Follows w.table t' → KeepsSpares w.table t' → largest_of t' ≡ largest_of w.table → length (helps_of t') ≡ length (helps_of w.table) → LastPlacedFits t' w.sessions placed'
     → Tells (served w t' placed')
 tells_table w tells t' placed' same follows spares largest helpers fresh =
     table_stayed w tells t' placed' (ap map_of same) (record { placed = follows.placed; sound = follows.list.sound })
     (still_covered w.table t' (all_times w.sessions) spares tells.spares) largest helpers fresh
 
--- Sweep.
+-- The step `Sweep`.
 pub sweep_tells : (w : World) → Tells w
-    → (t' : TableAt) → Keeps w.table t' → KeepsSpares w.table t' → Follows w.table t' → Tells (served w t' None)
+    → (t' : TableAt) → KeepsTable w.table t' → KeepsSpares w.table t' → Follows w.table t' → Tells (served w t' None)
 sweep_tells w tells t' keeps spares follows =
     tells_table w tells t' None keeps.regular follows spares keeps.buckets.largest (ap length keeps.buckets.helps) tt
 
-module _ (w : World) (t' : TableAt) (keeps : Keeps w.table t') (rises : table_changes w.table ≤ table_changes t') where
-  runs : Runs w.table t'
-  runs = keeps_runs w.table t' keeps rises
+pub swept_move : (w : World) (t' : TableAt) → KeepsTable w.table t' → (answer : Answer) → IsAllowed (state_of w) steps.Sweep answer
+    → after (state_of w) steps.Sweep answer (table_changes t') (last_of t') ≡ record (state_of w) { history = w.history ++ []; changes = table_changes t'; stamp = last_of t'; placed = None }
+    → Move (state_of w) steps.Sweep answer (state_of (served w t' None))
+swept_move w t' keeps answer allowed after_is = record {
+  allowed = allowed;
+  state = state_is w w.history (w.history ++ []) w.counts t' (map session_changes w.sessions) w.sessions w.locks None keeps.buckets keeps.linked (sym (append-nil w.history)) refl
+      ∙ ap (with_nodes t' w.sessions) (sym after_is);
+}
 
-  pub swept_move : Move (state_of w) steps.Sweep answers.Swept (state_of (served w t' None))
-  swept_move = move_is w (served w t' None) steps.Sweep answers.Swept (refl, tt)
-      (state_is w w.history (w.history ++ []) w.counts t' (map session_changes w.sessions) w.sessions w.locks None runs (sym (append-nil w.history)) refl) runs (λ kept. absurd (false≢true kept))
-
-  pub clean_move : table_changes t' ≡ table_changes w.table → Move (state_of w) steps.Sweep answers.Clean (state_of (served w t' None))
-  clean_move stays = move_is w (served w t' None) steps.Sweep answers.Clean (refl, tt)
-      (state_is w w.history (w.history ++ []) w.counts t' (map session_changes w.sessions) w.sessions w.locks None runs (sym (append-nil w.history)) refl) runs (λ kept. stays)
-
--- The invariants of a core, if only the buckets and the helpers change.
+-- The invariants of a core still hold if only the buckets and the helpers change.
 pub becomes_tells : (w : World) → Tells w
-    → (t' : TableAt) (placed' : Option Owner) (size : ℕ) (stored linked : List Bool) (helps : List Help) → Becomes w.table t' size stored linked helps → length helps ≡ length (helps_of w.table) → Follows w.table t' → IsFresh t' w.sessions placed'
+    → (t' : TableAt) (placed' : Option Owner) (size : ℕ) (stored linked : List Bool) (helps : List Help) → Becomes w.table t' size stored linked helps → length helps ≡ length (helps_of w.table) → Follows w.table t' → LastPlacedFits t' w.sessions placed'
     → Tells (served w t' placed')
 becomes_tells w tells t' placed' size stored linked helps becomes many follows fresh =
     tells_table w tells t' placed' becomes.regular follows becomes.spares
@@ -71,37 +68,22 @@ pub becomes_state : (w : World) (t' : TableAt) (placed' : Option Owner) (size : 
 becomes_state w t' placed' size stored linked helps becomes = λ i.
     with_nodes t' w.sessions (record (became w t' placed' (becomes.size_is i) (becomes.stored_is i) (becomes.linked_is i) (becomes.helps_is i)) { history = sym (append-nil w.history) i })
 
--- The move, if the last stamp is unchanged.
+-- A step on the buckets and the helpers is a move.
 pub becomes_move : (w : World) (t' : TableAt) (placed' : Option Owner) (size : ℕ) (stored linked : List Bool) (helps : List Help)
     (step : Step) (answer : Answer) → Becomes w.table t' size stored linked helps → IsAllowed (state_of w) step answer
     → after (state_of w) step answer (table_changes t') (last_of t') ≡ became w t' placed' size stored linked helps
-    → table_changes w.table ≤ table_changes t' → (keeps_list answer ≡ true → table_changes t' ≡ table_changes w.table)
-    → last_of t' ≡ last_of w.table → Move (state_of w) step answer (state_of (served w t' placed'))
-becomes_move w t' placed' size stored linked helps step answer becomes allowed after_is rises kept same = record {
+    → Move (state_of w) step answer (state_of (served w t' placed'))
+becomes_move w t' placed' size stored linked helps step answer becomes allowed after_is = record {
   allowed = allowed;
   state = becomes_state w t' placed' size stored linked helps becomes ∙ ap (with_nodes t' w.sessions) (sym after_is);
-  changes = rises;
-  list_kept = kept;
-  stamp = omega arith;
-  one_stamp = omega arith;
 }
-
--- The move, if the list is unchanged.
-pub quiet_move : (w : World) (t' : TableAt) (size : ℕ) (stored linked : List Bool) (helps : List Help)
-    (step : Step) (answer : Answer) → Becomes w.table t' size stored linked helps → KeepsList w.table t'
-    → IsAllowed (state_of w) step answer
-    → after (state_of w) step answer (table_changes t') (last_of t') ≡ became w t' None size stored linked helps
-    → Move (state_of w) step answer (state_of (served w t' None))
-quiet_move w t' size stored linked helps step answer becomes list allowed after_is =
-    becomes_move w t' None size stored linked helps step answer becomes allowed after_is
-    (omega (arith, ap (λ l. l.changes) list)) (λ kept. ap (λ l. l.changes) list) (ap (λ l. l.last) list)
 
 -- The refusal of a helper's step, if the step is refused.
 abbrev pub refusal_in_result : {A : Type 0} → Result A Refusal → Option Refusal
 refusal_in_result (Ok answer) = None
 refusal_in_result (Err refusal) = Some refusal
 
--- Whether there is a helper of this number.
+-- A helper has the number `h` if and only if `h` is less than the number of helpers.
 pub helper_there : (helps : List Help) (n h : ℕ) (help : Help) → length helps ≡ n → slice_get helps h ≡ Some help → nat_le n h ≡ false
 helper_there helps n h help long is = le_false n h (omega (arith, long, slice_get_within helps h help is))
 
@@ -111,7 +93,7 @@ helper_none helps n h long none = elim (cases_lt h (length helps)) [
   | inr past ↦ le-leb n h (omega arith)
 ]
 
--- InitSeek.
+-- The step `InitSeek`.
 seek_tests : (large here above : Bool) → cond large (Some NoSuchBucket) (cond (not here && not above) (Some ParentMissing) None)
     ≡ refusal_in_result (answer_for (cond {A = Result InitSeek InitRefusal} large (Err inits.NoSuchBucket) (cond here (Ok seeks.Ready) (cond above (Ok seeks.Placed) (Err inits.ParentMissing)))))
 seek_tests true here above = refl
@@ -143,7 +125,7 @@ seek_placed : (large here above : Bool) → answer_for (cond {A = Result InitSee
 seek_placed false false above is = refl
 seek_placed _ _ _ is = absurd (cc (is))
 
--- The answer `Ready` says that the bucket is stored, and `Placed` that it is not.
+-- The answer `Ready` says that the bucket is stored. The answer `Placed` says that it is not.
 pub ready_stored : (t : TableAt) (o : Option Help) (bucket : ℕ) → seek_answer (size_of t) (stored_of t) o bucket ≡ Ok seeks.Ready → is_set (stored_of t) bucket ≡ true
 ready_stored t None bucket is = absurd (cc (is))
 ready_stored t (Some help) bucket is = is_set_is (stored_of t) bucket ∙ seek_ready (nat_le (size_of t) bucket) (is_stored (stored_of t) bucket) (is_stored (stored_of t) (parent_of bucket)) is
@@ -157,41 +139,40 @@ pub seek_ready_move : (w : World) (t' : TableAt) (helper bucket : ℕ) → lengt
     → t'.buckets ≡ with_helper w.table.buckets helper Idle → KeepsList w.table t'
     → Move (state_of w) (steps.InitSeek helper bucket) answers.Ready (state_of (served w t' None))
 seek_ready_move w t' helper bucket many is idle list =
-    quiet_move w t' _ _ _ _ (steps.InitSeek helper bucket) answers.Ready (idle_becomes w.table t' helper idle list) list
+    becomes_move w t' None _ _ _ _ (steps.InitSeek helper bucket) answers.Ready (idle_becomes w.table t' helper idle list)
     (seek_refusal w helper bucket many ∙ ap refusal_in_result is, ready_stored w.table (slice_get (helps_of w.table) helper) bucket is) refl
 
 pub seek_placed_move : (w : World) (t' : TableAt) (helper bucket : ℕ) → length (helps_of w.table) ≡ w.limits.callers
     → seek_answer (size_of w.table) (stored_of w.table) (slice_get (helps_of w.table) helper) bucket ≡ Ok seeks.Placed
     → Seeks w.table.buckets t'.buckets w.table.list t'.list helper bucket
-    → regular t' ≡ regular w.table → linked_of t' ≡ linked_of w.table → table_changes w.table ≤ table_changes t'
+    → regular t' ≡ regular w.table → linked_of t' ≡ linked_of w.table
     → Move (state_of w) (steps.InitSeek helper bucket) answers.Placed (state_of (served w t' (Some (Helper helper))))
-seek_placed_move w t' helper bucket many is sought same linked rises =
+seek_placed_move w t' helper bucket many is sought same linked =
     becomes_move w t' (Some (Helper helper)) _ _ _ _ (steps.InitSeek helper bucket) answers.Placed (sought_becomes w.table t' helper bucket sought same linked)
     (seek_refusal w helper bucket many ∙ ap refusal_in_result is, placed_not w.table (slice_get (helps_of w.table) helper) bucket is) refl
-    rises (λ kept. absurd (false≢true kept)) sought.rest.last
 
 -- A helper's step that the table refuses.
 pub helper_refused : (w : World) (t' : TableAt) (step : Step) (refusal : Refusal) → t' ≡ w.table → refusal_of (state_of w) step ≡ Some refusal
     → Move (state_of w) step (answers.Refused refusal) (state_of (served w t' w.placed))
 helper_refused w t' step refusal same is = rw same (refused (state_of w) step refusal is)
 
--- InitStore.
+-- The step `InitStore`.
 pub store_refusal : (w : World) (helper : ℕ) → length (helps_of w.table) ≡ w.limits.callers
     → refusal_of (state_of w) (steps.InitStore helper) ≡ refusal_in_result (store_answer (slice_get (helps_of w.table) helper))
 store_refusal w helper many = at (slice_get (helps_of w.table) helper) refl
   where
-    held : (help : Help) → cond (not (has_dummy help)) (Some HelperOutOfOrder) None ≡ refusal_in_result (store_answer (Some help))
+    held : (help : Help) → cond (not (holds_dummy help)) (Some HelperOutOfOrder) None ≡ refusal_in_result (store_answer (Some help))
     held Nothing = refl
     held (Sought bucket noted) = refl
     held (Dummy bucket) = refl
 
     at : (o : Option Help) → slice_get (helps_of w.table) helper ≡ o → refusal_of (state_of w) (steps.InitStore helper) ≡ refusal_in_result (store_answer o)
-    at None is = ap (λ b. cond b (Some NoSuchHelper) (cond (not (has_dummy (help_in (helps_of w.table) helper))) (Some HelperOutOfOrder) None)) (helper_none (helps_of w.table) w.limits.callers helper many is)
+    at None is = ap (λ b. cond b (Some NoSuchHelper) (cond (not (holds_dummy (help_in (helps_of w.table) helper))) (Some HelperOutOfOrder) None)) (helper_none (helps_of w.table) w.limits.callers helper many is)
     at (Some help) is =
-        ap (λ b. cond b (Some NoSuchHelper) (cond (not (has_dummy (help_in (helps_of w.table) helper))) (Some HelperOutOfOrder) None)) (helper_there (helps_of w.table) w.limits.callers helper help many is)
-        ∙ ap (λ (o : Option Help). cond (not (has_dummy (unwrap_or o Nothing))) (Some HelperOutOfOrder) None) is ∙ held help
+        ap (λ b. cond b (Some NoSuchHelper) (cond (not (holds_dummy (help_in (helps_of w.table) helper))) (Some HelperOutOfOrder) None)) (helper_there (helps_of w.table) w.limits.callers helper help many is)
+        ∙ ap (λ (o : Option Help). cond (not (holds_dummy (unwrap_or o Nothing))) (Some HelperOutOfOrder) None) is ∙ held help
 
--- If a store is refused memory, no bucket of the helper's segment is stored.
+-- If a store lacks memory, no bucket of the helper's segment is stored.
 store_lacks : (w : World) (helper : ℕ) (o : Option Help) → slice_get (helps_of w.table) helper ≡ o → store_answer o ≡ Ok tt
     → ((bucket : ℕ) → slice_get (helps_of w.table) helper ≡ Some (Dummy bucket) → LacksSegment (stored_of w.table) bucket) → LacksSegment (stored_of w.table) (bucket_at (help_in (helps_of w.table) helper))
 store_lacks w helper (Some (Dummy bucket)) is answer lacks = rw is (lacks bucket is)
@@ -211,7 +192,7 @@ pub stored_move : (w : World) (t' : TableAt) (helper : ℕ) → length (helps_of
     → store_answer (slice_get (helps_of w.table) helper) ≡ Ok tt → Stores w.table.buckets t'.buckets helper → KeepsList w.table t'
     → Move (state_of w) (steps.InitStore helper) answers.Stored (state_of (served w t' None))
 stored_move w t' helper many is stores list =
-    quiet_move w t' _ _ _ _ (steps.InitStore helper) answers.Stored (stored_becomes w.table t' helper stores list) list
+    becomes_move w t' None _ _ _ _ (steps.InitStore helper) answers.Stored (stored_becomes w.table t' helper stores list)
     (store_refusal w helper many ∙ ap refusal_in_result is, tt)
     (ap (λ (o : Option Help). became w t' None (size_of w.table) (slice_set (stored_of w.table) (bucket_at (unwrap_or o Nothing)) true)
     (linked_of w.table) (slice_set (helps_of w.table) helper Nothing))

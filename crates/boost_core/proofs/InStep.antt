@@ -1,8 +1,8 @@
--- A call for help and the core stay in step over each move of the call, whoever else takes steps on
--- the core between two moves. The call keeps to its bucket, and this bucket is stored when the call
--- is at its end.
+-- A call for help and the core stay in step over each move of the call, even if others take steps
+-- on the core between two moves. The call keeps to its bucket, and this bucket is stored when the
+-- call ends with `Helped`.
 use Rattle.std.proofs.Common.{◌≡◌, ◌≢◌, ℕ, ◌*◌, ◌^◌, ◌%◌, ◌<◌, ◌≤◌, ◌==◌, ◌&&◌, nat_lt, Bool, true, false, if◌then◌else◌, List, [], ◌∷◌, length, Some, None, refl, sym, ap, subst, ◌∙◌, arith, nat_le, not, unwrap_or, slice_get, slice_set, eqb-true, lt-ltb, get_or-set_same, leb-false}
-use Rattle.boost_core.proofs.Vocabulary.{false≢true, eqb-false, mod_below, unwrap_or-slice_get, Step, Answer, Refusal, Way, child_towards, step_in, sized_in, towards, heading, refused_help, told_help, told_init_seek, told_link, told_store, told_in, IsAncestor-root, IsAncestor-child_towards, parent_of-child_towards, child_towards-le, parent_of, IsAncestor, State, Help, Nothing, Sought, Dummy, is_set, with_bucket, help_in, bucket_at, refusal_of, MayLack, has_cursor, has_dummy, first_of, Move, IsWhole, IsOnWay, HelpSuits, HelperOutOfOrder, NoMemory, NoSuchBucket, NoSuchHelper, OutOfStep, ParentMissing, StampsUsedUp}
+use Rattle.boost_core.proofs.Vocabulary.{false≢true, eqb-false, mod_below, unwrap_or-slice_get, Step, Answer, Refusal, Way, child_towards, step_in, sized_in, towards, heading, refused_help, told_help, told_init_seek, told_link, told_store, told_in, IsAncestor-root, IsAncestor-child_towards, parent_of-child_towards, child_towards-le, parent_of, IsAncestor, State, Help, Nothing, Sought, Dummy, is_set, with_bucket, help_in, bucket_at, refusal_of, MayLack, has_cursor, holds_dummy, first_of, Move, IsWhole, IsOnWay, HelpSuits, HelperOutOfOrder, NoMemory, NoSuchBucket, NoSuchHelper, OutOfStep, ParentMissing, StampsUsedUp}
 use Rattle.txn_drive.specs.declared.phase.Phase.{Phase}
 use Rattle.txn_drive.specs.declared.phase.Phase.TheVariants.{Doubling, Initialising, Linking, Storing, Helped, Refused}
 use Rattle.boost_core.proofs.Refused.{le_false}
@@ -32,8 +32,9 @@ sized m n step (answers.Doubled size) move = absurd move.allowed.1
 sized m n step (answers.Refused r) move = size_stays m n step (ap (λ (s : State). s.size) move.state)
 sized m n step _ move = size_stays m n step (ap (λ (s : State). s.size) move.state)
 
--- If each phase that may come next has a property, the next phase has it: after a bucket on the way
--- is initialised, at the beginning of the way, after a refusal, and after a doubling.
+-- If each phase that may come next has a property, the next phase has the property. There are
+-- lemmas for the next phase after a bucket on the way is initialised, at the beginning of the way,
+-- after a refusal and after a doubling.
 pub at_towards : (P : Phase → Type 0) (last target : ℕ) → (last ≡ target → P Helped) → (last ≢ target → P (Initialising (record { bucket = child_towards last target; target = target }) 0)) → P (towards last target)
 at_towards P last target there on = at (last == target) refl
   where
@@ -71,8 +72,8 @@ stored_there m n c way whole suits move =
     ap (λ (s : State). is_set s.stored way.bucket) move.state ∙ ap (λ b. is_set (with_bucket m.stored b) way.bucket) suits.2
     ∙ set_there m.stored way.bucket true false (omega (arith, suits.0.bucket, whole.most, whole.buckets))
 
--- A call for help keeps to this bucket; if `known`, the bucket is stored when the call is at its
--- end.
+-- A call for help keeps to this bucket. If `known` holds, the bucket is stored when the call ends
+-- with `Helped`.
 abbrev pub Reaches : Type 0 → State → ℕ → Phase → Type 0
 Reaches known m bucket (Initialising way again) = way.target ≡ bucket
 Reaches known m bucket (Linking way again) = way.target ≡ bucket
@@ -121,7 +122,7 @@ help_suits_towards n c last target small ancestor within stored =
       parent = ap (is_set n.stored) (parent_of-child_towards last target small ancestor other) ∙ stored;
     })
 
--- After the doubling.
+-- The core and the call are in step again after a doubling.
 pub help_suits_double : (m n : State) (c key : ℕ) (a : Answer) → IsWhole m → n.size < 2 ^ 32 → Move m (steps.Double m.size) a n → HelpSuits n c (told_help key m.size a)
 help_suits_double m n c key a whole small move =
     let some : 0 < n.size = omega (arith, whole.least, (sized m n (steps.Double m.size) a move).least) in
@@ -147,7 +148,7 @@ target_small m way whole on = omega (arith, on.target, whole.most, whole.fits)
 helper_there : (m : State) (c : ℕ) → IsWhole m → nat_le m.limits.callers c ≡ false → c < length m.helpers
 helper_there m c whole within = omega (arith, leb-false m.limits.callers c within, whole.helpers)
 
--- After the position of a bucket's dummy was sought.
+-- The core and the call are in step again after the position of a bucket's dummy is sought.
 pub help_suits_seek : (m n : State) (c : ℕ) (way : Way) (again : ℕ) (a : Answer) → IsWhole m → nat_le m.limits.callers c ≡ false → IsOnWay m way → Move m (steps.InitSeek c way.bucket) a n → HelpSuits n c (told_init_seek way again a)
 help_suits_seek m n c way again a whole within on move = at a move
   where
@@ -167,7 +168,8 @@ help_suits_seek m n c way again a whole within on move = at a move
         (way_stays m n way (ap (λ (s : State). s.size) move.state) (ap (λ (s : State). s.stored) move.state) on, ap has_cursor sought, ap bucket_at sought)
     at _ move = absurd move.allowed.1
 
--- If a link lacks memory or a stamp, or a store lacks memory, the call may end with this refusal.
+-- A call may end with the refusal of a link that lacks memory or a stamp, or with the refusal of a
+-- store that lacks memory.
 link_lacks : (m n : State) (c : ℕ) (r : Refusal) → MayLack m (steps.InitLink c) r → HelpSuits n c (refused_help r)
 link_lacks m n c NoMemory lack = tt
 link_lacks m n c StampsUsedUp lack = tt
@@ -177,7 +179,7 @@ store_lacks : (m n : State) (c : ℕ) (r : Refusal) → MayLack m (steps.InitSto
 store_lacks m n c NoMemory lack = tt
 store_lacks m n c r lack = absurd lack
 
--- After the answer to linking the dummy.
+-- The core and the call are in step again after the answer to a link.
 pub help_suits_link : (m n : State) (c : ℕ) (way : Way) (again : ℕ) (a : Answer) → IsWhole m → nat_le m.limits.callers c ≡ false → HelpSuits m c (Linking way again) → Move m (steps.InitLink c) a n → HelpSuits n c (told_link way again a)
 help_suits_link m n c way again a whole within suits move = at a move
   where
@@ -187,7 +189,7 @@ help_suits_link m n c way again a whole within suits move = at a move
     holds : n.size ≡ m.size → n.stored ≡ m.stored → n.helpers ≡ slice_set m.helpers c (Dummy (bucket_at (help_in m.helpers c))) → HelpSuits n c (Storing way)
     holds size stored helpers =
         let dummy : help_in n.helpers c ≡ Dummy (bucket_at (help_in m.helpers c)) = ap (λ (xs : List Help). help_in xs c) helpers ∙ set_there m.helpers c (Dummy (bucket_at (help_in m.helpers c))) Nothing (helper_there m c whole within) in
-        (way_stays m n way size stored suits.0, ap has_dummy dummy, ap bucket_at dummy ∙ suits.2)
+        (way_stays m n way size stored suits.0, ap holds_dummy dummy, ap bucket_at dummy ∙ suits.2)
 
     at : (a : Answer) → Move m (steps.InitLink c) a n → HelpSuits n c (told_link way again a)
     at (answers.Refused r) move = link_lacks m n c r (never_refused m (steps.InitLink c) r none move.allowed)
@@ -196,7 +198,7 @@ help_suits_link m n c way again a whole within suits move = at a move
     at answers.Linked move = holds (ap (λ (s : State). s.size) move.state) (ap (λ (s : State). s.stored) move.state) (ap (λ (s : State). s.helpers) move.state)
     at _ move = absurd move.allowed.1
 
--- After the answer to storing the dummy.
+-- The core and the call are in step again after the answer to a store.
 pub help_suits_store : (m n : State) (c : ℕ) (way : Way) (a : Answer) → IsWhole m → nat_le m.limits.callers c ≡ false → HelpSuits m c (Storing way) → Move m (steps.InitStore c) a n → HelpSuits n c (told_store way a)
 help_suits_store m n c way a whole within suits move = at a move
   where

@@ -4,6 +4,7 @@ pub mod Due
 pub mod Grow
 pub mod Refused
 pub mod Sides
+pub mod Events
 pub mod Moves
 pub mod Numbers
 pub mod Runs

@@ -1,17 +1,17 @@
 -- The step by which a helper links a dummy.
-use Rattle.std.proofs.Common.{◌≡◌, ◌≢◌, ℕ, ◌-◌, ◌^◌, ◌<◌, ◌≤◌, ◌==◌, Bool, true, false, cond, length, Option, Some, None, Result, Ok, Err, is_some, refl, sym, ap, subst, ◌∙◌, arith, slice_get, slice_set, unwrap_or, nat_le, not, ne_eqb, inl, inr}
-use Rattle.boost_core.proofs.Vocabulary.{false≢true, cases_eq, and_from, InitLink, Refusal, InitRefusal, is_stored, answer_for, link_answer, helper_fits, link_answer_of, Idle, Seeking, with_helper, Holds, LinksDummy, TableAt, Help, Nothing, Sought, Dummy, HasParents, KeepsList, regular, size_of, stored_of, linked_of, helps_of, table_changes, last_of, State, Owner, Caller, Helper, is_set, help_in, bucket_at, helper_changes, refusal_of, has_cursor, has_stamp, lacks_dummy, is_just_placed, may_be_stale, Move, World, IsFresh, state_of, HelperOutOfOrder, NoMemory, NoSuchHelper, StampsUsedUp}
-use Rattle.list_steps.specs.Found.{changes_of}
-use Rattle.boost_core.proofs.Moves.{refused, lacks, stale_since, with_nodes}
+use Rattle.std.proofs.Common.{◌≡◌, ◌≢◌, ℕ, ◌-◌, ◌^◌, ◌<◌, ◌==◌, Bool, true, false, cond, length, Option, Some, None, Result, Ok, Err, is_some, refl, sym, ap, subst, ◌∙◌, slice_get, slice_set, unwrap_or, nat_le, not, ne_eqb, inl, inr}
+use Rattle.boost_core.proofs.Vocabulary.{false≢true, cases_eq, and_from, InitLink, Refusal, InitRefusal, is_stored, answer_for, link_answer, helper_fits, link_answer_of, Idle, Seeking, with_helper, HoldsDummy, LinksDummy, TableAt, Help, Nothing, Sought, Dummy, HasParents, KeepsList, regular, size_of, stored_of, linked_of, helps_of, table_changes, last_of, State, Owner, Caller, Helper, is_set, help_in, bucket_at, helper_changes, refusal_of, has_cursor, has_stamp, lacks_dummy, is_just_placed, may_be_stale, Move, World, LastPlacedFits, state_of, HelperOutOfOrder, NoMemory, NoSuchHelper, StampsUsedUp}
+use Rattle.list_steps.specs.Found.{change_number_of}
+use Rattle.boost_core.proofs.Moves.{refused, lacks, stale_since}
 use Rattle.boost_core.proofs.Tables.{help_is, idle_becomes, held_becomes, linked_becomes}
-use Rattle.boost_core.proofs.Helping.{served, became, becomes_state, quiet_move, helper_there, helper_none, is_set_is}
+use Rattle.boost_core.proofs.Helping.{served, became, becomes_move, helper_there, helper_none, is_set_is}
 use Rattle.map_ops.specs.InitLink.TheVariants as links
 use Rattle.bucket_table.specs.declared.answer.InitRefusal.TheVariants as inits
 use Rattle.txn_words.specs.declared.step.Step.TheVariants as steps
 use Rattle.txn_words.specs.declared.answer.Answer.TheVariants as answers
 
--- InitLink. The refusal by a test, given the table's answer. A lack of memory or of stamps is no
--- refusal by a test: it is found after all tests.
+-- The refusal of the step `InitLink` by a test, given the table's answer. A lack of memory or of
+-- stamps is found after all tests, so it is no refusal by a test.
 abbrev pub refusal_by_test : Result InitLink Refusal → Option Refusal
 refusal_by_test (Err NoMemory) = None
 refusal_by_test (Err StampsUsedUp) = None
@@ -124,16 +124,16 @@ module _ (w : World) (helper : ℕ) (many : length (helps_of w.table) ≡ w.limi
       at refusal is = refused before (steps.InitLink helper) refusal (link_refusal ∙ ap refusal_by_test (now refusal is (λ e. cc e)))
 
   -- The cursor did not fit, and is dropped.
-  pub link_again_move : answer_now ≡ Ok links.Again → IsFresh w.table w.sessions w.placed → ((bucket : ℕ) → slice_get (helps_of w.table) helper ≡ Some (Sought bucket (table_changes w.table)) → table_changes w.table < 2 ^ 64 - 1 → ⊥)
+  pub link_again_move : answer_now ≡ Ok links.Again → LastPlacedFits w.table w.sessions w.placed → ((bucket : ℕ) → slice_get (helps_of w.table) helper ≡ Some (Sought bucket (table_changes w.table)) → table_changes w.table < 2 ^ 64 - 1 → ⊥)
       → (t' : TableAt) → t'.buckets ≡ with_helper w.table.buckets helper Idle → KeepsList w.table t' → Move before (steps.InitLink helper) answers.Again (state_of (served w t' None))
   link_again_move is fresh unmoved t' idle list =
       let sought = has_sought w.table helper (Ok links.Again) is refl in
-      quiet_move w t' _ _ _ _ (steps.InitLink helper) answers.Again (idle_becomes w.table t' helper idle list) list (
+      becomes_move w t' None _ _ _ _ (steps.InitLink helper) answers.Again (idle_becomes w.table t' helper idle list) (
         link_refusal ∙ ap refusal_by_test is,
         stale sought.bucket sought.noted sought.had sought.says,
       ) refl
     where
-      not_fresh : helper_fits w.table helper ≡ false → (o : Option Owner) → IsFresh w.table w.sessions o → is_just_placed (Helper helper) o ≡ false
+      not_fresh : helper_fits w.table helper ≡ false → (o : Option Owner) → LastPlacedFits w.table w.sessions o → is_just_placed (Helper helper) o ≡ false
       not_fresh misfit None fresh = refl
       not_fresh misfit (Some (Caller d)) fresh = refl
       not_fresh misfit (Some (Helper d)) fresh = elim (cases_eq helper d) [
@@ -147,33 +147,26 @@ module _ (w : World) (helper : ℕ) (many : length (helps_of w.table) ≡ w.limi
           (not_fresh misfit w.placed fresh)
           (λ same below. unmoved bucket (rw same at had) (rw same at below))
 
-  -- The dummy was linked already.
-  pub link_present_move : answer_now ≡ Ok links.Present → (t' : TableAt) → Holds w.table.buckets t'.buckets t'.list helper
+  -- The dummy was already linked.
+  pub link_present_move : answer_now ≡ Ok links.Present → (t' : TableAt) → HoldsDummy w.table.buckets t'.buckets t'.list helper
       → KeepsList w.table t' → Move before (steps.InitLink helper) answers.Present (state_of (served w t' None))
   link_present_move is t' holds list =
       let sought = has_sought w.table helper (Ok links.Present) is refl in
-      quiet_move w t' _ _ _ _ (steps.InitLink helper) answers.Present (held_becomes w.table t' helper holds list) list (
+      becomes_move w t' None _ _ _ _ (steps.InitLink helper) answers.Present (held_becomes w.table t' helper holds list) (
         link_refusal ∙ ap refusal_by_test is,
         ap not (lacks_when sought true sought.says),
       )
       (ap (λ n. became w t' None (size_of w.table) (stored_of w.table) (linked_of w.table) (slice_set (helps_of w.table) helper (Dummy n)))
-      (bucket_had (Sought holds.bucket (changes_of holds.cursor)) (help_is w.table helper (Seeking holds.bucket holds.cursor) holds.had)))
+      (bucket_had (Sought holds.bucket (change_number_of holds.cursor)) (help_is w.table helper (Seeking holds.bucket holds.cursor) holds.had)))
 
   -- The dummy is linked now.
   pub link_linked_move : answer_now ≡ Ok links.Linked → HasParents w.table
       → (t' : TableAt) → LinksDummy w.table.buckets t'.buckets w.table.list t'.list helper
-      → regular t' ≡ regular w.table → table_changes w.table ≤ table_changes t'
-      → Move before (steps.InitLink helper) answers.Linked (state_of (served w t' None))
-  link_linked_move is parents t' linked same rises =
+      → regular t' ≡ regular w.table → Move before (steps.InitLink helper) answers.Linked (state_of (served w t' None))
+  link_linked_move is parents t' linked same =
       let sought = has_sought w.table helper (Ok links.Linked) is refl in
-      record {
-        allowed = (link_refusal ∙ ap refusal_by_test is, and_from (lacks_dummy before helper) (has_stamp before) (lacks_when sought false sought.says.0) (ap not sought.says.1));
-        state = becomes_state w t' None _ _ _ _ (linked_becomes w.table t' helper parents linked same)
-            ∙ ap (λ n. with_nodes t' w.sessions (became w t' None (size_of w.table) (stored_of w.table) (slice_set (linked_of w.table) n true) (slice_set (helps_of w.table) helper (Dummy n))))
-            (sym (bucket_had (Sought linked.bucket (changes_of linked.cursor))
-            (help_is w.table helper (Seeking linked.bucket linked.cursor) linked.had)));
-        changes = rises;
-        list_kept = λ kept. absurd (false≢true kept);
-        stamp = omega (arith, linked.links.last);
-        one_stamp = omega (arith, linked.links.last);
-      }
+      becomes_move w t' None _ _ _ _ (steps.InitLink helper) answers.Linked (linked_becomes w.table t' helper parents linked same)
+      (link_refusal ∙ ap refusal_by_test is, and_from (lacks_dummy before helper) (has_stamp before) (lacks_when sought false sought.says.0) (ap not sought.says.1))
+      (ap (λ n. became w t' None (size_of w.table) (stored_of w.table) (slice_set (linked_of w.table) n true) (slice_set (helps_of w.table) helper (Dummy n)))
+      (bucket_had (Sought linked.bucket (change_number_of linked.cursor))
+      (help_is w.table helper (Seeking linked.bucket linked.cursor) linked.had)))

@@ -22,7 +22,8 @@ named_below : (stripes callers : ℕ) (h : List Entry) (e : Entry) → All (λ e
 named_below stripes callers h (Busy c op x) all locked below = begun_below callers x h all (and_parts (not (x == c)) (has_begun x h) locked).1
 named_below stripes callers h _ all locked below = omega arith
 
--- An entry that may follow is small.
+-- Let a history be legal, let `e` be its last entry, and let there be at most 64 callers. Then `e`
+-- is small (`is_small`): its caller and the holder that it names fit in 16 bits.
 pub grown_small : (words : Bool) (stripes callers : ℕ) (h : List Entry) (e : Entry) → All (λ e. caller_of e < callers) h → IsLegal (holder_by words) stripes (h ++ e ∷ []) → caller_of e < callers → callers ≤ 64 → is_small e ≡ true
 grown_small words stripes callers h e all legal below few =
     let locked : is_locked Begun stripes h e ≡ true = (wider words stripes (h ++ e ∷ []) legal).locks h e ([], append-nil (h ++ e ∷ [])) in

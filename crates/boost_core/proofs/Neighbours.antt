@@ -139,7 +139,7 @@ side_by_side (m ∷ rest) place a behind (f ∷ front) back rising is same next 
           (more.0, subst (λ (o : Option NodeAt). NextAt o behind) (sym (next_later m rest place apart)) more.1)
     ]
 
--- The list at two times.
+-- The list before a change is `l`, and the list after it is `l'`.
 module _ (l l' : Listing) (c : Cursor) (spread : IsSpread l.nodes) (rising : IsRising l'.nodes) (stay : Stay l.nodes l'.nodes) (fit : Fit l c) where
   next_still : (o o' : Option NodeAt) (noted : Option Noted) → behind l c ≡ o → behind l' c ≡ o' → NextIs o noted → NextAt o' (key_at o) → NextIs o' noted × (key_at o' ≡ key_at o)
   next_still None None noted was now is at = (is, refl)

@@ -5,7 +5,7 @@ use Rattle.boost_core.proofs.Vocabulary.{AllByRecursion, false≢true, cases_Boo
 abbrev pub seen : List NodeAt → List Node
 seen nodes = map node_at nodes
 
--- One more node.
+-- One node is inserted.
 pub record Inserted (old new : List Node) (n : Node) : Type 0 where
   pub front : List Node
   pub back : List Node
@@ -155,7 +155,7 @@ seeks_from sort (m ∷ rest) place n is = elim (cases_Bool (m.place == place)) [
       )
 ]
 
--- A list of nodes none of which is marked.
+-- No node of the list is marked.
 abbrev pub AllPlain : List NodeAt → Type 0
 AllPlain nodes = AllByRecursion (λ n. n.marked ≡ false) nodes
 

@@ -1,8 +1,7 @@
--- The effect on the nodes, the change number and the last stamp: of each step of a caller, and of
--- each step of the table or a helper.
-use Rattle.std.proofs.Common.{◌≡◌, ◌⊎◌, ℕ, ◌-◌, ◌%◌, ◌<◌, Bool, true, false, List, [], ◌∷◌, ◌++◌, length, Option, Some, None, is_some, inl, inr, refl, sym, ap, subst, ◌∙◌, reverse, slice_get, unwrap_or, nat_lt, nat_eq, IsSome, option_map, Result, Ok, Err}
-use Rattle.boost_core.proofs.Vocabulary.{option_eq, false≢true, cases_Bool, slice_get-map, unwrap_or-slice_get, regular_at, Op, Put, Take, Get, PutIf, Refusal, Step, Answer, Phase, Waiting, LeavingTo, LeavingToEnd, Map, get, key_of, now, log_of, stripe_of, Seat, kept_at, newest_above, MapJob, Unput, Restore, Relink, length-map, reverse-append, ancestor_of, NodeAt, changes_after, sought, IsDummyAt, PendingAt, key_of_job, value_before, takes_node, IsDue, TableAt, SpareAt, KeepsNodes, KeepsList, NamesDummies, content, nodes_of, size_of, stored_of, table_changes, last_of, SeeksNear, IsRefused, Session, State, Caller, is_set, seat_in, owner_of, Touches, stamp_after, Writes, Links, Marks, SeeksFrom, SeeksKey, IsNearest, Changes, PutsIf, OpDoes, OpDoesIn, BackDoes, Lists, key_in, next_key, newest_key, Does, ActsIn, DoesIn, TakesBackIn, SeeksIn, IsAsked, AsksBy, unless_busy, Waits, AreDue, key_of_newest, target_in, target_of, changes_of, Claim, Lock, Right, IsClaim, ListsAsk, ListsBy, stamp_by, World, Tells, state_of, node_at, NoMemory, StaleWord, Abort, Act, Ask, Back, Begin, Commit, Save, Seek, dummy_at, InitSeek, InitLink, SweepOutcome, dummy_node, Sweeps, Seeking, SeekChanges, LinkChanges, Help, Nothing, helps_of, help_in, bucket_at, Serves, Sweeping}
-use Rattle.boost_core.specs.Nodes.{Keeps}
+-- The effect of each step on the nodes, the change number and the last stamp.
+use Rattle.std.proofs.Common.{arith, ◌≡◌, ◌⊎◌, ℕ, ◌-◌, ◌%◌, ◌≤◌, Bool, true, false, List, [], ◌∷◌, ◌++◌, length, Option, Some, None, is_some, inl, inr, refl, sym, ap, subst, ◌∙◌, reverse, slice_get, unwrap_or, nat_lt, nat_eq, IsSome, option_map, Result, Ok, Err}
+use Rattle.boost_core.proofs.Vocabulary.{option_eq, false≢true, cases_Bool, slice_get-map, unwrap_or-slice_get, regular_at, Op, Put, Take, Get, PutIf, Refusal, Step, Answer, Phase, Waiting, LeavingTo, LeavingToEnd, Map, get, key_of, now, log_of, stripe_of, Seat, kept_at, newest_above, MapJob, Unput, Restore, Relink, length-map, reverse-append, ancestor_of, NodeAt, changes_after, sought, IsDummyAt, PendingAt, key_of_job, value_before, takes_node, IsDue, TableAt, SpareAt, KeepsNodes, KeepsList, NamesDummies, content, nodes_of, size_of, stored_of, table_changes, last_of, SeeksNear, IsRefused, Session, State, Caller, is_set, seat_in, owner_of, Touches, stamp_after, Writes, Links, Marks, SeeksFrom, SeeksKey, IsNearest, Changes, PutsIf, OpDoes, OpDoesIn, BackDoes, Lists, next_key_in, next_key, newest_key, HasEffect, ActsIn, DoesIn, TakesBackIn, SeeksIn, IsAsked, AsksBy, unless_busy, Waits, AreDue, key_of_newest, target_in, target_of, changes_of, Claim, Lock, Right, IsClaim, ListsAsk, ListsBy, stamp_by, World, Tells, state_of, node_at, NoMemory, StaleWord, Abort, Act, Ask, Back, Begin, Commit, Save, Seek, dummy_at, InitSeek, InitLink, SweepOutcome, dummy_node, Sweeps, Seeking, SeekChanges, LinkChanges, Help, Nothing, helps_of, help_in, bucket_at, Serves, Sweeping}
+use Rattle.boost_core.specs.Nodes.{LeavesNodes}
 use Rattle.boost_core.proofs.Spares.{given_for, nodes_then}
 use Rattle.boost_core.proofs.NodeLists.{seen, inserted, replaced, written_seen, seeks_from, clean_seen, sweeps as swept_nodes}
 use Rattle.boost_core.proofs.Outcomes.{is_stale_word}
@@ -26,15 +25,15 @@ lists_of state old new step answer is lists = subst (λ s. Lists s step answer n
 pub lists_by_of : (claim : Claim) (state old new : State) (step : Step) (answer : Answer) → state ≡ old → ListsBy claim state step answer new → ListsBy claim old step answer new
 lists_by_of claim state old new step answer is lists = subst (λ s. ListsBy claim s step answer new) is lists
 
--- The machine's nodes and change number are unchanged if the list, the table, or the table's nodes
--- and change number are.
-pub kept : (w w' : World) → KeepsList w.table w'.table → Keeps (state_of w) (state_of w')
+-- The machine's nodes and change number are unchanged if the table's list is unchanged (`kept`), if
+-- the whole table is unchanged (`same`), or if the table keeps its nodes (`rested`).
+pub kept : (w w' : World) → KeepsList w.table w'.table → LeavesNodes (state_of w) (state_of w')
 kept w w' same = record { nodes = ap (λ l. seen l.nodes) same; changes = ap (λ l. l.changes) same }
 
-same : (w w' : World) → w'.table ≡ w.table → Keeps (state_of w) (state_of w')
+same : (w w' : World) → w'.table ≡ w.table → LeavesNodes (state_of w) (state_of w')
 same w w' is = kept w w' (ap (λ t. t.list) is)
 
-pub rested : (w w' : World) → KeepsNodes w.table w'.table → Keeps (state_of w) (state_of w')
+pub rested : (w w' : World) → KeepsNodes w.table w'.table → LeavesNodes (state_of w) (state_of w')
 rested w w' keeps = record { nodes = ap seen keeps.all; changes = keeps.changes }
 
 -- A node is linked, or marked, or written.
@@ -63,7 +62,7 @@ marks w w' key is =
 pub written : (w w' : World) (key value : ℕ) → writes.WritesNode w.table.list w'.table.list key value → Writes (state_of w) (state_of w')
 written w w' key value is = record { nodes = ap seen is.writes.nodes ∙ written_seen (nodes_of w.table) is.node.place value; changes = is.writes.changes }
 
-pub nothing : (w w' : World) → writes.WritesNothing w.table.list w'.table.list → Keeps (state_of w) (state_of w')
+pub nothing : (w w' : World) → writes.WritesNothing w.table.list w'.table.list → LeavesNodes (state_of w) (state_of w')
 nothing w w' is = record { nodes = ap seen is.nodes; changes = is.changes }
 
 -- A position is sought from a bucket's dummy.
@@ -157,14 +156,14 @@ module _ (w : World) (tells : Tells w) (c : ℕ) (x : Session) (at : slice_get w
     | inr none ↦ absurd (cc (rw none at is))
   ]
 
-  key_is : (q : Phase) (key : ℕ) → target_in q x.log ≡ Some key → key_in q (changes_of x.log.jobs) ≡ key
+  key_is : (q : Phase) (key : ℕ) → target_in q x.log ≡ Some key → next_key_in q (changes_of x.log.jobs) ≡ key
   key_is (Waiting op) key is = cc (is)
   key_is (LeavingTo level) key is = newest_first level key is
   key_is LeavingToEnd key is = newest_first 0 key is
   key_is _ key is = absurd (cc (is))
 
   pub next_is : (key : ℕ) → target_of x ≡ Some key → next_key (state_of w) c ≡ key
-  next_is key is = (λ i. key_in (here i).phase (log_is i)) ∙ key_is x.seat.seat.phase key is
+  next_is key is = (λ i. next_key_in (here i).phase (log_is i)) ∙ key_is x.seat.seat.phase key is
 
   pub sought_key : (w' : World) (y : Session) → NamesDummies w.table → SeeksIn x w.table y w'.table → SeeksKey (state_of w) (state_of w') (next_key (state_of w) c)
   sought_key w' y home is = subst (SeeksKey (state_of w) (state_of w')) (sym (next_is is.key is.target)) (seeks_key w w' home is.key is.near)
@@ -181,18 +180,20 @@ module _ (w : World) (tells : Tells w) (c : ℕ) (x : Session) (at : slice_get w
       subst (BackDoes (state_of w) (state_of w')) (sym (log_is ∙ changes_last x.log.jobs y.log.jobs is.job is.jobs))
       (taken_back w w' is.job due.0 is.writes)
 
-  module _ (w' : World) (y : Session) (locks' : List (Option ℕ)) where
+  module _ (w' : World) (y : Session) (locks' : List (Option ℕ)) (rises : table_changes w.table ≤ table_changes w'.table) where
     asked : (op : Op) (stripe : ℕ) (answer : Answer) → IsAsked c stripe op x w.table w.locks answer y w'.table locks' → Lists (state_of w) (Ask c op) answer (state_of w')
     asked op stripe answers.Asked is =
         record {
           nodes = rested w w' is.prepares.nodes;
+          rises = rises;
           stamp = (given_for w.table w'.table (takes_node op) is.pending.spare is.prepares.given).last;
         }
     asked op stripe (answers.Busy holder) is = record {
       nodes = rested w w' (nodes_then w.table is.between w'.table is.prepares.nodes is.back.nodes);
+      rises = rises;
       stamp = is.back.last ∙ (given_for w.table is.between (takes_node op) is.pending.spare is.prepares.given).last;
     }
-    asked op stripe (answers.Refused refusal) is = record { nodes = same w w' is.2; stamp = ap last_of is.2 }
+    asked op stripe (answers.Refused refusal) is = record { nodes = same w w' is.2; rises = rises; stamp = ap last_of is.2 }
     asked op stripe _ is = absurd is
 
     not_stale : (op : Op) → (StaleWord ≡ NoMemory) ⊎ IsRefused w.table op StaleWord → ⊥
@@ -216,47 +217,50 @@ module _ (w : World) (tells : Tells w) (c : ℕ) (x : Session) (at : slice_get w
         (record { nodes = same w w' is.2; stamp = ap last_of is.2 })
 
     acted : (answer : Answer) → ActsIn c x w.table w.locks answer y w'.table locks' → Lists (state_of w) (Act c) answer (state_of w')
-    acted answers.Again is = record { nodes = same w w' is.1.table; stamp = ap last_of is.1.table }
-    acted (answers.Done reply) is = record { nodes = done w' reply y is.0; stamp = is.0.does.last }
-    acted answers.Undone is = record { nodes = undone w' y is.1; stamp = is.1.back.last }
-    acted (answers.Returned n) is = record { nodes = same w w' is.2; stamp = ap last_of is.2 }
-    acted answers.Aborted is = record { nodes = same w w' is.2; stamp = ap last_of is.2 }
+    acted answers.Again is = record { nodes = same w w' is.1.table; rises = rises; stamp = ap last_of is.1.table }
+    acted (answers.Done reply) is = record { nodes = done w' reply y is.0; rises = rises; stamp = is.0.does.last }
+    acted answers.Undone is = record { nodes = undone w' y is.1; rises = rises; stamp = is.1.back.last }
+    acted (answers.Returned n) is = record { nodes = same w w' is.2; rises = rises; stamp = ap last_of is.2 }
+    acted answers.Aborted is = record { nodes = same w w' is.2; rises = rises; stamp = ap last_of is.2 }
     acted _ is = absurd is
 
--- The effect on the list of each step of a caller: first of a step that claims no word, then of a
--- step with any claim.
-module _ (w : World) (tells : Tells w) (x : Session) (w' : World) (y : Session) (locks' : List (Option ℕ)) where
+-- The effect on the list of each step of a caller. The lemma `locked` is about a step whose claim
+-- is a lock, and `claimed` is about a step with any claim.
+module _ (w : World) (tells : Tells w) (x : Session) (w' : World) (y : Session) (locks' : List (Option ℕ)) (rises : table_changes w.table ≤ table_changes w'.table) where
   locked : NamesDummies w.table → (stripes : ℕ) (step : Step) → slice_get w.sessions (caller_in (owner_of step)) ≡ Some x
-      → (answer : Answer) → Does Lock stripes w.counts step x w.table w.locks answer y w'.table locks'
+      → (answer : Answer) → HasEffect Lock stripes w.counts step x w.table w.locks answer y w'.table locks'
       → Lists (state_of w) step answer (state_of w')
-  locked home stripes (Begin c) at (answers.Began n) is = record { nodes = same w w' is.2; stamp = ap last_of is.2 }
-  locked home stripes (Ask c op) at answer is = asked w tells c x at w' y locks' op (stripe_of stripes (key_of op)) answer is
+  locked home stripes (Begin c) at (answers.Began n) is = record { nodes = same w w' is.2; rises = rises; stamp = ap last_of is.2 }
+  locked home stripes (Ask c op) at answer is = asked w tells c x at w' y locks' rises op (stripe_of stripes (key_of op)) answer is
   locked home stripes (Seek c) at answers.Placed is =
-      record { nodes = sought_key w tells c x at w' y home is.0; stamp = is.0.places.keeps.last }
-  locked home stripes (Act c) at answer is = acted w tells c x at w' y locks' answer is
-  locked home stripes (Save c) at answer is = record { nodes = same w w' is.1; stamp = ap last_of is.1 }
-  locked home stripes (Back c n) at answers.Leaving is = record { nodes = same w w' is.1; stamp = ap last_of is.1 }
+      record { nodes = sought_key w tells c x at w' y home is.0; rises = rises; stamp = is.0.places.keeps.last }
+  locked home stripes (Act c) at answer is = acted w tells c x at w' y locks' rises answer is
+  locked home stripes (Save c) at (answers.Saved n) is = record { nodes = same w w' is.1; rises = rises; stamp = ap last_of is.1 }
+  locked home stripes (Save c) at _ is = record { nodes = same w w' is.1; rises = rises; stamp = ap last_of is.1 }
+  locked home stripes (Back c n) at answers.Leaving is = record { nodes = same w w' is.1; rises = rises; stamp = ap last_of is.1 }
   locked home stripes (Commit c) at (answers.Committed p) is =
-      record { nodes = rested w w' is.1.rests.nodes; stamp = is.1.rests.last }
-  locked home stripes (Abort c) at answers.Leaving is = record { nodes = rested w w' is.0.rests.nodes; stamp = is.0.rests.last }
+      record { nodes = rested w w' is.1.rests.nodes; rises = rises; stamp = is.1.rests.last }
+  locked home stripes (Abort c) at answers.Leaving is = record { nodes = rested w w' is.0.rests.nodes; rises = rises; stamp = is.0.rests.last }
   locked home stripes _ at _ is = absurd is
 
   claimed : NamesDummies w.table → (claim : Claim) (stripes : ℕ) (step : Step) → slice_get w.sessions (caller_in (owner_of step)) ≡ Some x
-      → IsClaim claim (state_of w) step → (answer : Answer) → Does claim stripes w.counts step x w.table w.locks answer y w'.table locks'
+      → IsClaim claim (state_of w) step → (answer : Answer)
+      → HasEffect claim stripes w.counts step x w.table w.locks answer y w'.table locks'
       → ListsBy claim (state_of w) step answer (state_of w')
   claimed home Lock stripes step at claims answer is = locked home stripes step at answer is
   claimed home claim stripes (Ask c op) at claims answer is =
-      asked_by w tells c x at w' y locks' claim op (stripe_of stripes (key_of op)) answer is
+      asked_by w tells c x at w' y locks' rises claim op (stripe_of stripes (key_of op)) answer is
   claimed home _ stripes _ at claims answer is = absurd claims
 
   pub does : NamesDummies w.table → (claim : Claim) (stripes c : ℕ) → slice_get w.sessions c ≡ Some x → (step : Step)
       → owner_of step ≡ Some (Caller c) → IsClaim claim (state_of w) step → (answer : Answer)
-      → Does claim stripes w.counts step x w.table w.locks answer y w'.table locks' → ListsBy claim (state_of w) step answer (state_of w')
+      → HasEffect claim stripes w.counts step x w.table w.locks answer y w'.table locks'
+      → ListsBy claim (state_of w) step answer (state_of w')
   does home claim stripes c at step owner claims answer is =
       claimed home claim stripes step (subst (λ k. slice_get w.sessions k ≡ Some x) (sym (ap caller_in owner)) at) claims answer is
 
--- The effect on the list of a refusal by a test: none.
-touched : (old new : State) (step : Step) (refusal : Refusal) → Keeps old new → Touches old step (answers.Refused refusal) new
+-- A refusal by a test leaves the list unchanged.
+touched : (old new : State) (step : Step) (refusal : Refusal) → LeavesNodes old new → Touches old step (answers.Refused refusal) new
 touched old new (Seek c) refusal keeps = keeps
 touched old new _ refusal keeps = keeps
 
@@ -269,38 +273,40 @@ right_stays stamp (Ask c op) StaleWord early = absurd (false≢true (sym early))
 right_stays stamp (Ask c op) _ early = refl
 right_stays stamp _ refusal early = refl
 
-pub refused_lists : (claim : Claim) (old new : State) (step : Step) (refusal : Refusal) → (claim ≡ Lock) ⊎ (is_stale_word refusal ≡ false) → Keeps old new → new.stamp ≡ old.stamp → ListsBy claim old step (answers.Refused refusal) new
+pub refused_lists : (claim : Claim) (old new : State) (step : Step) (refusal : Refusal) → (claim ≡ Lock) ⊎ (is_stale_word refusal ≡ false) → LeavesNodes old new → new.stamp ≡ old.stamp → ListsBy claim old step (answers.Refused refusal) new
 refused_lists claim old new step refusal (inl lock) keeps same =
-    subst (λ k. ListsBy k old step (answers.Refused refusal) new) (sym lock) (record { nodes = touched old new step refusal keeps; stamp = same ∙ sym (stamp_stays old.stamp step refusal) })
+    subst (λ k. ListsBy k old step (answers.Refused refusal) new) (sym lock) (record { nodes = touched old new step refusal keeps; rises = omega (arith, keeps.changes); stamp = same ∙ sym (stamp_stays old.stamp step refusal) })
 refused_lists claim old new step refusal (inr early) keeps same = by claim
   where
     by : (claim : Claim) → ListsBy claim old step (answers.Refused refusal) new
-    by Lock = record { nodes = touched old new step refusal keeps; stamp = same ∙ sym (stamp_stays old.stamp step refusal) }
+    by Lock = record { nodes = touched old new step refusal keeps; rises = omega (arith, keeps.changes); stamp = same ∙ sym (stamp_stays old.stamp step refusal) }
     by Right = record { nodes = touched old new step refusal keeps; stamp = same ∙ sym (right_stays old.stamp step refusal early) }
     by _ = record { nodes = touched old new step refusal keeps; stamp = same }
 
-module _ (w w' : World) (home : NamesDummies w.table) where
+module _ (w w' : World) (home : NamesDummies w.table) (rises : table_changes w.table ≤ table_changes w'.table) where
   swept : (answer : Answer) (is : Sweeping w.table w'.table answer) (outcome : SweepOutcome) → is.outcome ≡ outcome → Lists (state_of w) steps.Sweep (said.swept outcome) (state_of w')
   swept answer is outcomes.Swept says =
       let sweeps : Sweeps w.table w'.table outcomes.Swept = subst (Sweeps w.table w'.table) says is.sweeps in
       let one = swept_nodes (nodes_of w.table) (λ clean. let e : outcomes.Swept ≡ outcomes.Clean = sym says ∙ is.clean.1 clean in cc (e)) in
       record {
         nodes = record { front = one.front; at = one.at; back = one.back; old_is = one.old_is; new_is = ap seen sweeps.0.nodes ∙ one.new_is; first = one.first; changes = sweeps.0.changes };
+        rises = rises;
         stamp = is.keeps.last;
       }
   swept answer is outcomes.Clean says =
       let sweeps : Sweeps w.table w'.table outcomes.Clean = subst (Sweeps w.table w'.table) says is.sweeps in
-      record { nodes = (clean_seen (nodes_of w.table) (is.clean.0 says), kept w w' sweeps.0); stamp = is.keeps.last }
+      record { nodes = (clean_seen (nodes_of w.table) (is.clean.0 says), kept w w' sweeps.0); rises = rises; stamp = is.keeps.last }
 
   sought_bucket : (h b : ℕ) (outcome : Result InitSeek Refusal) → SeekChanges w.table w'.table h b outcome
-      → Lists (state_of w) (steps.InitSeek h b) (said.sought outcome) (state_of w')
-  sought_bucket h b (Ok seeks.Ready) changes = record { nodes = kept w w' changes.1; stamp = ap (λ l. l.last) changes.1 }
+      → Lists (state_of w) (steps.InitSeek h b) (said.answer_to_seek outcome) (state_of w')
+  sought_bucket h b (Ok seeks.Ready) changes = record { nodes = kept w w' changes.1; rises = rises; stamp = ap (λ l. l.last) changes.1 }
   sought_bucket h b (Ok seeks.Placed) changes = record {
     nodes = sought_from w w' changes.from (parent_of b) (home.stored (parent_of b) changes.from changes.parent)
         (dummy_at b) changes.nodes changes.changes;
+    rises = rises;
     stamp = changes.rest.last;
   }
-  sought_bucket h b (Err refusal) changes = record { nodes = kept w w' (ap (λ t. t.list) changes); stamp = ap last_of changes }
+  sought_bucket h b (Err refusal) changes = record { nodes = kept w w' (ap (λ t. t.list) changes); rises = rises; stamp = ap last_of changes }
 
   linked_dummy : (h : ℕ) (outcome : Result InitLink Refusal) → LinkChanges w.table w'.table h outcome
       → Lists (state_of w) (steps.InitLink h) (said.linked outcome) (state_of w')
@@ -310,17 +316,20 @@ module _ (w w' : World) (home : NamesDummies w.table) where
       record {
         nodes = subst (λ n. Links (state_of w) (state_of w') (dummy_at n)) (sym bucket)
             (linked_node w w' (dummy_node changes.place changes.bucket _) refl (links_node _ _ _ _ _ changes.links));
+        rises = rises;
         stamp = changes.links.last;
       }
-  linked_dummy h (Ok links.Again) changes = record { nodes = kept w w' changes.1; stamp = ap (λ l. l.last) changes.1 }
-  linked_dummy h (Ok links.Present) changes = record { nodes = kept w w' changes.1; stamp = ap (λ l. l.last) changes.1 }
-  linked_dummy h (Err refusal) changes = record { nodes = kept w w' (ap (λ t. t.list) changes); stamp = ap last_of changes }
+  linked_dummy h (Ok links.Again) changes = record { nodes = kept w w' changes.1; rises = rises; stamp = ap (λ l. l.last) changes.1 }
+  linked_dummy h (Ok links.Present) changes = record { nodes = kept w w' changes.1; rises = rises; stamp = ap (λ l. l.last) changes.1 }
+  linked_dummy h (Err refusal) changes = record { nodes = kept w w' (ap (λ t. t.list) changes); rises = rises; stamp = ap last_of changes }
 
-  -- The effect of each step on the list.
+  -- The effect on the list of each step of the table or of a helper.
   pub serves : (step : Step) (answer : Answer) → Serves step w.table answer w'.table → Lists (state_of w) step answer (state_of w')
   serves steps.Sweep answer is = rw is.answer_is (swept answer is is.outcome refl)
   serves (steps.InitSeek h b) answer is = rw is.answer_is (sought_bucket h b is.outcome is.changes)
   serves (steps.InitLink h) answer is = rw is.answer_is (linked_dummy h is.outcome is.changes)
-  serves (steps.InitStore h) answer is = record { nodes = kept w w' is.list; stamp = ap (λ l. l.last) is.list }
-  serves (steps.Double seen) answer is = record { nodes = kept w w' is.list; stamp = ap (λ l. l.last) is.list }
+  serves (steps.InitStore h) answers.Stored is = record { nodes = kept w w' is.list; rises = rises; stamp = ap (λ l. l.last) is.list }
+  serves (steps.InitStore h) _ is = record { nodes = kept w w' is.list; rises = rises; stamp = ap (λ l. l.last) is.list }
+  serves (steps.Double seen) answers.AtLimit is = record { nodes = kept w w' is.list; rises = rises; stamp = ap (λ l. l.last) is.list }
+  serves (steps.Double seen) _ is = record { nodes = kept w w' is.list; rises = rises; stamp = ap (λ l. l.last) is.list }
   serves _ answer is = absurd is

@@ -1,5 +1,5 @@
--- Beside its history the core counts transactions and the entries that are owed, and notes which
--- callers have begun.
+-- Besides its history, the core has counts of transactions and of the entries that are owed. It
+-- also notes which callers have begun.
 use Rattle.std.proofs.Common.{◌≡◌, ◌+◌, ◌≤◌, ℕ, Bool, true, false, Result, Ok, Err, List, length, arith, is_err, OnOk, OnErr, suc, [], ◌∷◌, Some, refl, sym, ap, ◌∙◌, slice_get, sum_by, ◌<◌, ◌||◌, ◌++◌, replicate, Option, None, option_to_list, lt-ltb, append-nil, length-set, get_or-set_same, get_or-set_other, inl, inr}
 use Rattle.boost_core.proofs.Vocabulary.{length-filter, count_by-le-length, Entry, is_began, is_commit, how_many, World, Tells, range_with_len, sum_by-cons, seat_after, own, owed_by, owed, owed_of, or-false, cases_eq, cases_lt, or_right, length-replicate, get_or-replicate, get_or_past, caller_of, Began, has_begun, has_begun-own, has_begun-other}
 use Rattle.boost_core.specs.Begun.{begun_with, AreNoted}
@@ -17,12 +17,12 @@ committed_bound w tells = omega (arith, tells.commits, how_many_bound is_commit 
 pub no_more : (n : ℕ) → n ≡ n + 0
 no_more n = omega arith
 
--- If a result is no error, a statement about its value holds.
+-- The statement of `OnOk` holds if the result is not an error.
 pub when_ok : {A E P : Type 0} (r : Result A E) → false ≡ is_err r → OnOk r P → P
 when_ok (Ok a) fine p = p
 when_ok (Err e) fine p = absurd (cc (fine))
 
--- If a result is an error, a statement about the error holds.
+-- The statement of `OnErr` holds if the result is an error.
 pub when_err : {A E P : Type 0} (r : Result A E) → true ≡ is_err r → OnErr r P → P
 when_err (Ok a) wrong p = absurd (cc (wrong))
 when_err (Err e) wrong p = p
@@ -56,7 +56,7 @@ stays c h e begins = elim (cases_eq c (caller_of e)) [
 pub noted_same : (callers : ℕ) (h : List Entry) (begun : List Bool) (e : Entry) → is_began e ≡ false → AreNoted callers h begun → AreNoted callers (h ++ e ∷ []) begun
 noted_same callers h begun e begins was = record { many = was.many; each = λ c. was.each c ∙ sym (stays c h e begins) }
 
--- One more entry.
+-- The notes still fit the history after one more entry.
 noted_push : (callers : ℕ) (h : List Entry) (begun : List Bool) (e : Entry) → AreNoted callers h begun → caller_of e < callers → AreNoted callers (h ++ e ∷ []) (begun_with begun (Some e))
 noted_push callers h begun (Began d t) was below =
     let within : d < length begun = omega (arith, was.many) in rw (lt-ltb d (length begun) within) (record {
@@ -68,12 +68,12 @@ noted_push callers h begun (Began d t) was below =
     })
 noted_push callers h begun e was below = noted_same callers h begun e refl was
 
--- One more entry, or none.
+-- The notes still fit the history after at most one more entry.
 pub noted_then : (callers : ℕ) (h h' : List Entry) (begun begun' : List Bool) (o : Option Entry) → AreNoted callers h begun → h' ≡ h ++ option_to_list o → begun' ≡ begun_with begun o → ((e : Entry) → o ≡ Some e → caller_of e < callers) → AreNoted callers h' begun'
 noted_then callers h h' begun begun' None was pushed noted below = rw (pushed, append-nil h, noted) was
 noted_then callers h h' begun begun' (Some e) was pushed noted below = rw (pushed, noted) (noted_push callers h begun e was (below e refl))
 
--- At the beginning.
+-- At the beginning, no caller has begun.
 pub noted_none : (callers : ℕ) (begun : List Bool) → begun ≡ replicate callers false → AreNoted callers [] begun
 noted_none callers begun is = rw is (record {
   many = length-replicate callers false;

@@ -1,29 +1,29 @@
 -- The outcome of a step of a caller: the invariants of the core after it, and the move.
 use Rattle.std.proofs.Common.{◌≡◌, ◌⊎◌, inl, inr, ℕ, ◌+◌, ◌-◌, ◌<◌, ◌≤◌, ◌^◌, Bool, true, false, cond, refl, List, [], ◌∷◌, ◌++◌, length, Option, Some, None, sym, ap, subst, ◌∙◌, arith, map, slice_get, slice_set, sum_by, option_to_list, append-nil, option_map, nat_eq, nat_lt}
-use Rattle.boost_core.proofs.Vocabulary.{AllByRecursion, false≢true, slice_get_within, Entry, Step, Answer, Phase, Closed, caller_of, Seat, RoomySeat, row, own, Op, Put, Refusal, IsLevelIn, seat_leveled, TableAt, cursor_changes, table_changes, last_of, entries_of, NoMemory, StampsUsedUp, StaleWord, refusal_of, tests_of, owner_of, first_of, owed_in, reserved, Counts, Session, counts_after, placed_then, keeps_list, Move, IsAllowed, State, Claim, Lock, Right, Held, Goes, IsClaim, may_come, reserved_by, Side, owed_of, World, Tells, IsFresh, state_of, session_changes, option_eq, Map, is_began, is_commit, now, holder_of, Waiting, Next, MapJob, PendingAt, holder_by, is_waiting, is_saved, Log, kept_at, newest_above, Releases, without_caller, held_by, side_of, target_in, key_of_newest, IsSoughtAt, Waits, changes_of}
+use Rattle.boost_core.proofs.Vocabulary.{AllByRecursion, false≢true, slice_get_within, Entry, Step, Answer, Phase, Closed, caller_of, Seat, RoomySeat, row, own, Op, Put, Refusal, IsLevelIn, seat_leveled, TableAt, cursor_changes, table_changes, last_of, linked_of, entries_of, NoMemory, StampsUsedUp, StaleWord, refusal_of, tests_of, owner_of, first_of, owed_in, reserved, Counts, Session, counts_after, placed_then, Move, IsAllowed, State, Claim, Lock, Right, Held, Goes, IsClaim, may_come, reserved_by, Side, owed_of, World, Tells, LastPlacedFits, state_of, session_changes, option_eq, Map, is_began, is_commit, now, holder_of, Waiting, Next, MapJob, PendingAt, holder_by, is_waiting, is_saved, LogAt, kept_at, newest_above, Releases, without_caller, held_by, side_of, target_in, key_of_newest, IsSoughtAt, Waits, changes_of}
 use Rattle.txn_trace.proofs.Room.{reserved_for, reserved_enough, owed_by-row}
-use Rattle.boost_core.specs.Answers.{after}
+use Rattle.boost_core.specs.Machine.{after}
 use Rattle.boost_core.specs.Adding.{Enters, CanAdd}
 use Rattle.boost_core.proofs.Named.{grown_small}
-use Rattle.boost_core.proofs.Moves.{Runs, lacks, refused, state_is, changes_set, move_is, with_nodes}
+use Rattle.boost_core.proofs.Moves.{lacks, refused, state_is, changes_set, with_nodes}
 use Rattle.boost_core.proofs.Grow.{Grows, Stays, world_after, seated_as, row_there, grown, stayed, sum_changed, one_of_sum}
 use Rattle.boost_core.proofs.Refused.{no_cursor}
 use Rattle.boost_core.proofs.Spares.{buckets_same}
 use Rattle.txn_words.specs.declared.step.Step.TheVariants as steps
 use Rattle.txn_words.specs.declared.answer.Answer.TheVariants as answers
 
--- A step adds no entry, as `Stays` says, or one entry, as `Grows` says.
+-- A step adds no entry (`Stays`) or one entry (`Grows`).
 abbrev pub Comes : World → ℕ → Session → Session → TableAt → List (Option ℕ) → Counts → List Entry → Type 0
 Comes w c x y t' locks' counts' [] = Stays w c x y t' locks' counts'
 Comes w c x y t' locks' counts' (e ∷ []) = Grows w c x y t' locks' counts' e
 Comes w c x y t' locks' counts' (e ∷ f ∷ es) = ⊥
 
--- The outcome of a step of a caller. Its move is made, and its new cursor fits, for every seat that
--- the caller may have after the added entry.
+-- The outcome of a step of a caller. Whatever seat the caller has after the added entry, the step
+-- goes as its claim allows, and the cursor that was placed last fits.
 pub record CalledBy (claim : Claim) (w : World) (c : ℕ) (x : Session) (step : Step) (answer : Answer) (y : Session) (t' : TableAt) (locks' : List (Option ℕ)) : Type 0 where
   pub comes : Comes w c x y t' locks' (counts_after w.counts answer) (entries_of step answer)
   pub move : (seat' : RoomySeat) → Goes claim (state_of w) step answer (state_of (world_after w c (seated_as y seat') (w.history ++ entries_of step answer) (counts_after w.counts answer) t' locks' (placed_then w.placed step answer)))
-  pub fresh : (seat' : RoomySeat) → IsFresh t' (slice_set w.sessions c (seated_as y seat')) (placed_then w.placed step answer)
+  pub fresh : (seat' : RoomySeat) → LastPlacedFits t' (slice_set w.sessions c (seated_as y seat')) (placed_then w.placed step answer)
 
 -- The outcome of a step whose claim is a lock.
 abbrev pub Called : World → ℕ → Session → Step → Answer → Session → TableAt → List (Option ℕ) → Type 0
@@ -39,19 +39,18 @@ pub entered : (w : World) (c : ℕ) (x y : Session) (t' : TableAt) (locks' : Lis
       cursors = cursors;
       placed = placed_then w.placed step answer;
     }
-    → slice_set (map session_changes w.sessions) c None ≡ cursors → IsAllowed (state_of w) step answer → Runs w.table t'
-    → (keeps_list answer ≡ true → table_changes t' ≡ table_changes w.table)
+    → slice_set (map session_changes w.sessions) c None ≡ cursors → IsAllowed (state_of w) step answer → linked_of t' ≡ linked_of w.table
     → Grows w c x y t' locks' (counts_after w.counts answer) e → Called w c x step answer y t' locks'
-entered w c x y t' locks' step answer e cursors one unplaced after_is dropped allowed runs kept grows = record {
+entered w c x y t' locks' step answer e cursors one unplaced after_is dropped allowed linked grows = record {
   comes = subst (Comes w c x y t' locks' (counts_after w.counts answer)) (sym one) grows;
-  move = λ seat'. move_is w (world_after w c (seated_as y seat') (w.history ++ entries_of step answer)
-      (counts_after w.counts answer) t' locks' (placed_then w.placed step answer)) step answer allowed
-      (state_is w (w.history ++ entries_of step answer) (w.history ++ entries_of step answer) (counts_after w.counts answer) t' cursors
-      (slice_set w.sessions c (seated_as y seat')) locks' (placed_then w.placed step answer) runs refl
-      (changes_set w.sessions c (seated_as y seat') None (ap (λ (s : Side). option_map cursor_changes s.cursor) grows.becomes) ∙ dropped)
-      ∙ ap (with_nodes t' (slice_set w.sessions c (seated_as y seat'))) (sym after_is))
-      runs kept;
-  fresh = λ seat'. subst (IsFresh t' (slice_set w.sessions c (seated_as y seat'))) (sym unplaced) tt;
+  move = λ seat'. record {
+    allowed = allowed;
+    state = state_is w (w.history ++ entries_of step answer) (w.history ++ entries_of step answer) (counts_after w.counts answer) t' cursors
+        (slice_set w.sessions c (seated_as y seat')) locks' (placed_then w.placed step answer) grows.buckets linked refl
+        (changes_set w.sessions c (seated_as y seat') None (ap (λ (s : Side). option_map cursor_changes s.cursor) grows.becomes) ∙ dropped)
+        ∙ ap (with_nodes t' (slice_set w.sessions c (seated_as y seat'))) (sym after_is);
+  };
+  fresh = λ seat'. subst (LastPlacedFits t' (slice_set w.sessions c (seated_as y seat'))) (sym unplaced) tt;
 }
 
 -- A step has the same claim and the same outcome in an equal state.
@@ -68,7 +67,7 @@ is_late StampsUsedUp = true
 is_late StaleWord = true
 is_late _ = false
 
--- Whether a refusal says that the claim, a right or a word, is stale.
+-- Whether a refusal says that a right or a word is stale.
 abbrev pub is_stale_word : Refusal → Bool
 is_stale_word StaleWord = true
 is_stale_word _ = false
@@ -154,7 +153,7 @@ busy_within : (n : ℕ) (step : Step) (x : ℕ) → AreWithin n (entries_of step
 busy_within n (steps.Ask c op) x = (omega arith, tt)
 busy_within n _ x = tt
 
--- So the claim reserves enough for the entry that the step adds.
+-- If a claim allows the answer, the claim reserves enough for the entry that the step adds.
 may_within : (claim : Claim) (step : Step) (answer : Answer) → may_come claim answer ≡ true
     → AreWithin (reserved_by claim step) (entries_of step answer)
 may_within Lock step answer may = reserved_enough step answer
@@ -245,19 +244,19 @@ module _ (w : World) (tells : Tells w) (c : ℕ) (x y : Session) (at : slice_get
   called_room seat' (Some e) is entered len cap room =
       omega (arith, room, sum_changed owed_of w.sessions c x (seated_as y seat') at, owed_by-row y.seat.seat seat'.seat e entered, same_owed (Some e) is, few e is)
 
-  -- The step leads to the state after it, as its claim allows.
+  -- `Goes` holds of the step: the answer and the state after the step are as the claim allows.
   pub called_move : (seat' : RoomySeat) (o : Option Entry) → option_to_list o ≡ entries_of step answer → (h' : List Entry) → h' ≡ w.history ++ option_to_list o
       → Goes claim (state_of w) step answer (state_of (world_after w c (seated_as y seat') h' (counts_after w.counts answer) t' locks' (placed_then w.placed step answer)))
   called_move seat' o is h' pushed = rw (pushed, is) (called.move seat')
 
--- After the end of a transaction of caller c, the locks and the history agree on a stripe's holder:
--- none if c held the stripe, and otherwise the old holder.
+-- After caller c ends a transaction, the locks and the history agree on a stripe's holder. A stripe
+-- that c held has no holder, and any other stripe has its old holder.
 released : (c : ℕ) (o : Option ℕ) → without_caller c o ≡ cond (option_eq nat_eq o (Some c)) None o
 released c None = refl
 released c (Some d) = refl
 
--- If no change is above a level, there is none to act on.
-pub no_newest : (log : Log MapJob) (n : ℕ) → nat_lt (kept_at log.kept n) (length log.jobs) ≡ false → key_of_newest (newest_above log n) ≡ None
+-- If no change is above a level, there is no key to act on.
+pub no_newest : (log : LogAt MapJob) (n : ℕ) → nat_lt (kept_at log.kept n) (length log.jobs) ≡ false → key_of_newest (newest_above log n) ≡ None
 no_newest log n none = ap key_of_newest (ap (λ (more : Bool). cond more (slice_get log.jobs (length log.jobs - 1)) None) none)
 
 module _ (w : World) (tells : Tells w) (c : ℕ) (x : Session) (at : slice_get w.sessions c ≡ Some x) where
@@ -265,7 +264,7 @@ module _ (w : World) (tells : Tells w) (c : ℕ) (x : Session) (at : slice_get w
   pub idle_cursor : (q : Phase) → x.seat.seat.phase ≡ q → target_in q x.log ≡ None → x.cursor ≡ None
   idle_cursor q is none = no_cursor w.table x.cursor (subst (IsSoughtAt w.table x.cursor) (ap (λ p. target_in p x.log) is ∙ none) (tells.sought c x at))
 
-  -- If the caller's phase is not that of a waiting operation, no operation waits.
+  -- If the caller's phase is not `Waiting`, no operation waits.
   pub nothing_waits : (q : Phase) → x.seat.seat.phase ≡ q → is_waiting q ≡ false → x.pending ≡ None
   nothing_waits q is rests = none_then q rests x.pending (subst (λ p. Waits p x.pending x.log.room) is (tells.seated c x at).agrees.waits)
     where
@@ -281,8 +280,8 @@ module _ (w : World) (tells : Tells w) (c : ℕ) (x : Session) (at : slice_get w
   pub released_holders : (locks' : List (Option ℕ)) → Releases c w.locks locks' → (s : ℕ) → s < w.limits.stripes → held_by locks' s ≡ cond (option_eq nat_eq (holder_of w.limits.stripes s w.history) (Some c)) None (holder_of w.limits.stripes s w.history)
   released_holders locks' releases s below = releases.each s ∙ ap (without_caller c) (tells.holders s below) ∙ released c (holder_of w.limits.stripes s w.history)
 
-  -- A step after which only the caller's savepoints and room have changed; no operation waits, and
-  -- the caller has no cursor.
+  -- A step that adds an entry and changes only the caller's savepoints and room. No operation
+  -- waits, and the caller has no cursor.
   pub quiet : (e : Entry) (y : Session) (seat : Seat) (kept : List ℕ) (log : List (ℕ × Option ℕ)) (committed : Map) (holder : ℕ → Option ℕ) (locks' : List (Option ℕ)) (counts' : Counts) → Next (holder_by w.words) w.limits.stripes w.history e seat log committed (now w.history) holder → log ≡ changes_of x.log.jobs
       → caller_of e ≡ c → (is_saved e ≡ true → 0 < y.seat.room) → seat.kept ≡ 0 ∷ kept → is_waiting seat.phase ≡ false → x.pending ≡ None → x.cursor ≡ None → side_of y ≡ record (side_of x) { kept = kept }
       → counts'.began ≡ w.counts.began + cond (is_began e) 1 0 → counts'.committed ≡ w.counts.committed + cond (is_commit e) 1 0 → length locks' ≡ length w.locks → ((s : ℕ) → s < w.limits.stripes → held_by locks' s ≡ holder s)

@@ -1,9 +1,9 @@
--- The steps that begin, divide and end transactions.
-use Rattle.std.proofs.Common.{◌≡◌, ℕ, ◌+◌, ◌≤◌, true, false, cond, List, [], ◌∷◌, ◌++◌, length, take, Option, Some, None, refl, sym, ap, ◌∙◌, add-one, arith, slice_get, slice_set, slice_index, map, nat_eq, nat_lt, not, eq-eqb, leb-false, ltb-false}
+-- The steps that begin or end a transaction, set a savepoint or return to one.
+use Rattle.std.proofs.Common.{◌≡◌, ℕ, ◌+◌, true, false, cond, List, [], ◌∷◌, ◌++◌, length, take, Option, Some, None, refl, sym, ap, ◌∙◌, add-one, arith, slice_get, slice_set, slice_index, map, nat_eq, nat_lt, not, eq-eqb, leb-false, ltb-false}
 use Rattle.boost_core.proofs.Vocabulary.{option_eq, false≢true, and_from, serial, now, holder_of, log_of, Phase, Closed, Opened, Waiting, LeavingTo, LeavingToEnd, Seat, closed_seat, Next, kept_at, TableAt, map_of, Releases, Session, seat_in, holder_by, refusal_of, is_closed, is_waiting, is_leaving, has_job, is_back_at, is_at_end, World, Tells, state_of, session_changes, side_of, changes_of, StaysIn, SavesIn, ReturnsIn, EndsIn, SettlesIn, WithdrawsIn}
 use Rattle.txn_trace.proofs.Settled.{settled}
 use Rattle.boost_core.proofs.Numbers.{no_more}
-use Rattle.boost_core.proofs.Moves.{runs_same, rests_runs, none_dropped}
+use Rattle.boost_core.proofs.Moves.{none_dropped}
 use Rattle.boost_core.proofs.Outcomes.{Called, entered, idle_cursor, nothing_waits, quiet, level_in, released_holders, no_newest}
 use Rattle.boost_core.proofs.Spares.{no_jobs}
 use Rattle.boost_core.proofs.Refused.{seat_here, seat_free, begin_closed, three_tests, back_open, commit_open, abort_runs}
@@ -13,7 +13,7 @@ use Rattle.txn_words.specs.declared.answer.Answer.TheVariants as answers
 use Rattle.txn_trace.proofs.Entries as laws
 
 module _ (w : World) (tells : Tells w) (c : ℕ) (x : Session) (at : slice_get w.sessions c ≡ Some x) where
-  -- Begin.
+  -- The step `Begin`.
   pub begun : refusal_of (state_of w) (steps.Begin c) ≡ None → (n : ℕ) (y : Session) → n ≡ w.counts.began + 1 → StaysIn x y → Called w c x (steps.Begin c) (answers.Began n) y w.table w.locks
   begun none n y number stays =
       let closed = begin_closed w.limits.half x.seat.seat c (seat_free w tells c x at (steps.Begin c) refl none) in
@@ -21,15 +21,14 @@ module _ (w : World) (tells : Tells w) (c : ℕ) (x : Session) (at : slice_get w
       let empty : x.log.jobs ≡ [] = no_jobs x.log.jobs (let same = (tells.seated c x at).agrees.standing in let nil = level.0 in omega arith) in
       let numbered = number ∙ ap (λ k. k + 1) tells.begins in
       entered w c x y w.table w.locks (steps.Begin c) (answers.Began n) (entry.Began c n) (map session_changes w.sessions) refl refl refl
-      (none_dropped w.sessions c x at (idle_cursor w tells c x at Closed closed refl)) (none, numbered) (runs_same w.table)
-      (λ kept. refl)
+      (none_dropped w.sessions c x at (idle_cursor w tells c x at Closed closed refl)) (none, numbered) refl
       (quiet w tells c x at (entry.Began c n) y (record closed_seat { phase = Opened }) x.log.kept [] (serial w.history)
       (λ s. holder_of w.limits.stripes s w.history) w.locks (record { began = n; committed = w.counts.committed })
       (laws.began w.limits.stripes w.history tells.legal c n x.seat.seat (tells.seated c x at).seat closed numbered) (ap changes_of (sym empty))
       refl (λ is. absurd (false≢true is)) (sym level.1 ∙ (tells.seated c x at).agrees.kept) refl (nothing_waits w tells c x at Closed closed refl) (idle_cursor w tells c x at Closed closed refl) stays.becomes
       number (no_more w.counts.committed) refl tells.holders)
 
-  -- Save.
+  -- The step `Save`.
   pub saved : refusal_of (state_of w) (steps.Save c) ≡ None → (n : ℕ) (y : Session) → SavesIn n x y → Called w c x (steps.Save c) (answers.Saved n) y w.table w.locks
   saved none n y saves =
       let opened = (three_tests x.seat.seat _ _ _ _ (seat_free w tells c x at (steps.Save c) refl none)).0 in
@@ -39,7 +38,7 @@ module _ (w : World) (tells : Tells w) (c : ℕ) (x : Session) (at : slice_get w
         none,
         saves.number ∙ add-one (length x.log.kept) ∙ ap length (sym agrees.kept) ∙ ap (λ (s : Seat). length s.kept)
             (sym (seat_here w tells c x at)),
-      ) (runs_same w.table) (λ kept. refl)
+      ) refl
       (quiet w tells c x at (entry.Saved c) y (record
       { phase = x.seat.seat.phase; standing = x.seat.seat.standing; kept = x.seat.seat.kept ++ x.seat.seat.standing ∷ [] })
       (x.log.kept ++ length x.log.jobs ∷ []) (log_of c w.history) (serial w.history)
@@ -48,13 +47,13 @@ module _ (w : World) (tells : Tells w) (c : ℕ) (x : Session) (at : slice_get w
       refl (λ is. saves.room) (λ i. agrees.kept i ++ agrees.standing i ∷ []) (ap is_waiting opened) (nothing_waits w tells c x at Opened opened refl) (idle_cursor w tells c x at Opened opened refl) saves.becomes
       (no_more w.counts.began) (no_more w.counts.committed) refl tells.holders)
 
-  -- Back.
+  -- The step `Back`.
   pub left : (n : ℕ) → refusal_of (state_of w) (steps.Back c n) ≡ None → (y : Session) → y ≡ record x { cursor = None } → Called w c x (steps.Back c n) answers.Leaving y w.table w.locks
   left n none y is =
       let free = back_open w.limits.half x.seat.seat c n (seat_free w tells c x at (steps.Back c n) refl none) in
       let no_cursor = idle_cursor w tells c x at Opened free.0 refl in
       entered w c x y w.table w.locks (steps.Back c n) answers.Leaving (entry.Leave c (Some n))
-      (slice_set (map session_changes w.sessions) c None) refl refl refl refl (none, tt) (runs_same w.table) (λ kept. refl)
+      (slice_set (map session_changes w.sessions) c None) refl refl refl refl (none, tt) refl
       (quiet w tells c x at (entry.Leave c (Some n)) y
       (record { phase = LeavingTo n; standing = x.seat.seat.standing; kept = x.seat.seat.kept }) x.log.kept (log_of c w.history)
       (serial w.history) (λ s. holder_of w.limits.stripes s w.history) w.locks w.counts
@@ -62,16 +61,14 @@ module _ (w : World) (tells : Tells w) (c : ℕ) (x : Session) (at : slice_get w
       refl (λ saved. absurd (false≢true saved)) (tells.seated c x at).agrees.kept refl (nothing_waits w tells c x at Opened free.0 refl) no_cursor (ap side_of is ∙ (λ i. record (side_of x) { cursor = sym no_cursor i }))
       (no_more w.counts.began) (no_more w.counts.committed) refl tells.holders)
 
-  -- Commit.
+  -- The step `Commit`.
   pub committed : refusal_of (state_of w) (steps.Commit c) ≡ None → (p : ℕ) (y : Session) (t' : TableAt) (locks' : List (Option ℕ)) → p ≡ w.counts.committed + 1 → SettlesIn x w.table y t' → Releases c w.locks locks' → Called w c x (steps.Commit c) (answers.Committed p) y t' locks'
   committed none p y t' locks' number settles releases =
       let opened = commit_open w.limits.half x.seat.seat c (seat_free w tells c x at (steps.Commit c) refl none) in
       let nothing = nothing_waits w tells c x at Opened opened refl in
-      let runs = rests_runs w.table t' settles.rests in
       let numbered = number ∙ ap (λ k. k + 1) tells.commits in
       entered w c x y t' locks' (steps.Commit c) (answers.Committed p) (entry.Committed c p) (map session_changes w.sessions) refl refl refl
-      (none_dropped w.sessions c x at (idle_cursor w tells c x at Opened opened refl)) (none, numbered) runs
-      (λ kept. settles.rests.nodes.changes)
+      (none_dropped w.sessions c x at (idle_cursor w tells c x at Opened opened refl)) (none, numbered) settles.rests.nodes.linked
       (record {
         seat = closed_seat;
         committed = settled (serial w.history) (now w.history) (log_of c w.history);
@@ -97,13 +94,12 @@ module _ (w : World) (tells : Tells w) (c : ℕ) (x : Session) (at : slice_get w
         holders = released_holders w tells c x at locks' releases;
       })
 
-  -- Abort.
+  -- The step `Abort`.
   pub withdrawn : refusal_of (state_of w) (steps.Abort c) ≡ None → (y : Session) (t' : TableAt) → WithdrawsIn x w.table y t' → Called w c x (steps.Abort c) answers.Leaving y t' w.locks
   withdrawn none y t' leaves =
-      let runs = rests_runs w.table t' leaves.rests in
       let parts = abort_runs w.limits.half x.seat.seat c (seat_free w tells c x at (steps.Abort c) refl none) in
       entered w c x y t' w.locks (steps.Abort c) answers.Leaving (entry.Leave c None)
-      (slice_set (map session_changes w.sessions) c None) refl refl refl refl (none, tt) runs (λ kept. leaves.rests.nodes.changes)
+      (slice_set (map session_changes w.sessions) c None) refl refl refl refl (none, tt) leaves.rests.nodes.linked
       (record {
         seat = record { phase = LeavingToEnd; standing = x.seat.seat.standing; kept = x.seat.seat.kept };
         committed = serial w.history;
@@ -157,7 +153,7 @@ module _ (w : World) (tells : Tells w) (c : ℕ) (x : Session) (at : slice_get w
         (map session_changes w.sessions) refl refl refl
         (none_dropped w.sessions c x at (idle_cursor w tells c x at (LeavingTo n) returns.phase (no_newest x.log n more)))
         (none, and_from (not (has_job (seat_in w.history c))) (is_back_at n (seat_in w.history c).phase) no_job_here (ap (λ (s : Seat). is_back_at n s.phase) (seat_here w tells c x at) ∙ ap (is_back_at n) returns.phase ∙ eq-eqb n n refl))
-        (runs_same w.table) (λ kept. refl)
+        refl
         (quiet w tells c x at (entry.Returned c n) y
         (record { phase = Opened; standing = x.seat.seat.standing; kept = take (n + 1) x.seat.seat.kept }) (take n x.log.kept)
         (log_of c w.history) (serial w.history) (λ s. holder_of w.limits.stripes s w.history) w.locks w.counts
@@ -175,7 +171,7 @@ module _ (w : World) (tells : Tells w) (c : ℕ) (x : Session) (at : slice_get w
         entered w c x y w.table locks' (steps.Act c) answers.Aborted (entry.Aborted c) (map session_changes w.sessions) refl refl refl
         (none_dropped w.sessions c x at (idle_cursor w tells c x at LeavingToEnd ends.phase (no_newest x.log 0 more)))
         (none, and_from (not (has_job (seat_in w.history c))) (is_at_end (seat_in w.history c).phase) no_job_here (ap (λ (s : Seat). is_at_end s.phase) (seat_here w tells c x at) ∙ ap is_at_end ends.phase))
-        (runs_same w.table) (λ kept. refl)
+        refl
         (quiet w tells c x at (entry.Aborted c) y closed_seat [] [] (serial w.history)
         (λ s. cond (option_eq nat_eq (holder_of w.limits.stripes s w.history) (Some c)) None (holder_of w.limits.stripes s w.history))
         locks' w.counts

@@ -1,4 +1,4 @@
--- The refusals of a caller's step, from the caller's side and from the machine's state.
+-- The refusals of a caller's step, in terms of the caller's side and of the machine's state.
 use Rattle.std.proofs.Common.{◌≡◌, ℕ, ◌<◌, Bool, true, false, cond, List, [], ◌∷◌, ◌++◌, length, get_or, Option, Some, None, is_some, refl, sym, ap, ◌∙◌, arith, nat_le, not, map, slice_get, unwrap_or, leb-false, option_map, length-set, slice_set, get_or-set_same}
 use Rattle.boost_core.proofs.Vocabulary.{lt-leb, not-false, false≢true, slice_get-map, slice_get-get_or, Refusal, Step, Phase, Closed, Opened, Waiting, Seat, closed_seat, TableAt, Cursor, cursor_changes, NoSuchCaller, Unplaced, Begin, Act, Back, Commit, Abort, Session, State, Owner, Caller, seat_in, caller_changes, owner_of, is_closed, is_waiting, is_leaving, tests_in, tests_of, first_of, refusal_in, refusal_of, lacks_in, lacks_cursor, IsSoughtAt, World, Tells, state_of, session_changes}
 
@@ -97,7 +97,8 @@ noted_some None = refl
 noted_some (Some cursor) = refl
 
 module _ (w : World) (tells : Tells w) (c : ℕ) (x : Session) (at : slice_get w.sessions c ≡ Some x) where
-  -- The machine's state has the seat of the caller's session, and the change number of its cursor.
+  -- The machine's state has the seat of the caller's session and the change number of the caller's
+  -- cursor.
   pub seat_here : seat_in w.history c ≡ x.seat.seat
   seat_here = ap (λ o. unwrap_or o closed_seat) (tells.seated c x at).seat
 
@@ -107,7 +108,7 @@ module _ (w : World) (tells : Tells w) (c : ℕ) (x : Session) (at : slice_get w
   pub changes_is_some : is_some (caller_changes (map session_changes w.sessions) c) ≡ is_some x.cursor
   changes_is_some = ap is_some changes_here ∙ noted_some x.cursor
 
-  -- The refusal of a step, from the caller's side.
+  -- The refusal of a step, in terms of the caller's side.
   pub refusal_here : (step : Step) → owner_of step ≡ Some (Caller c) → nat_le w.limits.callers c ≡ false
       → refusal_of (state_of w) step ≡ or_else (refusal_in w.limits.half x.seat.seat step) (cond (lacks_in x.seat.seat (is_some x.cursor) step) (Some Unplaced) None)
   refusal_here step owner within =
@@ -152,7 +153,8 @@ free_at w old tells view c step owner r says none x is =
     let nothing = ap (λ (s : State). refusal_of s step) view ∙ sym says ∙ none in
     (nothing, index_at w.sessions c x (omega (arith, tells.count, leb-false w.limits.callers c (free (state_of w) c step owner nothing).within)) is)
 
--- The refusal of a step, from its caller's side, in a state that is equal to the state of `w`.
+-- The refusal of a step in a state that is equal to the state of `w`, in terms of the caller's
+-- side.
 pub refusal_at : (w : World) (old : State) → Tells w → state_of w ≡ old → (c : ℕ) (x : Session) → x ≡ get_or w.sessions c x → (step : Step) → owner_of step ≡ Some (Caller c) → c < w.limits.callers
     → refusal_of old step ≡ or_else (refusal_in w.limits.half x.seat.seat step) (cond (lacks_in x.seat.seat (is_some x.cursor) step) (Some Unplaced) None)
 refusal_at w old tells view c x is step owner within =

@@ -1,10 +1,9 @@
 -- The outcome of each step that no caller owns.
-use Rattle.std.proofs.Common.{◌≡◌, ℕ, ◌*◌, ◌≤◌, ◌==◌, ◌&&◌, Bool, true, false, cond, Some, None, Result, Ok, Err, refl, sym, ap, ◌∙◌, nat_le, nat_lt, not, lt-ltb, le-leb, length-set, inl, inr, le-ltb, slice_get}
-use Rattle.boost_core.proofs.Vocabulary.{lt-leb, cases_lt, Step, Answer, now, InitSeek, InitLink, Refusal, SweepOutcome, TableAt, Follows, content, size_of, stored_of, helps_of, table_changes, count_of, Double, HasParents, KeepsList, linked_of, regular, Doubles, SeekChanges, LinkChanges, StoreChanges, seek_answer, Helper, IsAnswer, placed_then, Move, Serves, Sweeping, Linking, Storing, World, Tells, state_of}
+use Rattle.std.proofs.Common.{◌≡◌, ℕ, ◌*◌, ◌==◌, ◌&&◌, Bool, true, false, cond, Some, None, Result, Ok, Err, refl, sym, ap, ◌∙◌, nat_le, nat_lt, not, lt-ltb, le-leb, length-set, inl, inr, le-ltb, slice_get}
+use Rattle.boost_core.proofs.Vocabulary.{lt-leb, cases_lt, Step, Answer, now, InitSeek, InitLink, Refusal, SweepOutcome, TableAt, Follows, size_of, stored_of, helps_of, count_of, Double, HasParents, KeepsList, linked_of, regular, Doubles, SeekChanges, LinkChanges, StoreChanges, seek_answer, Helper, IsAnswer, placed_then, Move, Serves, Sweeping, Linking, Storing, World, Tells, state_of}
 use Rattle.boost_core.proofs.Tables.{doubled_becomes, held_becomes, idle_becomes, linked_becomes, seeker_fits, seeker_there, sought_becomes, stored_becomes}
-use Rattle.boost_core.proofs.Helping.{served, sweep_tells, swept_move, clean_move, becomes_tells, quiet_move, seek_refusal, refusal_in_result, seek_ready_move, seek_placed_move, helper_refused, store_refused_move, stored_move}
+use Rattle.boost_core.proofs.Helping.{served, sweep_tells, swept_move, becomes_tells, becomes_move, seek_refusal, refusal_in_result, seek_ready_move, seek_placed_move, helper_refused, store_refused_move, stored_move}
 use Rattle.boost_core.proofs.Linking.{link_refused_move, link_again_move, link_present_move, link_linked_move}
-use Rattle.boost_core.specs.Answers.{after}
 use Rattle.txn_words.specs.declared.step.Step.TheVariants as steps
 use Rattle.map_ops.specs.Double.TheVariants as doubles
 use Rattle.map_ops.specs.InitSeek.TheVariants as seeks
@@ -12,7 +11,7 @@ use Rattle.map_ops.specs.InitLink.TheVariants as links
 use Rattle.map_ops.specs.SweepOutcome.TheVariants as sweeps
 use Rattle.boost_core.specs.Serves as said
 
--- The invariants of the core after the step, and the move.
+-- The invariants of the core hold after the step, and the step is a move.
 pub record Served (w : World) (step : Step) (answer : Answer) (t' : TableAt) : Type 0 where
   pub tells : Tells (served w t' (placed_then w.placed step answer))
   pub move : Move (state_of w) step answer (state_of (served w t' (placed_then w.placed step answer)))
@@ -24,18 +23,18 @@ lt_not_le a b = elim (cases_lt a b) [
 ]
 
 module _ (w : World) (tells : Tells w) (parents : HasParents w.table)
-    (t' : TableAt) (follows : Follows w.table t') (rises : table_changes w.table ≤ table_changes t') where
+    (t' : TableAt) (follows : Follows w.table t') where
   -- If the table is unchanged, the invariants still hold.
   same_tells : t' ≡ w.table → Tells (served w t' w.placed)
   same_tells same = rw same tells
 
-  swept_by : (answer : Answer) (is : Sweeping w.table t' answer) (outcome : SweepOutcome) → is.outcome ≡ outcome → Served w steps.Sweep (said.swept outcome) t'
-  swept_by answer is sweeps.Swept says = record { tells = sweep_tells w tells t' is.keeps is.spares follows; move = swept_move w t' is.keeps rises }
-  swept_by answer is sweeps.Clean says = record { tells = sweep_tells w tells t' is.keeps is.spares follows; move = clean_move w t' is.keeps rises (is.stays says) }
+  swept_by : (answer : Answer) (is : Sweeping w.table t' answer) (outcome : SweepOutcome) → Served w steps.Sweep (said.swept outcome) t'
+  swept_by answer is sweeps.Swept = record { tells = sweep_tells w tells t' is.keeps is.spares follows; move = swept_move w t' is.keeps _ (refl, tt) refl }
+  swept_by answer is sweeps.Clean = record { tells = sweep_tells w tells t' is.keeps is.spares follows; move = swept_move w t' is.keeps _ (refl, tt) refl }
 
   sought_by : (h b : ℕ) (outcome : Result InitSeek Refusal) → outcome ≡ seek_answer (size_of w.table) (stored_of w.table) (slice_get (helps_of w.table) h) b
       → SeekChanges w.table t' h b outcome → regular t' ≡ regular w.table → linked_of t' ≡ linked_of w.table
-      → Served w (steps.InitSeek h b) (said.sought outcome) t'
+      → Served w (steps.InitSeek h b) (said.answer_to_seek outcome) t'
   sought_by h b (Ok seeks.Ready) says changes same dummies = record {
     tells = becomes_tells w tells t' None _ _ _ _ (idle_becomes w.table t' h changes.0 changes.1) (length-set _ _ _) follows tt;
     move = seek_ready_move w t' h b tells.helpers (sym says) changes.0 changes.1;
@@ -43,7 +42,7 @@ module _ (w : World) (tells : Tells w) (parents : HasParents w.table)
   sought_by h b (Ok seeks.Placed) says changes same dummies = record {
     tells = becomes_tells w tells t' (Some (Helper h)) _ _ _ _ (sought_becomes w.table t' h b changes same dummies) (length-set _ _ _) follows
         (seeker_fits w.table t' h b changes (seeker_there w.table h b (sym says)));
-    move = seek_placed_move w t' h b tells.helpers (sym says) changes same dummies rises;
+    move = seek_placed_move w t' h b tells.helpers (sym says) changes same dummies;
   }
   sought_by h b (Err refusal) says changes same dummies = record {
     tells = same_tells changes;
@@ -61,7 +60,7 @@ module _ (w : World) (tells : Tells w) (parents : HasParents w.table)
   }
   linked_by h answer is (Ok links.Linked) says changes = record {
     tells = becomes_tells w tells t' None _ _ _ _ (linked_becomes w.table t' h parents changes is.regular) (length-set _ _ _) follows tt;
-    move = link_linked_move w h tells.helpers (sym (is.says (λ e. cc (says, e))) ∙ says) parents t' changes is.regular rises;
+    move = link_linked_move w h tells.helpers (sym (is.says (λ e. cc (says, e))) ∙ says) parents t' changes is.regular;
   }
   linked_by h answer is (Err refusal) says changes = record {
     tells = same_tells changes;
@@ -92,16 +91,16 @@ module _ (w : World) (tells : Tells w) (parents : HasParents w.table)
       → Served w (steps.Double seen) (said.doubled outcome) t'
   doubled_by seen (doubles.Moved n) changes list answer = record {
     tells = becomes_tells w tells t' None _ _ _ _ (doubled_becomes w.table t' (doubles.Moved n) changes list) refl follows tt;
-    move = quiet_move w t' _ _ _ _ (steps.Double seen) _ (doubled_becomes w.table t' (doubles.Moved n) changes list) list (refl, answer) refl;
+    move = becomes_move w t' None _ _ _ _ (steps.Double seen) _ (doubled_becomes w.table t' (doubles.Moved n) changes list) (refl, answer) refl;
   }
   doubled_by seen outcome changes list answer = record {
     tells = becomes_tells w tells t' None _ _ _ _ (doubled_becomes w.table t' outcome changes list) refl follows tt;
-    move = quiet_move w t' _ _ _ _ (steps.Double seen) _ (doubled_becomes w.table t' outcome changes list) list (refl, answer) refl;
+    move = becomes_move w t' None _ _ _ _ (steps.Double seen) _ (doubled_becomes w.table t' outcome changes list) (refl, answer) refl;
   }
 
   -- The outcome of each step.
   pub serves : (step : Step) (answer : Answer) → Serves step w.table answer t' → Served w step answer t'
-  serves steps.Sweep answer is = rw is.answer_is (swept_by answer is is.outcome refl)
+  serves steps.Sweep answer is = rw is.answer_is (swept_by answer is is.outcome)
   serves (steps.InitSeek h b) answer is = rw is.answer_is (sought_by h b is.outcome is.says is.changes is.regular is.linked)
   serves (steps.InitLink h) answer is = rw is.answer_is (linked_by h answer is is.outcome refl is.changes)
   serves (steps.InitStore h) answer is = rw is.answer_is (stored_by h answer is is.outcome refl is.changes)

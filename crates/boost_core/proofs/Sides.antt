@@ -1,6 +1,6 @@
 -- The steps that a caller may take if its side fits the table.
 use Rattle.std.proofs.Common.{◌≡◌, ℕ, ◌+◌, ◌-◌, ◌<◌, ◌&&◌, ◌||◌, Bool, true, false, List, [], ◌∷◌, ◌++◌, length, Option, Some, is_some, refl, sym, ap, subst, ◌∙◌, arith, slice_get, map, reverse, nat_lt, not, ltb-true}
-use Rattle.boost_core.proofs.Vocabulary.{not-false, or_right, false≢true, slice_get-get_or, Phase, Waiting, LeavingTo, LeavingToEnd, MapJob, PendingAt, TableAt, Cursor, content, reverse-append, length_push, get_or_push, is_waiting, has_job, has_target, Log, kept_at, newest_above, Session, level_of, Waits, key_of_newest, target_in, target_of, change_of, changes_of, AreDue, IsPlacedFor, IsSoughtAt, GoesWith, CanUndo}
+use Rattle.boost_core.proofs.Vocabulary.{not-false, or_right, false≢true, slice_get-get_or, Phase, Waiting, LeavingTo, LeavingToEnd, MapJob, PendingAt, TableAt, Cursor, content, reverse-append, length_push, get_or_push, is_waiting, has_job, has_target, LogAt, kept_at, newest_above, Session, level_of, Waits, key_of_newest, target_in, target_of, change_of, changes_of, AreDue, IsPlacedFor, IsSoughtAt, GoesWith, CanUndo}
 use Rattle.txn_trace.proofs.Seated.{the_some}
 use Rattle.boost_core.proofs.Spares.{newest_owned}
 
@@ -23,7 +23,7 @@ at_last jobs front job is =
     ∙ ap Some (get_or_push front job job (length (front ++ job ∷ []) - 1) (omega (arith, length_push front job)))
 
 -- If the log has a change above level `n`, the newest such change is the last job.
-pub newest_is : (log : Log MapJob) (n : ℕ) → nat_lt (kept_at log.kept n) (length log.jobs) ≡ true → (last : Last log.jobs) × (newest_above log n ≡ Some last.job)
+pub newest_is : (log : LogAt MapJob) (n : ℕ) → nat_lt (kept_at log.kept n) (length log.jobs) ≡ true → (last : Last log.jobs) × (newest_above log n ≡ Some last.job)
 newest_is log n more =
     let last = last_job log.jobs (omega (arith, ltb-true (kept_at log.kept n) (length log.jobs) more)) in
     (last, rw more (at_last log.jobs last.front last.job last.is))
@@ -36,7 +36,7 @@ pub waiting_op : (q : Phase) (pending : PendingAt) (room : ℕ) → Waits q (Som
 waiting_op (Waiting op) pending room is = ap Waiting (sym is.0)
 waiting_op _ pending room is = absurd is
 
--- A caller that takes changes back, to a level or to the end.
+-- A phase in which the caller takes changes back, either down to a level or all of them.
 abbrev pub IsGoing : Phase → Type 0
 IsGoing (LeavingTo n) = Unit {0}
 IsGoing LeavingToEnd = Unit {0}
@@ -47,7 +47,7 @@ going (LeavingTo n) standing kept is = (tt, is)
 going LeavingToEnd standing kept is = (tt, is)
 going _ standing kept is = absurd (false≢true is)
 
-going_target : (q : Phase) (log : Log MapJob) → IsGoing q → target_in q log ≡ key_of_newest (newest_above log (level_of q))
+going_target : (q : Phase) (log : LogAt MapJob) → IsGoing q → target_in q log ≡ key_of_newest (newest_above log (level_of q))
 going_target (LeavingTo n) log is = refl
 going_target LeavingToEnd log is = refl
 going_target _ log is = absurd is

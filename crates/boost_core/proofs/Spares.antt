@@ -40,7 +40,7 @@ times_unlike spare place stamp unlike = ap (λ b. cond b 1 0) (and_right (spare.
 times_is : (spare : SpareAt) (place stamp : ℕ) → place ≡ spare.place → stamp ≡ spare.stamp → times_of (Some spare) place stamp ≡ 1
 times_is spare place stamp at is = ap (λ (p : ℕ). times_of (Some spare) p stamp) at ∙ ap (λ (s : ℕ). times_of (Some spare) spare.place s) is ∙ times_here spare
 
--- After a spare is given up, the spares that are out are exactly the others that are kept.
+-- After a spare is given up, the spares that are out are exactly the other kept spares.
 pub spent : (t t' : TableAt) (spare : Option SpareAt) (others : ℕ → ℕ → ℕ) → Spends t t' spare → IsCovered (λ place stamp. others place stamp + times_of spare place stamp) t → IsCovered others t'
 spent t t' None others is covered place stamp = omega (arith, times_same t t' place stamp (is place), covered place stamp)
 spent t t' (Some spare) others is covered place stamp = elim (cases_eq place spare.place) [
@@ -54,8 +54,8 @@ spent t t' (Some spare) others is covered place stamp = elim (cases_eq place spa
       ]
 ]
 
--- After a new spare is given, the spares that are out are exactly this spare and the others that
--- are kept.
+-- After a new spare is given, the spares that are out are exactly this spare and the other kept
+-- spares.
 pub given : (t t' : TableAt) (spare : SpareAt) (others : ℕ → ℕ → ℕ) → GivesSpare t t' spare → IsCovered others t → IsCovered (λ place stamp. others place stamp + times_of (Some spare) place stamp) t'
 given t t' spare others gives covered place stamp = elim (cases_eq place spare.place) [
   | inr other ↦ omega (arith, times_same t t' place stamp (gives.others place other), covered place stamp, times_away spare place stamp (λ e. other (sym e)))
@@ -141,7 +141,8 @@ rests_more t0 t t' spare rests back follows = record {
 pub times_more : (jobs : List MapJob) (job : MapJob) (place stamp : ℕ) → times_in (jobs ++ job ∷ []) place stamp ≡ times_in jobs place stamp + times_of (spare_of_job job) place stamp
 times_more jobs job place stamp = sum_by_push (λ (j : MapJob). times_of (spare_of_job j) place stamp) jobs job
 
--- The same for a list `jobs` that is equal to `jobs'` and one more job.
+-- If `jobs` is `jobs'` with this job added, `jobs` owns the job's spare once more than `jobs'`, and
+-- each other spare as often.
 pub times_pushed : (jobs jobs' : List MapJob) (job : MapJob) (place stamp : ℕ) → jobs ≡ jobs' ++ job ∷ [] → times_in jobs place stamp ≡ times_in jobs' place stamp + times_of (spare_of_job job) place stamp
 times_pushed jobs jobs' job place stamp is = ap (λ js. times_in js place stamp) is ∙ times_more jobs' job place stamp
 

@@ -1,6 +1,6 @@
--- No step of a caller unlinks an unmarked node, nor touches the buckets and the helpers.
+-- No step of a caller unlinks an unmarked node or touches the buckets or the helpers.
 use Rattle.std.proofs.Common.{◌≡◌, ℕ, Bool, true, false, List, Option, Some, None, refl, sym, ap, subst, ◌∙◌, nat_eq}
-use Rattle.boost_core.proofs.Vocabulary.{option_eq, regular_at, IsSpread, Op, Put, Take, Get, PutIf, Step, Answer, MapJob, Unput, Restore, Relink, NodeAt, Listing, TableAt, SpareAt, KeepsNodes, nodes_of, LinksNode, MarksNode, WritesNode, WritesNothing, OpWrites, PutWrites, PutIfWrites, TakeWrites, JobWrites, node_for, Claim, Lock, Right, Session, Counts, Does, ActsIn, IsAsked, AsksBy, Abort, Act, Ask, Back, Begin, Commit, Save, Seek}
+use Rattle.boost_core.proofs.Vocabulary.{option_eq, regular_at, IsSpread, Op, Put, Take, Get, PutIf, Step, Answer, MapJob, Unput, Restore, Relink, NodeAt, Listing, TableAt, SpareAt, KeepsNodes, nodes_of, LinksNode, MarksNode, WritesNode, WritesNothing, OpWrites, PutWrites, PutIfWrites, TakeWrites, JobWrites, node_for, Claim, Lock, Right, Session, Counts, HasEffect, ActsIn, IsAsked, AsksBy, Abort, Act, Ask, Back, Begin, Commit, Save, Seek}
 use Rattle.boost_core.proofs.GapLists.{Stay, stay_same, stay_changed, stay_linked, stay_sought}
 use Rattle.boost_core.proofs.Spares.{nodes_then}
 use Rattle.txn_words.specs.declared.answer.Answer.TheVariants as answers
@@ -78,7 +78,7 @@ module _ (t t' : TableAt) (spread : IsSpread (nodes_of t')) where
 
     -- Each step of a caller leaves unmarked nodes linked, and buckets and helpers unchanged.
     pub does_stay : (claim : Claim) (stripes : ℕ) (counts : Counts) (step : Step) (answer : Answer)
-        → Does claim stripes counts step x t locks answer y t' locks' → Leaves t t'
+        → HasEffect claim stripes counts step x t locks answer y t' locks' → Leaves t t'
     does_stay claim stripes counts (Begin d) (answers.Began n) is = same is.2
     does_stay claim stripes counts (Ask d op) answer is = asked_by claim d _ op answer is
     does_stay claim stripes counts (Seek d) answers.Placed is = record {

@@ -1,6 +1,6 @@
--- The table after a call on its buckets, in the words of the state.
+-- The table after a call on its buckets, as the machine's state describes it.
 use Rattle.std.proofs.Common.{◌≡◌, ◌≢◌, ℕ, ◌+◌, ◌<◌, Bool, true, List, Option, Some, None, Ok, is_some, refl, ap, ◌∙◌, map, length, length-set, slice_get, slice_set, slice_index_or, option_map, get_or-set_other}
-use Rattle.boost_core.proofs.Vocabulary.{slice_get-map, slice_get_within, range_with_len, map-set, Listing, out_at, found_fits, TableHelper, Idle, Seeking, Holding, Directory, limit_of, helper_of, with_helper, dummy_node, cursor_fits, Seeks, Holds, LinksDummy, Stores, Double, LinksNode, TableAt, Help, Nothing, Sought, Dummy, HasParents, KeepsList, KeepsSpares, cursor_in, helper_cursor, help_of, regular, size_of, largest_of, stored_of, linked_of, helps_of, table_changes, Doubles, helper_fits, seek_answer, size_after, doubled}
+use Rattle.boost_core.proofs.Vocabulary.{slice_get-map, slice_get_within, range_with_len, map-set, Listing, out_at, found_fits, TableHelper, Idle, Seeking, Holding, Directory, limit_of, helper_of, with_helper, dummy_node, cursor_fits, Seeks, HoldsDummy, LinksDummy, Stores, Double, LinksNode, TableAt, Help, Nothing, Sought, Dummy, HasParents, KeepsList, KeepsSpares, cursor_in, helper_cursor, help_of, regular, size_of, largest_of, stored_of, linked_of, helps_of, table_changes, Doubles, helper_fits, seek_answer}
 use Rattle.list_steps.specs.Content.{pairs}
 use Rattle.bucket_table.specs.Dummies.{has_dummy}
 use Rattle.bucket_table.specs.Links.{LinksAt}
@@ -80,8 +80,8 @@ module _ (t t' : TableAt) where
       becomes d stored (linked_of t) helps is (ap (λ l. pairs l.nodes) list) (λ place. ap (λ l. out_at l place) list)
       (λ i. map (has_dummy (list i).nodes) (range_with_len 0 ((ap (λ d. limit_of d) is ∙ limit) i))) limit entries helpers
 
-  -- The table after each outcome of a call: a helper has become idle, has sought a cursor, holds a
-  -- dummy that was linked already, has linked a dummy, or has stored a bucket; or a doubling ended.
+  -- The table after each outcome of a call: a helper becomes idle, gets a cursor, gets a dummy that
+  -- was already linked, links a dummy or stores a bucket, or a doubling ends.
   pub idle_becomes : (h : ℕ) → t'.buckets ≡ with_helper t.buckets h Idle → KeepsList t t'
       → Becomes t t' (size_of t) (stored_of t) (linked_of t) (slice_set (helps_of t) h Nothing)
   idle_becomes h is list = quiet _ _ _ is list refl refl (map-set help_of t.buckets.helpers h Idle)
@@ -92,7 +92,7 @@ module _ (t t' : TableAt) where
       becomes _ _ _ _ is.now same is.rest.out linked refl refl
       (map-set help_of t.buckets.helpers h (Seeking b is.cursor) ∙ ap (λ (n : ℕ). slice_set (helps_of t) h (Sought b n)) is.found.changes)
 
-  pub held_becomes : (h : ℕ) (holds : Holds t.buckets t'.buckets t'.list h) → KeepsList t t'
+  pub held_becomes : (h : ℕ) (holds : HoldsDummy t.buckets t'.buckets t'.list h) → KeepsList t t'
       → Becomes t t' (size_of t) (stored_of t) (linked_of t) (slice_set (helps_of t) h (Dummy holds.bucket))
   held_becomes h holds list = quiet _ _ _ holds.now list refl refl (map-set help_of t.buckets.helpers h (Holding holds.bucket holds.place))
 
@@ -108,8 +108,13 @@ module _ (t t' : TableAt) where
       quiet _ _ _ stores.now list (length-set t.buckets.entries stores.bucket (Some stores.place))
       (map-set is_some t.buckets.entries stores.bucket (Some stores.place)) (map-set help_of t.buckets.helpers h Idle)
 
+  -- The size after a call that may double the size.
+  abbrev doubled_size : Double → ℕ
+  doubled_size (doubles.Doubled n) = n
+  doubled_size _ = size_of t
+
   pub doubled_becomes : (outcome : Double) → Doubles t t' outcome → KeepsList t t'
-      → Becomes t t' (size_after (size_of t) (doubled outcome)) (stored_of t) (linked_of t) (helps_of t)
+      → Becomes t t' (doubled_size outcome) (stored_of t) (linked_of t) (helps_of t)
   doubled_becomes (doubles.Moved n) is list = quiet _ _ _ is list refl refl refl
   doubled_becomes _ is list = quiet _ _ _ is list refl refl refl
 

@@ -1,24 +1,22 @@
--- The names of specs and of lower crates that several proofs cite, passed on from one place.
--- Declares nothing.
-pub use Rattle.boost_core.specs.Answers.{IsAnswer, IsReply, is_at_end, is_back_at, is_just_placed, keeps_list, may_be_stale, may_stand, owner_changes, size_after}
-pub use Rattle.boost_core.specs.Core.{IsFresh, IsSeated, Tells, World, all_times, gap_at, gap_by, gap_if, gap_of, helper_gaps_of, node_at, nodes_at, session_changes, state_of, world_of}
+-- The names of lower crates and of specs that several proofs cite, in one place. Declares nothing.
+pub use Rattle.boost_core.specs.Answers.{IsReply, is_at_end, is_back_at, is_just_placed, may_be_stale, may_stand, owner_changes}
+pub use Rattle.boost_core.specs.Core.{LastPlacedFits, IsSeated, Tells, World, all_times, gap_at, gap_by, gap_if, gap_of, helper_gaps_of, node_at, nodes_at, session_changes, state_of, world_of}
 pub use Rattle.boost_core.specs.Counts.{counts_after}
 pub use Rattle.boost_core.specs.Helps.{HelpSuits, IsOnWay}
-pub use Rattle.boost_core.specs.Machine.{Event, IsAllowed, Move, Moves}
-pub use Rattle.boost_core.specs.Nodes.{AreNeighbours, BackDoes, Changes, Cursors, Fits, IsBetween, IsClean, IsNearest, KeepsGaps, Links, Lists, Marks, OpDoes, OpDoesIn, PutsIf, SeeksFrom, SeeksKey, StandsAt, StartsAt, StopsAt, Touches, Writes, is_unmarked, key_in, mover_of, newest_key, next_key, stamp_after}
+pub use Rattle.boost_core.specs.Machine.{Cursors, Happens, Fits, IsAllowed, IsAnswer, KeepsGaps, Lists, Move, Moves, Touches, mover_of, placed_then, stamp_after}
+pub use Rattle.boost_core.specs.Nodes.{AreNeighbours, BackDoes, Changes, IsBetween, IsClean, IsNearest, Links, Marks, OpDoes, OpDoesIn, PutsIf, SeeksFrom, SeeksKey, StandsAt, StartsAt, StopsAt, Writes, is_unmarked, next_key_in, newest_key, next_key}
 unfoldable pub use Rattle.boost_core.specs.Nodes.{IsInOrder}
-pub use Rattle.boost_core.specs.Placed.{placed_then}
 pub use Rattle.boost_core.specs.Plain.{Aborts, Drives, Helps, Operates, Returns, outcome_of, undoing, undone}
-pub use Rattle.boost_core.specs.Refusals.{MayLack, first_of, has_cursor, has_dummy, has_job, has_stamp, has_stamp_for, has_target, is_closed, is_leaving, is_waiting, lacks_cursor, lacks_dummy, lacks_in, owner_of, refusal_in, refusal_of, tests_in, tests_of}
+pub use Rattle.boost_core.specs.Refusals.{MayLack, first_of, has_cursor, holds_dummy, has_job, has_stamp, has_stamp_for, has_target, is_closed, is_leaving, is_waiting, lacks_cursor, lacks_dummy, lacks_in, owner_of, refusal_in, refusal_of, tests_in, tests_of}
 pub use Rattle.boost_core.specs.Serves.{Linking, Serves, Storing, Sweeping, doubled}
-pub use Rattle.boost_core.specs.Sessions.{ActsIn, Agrees, AreDue, AsksBy, AsksIn, CanAct, CanArrive, CanSettle, CanUndo, Does, DoesIn, Drops, EndsIn, GoesWith, IsAsked, IsIdle, IsPlacedFor, IsSought, IsSoughtAt, KeepsPlaced, MeetsIn, Rests, ReturnsIn, Saves, SavesIn, SeeksIn, SettlesIn, Side, StaysIn, Takes, TakesBackIn, Waits, WithdrawsIn, change_of, changes_of, key_of_newest, level_of, owed_of, side_of, spare_if, target_in, target_of, times_kept, unless_busy}
+pub use Rattle.boost_core.specs.Sessions.{ActsIn, Agrees, AreDue, AsksBy, AsksIn, CanAct, CanArrive, CanSettle, CanUndo, HasEffect, DoesIn, Drops, EndsIn, GoesWith, IsAsked, IsIdle, IsPlacedFor, IsSought, IsSoughtAt, KeepsPlaced, MeetsIn, Rests, ReturnsIn, Saves, SavesIn, SeeksIn, SettlesIn, Side, StaysIn, MayTakeStep, TakesBackIn, Waits, WithdrawsIn, change_of, changes_of, key_of_newest, level_of, owed_of, side_of, spare_if, target_in, target_of, times_kept, unless_busy}
 pub use Rattle.boost_core.specs.Spares.{IsCovered, times_in, times_of, times_out}
 pub use Rattle.boost_core.specs.State.{Caller, Dummy, Gap, Help, Helper, Node, Nothing, Owner, SortKey, Sought, State, bucket_at, caller_changes, gap_for, gap_in, help_in, helper_changes, holder_by, is_set, marked_node, plain_node, seat_in, start, with_bucket}
 pub use Rattle.boost_core.specs.Whole.{IsWhole}
 pub use Rattle.boost_core.specs.Words.{Claim, Goes, Held, IsClaim, ListsAsk, ListsBy, Lock, Right, Stale, is_ask, is_taken, may_come, reserved_by, stamp_by}
 pub use Rattle.boost_core.specs.declared.counts.Counts.{Counts}
 pub use Rattle.boost_core.specs.declared.session.Session.{Session}
-pub use Rattle.bucket_table.specs.Changes.{Holds, LinksDummy, Seeks, Stores}
+pub use Rattle.bucket_table.specs.Changes.{HoldsDummy, LinksDummy, Seeks, Stores}
 pub use Rattle.bucket_table.specs.Directory.{Directory, helper_of, limit_of, with_helper}
 pub use Rattle.bucket_table.specs.Dummies.{IsDummyAt, dummy_node}
 pub use Rattle.bucket_table.specs.Helpers.{cursor_fits}
@@ -40,7 +38,7 @@ pub use Rattle.map_ops.specs.InitSeek.{InitSeek}
 pub use Rattle.map_ops.specs.Jobs.{IsDue, PendingAt, job_of, key_of_job, relink, spare_of_job, takes_node, unput, value_before}
 pub use Rattle.map_ops.specs.Nodes.{JobWrites, LinksNode, MarksNode, OpWrites, PutIfWrites, PutWrites, TakeWrites, WritesNode, WritesNothing, node_for}
 pub use Rattle.map_ops.specs.SweepOutcome.{SweepOutcome}
-pub use Rattle.map_ops.specs.TableAt.{Cursor, Follows, HasParents, IsNew, IsPlaced, Keeps, KeepsBuckets, KeepsList, KeepsNodes, KeepsSpares, NamesDummies, SpareAt, TableAt, content, cursor_changes, cursor_in, cursors_of, help_of, helper_cursor, helps_of, largest_of, last_of, linked_of, map_of, nodes_of, regular, size_of, spare_out, stored_of, table_changes, fits}
+pub use Rattle.map_ops.specs.TableAt.{Cursor, Follows, HasParents, IsNew, IsPlaced, KeepsTable, KeepsBuckets, KeepsList, KeepsNodes, KeepsSpares, NamesDummies, SpareAt, TableAt, content, cursor_changes, cursor_in, cursors_of, help_of, helper_cursor, helps_of, largest_of, last_of, linked_of, map_of, nodes_of, regular, size_of, spare_out, stored_of, table_changes, fits}
 pub use Rattle.map_ops.specs.declared.job.MapJob.{MapJob}
 pub use Rattle.map_ops.specs.declared.job.MapJob.TheVariants.{Relink, Restore, Unput}
 pub use Rattle.node_list.specs.Nodes.{Listing, NodeAt, changes_after, first, first_dummy, out_at, written_at}
@@ -101,4 +99,4 @@ pub use Rattle.txn_words.specs.declared.seat.Phase.{Phase}
 pub use Rattle.txn_words.specs.declared.seat.Phase.TheVariants.{Closed, LeavingTo, LeavingToEnd, Opened, Waiting}
 pub use Rattle.txn_words.specs.declared.step.Step.{Step}
 pub use Rattle.txn_words.specs.declared.step.Step.TheVariants.{Abort, Act, Ask, Back, Begin, Commit, Seek, Save}
-pub use Rattle.undo_log.specs.UndoLog.{Log, kept_at, newest_above}
+pub use Rattle.undo_log.specs.UndoLog.{LogAt, kept_at, newest_above}

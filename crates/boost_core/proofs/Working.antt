@@ -1,14 +1,14 @@
 -- The steps by which callers work on the map.
-use Rattle.std.proofs.Common.{◌≡◌, ℕ, ◌+◌, ◌-◌, ◌<◌, ◌≤◌, true, cond, List, [], ◌∷◌, ◌++◌, length, Option, Some, None, is_some, refl, sym, ap, subst, ◌∙◌, arith, slice_get, slice_set, map, reverse, slice_index, nat_lt, option_to_list, ne_eqb, ltb-true, ◌^◌, false, inl, inr, option_map}
-use Rattle.boost_core.proofs.Vocabulary.{false≢true, reverse-append, stripe_of, holder_of, TableAt, content, table_changes, serial, now, log_of, Phase, Opened, Waiting, LeavingTo, LeavingToEnd, Next, kept_at, MapJob, key_of, reply_of, after, set_at, Map, runs, is_running, changes, Seat, get-after_other, get-set_at, waiting_held, log_held, held_apart, takes_node, key_of_job, value_before, spare_of_job, PendingAt, Session, seat_in, holder_by, refusal_of, has_job, times_of, times_in, IsCovered, World, Tells, state_of, session_changes, IsReply, side_of, level_of, KeepsPlaced, Waits, spare_if, times_kept, change_of, changes_of, AreDue, DoesIn, TakesBackIn, Act, cases_eq, and_from, slice_get_within, fits, Cursor, cursor_changes, map_of, IsPlaced, Owner, Caller, Helper, has_target, IsFresh, is_just_placed, may_be_stale, target_in, target_of, IsPlacedFor, IsSoughtAt, SeeksIn, Drops, Seek}
+use Rattle.std.proofs.Common.{◌≡◌, ℕ, ◌+◌, ◌-◌, ◌<◌, true, cond, List, [], ◌∷◌, ◌++◌, length, Option, Some, None, is_some, refl, sym, ap, subst, ◌∙◌, arith, slice_get, slice_set, map, reverse, slice_index, nat_lt, option_to_list, ne_eqb, ltb-true, ◌^◌, false, inl, inr, option_map}
+use Rattle.boost_core.proofs.Vocabulary.{false≢true, reverse-append, stripe_of, holder_of, TableAt, content, table_changes, serial, now, log_of, Phase, Opened, Waiting, LeavingTo, LeavingToEnd, Next, kept_at, MapJob, key_of, reply_of, after, set_at, Map, runs, is_running, changes, Seat, get-after_other, get-set_at, waiting_held, log_held, held_apart, takes_node, key_of_job, value_before, spare_of_job, PendingAt, Session, seat_in, holder_by, refusal_of, has_job, times_of, times_in, IsCovered, World, Tells, state_of, session_changes, IsReply, side_of, level_of, KeepsPlaced, Waits, spare_if, times_kept, change_of, changes_of, AreDue, DoesIn, TakesBackIn, Act, cases_eq, and_from, slice_get_within, Cursor, cursor_changes, map_of, IsPlaced, Owner, Caller, Helper, has_target, LastPlacedFits, is_just_placed, may_be_stale, target_in, target_of, IsPlacedFor, IsSoughtAt, SeeksIn, Drops, Seek}
 use Rattle.boost_core.proofs.Numbers.{no_more}
-use Rattle.boost_core.proofs.Moves.{runs_of, keeps_runs, runs_same, state_is, changes_set, stale_since, move_is}
+use Rattle.boost_core.proofs.Moves.{state_is, changes_set, stale_since}
 use Rattle.boost_core.proofs.Outcomes.{Called, entered}
 use Rattle.boost_core.proofs.Spares.{times_pushed, spent, done_covered, still_covered, buckets_same}
 use Rattle.boost_core.proofs.Due.{NotedIf, noted, changes_noted, due_noted}
 use Rattle.boost_core.proofs.Sides.{IsGoing, going, waiting_op, changes_last}
 use Rattle.boost_core.proofs.Refused.{seat_here, changes_here}
-use Rattle.boost_core.proofs.Grow.{world_after, seated_as, set_cases}
+use Rattle.boost_core.proofs.Grow.{seated_as, set_cases}
 use Rattle.txn_words.specs.declared.entry.Entry.TheVariants as entry
 use Rattle.txn_words.specs.declared.answer.Answer.TheVariants as answers
 use Rattle.txn_trace.proofs.Entries as laws
@@ -57,12 +57,12 @@ module _ (w : World) (tells : Tells w) (c : ℕ) (x : Session) (at : slice_get w
     did_log =
         rw ((tells.seated c x at).log, reply_is) (changes_noted (now w.history) does.pending.op does.pending.spare x.log.jobs does.job noted_here)
 
-    pub did_called : table_changes w.table ≤ table_changes t' → Called w c x (Act c) (answers.Done reply) y t' w.locks
-    did_called rises =
+    pub did_called : Called w c x (Act c) (answers.Done reply) y t' w.locks
+    did_called =
         entered w c x y t' w.locks (Act c) (answers.Done reply) (entry.Did c reply)
         (slice_set (map session_changes w.sessions) c None) refl refl refl refl
         (none, subst (λ (q : Phase). IsReply q (now w.history) reply) (sym (ap (λ (s : Seat). s.phase) here ∙ phase_was)) reply_is)
-        (runs_of w.table t' does.does.buckets does.does.linked rises does.does.last) (λ kept. absurd (false≢true kept))
+        does.does.linked
         (record {
           seat = did_seat;
           committed = serial w.history;
@@ -127,11 +127,10 @@ module _ (w : World) (tells : Tells w) (c : ℕ) (x : Session) (at : slice_get w
               (λ p s. omega (arith, times_pushed x.log.jobs y.log.jobs back.job p s back.jobs, covered p s)) place stamp,
         )
 
-    pub undone_called : table_changes w.table ≤ table_changes t' → Called w c x (Act c) answers.Undone y t' w.locks
-    undone_called rises =
+    pub undone_called : Called w c x (Act c) answers.Undone y t' w.locks
+    undone_called =
         entered w c x y t' w.locks (Act c) answers.Undone (entry.Undone c)
-        (slice_set (map session_changes w.sessions) c None) refl refl refl refl (none, ap has_job here ∙ has) (runs_of w.table t' back.back.buckets back.back.linked rises back.back.last)
-        (λ kept. absurd (false≢true kept))
+        (slice_set (map session_changes w.sessions) c None) refl refl refl refl (none, ap has_job here ∙ has) back.back.linked
         (record {
           seat = undone_seat;
           committed = serial w.history;
@@ -158,9 +157,8 @@ module _ (w : World) (tells : Tells w) (c : ℕ) (x : Session) (at : slice_get w
         })
 
   -- The caller's seek of the key that it acts on next.
-  pub sought_called : refusal_of (state_of w) (Seek c) ≡ None → (y : Session) (t' : TableAt) → SeeksIn x w.table y t' → KeepsPlaced w.table t' → table_changes w.table ≤ table_changes t' → Called w c x (Seek c) answers.Placed y t' w.locks
-  sought_called none y t' seeks keeps rises =
-      let runs = keeps_runs w.table t' seeks.places.keeps rises in
+  pub sought_called : refusal_of (state_of w) (Seek c) ≡ None → (y : Session) (t' : TableAt) → SeeksIn x w.table y t' → KeepsPlaced w.table t' → Called w c x (Seek c) answers.Placed y t' w.locks
+  sought_called none y t' seeks keeps =
       record {
         comes = record {
           cursor = Some seeks.cursor;
@@ -174,10 +172,11 @@ module _ (w : World) (tells : Tells w) (c : ℕ) (x : Session) (at : slice_get w
           same_locks = refl;
           same_counts = refl;
         };
-        move = λ seat'. move_is w (world_after w c (seated_as y seat') (w.history ++ []) w.counts t' w.locks (Some (Caller c))) (Seek c) answers.Placed (none, tt)
-            (state_is w (w.history ++ []) (w.history ++ []) w.counts t' (slice_set (map session_changes w.sessions) c (Some (table_changes t'))) (slice_set w.sessions c (seated_as y seat')) w.locks (Some (Caller c)) runs refl
-            (changes_set w.sessions c (seated_as y seat') (Some (table_changes t')) (ap session_changes seeks.becomes ∙ ap Some seeks.places.changes)))
-            runs (λ kept. absurd (false≢true kept));
+        move = λ seat'. record {
+          allowed = (none, tt);
+          state = state_is w (w.history ++ []) (w.history ++ []) w.counts t' (slice_set (map session_changes w.sessions) c (Some (table_changes t'))) (slice_set w.sessions c (seated_as y seat')) w.locks (Some (Caller c)) seeks.places.keeps.buckets seeks.places.keeps.linked refl
+              (changes_set w.sessions c (seated_as y seat') (Some (table_changes t')) (ap session_changes seeks.becomes ∙ ap Some seeks.places.changes));
+        };
         fresh = λ seat' s cursor at_c had. elim (set_cases w.sessions c c (seated_as y seat') s (slice_get_within w.sessions c x at) at_c) [
           | inl mine ↦
               let both : Some seeks.cursor ≡ Some cursor = sym (ap (λ (q : Session). q.cursor) mine.1 ∙ ap (λ (q : Session). q.cursor) seeks.becomes) ∙ had in
@@ -191,7 +190,7 @@ module _ (w : World) (tells : Tells w) (c : ℕ) (x : Session) (at : slice_get w
     not_fresh : is_just_placed (Caller c) w.placed ≡ false
     not_fresh = at_placed w.placed tells.fresh
       where
-        at_placed : (o : Option Owner) → IsFresh w.table w.sessions o → is_just_placed (Caller c) o ≡ false
+        at_placed : (o : Option Owner) → LastPlacedFits w.table w.sessions o → is_just_placed (Caller c) o ≡ false
         at_placed None fresh = refl
         at_placed (Some (Helper d)) fresh = refl
         at_placed (Some (Caller d)) fresh = elim (cases_eq c d) [
@@ -224,11 +223,11 @@ module _ (w : World) (tells : Tells w) (c : ℕ) (x : Session) (at : slice_get w
         same_locks = refl;
         same_counts = refl;
       };
-      move = λ seat'. move_is w (world_after w c (seated_as y seat') (w.history ++ []) w.counts w.table w.locks None) (Act c) answers.Again
-          (none, and_from (has_target (seat_in w.history c)) (may_be_stale (state_of w) (Caller c)) (ap has_target here ∙ target) stale)
-          (state_is w (w.history ++ []) (w.history ++ []) w.counts w.table (slice_set (map session_changes w.sessions) c None) (slice_set w.sessions c (seated_as y seat')) w.locks None (runs_same w.table) refl
-          (changes_set w.sessions c (seated_as y seat') None (ap session_changes drops.becomes)))
-          (runs_same w.table) (λ kept. refl);
+      move = λ seat'. record {
+        allowed = (none, and_from (has_target (seat_in w.history c)) (may_be_stale (state_of w) (Caller c)) (ap has_target here ∙ target) stale);
+        state = state_is w (w.history ++ []) (w.history ++ []) w.counts w.table (slice_set (map session_changes w.sessions) c None) (slice_set w.sessions c (seated_as y seat')) w.locks None (buckets_same w.table) refl refl
+            (changes_set w.sessions c (seated_as y seat') None (ap session_changes drops.becomes));
+      };
       fresh = λ seat'. tt;
     }
 

@@ -1,4 +1,4 @@
--- The entry of a step is added: the requirements, and the seat after it.
+-- The requirements for adding the entry of a step, and the seat after the entry is added.
 use Rattle.std.specs.Prelude.{◌≡◌, ℕ, ◌+◌, ◌-◌, ◌<◌, ◌≤◌, ◌^◌, true, Option, Some, None, List, [], ◌∷◌}
 use Rattle.txn_words.specs.declared.entry.Entry.{Entry}
 use Rattle.txn_words.specs.Shape.{Seat, RoomySeat, row}
@@ -6,7 +6,8 @@ use Rattle.txn_words.specs.Seats.{is_saved}
 use Rattle.txn_words.specs.Owed.{owed_in}
 use Rattle.txn_words.specs.Packed.{is_small}
 
--- The seat enters the added entry, if there is one.
+-- If an entry is added, the new seat is the one that `row` gives for this entry. If no entry is
+-- added, the seat is unchanged.
 abbrev pub Enters : RoomySeat → List Entry → RoomySeat → Type 0
 Enters s [] s' = s' ≡ s
 Enters s (e ∷ []) s' = row s.seat s.seat.phase e ≡ Some s'.seat

@@ -10,7 +10,7 @@ begun_with begun (Some (Began c t)) =
     if nat_lt c (length begun) then slice_set begun c true else begun
 begun_with begun entry = begun
 
--- For each caller it is noted whether it has begun a transaction.
+-- The notes say of each caller whether it has begun a transaction.
 pub record AreNoted (callers : ℕ) (history : List Entry) (begun : List Bool) : Type 0 where
   pub many : length begun ≡ callers
   pub each : (c : ℕ) → slice_index_or begun c false ≡ has_begun c history

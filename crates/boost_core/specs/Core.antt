@@ -24,9 +24,9 @@ use Rattle.boost_core.specs.Begun.{AreNoted}
 use Rattle.boost_core.specs.Spares.{IsCovered}
 use Rattle.boost_core.specs.Sessions.{Side, side_of, owed_of, Agrees, IsSought, times_kept, changes_of, AreDue}
 
--- The parts of a core, except room, the number of entries owed and the notes of who has begun: the
--- limits, the history and its counts, the table, each caller's side, the stripes' holders, the
--- owner of the cursor that the last move placed, and whether stripes are words.
+-- The parts of a core: the limits, the history and its counts, the table, each caller's side, the
+-- stripes' holders, the owner of the cursor that the last move placed, and whether stripes are
+-- words. The room, the number of entries owed and the notes of who has begun are left out.
 pub record World : Type 0 where
   pub limits : Sizes
   pub history : List Entry
@@ -54,7 +54,7 @@ world_of limits history counts table sessions locks placed words = record {
 abbrev pub session_changes : Session → Option ℕ
 session_changes s = option_map cursor_changes s.cursor
 
--- A linked node of the table, and all its linked nodes, as the machine's state has them.
+-- A linked node of a table, as the machine's state has it. `nodes_at` gives all linked nodes.
 abbrev pub node_at : NodeAt → Node
 node_at n = record { at = n.at; marked = n.marked }
 
@@ -103,8 +103,8 @@ state_of w = record {
   placed = w.placed;
 }
 
--- A caller's side, with this room in its log, agrees with the history: its seat, and its log, whose
--- changes may be taken back from the map now.
+-- A caller's side, whose log has this room, agrees with the history. The seat and the changes of
+-- the log are those of the history, and the changes may be taken back from the map now.
 pub record IsSeated (history : List Entry) (c : ℕ) (side : Side) (room : ℕ) : Type 0 where
   pub seat : seat_after (own c history) ≡ Some side.seat
   pub log : log_of c history ≡ changes_of side.jobs
@@ -116,12 +116,12 @@ abbrev pub all_times : List Session → ℕ → ℕ → ℕ
 all_times sessions place stamp = sum_by (λ s. times_kept (side_of s) place stamp) sessions
 
 -- The cursor that the last move placed, if it placed one, fits.
-abbrev pub IsFresh : TableAt → List Session → Option Owner → Type 0
-IsFresh t sessions None = Unit {0}
-IsFresh t sessions (Some (Caller c)) =
+abbrev pub LastPlacedFits : TableAt → List Session → Option Owner → Type 0
+LastPlacedFits t sessions None = Unit {0}
+LastPlacedFits t sessions (Some (Caller c)) =
     (s : Session) (cursor : Cursor) → slice_get sessions c ≡ Some s → s.cursor ≡ Some cursor
     → fits t cursor ≡ true
-IsFresh t sessions (Some (Helper h)) = helper_fits t h ≡ true
+LastPlacedFits t sessions (Some (Helper h)) = helper_fits t h ≡ true
 
 -- The history is legal, and the counts, the stripes' holders, the table and each caller's side are
 -- those of the history.
@@ -136,7 +136,7 @@ pub record Tells (w : World) : Type 0 where
       → IsSeated w.history c (side_of s) s.log.room
   pub sought : (c : ℕ) (s : Session) → slice_get w.sessions c ≡ Some s → IsSought w.table s
   pub spares : IsCovered (all_times w.sessions) w.table
-  pub fresh : IsFresh w.table w.sessions w.placed
+  pub fresh : LastPlacedFits w.table w.sessions w.placed
   pub stripes : length w.locks ≡ w.limits.stripes
   pub holders : (stripe : ℕ) → stripe < w.limits.stripes
       → held_by w.locks stripe ≡ holder_of w.limits.stripes stripe w.history
@@ -146,7 +146,8 @@ pub record Tells (w : World) : Type 0 where
 
 -- The world is as `Tells` says. The entries that the callers owe are counted, the history has room
 -- for them, and the callers that have begun are noted.
-pub record Holds (w : World) (history : Vec Entry) (owed : ℕ) (begun : List Bool) : Type 0 where
+pub record IsAccounted (w : World) (history : Vec Entry) (owed : ℕ) (begun : List Bool) :
+    Type 0 where
   pub tells : Tells w
   pub owes : owed ≡ sum_by owed_of w.sessions
   pub room : vec_len history + sum_by owed_of w.sessions ≤ vec_capacity history

@@ -7,10 +7,11 @@ use Rattle.txn_drive.specs.declared.phase.Phase.{Phase}
 use Rattle.txn_drive.specs.declared.phase.Phase.TheVariants.{Doubling, Initialising, Linking}
 use Rattle.txn_drive.specs.declared.phase.Phase.TheVariants.{Storing, Helped, Refused}
 use Rattle.txn_drive.specs.declared.way.Way.{Way}
-use Rattle.boost_core.specs.State.{State, help_in, is_set, bucket_at}
-use Rattle.boost_core.specs.Refusals.{has_cursor, has_dummy}
+use Rattle.boost_core.specs.State.{State, help_in, is_set, bucket_of}
+use Rattle.boost_core.specs.Refusals.{has_cursor, holds_dummy}
 
--- The bucket on the way may be initialised.
+-- The bucket of the way is the target or an ancestor of the target. Both are below the size, and
+-- the bucket's parent is stored.
 pub record IsOnWay (m : State) (way : Way) : Type 0 where
   pub ancestor : IsAncestor way.bucket way.target
   pub target : way.target < m.size
@@ -29,10 +30,10 @@ HelpSuits m c (Doubling seen) = Unit {0}
 HelpSuits m c (Initialising way again) = IsOnWay m way
 HelpSuits m c (Linking way again) =
     IsOnWay m way × (has_cursor (help_in m.helpers c) ≡ true)
-    × (bucket_at (help_in m.helpers c) ≡ way.bucket)
+    × (bucket_of m c ≡ way.bucket)
 HelpSuits m c (Storing way) =
-    IsOnWay m way × (has_dummy (help_in m.helpers c) ≡ true)
-    × (bucket_at (help_in m.helpers c) ≡ way.bucket)
+    IsOnWay m way × (holds_dummy (help_in m.helpers c) ≡ true)
+    × (bucket_of m c ≡ way.bucket)
 HelpSuits m c Helped = Unit {0}
 HelpSuits m c (Refused refusal) = MayEndHelp refusal
 HelpSuits m c phase = ⊥

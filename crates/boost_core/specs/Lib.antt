@@ -5,13 +5,13 @@ pub mod Shape
 pub mod Locks
 pub mod Replies
 pub mod Content
-pub mod Machine
 pub mod Nodes
+pub mod Events
+pub mod Machine
 pub mod Plain
 pub mod Words
 pub mod Begun
 pub mod Counts
-pub mod Placed
 pub mod Serves
 pub mod Adding
 pub mod Spares

@@ -1,16 +1,89 @@
--- The fifth claim, answers: the moves of the machine of steps.
+-- The fifth claim, answers: each step makes a move of the machine. `Events` says what each event
+-- does. The definitions below say what a step with its answer does: such a step is an event, or it
+-- is refused.
 pub use Rattle.boost_core.specs.State.{State, start, start_with_words, holder_by}
-use Rattle.std.specs.Prelude.{◌≡◌, ◌+◌, ◌≤◌, ◌⊎◌, true, List, [], ◌∷◌, Some, None}
+use Rattle.std.specs.Prelude.{◌≡◌, ◌≤◌, ◌≢◌, ℕ, ◌⊎◌, List, [], ◌∷◌, ◌++◌, Option, Some, None, option_map, unwrap_or}
 use Rattle.txn_words.specs.declared.step.Step.{Step}
+use Rattle.txn_words.specs.declared.step.Step.TheVariants.{InitLink}
 use Rattle.txn_words.specs.declared.answer.Answer.{Answer}
 use Rattle.txn_words.specs.declared.answer.Answer.TheVariants as answers
+use Rattle.txn_words.specs.declared.refusal.Refusal.TheVariants.{NoMemory, StampsUsedUp}
+use Rattle.txn_words.specs.Entries.{entries_of}
 use Rattle.txn_words.specs.Sizes.{Sizes}
-use Rattle.boost_core.specs.Refusals.{refusal_of, MayLack}
-use Rattle.boost_core.specs.Answers.{IsAnswer, keeps_list, after}
-use Rattle.boost_core.specs.Nodes.{Lists, Cursors}
+use Rattle.boost_core.specs.State.{Gap, Owner, Helper, gap_for}
+use Rattle.boost_core.specs.Refusals.{refusal_of, MayLack, owner_of}
+use Rattle.boost_core.specs.Nodes.{LeavesNodes, AreNeighbours, HasFit}
+use Rattle.boost_core.specs.Events.{MayHappen, TouchesBy, FitsBy, done_by, placed_in, stamp_with, event_of, if_event}
 
--- Whether a step may have this answer. If a test of the step fits, the only answer is the refusal
--- of the first such test. If no test fits, the step may be refused memory or a stamp (`MayLack`),
+-- The answers that each step may have if nothing refuses it.
+abbrev pub IsAnswer : State → Step → Answer → Type 0
+IsAnswer state step answer = if_event ⊥ (MayHappen state) step answer
+
+-- The owner of the cursor that was placed last, after a step and its answer. A refusal leaves the
+-- owner unchanged.
+abbrev pub placed_then : Option Owner → Step → Answer → Option Owner
+placed_then before step (answers.Refused refusal) = before
+placed_then before step answer = placed_in (event_of step answer)
+
+-- The state after a step and its answer, except for the nodes and the gaps. `changes` and `stamp`
+-- are the change number and the last stamp after the step. A refusal leaves the state unchanged.
+abbrev pub after : State → Step → Answer → ℕ → ℕ → State
+after state step (answers.Refused refusal) changes stamp = state
+after state step answer changes stamp =
+    let done = unwrap_or (option_map (done_by state changes) (event_of step answer)) state in
+    record state {
+      history = state.history ++ entries_of step answer;
+      size = done.size;
+      stored = done.stored;
+      linked = done.linked;
+      changes = changes;
+      stamp = stamp;
+      cursors = done.cursors;
+      helpers = done.helpers;
+      placed = placed_in (event_of step answer);
+    }
+
+-- The effect of a step and its answer on the nodes, on the change number and on the last stamp.
+-- Without an event nothing changes.
+abbrev pub Touches : State → Step → Answer → State → Type 0
+Touches old step answer new = if_event (LeavesNodes old new) (λ e. TouchesBy old e new) step answer
+
+abbrev pub stamp_after : ℕ → Step → Answer → ℕ
+stamp_after stamp step answer =
+    unwrap_or (option_map (stamp_with stamp) (event_of step answer)) stamp
+
+-- The cursors that fit, before and after a step with its answer. A link is refused memory or a
+-- stamp only if the helper's cursor fits.
+abbrev pub Fits : State → Step → Answer → State → Type 0
+Fits old (InitLink h) (answers.Refused NoMemory) new = HasFit old (Helper h)
+Fits old (InitLink h) (answers.Refused StampsUsedUp) new = HasFit old (Helper h)
+Fits old step answer new = if_event (Unit {0}) (λ e. FitsBy old e new) step answer
+
+-- The effect of a step and its answer on the list.
+pub record Lists (old : State) (step : Step) (answer : Answer) (new : State) : Type 0 where
+  pub nodes : Touches old step answer new
+  pub rises : old.changes ≤ new.changes
+  pub stamp : new.stamp ≡ stamp_after old.stamp step answer
+
+-- The owner whose cursor a step and its answer may move: the step's caller or helper. There is none
+-- if the step is refused, or is `Sweep` or `Double`.
+abbrev pub mover_of : Step → Answer → Option Owner
+mover_of step (answers.Refused refusal) = None
+mover_of step answer = owner_of step
+
+-- The cursor of an owner other than the mover still fits, if it fitted and its two nodes are still
+-- unmarked neighbours: changes elsewhere do not affect it.
+abbrev pub KeepsGaps : State → Step → Answer → State → Type 0
+KeepsGaps old step answer new = (owner : Owner) (gap : Gap) → mover_of step answer ≢ Some owner
+    → gap_for old owner ≡ Some gap → AreNeighbours new.nodes gap → gap_for new owner ≡ Some gap
+
+-- The effect of a step on the cursors of callers and of helpers.
+pub record Cursors (old : State) (step : Step) (answer : Answer) (new : State) : Type 0 where
+  pub fits : Fits old step answer new
+  pub keeps : KeepsGaps old step answer new
+
+-- Whether a step may have this answer. If a test of the step holds, the only answer is the refusal
+-- of the first such test. If no test holds, the step may be refused memory or a stamp (`MayLack`),
 -- or have one of its answers (`IsAnswer`).
 abbrev pub IsAllowed : State → Step → Answer → Type 0
 IsAllowed state step (answers.Refused refusal) =
@@ -18,9 +91,8 @@ IsAllowed state step (answers.Refused refusal) =
     ⊎ ((refusal_of state step ≡ None) × MayLack state step refusal)
 IsAllowed state step answer = (refusal_of state step ≡ None) × IsAnswer state step answer
 
--- A step, its answer and the state after it; `Nodes` describes the nodes and cursors of that state.
--- The change number never falls, and is unchanged if the answer is one that keeps the list
--- (`keeps_list`). The last stamp rises by at most one.
+-- A step, its answer and the state after it, except for that state's nodes, change number, last
+-- stamp and gaps.
 pub record Move (old : State) (step : Step) (answer : Answer) (new : State) : Type 0 where
   pub allowed : IsAllowed old step answer
   pub state : new
@@ -29,14 +101,10 @@ pub record Move (old : State) (step : Step) (answer : Answer) (new : State) : Ty
         gaps = new.gaps;
         helper_gaps = new.helper_gaps;
       }
-  pub changes : old.changes ≤ new.changes
-  pub list_kept : keeps_list answer ≡ true → new.changes ≡ old.changes
-  pub stamp : old.stamp ≤ new.stamp
-  pub one_stamp : new.stamp ≤ old.stamp + 1
 
--- One step is taken: it makes a move, and the linked nodes, the last stamp and all cursors change
--- as `Nodes` says.
-pub record Event (old : State) (step : Step) (answer : Answer) (new : State) : Type 0 where
+-- A step happens with its answer, and this is all that it does: it makes a move, and `Lists` and
+-- `Cursors` say what becomes of the linked nodes, the change number, the last stamp and all cursors.
+pub record Happens (old : State) (step : Step) (answer : Answer) (new : State) : Type 0 where
   pub move : Move old step answer new
   pub lists : Lists old step answer new
   pub cursors : Cursors old step answer new
@@ -45,7 +113,7 @@ pub record Event (old : State) (step : Step) (answer : Answer) (new : State) : T
 abbrev pub Moves : State → List Step → List Answer → State → Type 0
 Moves old [] [] new = new ≡ old
 Moves old (step ∷ steps) (answer ∷ answers) new =
-    (between : State) × Event old step answer between × Moves between steps answers new
+    (between : State) × Happens old step answer between × Moves between steps answers new
 Moves old steps answers new = ⊥
 
 -- A run: these answers to these steps, from the start.

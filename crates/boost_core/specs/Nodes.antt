@@ -1,6 +1,6 @@
--- The effect of each step on the linked nodes, the change number and the last stamp. These
--- definitions also say which cursors of callers and helpers fit, before and after the step.
-use Rattle.std.specs.Prelude.{◌≡◌, ◌≢◌, ℕ, ◌+◌, ◌-◌, ◌%◌, ◌<◌, Bool, true, false, not, List, [], ◌∷◌, ◌++◌, Option, Some, None, is_some, length, filter, nat_eq, if◌then◌else◌}
+-- What steps do to the linked nodes and to the change number, and where the cursors of callers and
+-- helpers stand. `Events` says which event does what.
+use Rattle.std.specs.Prelude.{◌≡◌, ℕ, ◌-◌, ◌%◌, ◌<◌, Bool, true, false, not, List, [], ◌∷◌, ◌++◌, Option, Some, None, is_some, length, filter, nat_eq}
 use Rattle.std.specs.Option.{option_eq}
 use Rattle.std.specs.List.{AllByRecursion}
 use Rattle.split_key.specs.Split.{ancestor_of}
@@ -8,20 +8,12 @@ use Rattle.split_key.specs.Sort.{IsBefore, IsNotBefore, regular_at, dummy_at}
 use Rattle.node_list.specs.Nodes.{one_more, changes_after}
 use Rattle.txn_words.specs.declared.op.Op.{Op}
 use Rattle.txn_words.specs.declared.op.Op.TheVariants.{Put, Take, Get, PutIf}
-use Rattle.txn_words.specs.declared.step.Step.{Step}
-use Rattle.txn_words.specs.declared.step.Step.TheVariants.{Ask, Seek, Act, Sweep, InitSeek, InitLink}
-use Rattle.txn_words.specs.declared.answer.Answer.{Answer}
-use Rattle.txn_words.specs.declared.answer.Answer.TheVariants as answers
 use Rattle.txn_words.specs.declared.seat.Phase.{Phase}
 use Rattle.txn_words.specs.declared.seat.Phase.TheVariants.{Waiting}
 use Rattle.txn_words.specs.Map.{get, key_of}
 use Rattle.txn_trace.specs.Now.{now}
 use Rattle.txn_trace.specs.Log.{log_of}
-use Rattle.map_ops.specs.Jobs.{takes_node}
-use Rattle.map_ops.specs.Buckets.{parent_of}
-use Rattle.txn_words.specs.declared.refusal.Refusal.TheVariants.{NoMemory, StampsUsedUp}
-use Rattle.boost_core.specs.State.{State, Node, Gap, SortKey, Owner, Caller, Helper, plain_node, marked_node, seat_in, gap_for, help_in, is_set, bucket_at}
-use Rattle.boost_core.specs.Refusals.{owner_of}
+use Rattle.boost_core.specs.State.{State, Node, Gap, SortKey, Owner, plain_node, marked_node, seat_in, gap_for, is_set}
 
 -- Each node is before all that follow it.
 unfoldable pub IsInOrder : List Node → Type 0
@@ -33,7 +25,7 @@ abbrev pub IsClean : List Node → Type 0
 IsClean nodes = AllByRecursion (λ n. n.marked ≡ false) nodes
 
 -- The nodes and the change number are unchanged.
-pub record Keeps (old new : State) : Type 0 where
+pub record LeavesNodes (old new : State) : Type 0 where
   pub nodes : new.nodes ≡ old.nodes
   pub changes : new.changes ≡ old.changes
 
@@ -104,13 +96,13 @@ abbrev pub newest_key : List (ℕ × Option ℕ) → ℕ
 newest_key [] = 0
 newest_key (change ∷ older) = change.0
 
--- The key that a caller acts on next: that of the operation that waits, or of the newest change.
-abbrev pub key_in : Phase → List (ℕ × Option ℕ) → ℕ
-key_in (Waiting op) log = key_of op
-key_in phase log = newest_key log
+-- The key that a caller acts on next: the key of the waiting operation, or of the newest change.
+abbrev pub next_key_in : Phase → List (ℕ × Option ℕ) → ℕ
+next_key_in (Waiting op) log = key_of op
+next_key_in phase log = newest_key log
 
 abbrev pub next_key : State → ℕ → ℕ
-next_key state c = key_in (seat_in state.history c).phase (log_of c state.history)
+next_key state c = next_key_in (seat_in state.history c).phase (log_of c state.history)
 
 -- A key is sought from the dummy of its bucket, or of the nearest ancestor that is stored.
 pub record SeeksKey (old new : State) (key : ℕ) : Type 0 where
@@ -120,9 +112,9 @@ pub record SeeksKey (old new : State) (key : ℕ) : Type 0 where
 
 -- The effect of a change at a key, by the value before it and the value after it. From none to a
 -- value, a node is linked. From a value to none, the key's node is marked. From a value to a value,
--- the value is written there. From none to none, nothing is done. No other node is touched.
+-- the new value is written. From none to none, nothing is done. No other node is touched.
 abbrev pub Changes : State → State → ℕ → Option ℕ → Option ℕ → Type 0
-Changes old new key None None = Keeps old new
+Changes old new key None None = LeavesNodes old new
 Changes old new key None (Some value) = Links old new (regular_at key)
 Changes old new key (Some was) None = Marks old new (regular_at key)
 Changes old new key (Some was) (Some value) = Writes old new
@@ -130,13 +122,13 @@ Changes old new key (Some was) (Some value) = Writes old new
 -- The effect of a put if the Boolean is true. If it is false, nothing changes.
 abbrev pub PutsIf : State → State → ℕ → ℕ → Option ℕ → Bool → Type 0
 PutsIf old new key value before true = Changes old new key before (Some value)
-PutsIf old new key value before false = Keeps old new
+PutsIf old new key value before false = LeavesNodes old new
 
 -- The effect of an operation. A get has none.
 abbrev pub OpDoes : State → State → Op → Type 0
 OpDoes old new (Put key value) = Changes old new key (get (now old.history) key) (Some value)
 OpDoes old new (Take key) = Changes old new key (get (now old.history) key) None
-OpDoes old new (Get key) = Keeps old new
+OpDoes old new (Get key) = LeavesNodes old new
 OpDoes old new (PutIf key expected value) =
     PutsIf old new key value (get (now old.history) key)
     (option_eq nat_eq (get (now old.history) key) expected)
@@ -152,31 +144,8 @@ BackDoes old new [] = ⊥
 BackDoes old new (change ∷ older) =
     Changes old new change.0 (get (now old.history) change.0) change.1
 
--- The effect of a step and its answer on the nodes and on the change number.
-abbrev pub Touches : State → Step → Answer → State → Type 0
-Touches old (Seek c) answers.Placed new = SeeksKey old new (next_key old c)
-Touches old (Act c) (answers.Done reply) new = OpDoesIn old new (seat_in old.history c).phase
-Touches old (Act c) answers.Undone new = BackDoes old new (log_of c old.history)
-Touches old Sweep answers.Swept new = Sweeps old new
-Touches old Sweep answers.Clean new = IsClean old.nodes × Keeps old new
-Touches old (InitSeek h b) answers.Placed new = SeeksFrom old new (parent_of b) (dummy_at b)
-Touches old (InitLink h) answers.Linked new =
-    Links old new (dummy_at (bucket_at (help_in old.helpers h)))
-Touches old step answer new = Keeps old new
-
--- The last stamp after a step and its answer. It rises by one if the step takes a node.
-abbrev pub stamp_after : ℕ → Step → Answer → ℕ
-stamp_after stamp (Ask c op) answers.Asked = if takes_node op then stamp + 1 else stamp
-stamp_after stamp (Ask c op) (answers.Busy holder) = if takes_node op then stamp + 1 else stamp
-stamp_after stamp (InitLink h) answers.Linked = stamp + 1
-stamp_after stamp step answer = stamp
-
--- The effect of a step and its answer on the list.
-pub record Lists (old : State) (step : Step) (answer : Answer) (new : State) : Type 0 where
-  pub nodes : Touches old step answer new
-  pub stamp : new.stamp ≡ stamp_after old.stamp step answer
-
--- The first of these nodes is unmarked and has this sort key, or there is none.
+-- The first of these nodes is unmarked and has this sort key; or there is neither a node nor a sort
+-- key.
 abbrev pub StartsAt : List Node → Option SortKey → Type 0
 StartsAt [] None = Unit {0}
 StartsAt [] (Some at) = ⊥
@@ -199,42 +168,10 @@ pub record IsBetween (gap : Gap) (at : SortKey) : Type 0 where
 abbrev pub HasFit : State → Owner → Type 0
 HasFit state owner = is_some (gap_for state owner) ≡ true
 
--- The owner's cursor is between the two nodes beside the position of this sort key.
+-- The owner's cursor fits, its two nodes are unmarked neighbours, and the position of this sort key
+-- is between them.
 pub record StandsAt (state : State) (owner : Owner) (at : SortKey) : Type 0 where
   pub gap : Gap
   pub has : gap_for state owner ≡ Some gap
   pub neighbours : AreNeighbours state.nodes gap
   pub between : IsBetween gap at
-
--- A seek gives a cursor that fits, and the answer to an act of a caller or a link of a helper is
--- `again` exactly if its cursor no longer fits. A link is refused memory or a stamp only if the
--- helper's cursor fits.
-abbrev pub Fits : State → Step → Answer → State → Type 0
-Fits old (Seek c) answers.Placed new = StandsAt new (Caller c) (regular_at (next_key old c))
-Fits old (Act c) answers.Again new = gap_for old (Caller c) ≡ None
-Fits old (Act c) (answers.Done reply) new = HasFit old (Caller c)
-Fits old (Act c) answers.Undone new = HasFit old (Caller c)
-Fits old (InitSeek h b) answers.Placed new = StandsAt new (Helper h) (dummy_at b)
-Fits old (InitLink h) answers.Again new = gap_for old (Helper h) ≡ None
-Fits old (InitLink h) answers.Present new = HasFit old (Helper h)
-Fits old (InitLink h) answers.Linked new = HasFit old (Helper h)
-Fits old (InitLink h) (answers.Refused NoMemory) new = HasFit old (Helper h)
-Fits old (InitLink h) (answers.Refused StampsUsedUp) new = HasFit old (Helper h)
-Fits old step answer new = Unit {0}
-
--- The owner whose cursor a step and its answer may move: the step's caller or helper. There is none
--- if the step is refused, or is `Sweep` or `Double`.
-abbrev pub mover_of : Step → Answer → Option Owner
-mover_of step (answers.Refused refusal) = None
-mover_of step answer = owner_of step
-
--- The cursor of an owner other than the mover still fits, if it fitted and its two nodes are still
--- unmarked neighbours: changes elsewhere do not affect it.
-abbrev pub KeepsGaps : State → Step → Answer → State → Type 0
-KeepsGaps old step answer new = (owner : Owner) (gap : Gap) → mover_of step answer ≢ Some owner
-    → gap_for old owner ≡ Some gap → AreNeighbours new.nodes gap → gap_for new owner ≡ Some gap
-
--- The effect of a step on the cursors of callers and of helpers.
-pub record Cursors (old : State) (step : Step) (answer : Answer) (new : State) : Type 0 where
-  pub fits : Fits old step answer new
-  pub keeps : KeepsGaps old step answer new

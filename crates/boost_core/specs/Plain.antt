@@ -1,4 +1,4 @@
--- The plain calls: steps of one caller in a row; none has the answer `again`.
+-- The plain calls. Each takes steps of one caller in a row, and no step has the answer `Again`.
 use Rattle.std.specs.Prelude.{◌≡◌, ℕ, ◌%◌, zero, suc, Bool, true, false, nat_le, List, [], ◌∷◌, Option, Some, Result, Ok, Err}
 use Rattle.txn_words.specs.declared.op.Op.{Op}
 use Rattle.txn_words.specs.declared.step.Step.{Step}
@@ -14,7 +14,7 @@ use Rattle.txn_drive.specs.declared.«end».End.TheVariants as ends
 use Rattle.txn_drive.specs.Drives.{new_drive, sized_of, step_of, told_of, end_of}
 use Rattle.boost_core.specs.State.{State, seat_in, is_set}
 use Rattle.boost_core.specs.Answers.{is_at_end}
-use Rattle.boost_core.specs.Machine.{Event, Moves}
+use Rattle.boost_core.specs.Machine.{Happens, Moves}
 
 -- An operation is asked for, sought and done; or the ask has another answer and is the only step.
 abbrev pub Operates : State → ℕ → Op → Answer → State → Type 0
@@ -22,20 +22,21 @@ Operates old c op answers.Asked new = ⊥
 Operates old c op (answers.Done reply) new =
     Moves old (Ask c op ∷ Seek c ∷ Act c ∷ [])
     (answers.Asked ∷ answers.Placed ∷ answers.Done reply ∷ []) new
-Operates old c op answer new = Event old (Ask c op) answer new
+Operates old c op answer new = Happens old (Ask c op) answer new
 
--- The steps that seek this number of changes and take them back, and then these steps.
+-- The given steps, preceded by the steps that take this number of changes back: a seek and an act
+-- for each change.
 abbrev pub undoing : ℕ → ℕ → List Step → List Step
 undoing zero c steps = steps
 undoing (suc changes) c steps = undoing changes c (Seek c ∷ Act c ∷ steps)
 
--- The answers to the steps that seek this number of changes and take them back, and then these
--- answers.
+-- The given answers, preceded by the answers to the steps that take this number of changes back:
+-- `Placed` and `Undone` for each change.
 abbrev pub undone : ℕ → List Answer → List Answer
 undone zero others = others
 undone (suc changes) others = undone changes (answers.Placed ∷ answers.Undone ∷ others)
 
--- Some number of changes is taken back, and then the caller has arrived at its level or at the end.
+-- Some number of changes are taken back, and then the caller arrives at its level or at the end.
 abbrev pub Ends : State → ℕ → Answer → State → Type 0
 Ends old c answer new =
     (changes : ℕ) × Moves old (undoing changes c (Act c ∷ [])) (undone changes (answer ∷ [])) new
@@ -45,15 +46,15 @@ Ends old c answer new =
 abbrev pub Returns : State → ℕ → ℕ → Answer → State → Type 0
 Returns old c n answers.Leaving new = ⊥
 Returns old c n (answers.Returned m) new =
-    (m ≡ n) × (left : State) × Event old (Back c n) answers.Leaving left
+    (m ≡ n) × (left : State) × Happens old (Back c n) answers.Leaving left
     × Ends left c (answers.Returned m) new
-Returns old c n answer new = Event old (Back c n) answer new
+Returns old c n answer new = Happens old (Back c n) answer new
 
 -- The step by which a caller leaves to the end. If the Boolean is true, the caller is leaving to
 -- the end already, and no step is taken.
 abbrev pub Leaves : Bool → State → ℕ → State → Type 0
 Leaves true old c left = left ≡ old
-Leaves false old c left = Event old (Abort c) answers.Leaving left
+Leaves false old c left = Happens old (Abort c) answers.Leaving left
 
 -- A caller aborts: it leaves to the end, and the undoing ends; or the first step has another answer
 -- and is the only one.
@@ -63,7 +64,7 @@ Aborts old c answers.Aborted new =
     (left : State) × Leaves (is_at_end (seat_in old.history c).phase) old c left
     × Ends left c answers.Aborted new
 Aborts old c answer new =
-    (is_at_end (seat_in old.history c).phase ≡ false) × Event old (Abort c) answer new
+    (is_at_end (seat_in old.history c).phase ≡ false) × Happens old (Abort c) answer new
 
 -- This number of moves of a drive in a row: each is the step that the drive names at the table's
 -- size, and the drive is told the answer.
@@ -71,7 +72,7 @@ abbrev pub Drives : ℕ → Drive → State → Drive → State → Type 0
 Drives zero drive old last new = (last ≡ drive) × (new ≡ old)
 Drives (suc moves) drive old last new =
     (step : Step) × (answer : Answer) × (between : State)
-    × (step_of (sized_of old.size drive) ≡ Some step) × Event old step answer between
+    × (step_of (sized_of old.size drive) ≡ Some step) × Happens old step answer between
     × Drives moves (told_of (sized_of old.size drive) answer) between last new
 
 -- A caller's call for help, from its first move to this end.
@@ -82,8 +83,8 @@ pub record HelpsTo (outcome : End) (old : State) (c key : ℕ) (new : State) : T
   pub ended : end_of last ≡ Some outcome
 
 -- A caller helps, and the bucket of the key is initialised. Or the call is refused: at its
--- beginning for its key, or later for lack of memory or of stamps; or there is no such caller, and
--- no step is taken.
+-- beginning for its key, or later for lack of memory or of stamps. If there is no such caller, no
+-- step is taken.
 abbrev pub Helps : State → ℕ → ℕ → Result Unit Refusal → State → Type 0
 Helps old c key (Ok done) new =
     HelpsTo ends.Helped old c key new × (is_set new.stored (key % new.size) ≡ true)

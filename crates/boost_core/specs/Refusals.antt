@@ -10,7 +10,7 @@ use Rattle.txn_words.specs.declared.refusal.Refusal.{Refusal}
 use Rattle.txn_words.specs.declared.refusal.Refusal.TheVariants.{NoSuchCaller, Unplaced, NoSuchBucket, ParentMissing, NoSuchHelper, HelperOutOfOrder, NoMemory, StampsUsedUp}
 use Rattle.txn_words.specs.Shape.{Seat}
 use Rattle.map_ops.specs.Buckets.{parent_of, LacksSegment}
-use Rattle.boost_core.specs.State.{State, Owner, Caller, Helper, Help, Sought, Dummy, seat_in, caller_changes, help_in, is_set, bucket_at}
+use Rattle.boost_core.specs.State.{State, Owner, Caller, Helper, Help, Sought, Dummy, seat_in, caller_changes, help_in, is_set, bucket_of}
 
 -- The owner of a step, if it is a caller's or a helper's.
 abbrev pub owner_of : Step → Option Owner
@@ -46,9 +46,9 @@ has_cursor (Sought bucket noted) = true
 has_cursor help = false
 
 -- Whether a helper has a dummy.
-abbrev pub has_dummy : Help → Bool
-has_dummy (Dummy bucket) = true
-has_dummy help = false
+abbrev pub holds_dummy : Help → Bool
+holds_dummy (Dummy bucket) = true
+holds_dummy help = false
 
 -- The tests of a step that the helper and the buckets decide, each with its refusal, in their
 -- order. A bucket that is stored already needs no parent.
@@ -57,11 +57,11 @@ tests_at state help (InitSeek h b) =
     (nat_le state.size b, NoSuchBucket)
     ∷ (not (is_set state.stored b) && not (is_set state.stored (parent_of b)), ParentMissing) ∷ []
 tests_at state help (InitLink h) = (not (has_cursor help), HelperOutOfOrder) ∷ []
-tests_at state help (InitStore h) = (not (has_dummy help), HelperOutOfOrder) ∷ []
+tests_at state help (InitStore h) = (not (holds_dummy help), HelperOutOfOrder) ∷ []
 tests_at state help step = []
 
--- All tests of a step: the number of its caller or helper, then those of the seat and the cursor,
--- or of the helper and the buckets.
+-- All tests of a step. The first tests the number of its caller or helper. The others test the
+-- caller's seat and cursor, or the helper and the buckets.
 abbrev pub tests_of : State → Option Owner → Step → List (Bool × Refusal)
 tests_of state None step = []
 tests_of state (Some (Caller c)) step =
@@ -71,7 +71,7 @@ tests_of state (Some (Caller c)) step =
 tests_of state (Some (Helper h)) step =
     (nat_le state.limits.callers h, NoSuchHelper) ∷ tests_at state (help_in state.helpers h) step
 
--- The refusal of a step: that of its first test that fits.
+-- The refusal of a step: the refusal of the first test that holds.
 abbrev pub refusal_of : State → Step → Option Refusal
 refusal_of state step = first_of (tests_of state (owner_of step) step)
 
@@ -85,7 +85,7 @@ has_stamp_for state op = not (takes_node op) || has_stamp state
 
 -- Whether the dummy of the bucket that a helper sought is still to be linked.
 abbrev pub lacks_dummy : State → ℕ → Bool
-lacks_dummy state h = not (is_set state.linked (bucket_at (help_in state.helpers h)))
+lacks_dummy state h = not (is_set state.linked (bucket_of state h))
 
 -- Memory may be refused to a step that reserves some, and stamps may be used up. These tests follow
 -- all others.
@@ -98,5 +98,5 @@ MayLack state (Back c n) NoMemory = Unit {0}
 MayLack state (InitLink h) NoMemory = IsTrue (lacks_dummy state h && has_stamp state)
 MayLack state (InitLink h) StampsUsedUp = IsTrue (lacks_dummy state h && not (has_stamp state))
 MayLack state (InitStore h) NoMemory =
-    LacksSegment state.stored (bucket_at (help_in state.helpers h))
+    LacksSegment state.stored (bucket_of state h)
 MayLack state step refusal = ⊥

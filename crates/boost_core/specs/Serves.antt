@@ -14,7 +14,7 @@ use Rattle.map_ops.specs.InitLink.{InitLink as Linked}
 use Rattle.map_ops.specs.InitLink.TheVariants as links
 use Rattle.txn_words.specs.declared.refusal.Refusal.{Refusal}
 use Rattle.txn_words.specs.declared.refusal.Refusal.TheVariants as refusals
-use Rattle.map_ops.specs.TableAt.{TableAt, SweepOutcome, Keeps, KeepsList, KeepsSpares, IsClean, content, regular, table_changes, size_of, largest_of, stored_of, linked_of, helps_of}
+use Rattle.map_ops.specs.TableAt.{TableAt, SweepOutcome, KeepsTable, KeepsList, KeepsSpares, IsClean, content, regular, table_changes, size_of, largest_of, stored_of, linked_of, helps_of}
 use Rattle.map_ops.specs.TableAt as tables
 use Rattle.map_ops.specs.SweepOutcome.TheVariants as outcomes
 use Rattle.map_ops.specs.Changes.{Sweeps}
@@ -34,10 +34,10 @@ abbrev pub swept : SweepOutcome → Answer
 swept outcomes.Swept = answers.Swept
 swept outcomes.Clean = answers.Clean
 
-abbrev pub sought : Result Sought Refusal → Answer
-sought (Ok seeks.Ready) = answers.Ready
-sought (Ok seeks.Placed) = answers.Placed
-sought (Err refusal) = answers.Refused refusal
+abbrev pub answer_to_seek : Result Sought Refusal → Answer
+answer_to_seek (Ok seeks.Ready) = answers.Ready
+answer_to_seek (Ok seeks.Placed) = answers.Placed
+answer_to_seek (Err refusal) = answers.Refused refusal
 
 abbrev pub linked : Result Linked Refusal → Answer
 linked (Ok links.Again) = answers.Again
@@ -62,14 +62,14 @@ pub record Sweeping (t t' : TableAt) (answer : Answer) : Type 0 where
   pub answer_is : answer ≡ swept outcome
   pub clean : (outcome ≡ outcomes.Clean) ↔ IsClean t
   pub sweeps : Sweeps t t' outcome
-  pub keeps : Keeps t t'
+  pub keeps : KeepsTable t t'
   pub spares : KeepsSpares t t'
   pub stays : outcome ≡ outcomes.Clean → table_changes t' ≡ table_changes t
 
 -- A helper seeks the position of a bucket's dummy.
 pub record Seeking (t t' : TableAt) (h b : ℕ) (answer : Answer) : Type 0 where
   pub outcome : Result Sought Refusal
-  pub answer_is : answer ≡ sought outcome
+  pub answer_is : answer ≡ answer_to_seek outcome
   pub says : outcome ≡ seek_answer (size_of t) (stored_of t) (slice_get (helps_of t) h) b
   pub changes : SeekChanges t t' h b outcome
   pub regular : regular t' ≡ regular t
@@ -98,7 +98,7 @@ pub record Storing (t t' : TableAt) (h : ℕ) (answer : Answer) : Type 0 where
   pub changes : StoreChanges t t' h outcome
   pub list : KeepsList t t'
 
--- The size is doubled, or not.
+-- The size is doubled, or the outcome says why it is not.
 pub record Doubling (t t' : TableAt) (seen : ℕ) (answer : Answer) : Type 0 where
   pub outcome : Doubled
   pub answer_is : answer ≡ doubled outcome

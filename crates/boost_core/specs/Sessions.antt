@@ -13,7 +13,7 @@ use Rattle.txn_words.specs.declared.seat.Phase.{Phase}
 use Rattle.txn_words.specs.declared.seat.Phase.TheVariants.{Waiting, LeavingTo, LeavingToEnd}
 use Rattle.txn_words.specs.Shape.{Seat, closed_seat}
 use Rattle.txn_words.specs.Seats.{is_leaving, has_job, has_target, refusal_in}
-use Rattle.undo_log.specs.UndoLog.{Log, kept_at, newest_above}
+use Rattle.undo_log.specs.UndoLog.{LogAt, kept_at, newest_above}
 use Rattle.key_locks.specs.Locks.{Grants, Refuses, Releases}
 use Rattle.node_list.specs.Sound.{IsSound}
 use Rattle.map_ops.specs.declared.job.MapJob.{MapJob}
@@ -48,7 +48,7 @@ side_of s = record {
   kept = s.log.kept;
 }
 
--- The level to which a phase takes changes back, or 0.
+-- The level to which a phase takes changes back; 0 in every phase but `LeavingTo`.
 abbrev pub level_of : Phase → ℕ
 level_of (LeavingTo level) = level
 level_of phase = 0
@@ -62,7 +62,7 @@ abbrev pub IsIdle : Session → Type 0
 IsIdle s =
     side_of s ≡ record { seat = closed_seat; pending = None; cursor = None; jobs = []; kept = [] }
 
--- An operation waits exactly in the phase that says so; it has room for its job, and a spare if it
+-- An operation waits exactly if the phase says so. It then has room for its job, and a spare if it
 -- takes a node.
 abbrev pub Waits : Phase → Option PendingAt → ℕ → Type 0
 Waits (Waiting op) (Some pending) room =
@@ -85,7 +85,7 @@ key_of_newest None = None
 key_of_newest (Some job) = Some (key_of_job job)
 
 -- The key that a caller acts on next, if it acts on one.
-abbrev pub target_in : Phase → Log MapJob → Option ℕ
+abbrev pub target_in : Phase → LogAt MapJob → Option ℕ
 target_in (Waiting op) log = Some (key_of op)
 target_in (LeavingTo level) log = key_of_newest (newest_above log level)
 target_in LeavingToEnd log = key_of_newest (newest_above log 0)
@@ -140,7 +140,7 @@ abbrev pub CanWithdraw : Session → TableAt → Type 0
 CanWithdraw s t = OwnsIf t (spare_if s.pending)
 
 -- A caller's side fits the table: its cursor was placed there, its changes may be taken back there,
--- its spares are out.
+-- and its spares are out.
 pub record GoesWith (s : Session) (t : TableAt) : Type 0 where
   pub agrees : Agrees (side_of s) s.log.room
   pub sought : IsSought t s
@@ -148,7 +148,7 @@ pub record GoesWith (s : Session) (t : TableAt) : Type 0 where
   pub withdraws : CanWithdraw s t
   pub settles : CanSettle s t
 
--- Cursors stay placed, and the invariants of lists still hold.
+-- Cursors stay placed, and the list stays sound.
 pub record KeepsPlaced (t t' : TableAt) : Type 0 where
   pub placed : (cursor : Cursor) (key : ℕ) → IsPlaced t cursor key → IsPlaced t' cursor key
   pub sound : IsSound t.list → IsSound t'.list
@@ -184,8 +184,8 @@ pub record MeetsIn (c stripe : ℕ) (op : Op) (holder : ℕ) (s : Session) (t : 
   pub refuses : Refuses c stripe holder locks locks'
   pub becomes : side_of s' ≡ side_of s
 
--- The caller has a cursor for its key, which was sought on the table; its side is unchanged
--- otherwise.
+-- The caller has sought the key that it acts on next, and now has a cursor for this key. Its side
+-- is unchanged otherwise.
 pub record SeeksIn (s : Session) (t : TableAt) (s' : Session) (t' : TableAt) : Type 0 where
   pub key : ℕ
   pub cursor : Cursor
@@ -319,7 +319,7 @@ abbrev pub unless_busy : Answer → Answer
 unless_busy (answers.Busy x) = answers.Refused StaleWord
 unless_busy answer = answer
 
--- The answer to asking by a claim, and its effect. To ask by a word has no effect.
+-- The answer to asking by a claim, and its effect. Asking by a word has no effect.
 abbrev pub AsksBy : Claim → ℕ → ℕ → Op → Session → TableAt → List (Option ℕ) → Answer → Session
     → TableAt → List (Option ℕ) → Type 0
 AsksBy Lock c stripe op s t locks answer s' t' locks' =
@@ -364,7 +364,7 @@ ActsIn c s t locks answers.Aborted s' t' locks' =
 ActsIn c s t locks answer s' t' locks' = ⊥
 
 -- The requirements of a step on its caller's side, if no test refuses it.
-pub record Takes (stripes : ℕ) (counts : Counts) (step : Step) (s : Session) (t : TableAt)
+pub record MayTakeStep (stripes : ℕ) (counts : Counts) (step : Step) (s : Session) (t : TableAt)
     (locks : List (Option ℕ)) : Type 0 where
   pub goes : GoesWith s t
   pub free : (half : Bool) × (refusal_in half s.seat.seat step ≡ None)
@@ -379,22 +379,23 @@ pub record Takes (stripes : ℕ) (counts : Counts) (step : Step) (s : Session) (
 -- The effect of each step on its caller's side, the table and the locks. It depends on the answer
 -- and, if the step is an ask, on the claim. Of the seat only the room may change: the entry of step
 -- and answer is added to the seat afterwards.
-abbrev pub Does : Claim → ℕ → Counts → Step → Session → TableAt → List (Option ℕ) → Answer → Session
+abbrev pub HasEffect : Claim → ℕ → Counts → Step → Session → TableAt → List (Option ℕ) → Answer
+    → Session
     → TableAt → List (Option ℕ) → Type 0
-Does claim stripes counts (Begin c) s t locks (answers.Began n) s' t' locks' =
+HasEffect claim stripes counts (Begin c) s t locks (answers.Began n) s' t' locks' =
     (n ≡ counts.began + 1) × StaysIn s s' × (t' ≡ t) × (locks' ≡ locks)
-Does claim stripes counts (Ask c op) s t locks answer s' t' locks' =
+HasEffect claim stripes counts (Ask c op) s t locks answer s' t' locks' =
     AsksBy claim c (stripe_of stripes (key_of op)) op s t locks answer s' t' locks'
-Does claim stripes counts (Seek c) s t locks answers.Placed s' t' locks' =
+HasEffect claim stripes counts (Seek c) s t locks answers.Placed s' t' locks' =
     SeeksIn s t s' t' × (locks' ≡ locks)
-Does claim stripes counts (Act c) s t locks answer s' t' locks' =
+HasEffect claim stripes counts (Act c) s t locks answer s' t' locks' =
     ActsIn c s t locks answer s' t' locks'
-Does claim stripes counts (Save c) s t locks answer s' t' locks' =
+HasEffect claim stripes counts (Save c) s t locks answer s' t' locks' =
     Saves s answer s' × (t' ≡ t) × (locks' ≡ locks)
-Does claim stripes counts (Back c n) s t locks answers.Leaving s' t' locks' =
+HasEffect claim stripes counts (Back c n) s t locks answers.Leaving s' t' locks' =
     (s' ≡ record s { cursor = None }) × (t' ≡ t) × (locks' ≡ locks)
-Does claim stripes counts (Commit c) s t locks (answers.Committed p) s' t' locks' =
+HasEffect claim stripes counts (Commit c) s t locks (answers.Committed p) s' t' locks' =
     (p ≡ counts.committed + 1) × SettlesIn s t s' t' × Releases c locks locks'
-Does claim stripes counts (Abort c) s t locks answers.Leaving s' t' locks' =
+HasEffect claim stripes counts (Abort c) s t locks answers.Leaving s' t' locks' =
     WithdrawsIn s t s' t' × (locks' ≡ locks)
-Does claim stripes counts step s t locks answer s' t' locks' = ⊥
+HasEffect claim stripes counts step s t locks answer s' t' locks' = ⊥

@@ -115,6 +115,10 @@ bucket_at Nothing = 0
 bucket_at (Sought bucket noted) = bucket
 bucket_at (Dummy bucket) = bucket
 
+-- The bucket for which the helper of this number has a cursor or a dummy, or 0.
+abbrev pub bucket_of : State → ℕ → ℕ
+bucket_of state h = bucket_at (help_in state.helpers h)
+
 -- The change number that a helper's cursor noted, if it has a cursor.
 abbrev pub helper_changes : Help → Option ℕ
 helper_changes Nothing = None

@@ -2,7 +2,7 @@
 -- stripe's word. A word is 0, or one more than the number of the caller that it names.
 pub use Rattle.boost_core.specs.declared.claim.Claim.{Claim}
 pub use Rattle.boost_core.specs.declared.claim.Claim.TheVariants.{Lock, Right, Held, Stale}
-use Rattle.std.specs.Prelude.{◌≡◌, ◌⊎◌, ℕ, ◌+◌, ◌≤◌, ◌==◌, ◌&&◌, Bool, true, false, not, IsTrue, None, if◌then◌else◌}
+use Rattle.std.specs.Prelude.{◌≡◌, ◌⊎◌, ℕ, ◌+◌, ◌==◌, ◌&&◌, Bool, true, false, not, IsTrue, None, if◌then◌else◌}
 use Rattle.txn_words.specs.declared.holder.Holder.TheVariants.{Now}
 use Rattle.txn_words.specs.declared.op.Op.{Op}
 use Rattle.txn_words.specs.declared.step.Step.{Step}
@@ -17,8 +17,7 @@ use Rattle.map_ops.specs.Jobs.{takes_node}
 use Rattle.boost_core.specs.State.{State}
 use Rattle.boost_core.specs.Refusals.{refusal_of, has_stamp_for}
 use Rattle.boost_core.specs.Answers.{may_stand}
-use Rattle.boost_core.specs.Machine.{Move}
-use Rattle.boost_core.specs.Nodes.{Lists, Touches, stamp_after}
+use Rattle.boost_core.specs.Machine.{Move, Lists, Touches, stamp_after}
 
 -- Whether a step asks for an operation.
 abbrev pub is_ask : Step → Bool
@@ -35,8 +34,8 @@ abbrev pub claim_of : State → ℕ → ℕ → Claim
 claim_of state c named =
     if not (named == c) && has_begun named state.history then Held named else Stale
 
--- Whether a claim is refused as stale, if nothing else refuses the step: a right if another caller
--- holds the stripe, and a word if it names no caller that may hold it.
+-- Whether a claim is refused as stale, if nothing else refuses the step. A right is stale if
+-- another caller holds the stripe. A word is stale if it names no caller that may hold the stripe.
 abbrev pub is_stale : Claim → State → Step → Bool
 is_stale Right state (Ask c op) = has_stamp_for state op && is_taken state c op
 is_stale Stale state (Ask c op) = true
@@ -50,8 +49,8 @@ reserved_by Right step = reserved step
 reserved_by claim step = 0
 
 -- Whether a claim that is not refused as stale allows an answer. With a right, every answer except
--- `Busy` is allowed. With a word, only `Busy` with the caller that the word names is allowed, and
--- the refusals except `NoMemory` and `StampsUsedUp`.
+-- `Busy` is allowed. With a word, the allowed answers are `Busy` with the caller that the word
+-- names, and all refusals except `NoMemory` and `StampsUsedUp`.
 abbrev pub may_come : Claim → Answer → Bool
 may_come Lock answer = true
 may_come Right (answers.Busy x) = false
@@ -62,8 +61,8 @@ may_come claim (answers.Refused StampsUsedUp) = false
 may_come claim (answers.Refused refusal) = true
 may_come claim answer = false
 
--- A claim is refused as stale. The last stamp may rise by one, and nothing else has changed except
--- as `Nodes` says.
+-- A claim is refused as stale. Nothing has changed, except perhaps the nodes, the last stamp and the
+-- gaps, of which this record says nothing. `ListsAsk` gives the nodes and the last stamp.
 pub record IsStale (claim : Claim) (old : State) (step : Step) (answer : Answer)
     (new : State) : Type 0 where
   pub refused : answer ≡ answers.Refused StaleWord
@@ -76,8 +75,6 @@ pub record IsStale (claim : Claim) (old : State) (step : Step) (answer : Answer)
         gaps = new.gaps;
         helper_gaps = new.helper_gaps;
       }
-  pub stamp : old.stamp ≤ new.stamp
-  pub one_stamp : new.stamp ≤ old.stamp + 1
 
 -- An operation is asked for by a claim: it is refused as stale, or `Ask` makes a move with an
 -- answer that the claim allows.
@@ -94,7 +91,8 @@ stamp_by Right stamp (Ask c op) (answers.Refused StaleWord) =
 stamp_by Right stamp step answer = stamp_after stamp step answer
 stamp_by claim stamp step answer = stamp
 
--- The effect of an ask by a claim on the list: the nodes and the change number are unchanged.
+-- What an ask does to the list, by its claim. The nodes and the change number are unchanged, and
+-- `stamp_by` gives the last stamp.
 pub record ListsAsk (claim : Claim) (old : State) (step : Step) (answer : Answer)
     (new : State) : Type 0 where
   pub nodes : Touches old step answer new
@@ -102,7 +100,7 @@ pub record ListsAsk (claim : Claim) (old : State) (step : Step) (answer : Answer
 
 -- The requirement on a claim. The claim of an ask is `Lock` exactly if stripes are not words; the
 -- claim of any other step is always `Lock`. If the claim names a holder, the rule of locks lets a
--- Busy entry name this caller too.
+-- Busy entry name this holder.
 abbrev pub IsClaim : Claim → State → Step → Type 0
 IsClaim Lock state step = state.words ≡ true → is_ask step ≡ false
 IsClaim Right state (Ask c op) = state.words ≡ true
@@ -111,8 +109,8 @@ IsClaim (Held named) state (Ask c op) =
 IsClaim Stale state (Ask c op) = state.words ≡ true
 IsClaim claim state step = ⊥
 
--- The answer and the effect of a step of a caller, by its claim: a move, unless it asks with a
--- right or a word.
+-- The answer and the effect of a caller's step, by its claim. With the claim `Lock` the step is a
+-- move. With any other claim the step is an ask, and `Asks` says what an ask does.
 abbrev pub Goes : Claim → State → Step → Answer → State → Type 0
 Goes Lock old step answer new = Move old step answer new
 Goes claim old step answer new = Asks claim old step answer new

@@ -3,7 +3,7 @@
 //! entry.
 ghost use Rattle.std.specs.Prelude.{◌≡◌, ◌≤◌, true};
 ghost use Rattle.map_ops.specs.TableAt.{table_changes, Follows};
-ghost use Rattle.boost_core.specs.Serves.{is_served, Serves, doubled, linked, sought, stored, swept};
+ghost use Rattle.boost_core.specs.Serves.{is_served, Serves, doubled, linked, answer_to_seek, stored, swept};
 
 use map_ops::{Double, InitLink, InitSeek, SweepOutcome, Table};
 use txn_trace::{Answer, Refusal, Step};
@@ -44,7 +44,7 @@ fn swept_answer(outcome: SweepOutcome) -> Answer
 
 /// The answer to a seek for a bucket.
 fn sought_answer(outcome: Result<InitSeek, Refusal>) -> Answer
-    ensures { result ≡ sought outcome }
+    ensures { result ≡ answer_to_seek outcome }
 {
     match outcome {
         Ok(InitSeek::Ready) => Answer::Ready,
@@ -53,7 +53,7 @@ fn sought_answer(outcome: Result<InitSeek, Refusal>) -> Answer
     }
 }
 
-/// The answer to the link of a dummy.
+/// The answer to linking a dummy.
 fn linked_answer(outcome: Result<InitLink, Refusal>) -> Answer
     ensures { result ≡ linked outcome }
 {
@@ -65,7 +65,7 @@ fn linked_answer(outcome: Result<InitLink, Refusal>) -> Answer
     }
 }
 
-/// The answer to the store of a dummy.
+/// The answer to storing a dummy.
 fn stored_answer(outcome: Result<(), Refusal>) -> Answer
     ensures { result ≡ stored outcome }
 {

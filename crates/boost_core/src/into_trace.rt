@@ -17,7 +17,7 @@ impl Core {
     ghost use Rattle.boost_core.specs.Whole.{IsWhole};
     ghost use Rattle.boost_core.specs.Nodes.{IsInOrder};
 
-    /// The history, as `trace` has it, without a copy; the rest of the core is dropped.
+    /// Returns the history that `trace` shows, without a copy, and drops the rest of the core.
     ///
     /// # Cost
     ///
@@ -32,7 +32,7 @@ impl Core {
         ensures whole { IsWhole self }
         ensures order { IsInOrder self.nodes }
     {
-        // The history's invariants hold.
+        // By the contract of `trace` the history's invariants hold.
         let _trace = self.trace();
         self.history
     }

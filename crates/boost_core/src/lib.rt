@@ -4,20 +4,24 @@
 //! split-ordered hash table (Shalev and Shavit, "Split-Ordered Lists: Lock-Free Extensible Hash
 //! Tables", Journal of the ACM 53(3), 2006, section 2).
 //!
-//! An operation takes the stripe of its key. It is then done on the table by a seek and an act,
-//! between which other callers may act, and leaves an inverse if it is a change. A commit drops the
-//! inverses; an abort or a return to a savepoint runs them newest first. Stripes are kept to the
-//! end of the transaction.
+//! An operation takes the stripe of its key. It is then done on the table by a seek and an act;
+//! other callers may act between the two. An operation that is a change leaves an inverse. A commit
+//! drops the inverses; an abort or a return to a savepoint runs them newest first. Stripes are kept
+//! to the end of the transaction.
 //!
 //! The model is a machine of thirteen steps, and the history is the main part of its state. The
-//! main theorem is five claims, each in its file of `specs/`: the history has the shape of
-//! transactions (`Shape`), stripes have one holder (`Locks`), each transaction has the replies of
-//! running alone after the commits before its end (`Replies`), the map and the regular list are
-//! what the history gives now (`Content`), and every step makes a move of the machine (`Machine`).
-//! `Nodes` says what a step does to the linked nodes, and which cursors it leaves fitting. The
-//! plain calls are moves of one caller in a row (`Plain`). If stripes are atomic words that others
-//! keep, an operation is asked for with the right to its stripe or with the stripe's word
-//! (`Words`). A `Drive` names the steps of a caller's call, between which others may act.
+//! main theorem is five claims. Each has a file in `specs/`:
+//! - `Shape`: the history has the shape of transactions.
+//! - `Locks`: no stripe has two holders at a time.
+//! - `Replies`: each transaction has the same replies as if it ran alone after the commits before
+//!   its end.
+//! - `Content`: the map and the regular list are what the history gives now.
+//! - `Machine`: every step makes a move of the machine.
+//!
+//! `Nodes` says what a step does to the linked nodes, and which cursors fit after it. The plain
+//! calls are moves of one caller in a row (`Plain`). If stripes are atomic words that others keep,
+//! an operation is asked for with the right to its stripe or with the stripe's word (`Words`). A
+//! `Drive` names the steps of a caller's call; others may act between these steps.
 //!
 //! A step costs the time of its work on the table. Memory is taken only to begin, to ask, to save,
 //! to go back, to link a bucket's dummy and to store the first bucket of a segment: all that an
@@ -30,6 +34,7 @@ mod begun;
 mod buckets;
 mod claim;
 mod counts;
+mod history_room;
 mod into_trace;
 mod machine;
 mod operations;
@@ -43,5 +48,5 @@ mod words;
 
 pub use machine::Core;
 pub use owner::Owner;
-pub use room::Room;
+pub use room::{CallerRoom, Room};
 pub use txn_drive::{Call, Drive, End, Turn};

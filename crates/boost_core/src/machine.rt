@@ -1,5 +1,5 @@
-//! The core: its fields, its invariant, and the common course of a caller's step (`call`): the
-//! refusals are tested, room is reserved, the session takes the step, and its entry is added. A
+//! The core: its fields, its invariant, and the course that each step of a caller takes (`call`).
+//! The refusals are tested, room is reserved, the session takes the step, and its entry is added. A
 //! step that is no caller's (`serve`) goes straight to the table, and adds no entry. The steps
 //! themselves are in `session.rt`, `operations.rt`, `transactions.rt` and `buckets.rt`.
 ghost use Rattle.std.specs.Prelude.{◌≡◌, ℕ, ◌<◌, true, false, is_some, Some, IfOk, IfErr, OnErr, length};
@@ -59,12 +59,12 @@ impl Model for Core {
 
     ghost Value = { State };
 
-    ghost use Rattle.boost_core.specs.Core.{state_of, world_of, Holds};
+    ghost use Rattle.boost_core.specs.Core.{state_of, world_of, IsAccounted};
 
     ghost view = { λ c. state_of
         (world_of c.limits c.history c.counts c.table c.sessions c.locks c.placed c.words) };
 
-    ghost invariant = { λ c. Holds
+    ghost invariant = { λ c. IsAccounted
         (world_of c.limits c.history c.counts c.table c.sessions c.locks c.placed c.words)
         c.history c.owed c.begun.items };
 }
@@ -75,8 +75,8 @@ impl Core {
     ghost use Rattle.boost_core.specs.Replies.{KeepsReplies};
     ghost use Rattle.boost_core.specs.Content.{IsContent, IsRegular};
     ghost use Rattle.boost_core.specs.Whole.{IsWhole};
-    ghost use Rattle.boost_core.specs.Machine.{Event, Moves};
-    ghost use Rattle.boost_core.specs.Nodes.{Cursors, IsInOrder};
+    ghost use Rattle.boost_core.specs.Machine.{Cursors, Happens, Moves};
+    ghost use Rattle.boost_core.specs.Nodes.{IsInOrder};
     ghost use Rattle.boost_core.specs.Words.{Goes, IsClaim, ListsBy, is_ask};
     ghost use Rattle.boost_core.specs.Refusals.{owner_of, refusal_of};
     ghost use Rattle.boost_core.specs.Serves.{is_served};
@@ -133,9 +133,9 @@ impl Core {
         })
     }
 
-    /// Takes one step, which makes a move of the machine: `specs/Machine.antt` says which answers
-    /// are allowed and the state after each, and `specs/Nodes.antt` the effect on the linked nodes
-    /// and on the cursors of callers and helpers.
+    /// Takes one step, which makes a move of the machine. `specs/Machine.antt` says which answers
+    /// are allowed, and what the state is after each. `specs/Events.antt` says what a step does to
+    /// the linked nodes and to the cursors of callers and helpers.
     ///
     /// If tests refuse the step, the first refusal is the answer, and the state is unchanged.
     /// Only `Begin`, `Ask`, `Save`, `Back`, `InitLink` and `InitStore` may be refused with
@@ -150,15 +150,16 @@ impl Core {
     ///
     /// # Cost
     ///
-    /// A `Seek` walks to the key's position from the dummy of its bucket, or of the nearest
-    /// initialised ancestor; an `InitSeek` walks from the dummy of the bucket's parent, and a
-    /// `Sweep` up to the first marked node. A `Commit` takes a step for each job, savepoint and
-    /// stripe of the transaction, the end of an abort one for each savepoint and stripe, and the
-    /// end of a return one for each savepoint that it drops; each other step takes amortized
-    /// constant time. Only the steps that may be refused with `NoMemory` take memory.
+    /// A `Seek` walks to the key's position from the dummy of its bucket, or from the dummy of the
+    /// nearest initialised ancestor. An `InitSeek` walks from the dummy of the bucket's parent. A
+    /// `Sweep` walks up to the first marked node. A `Commit` takes time in proportion to the jobs,
+    /// savepoints and stripes of the transaction. The end of an abort takes time in proportion to
+    /// the savepoints and stripes. The end of a return takes time in proportion to the savepoints
+    /// that it drops. Each other step takes amortized constant time. Only the steps that may be
+    /// refused with `NoMemory` take memory.
     pub fn step(&mut self, step: Step) -> Answer
         requires { self.old.words ≡ true → is_ask step ≡ false }
-        ensures event { Event self.old step result self.new }
+        ensures event { Happens self.old step result self.new }
         ensures words { self.new.words ≡ self.old.words }
     {
         // One arm for each kind of step, so that `call` is compiled for each.
@@ -205,7 +206,7 @@ impl Core {
             return Answer::Refused(Refusal::NoMemory);
         }
         let stripes = u64::from(self.limits.stripes());
-        // The stored buckets lie below the size.
+        // By the contract of `size` the invariants of the table hold.
         let _size = Table::size(&self.table);
         let session = &mut self.sessions[caller as usize];
         let answer = session.answer(
@@ -227,10 +228,10 @@ impl Core {
     /// Takes a step that is no caller's, and notes whose cursor was placed.
     fn serve(&mut self, step: Step) -> Answer
         requires { is_served step ≡ true }
-        ensures event { Event self.old step result self.new }
+        ensures event { Happens self.old step result self.new }
         ensures words { self.new.words ≡ self.old.words }
     {
-        // The stored buckets lie below the size.
+        // By the contract of `size` the invariants of the table hold.
         let _size = Table::size(&self.table);
         let answer = serve(step, &mut self.table);
         self.placed = placed_after(self.placed, step, answer);
@@ -262,8 +263,8 @@ impl Core {
 
     /// The history: an entry for each step that changed a transaction, oldest first. It is legal:
     /// it has the shape of transactions, no stripe had two holders, and every transaction has the
-    /// replies of running alone. The entries are packed: `txn_trace::Unpacked` goes over them as
-    /// values of `Entry`.
+    /// same replies as if it ran alone. The entries are packed: `txn_trace::Unpacked` goes over
+    /// them as values of `Entry`.
     pub fn trace(&self) -> &[SmallEntry]
         ensures value { result.now ≡ self.now.history }
         ensures shape { HasShape self.now }
@@ -276,7 +277,7 @@ impl Core {
         ensures whole { IsWhole self.now }
         ensures order { IsInOrder self.now.nodes }
     {
-        // The stored buckets lie below the size.
+        // By the contract of `size` the invariants of the table hold.
         let _size = Table::size(&self.table);
         &self.history
     }
@@ -292,8 +293,8 @@ impl Core {
     ///
     /// # Cost
     ///
-    /// At most one allocation, with a copy of the history if there is one; if the room is written,
-    /// time in proportion to it.
+    /// At most one allocation, with which the history is copied. If the room is written, also time
+    /// in proportion to the room.
     pub fn reserve(&mut self, entries: usize, is_written: bool) -> Result<(), AllocError>
         ensures { self.new ≡ self.old }
     {
@@ -301,8 +302,8 @@ impl Core {
         make_room(&mut self.history, more, is_written)
     }
 
-    /// The map now: the one that the committed transactions left, with the standing changes of the
-    /// open ones.
+    /// The map now: what the committed transactions left, with the standing changes of the open
+    /// transactions.
     ///
     /// # Errors
     ///

@@ -84,7 +84,7 @@ impl Session {
         table.prepare(op)
     }
 
-    /// The stripe is the caller's: the operation waits.
+    /// The caller holds the stripe: keeps the prepared operation until the caller acts.
     fn grant(&mut self, pending: Pending) -> Answer
         ensures answer { result ≡ Answer.Asked }
         ensures becomes { self.new ≡ record self.old { pending = Some pending } }
@@ -195,8 +195,8 @@ impl Session {
     }
 }
 
-/// Converts the answer of `ask` to the answer to an ask with the stripe's right: `Busy` becomes
-/// `StaleWord`, since the word that gave the right was stale if another caller holds the stripe.
+/// The answer to an ask with the stripe's right, from the answer of `ask`. `Busy` becomes
+/// `StaleWord`: another caller holds the stripe, so the word that gave the right was stale.
 fn unless_busy(answer: Answer) -> Answer
     ensures { result ≡ unless_busy answer }
 {
@@ -217,7 +217,7 @@ fn busy(pending: Pending, holder: u64, table: &mut Table) -> Answer
     Answer::Busy(holder)
 }
 
-/// Adds a job as the newest, if there is one, in reserved room.
+/// Adds the job of an operation, if it has one, to the log as the newest, in reserved room.
 fn note(log: &mut UndoLog<MapJob>, job: Option<MapJob>)
     requires { 0 < log.old.room }
     ensures jobs { log.new.jobs ≡ log.old.jobs ++ option_to_list job }

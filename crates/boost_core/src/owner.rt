@@ -1,14 +1,14 @@
-//! The owner of the cursor that was placed last. Contracts name the cursor by it, and no code reads
-//! it. It is an ordinary field, since a ghost field has no value for the model's view to read. Each
-//! step that is not refused sets the owner, to none if the step places no cursor. By the core's
-//! invariant the owner's cursor fits.
+//! The owner of the cursor that was placed last. Contracts name the cursor by its owner, and no
+//! code reads the owner. The owner is in an ordinary field, since the model's view cannot read a
+//! ghost field. Each step that is not refused sets the owner; a step that places no cursor sets it
+//! to none. By the core's invariant the owner's cursor fits.
 ghost use Rattle.std.specs.Prelude.{◌≡◌};
-ghost use Rattle.boost_core.specs.Answers.{placed_by};
-ghost use Rattle.boost_core.specs.Placed.{placed_then};
+ghost use Rattle.boost_core.specs.Events.{event_of, placed_in};
+ghost use Rattle.boost_core.specs.Machine.{placed_then};
 
 use txn_trace::{Answer, Step};
 
-/// The owner of a cursor. By it the state of the machine names the cursor that was placed last.
+/// The owner of a cursor. The state of the machine says whose cursor was placed last.
 #[derive(Clone, Copy, Debug, PartialEq, Eq)]
 pub enum Owner {
     /// The caller of this number.

@@ -1,6 +1,6 @@
-//! The plain calls: `put`, `put_if`, `take`, `get`, `help`, `back` and `abort`, each a list of
-//! steps of one caller in a row, so none has the answer `again`. Those who take steps of several
-//! callers in turn use `step` instead.
+//! The plain calls: `put`, `put_if`, `take`, `get`, `help`, `back` and `abort`. Each of these calls
+//! takes all its steps in a row, for one caller, so no step has the answer `Again`. Users who take
+//! the steps of several callers in turn call `step` instead.
 ghost use Rattle.std.specs.Prelude.{◌≡◌, true, false, nat_le};
 ghost use Rattle.boost_core.specs.Plain.{outcome_of};
 
@@ -10,16 +10,16 @@ use txn_drive::{Call, Drive, End, Turn};
 use txn_trace::{Answer, Op, Refusal, Step};
 
 impl Core {
-    ghost use Rattle.boost_core.specs.Answers.{end_of, is_at_end};
+    ghost use Rattle.boost_core.specs.Answers.{end_answer, is_at_end};
     ghost use Rattle.boost_core.specs.Plain.{Aborts, Ends, Helps, Operates, Returns};
     ghost use Rattle.boost_core.specs.Refusals.{has_job, is_leaving};
     ghost use Rattle.boost_core.specs.State.{seat_in};
     ghost use Rattle.boost_core.specs.Whole.{IsWhole};
     ghost use Rattle.txn_drive.specs.Drives.{sized_of, step_of};
 
-    /// Puts a value at a key: asks, seeks and acts in a row, so the answer is never `Again`. No
-    /// table doubles by itself: without `help` or `Double` it is one long list, through which each
-    /// seek walks.
+    /// Puts a value at a key: asks, seeks and acts in a row, so the answer is never `Again`. The
+    /// table does not double by itself. Without `help` or `Double` it is one long list, through
+    /// which each seek walks.
     ///
     /// The answer is `Done` with the reply. If another caller holds the key's stripe, the answer is
     /// `Busy` instead, and this caller now leaves to the end. If the ask is refused, the answer is
@@ -83,17 +83,17 @@ impl Core {
         self.operate(caller, Op::Get(key))
     }
 
-    /// Goes back to a level, a savepoint's number or 0 for the beginning: takes back every later
-    /// change, newest first, and keeps the savepoint of that level. Stripes stay held.
+    /// Goes back to a level, which is the number of a savepoint, or 0 for the beginning. Takes back
+    /// every later change, newest first, and keeps the savepoint of that level. Stripes stay held.
     ///
-    /// The answer is `Returned` with the level, or a refusal, which leaves the state unchanged: in
-    /// this order `NoSuchCaller`, `NotOpen`, `Leaving`, `OperationUnfinished`, `NoSuchLevel`,
-    /// `NoMemory`.
+    /// The answer is `Returned` with the level, or a refusal. A refusal leaves the state unchanged.
+    /// The refusals are tested in this order: `NoSuchCaller`, `NotOpen`, `Leaving`,
+    /// `OperationUnfinished`, `NoSuchLevel`, `NoMemory`.
     ///
     /// # Cost
     ///
     /// A seek and an act for each change that is taken back, and a step for each savepoint that is
-    /// dropped; may take memory, only for the history.
+    /// dropped; may take memory for the history.
     pub fn back(&mut self, caller: u64, level: u64) -> Answer
         ensures returns { Returns self.old caller level result self.new }
         ensures words { self.new.words ≡ self.old.words }
@@ -104,11 +104,13 @@ impl Core {
         }
     }
 
-    /// Aborts: withdraws an operation that waits, takes back every change, newest first, gives back
-    /// all stripes and closes. A caller that leaves to the end already, as after `Busy`, continues.
+    /// Aborts: withdraws the waiting operation, takes back every change, newest first, gives back
+    /// all stripes and closes the transaction. A caller that already leaves to the end, as after
+    /// `Busy`, continues to do so.
     ///
-    /// The answer is `Aborted`, or a refusal, which leaves the state unchanged: in this order
-    /// `NoSuchCaller`, `NotOpen`, and `Leaving` if the caller leaves to a level.
+    /// The answer is `Aborted`, or a refusal. A refusal leaves the state unchanged. The refusals
+    /// are tested in this order: `NoSuchCaller`, `NotOpen`, and `Leaving` if the caller leaves to a
+    /// level.
     ///
     /// # Cost
     ///
@@ -143,9 +145,10 @@ impl Core {
     ///
     /// # Cost
     ///
-    /// A step to double; then for each bucket on the way, at most 16, one step if it is
-    /// initialised, and else three, with time in proportion to the nodes that the seek for the
-    /// bucket passes; may take memory for each bucket's dummy and segment.
+    /// One step to double, then one step for each bucket on the way that is initialised already,
+    /// and three steps for each that is not. There are at most 16 buckets on the way. The seek for
+    /// a bucket takes time in proportion to the nodes that it passes. May take memory for each
+    /// bucket's dummy and segment.
     pub fn help(&mut self, caller: u64, key: u64) -> Result<(), Refusal>
         ensures helps { Helps self.old caller key result self.new }
         ensures words { self.new.words ≡ self.old.words }
@@ -193,7 +196,7 @@ impl Core {
         requires leaves { is_leaving (seat_in self.old.history caller).phase ≡ true }
         requires within { nat_le self.old.limits.callers caller ≡ false }
         ensures ends { Ends self.old caller result self.new }
-        ensures answer { result ≡ end_of (seat_in self.old.history caller).phase }
+        ensures answer { result ≡ end_answer (seat_in self.old.history caller).phase }
         ensures words { self.new.words ≡ self.old.words }
     {
         while self.has_job(caller) {

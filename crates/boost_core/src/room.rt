@@ -1,9 +1,19 @@
 //! The room with which a core is made, for users who know how much is to come. A core that grows
 //! while its lock is held keeps the other callers waiting, since each growth copies what is there.
-//! The room is no limit: once more entries, nodes or changes are needed, the core grows.
+//! The room is no limit: once more entries, nodes, changes or savepoints are needed, the core
+//! grows.
 
-/// The numbers of entries, nodes and changes for which a core takes memory when it is made, so that
-/// it need not grow under the lock. The default is no room.
+/// What the transactions of one caller need. The default is nothing.
+#[derive(Clone, Copy, Debug, Default)]
+pub struct CallerRoom {
+    /// The largest number of changes that one of its transactions makes.
+    pub changes: usize,
+    /// The largest number of savepoints that one of its transactions has at a time.
+    pub savepoints: usize,
+}
+
+/// The numbers of entries, nodes, changes and savepoints for which a core takes memory when it is
+/// made, so that it need not grow under the lock. The default is no room.
 #[derive(Clone, Copy, Debug, Default)]
 pub struct Room<'a> {
     /// The entries of the history.
@@ -11,9 +21,9 @@ pub struct Room<'a> {
     /// The nodes of the table: one for each key, for each key that is taken and not yet swept, for
     /// each stored bucket, and for each spare that is out.
     pub nodes: usize,
-    /// For each caller, the largest number of changes that one of its transactions makes. Callers
-    /// beyond the end of the slice get no room.
-    pub changes: &'a [usize],
+    /// For each caller, what its transactions need. Callers beyond the end of the slice get no
+    /// room.
+    pub callers: &'a [CallerRoom],
     /// Whether the whole room is written once, so that none of its pages is touched for the first
     /// time under the lock. With one caller nobody waits for the lock, and writing the room only
     /// costs time.

@@ -23,21 +23,22 @@ pub struct Session {
 }
 
 impl Session {
-    ghost use Rattle.boost_core.specs.Sessions.{IsIdle, Takes, Does, KeepsPlaced, level_of};
+    ghost use Rattle.boost_core.specs.Sessions.{IsIdle, MayTakeStep, HasEffect, KeepsPlaced, level_of};
     ghost use Rattle.boost_core.specs.Answers.{is_at_end};
     ghost use Rattle.boost_core.specs.Refusals.{lacks_in};
     ghost use Rattle.map_ops.specs.TableAt.{table_changes};
 
-    /// The caller of this number, without a transaction. Its log has the caller's part of the room.
+    /// The caller of this number, without a transaction. Its seat and its log have the caller's
+    /// part of the room.
     pub(crate) fn new(alloc: Global, caller: usize, room: Room<'_>) -> Result<Session, AllocError>
         ensures { IfOk result IsIdle }
     {
-        let changes = room.changes.get(caller).copied().unwrap_or(0);
+        let own = room.callers.get(caller).copied().unwrap_or_default();
         Ok(Session {
-            seat: Seat::new(alloc),
+            seat: Seat::with_capacity(alloc, own.savepoints, room.is_written)?,
             pending: None,
             cursor: None,
-            log: UndoLog::with_capacity(alloc, changes, room.is_written)?,
+            log: UndoLog::with_capacity(alloc, own.changes, own.savepoints, room.is_written)?,
         })
     }
 
@@ -59,7 +60,7 @@ impl Session {
         matches!(self.seat.phase(), Phase::LeavingToEnd)
     }
 
-    /// The level to which the caller takes its changes back, or 0.
+    /// The level to which the caller takes its changes back; 0 in every phase but `LeavingTo`.
     pub(crate) fn level(&self) -> usize
         ensures { result ≡ level_of self.now.seat.seat.phase }
     {
@@ -81,8 +82,9 @@ impl Session {
         table: &mut Table,
         locks: &mut KeyLocks,
     ) -> Answer
-        requires { Takes stripes counts step self.old table.old locks.old }
-        ensures does { Does claim stripes counts step self.old table.old locks.old result self.new
+        requires { MayTakeStep stripes counts step self.old table.old locks.old }
+        ensures does { HasEffect claim stripes counts step self.old table.old locks.old result
+            self.new
             table.new locks.new }
         ensures rises { table_changes table.old ≤ table_changes table.new }
         ensures placed { KeepsPlaced table.old table.new }

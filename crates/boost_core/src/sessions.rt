@@ -1,6 +1,6 @@
 //! The sides of all callers, idle. They are made with the core, so no step makes a side later. They
 //! are in one vector, in the order of the callers' numbers; a `Session` does not know the others.
-//! The vector takes one allocation. An idle side takes more memory only for the room in its log.
+//! The vector takes one allocation. An idle side takes more memory only for its part of the room.
 ghost use Rattle.std.specs.Prelude.{◌≡◌, IfOk, length};
 ghost use Rattle.std.specs.List.{All};
 ghost use Rattle.boost_core.specs.Sessions.{IsIdle};

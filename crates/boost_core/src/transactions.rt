@@ -1,6 +1,7 @@
-//! The steps that divide and end a transaction: savepoints, and the effect of a commit and of
-//! leaving on the log and the waiting operation. Unlike those in `operations.rt` they change no
-//! key. Only `save` takes memory; `settle` takes a step for each job and savepoint.
+//! The steps that divide and end a transaction: they set a savepoint, empty the log at a commit,
+//! and drop the cursor and the waiting operation of a caller that leaves. Unlike the steps in
+//! `operations.rt` they change no key. Only `save` takes memory. `settle` takes time in proportion
+//! to the jobs and savepoints.
 ghost use Rattle.std.specs.Prelude.{◌≡◌, None};
 
 use crate::session::Session;
@@ -32,7 +33,8 @@ impl Session {
         Answer::Leaving
     }
 
-    /// Gives up the waiting operation, if there is one, to leave to the end.
+    /// Leaves to the end: the caller's cursor and its waiting operation, if it has them, are given
+    /// up.
     pub(crate) fn withdraw(&mut self, table: &mut Table) -> Answer
         requires { CanWithdraw self.old table.old }
         ensures answer { result ≡ Answer.Leaving }

@@ -1,6 +1,6 @@
 //! A core whose stripes are atomic words that others keep: an operation is asked for with the right
-//! to its stripe, or with the word that names its holder. `step`, in contrast, locks stripes
-//! itself.
+//! to its stripe, or with the word that names the stripe's holder. `step`, in contrast, locks
+//! stripes itself.
 ghost use Rattle.std.specs.Prelude.{◌≡◌, ◌≢◌, ◌-◌, true, IfOk, IfErr};
 ghost use Rattle.txn_words.specs.Map.{key_of};
 ghost use Rattle.txn_trace.specs.Locks.{has_begun, stripe_of};
@@ -14,7 +14,7 @@ use std::alloc::Global;
 use txn_trace::{Answer, Limits, Op, Refusal, Step};
 
 impl Core {
-    ghost use Rattle.boost_core.specs.Nodes.{Cursors};
+    ghost use Rattle.boost_core.specs.Machine.{Cursors};
     ghost use Rattle.boost_core.specs.Words.{Asks, ListsAsk, claim_of};
 
     /// A new core whose callers take the rights to their stripes elsewhere, by atomic words that
@@ -36,9 +36,10 @@ impl Core {
         Core::with_room(alloc, limits, Room::default())
     }
 
-    /// A new core like that of `with_words`, with this room: history, list and logs need not grow
-    /// as long as their entries, nodes and changes fit in it. Spares count as nodes. A room that is
-    /// written also has memory for as many buckets as nodes, or for all buckets if these are fewer.
+    /// A new core like that of `with_words`, with this room: history, list, logs and seats need not
+    /// grow as long as their entries, nodes, changes and savepoints fit in it. Spares count as
+    /// nodes. A room that is written also has memory for as many buckets as nodes, or for all
+    /// buckets if these are fewer.
     ///
     /// # Errors
     ///
@@ -47,8 +48,9 @@ impl Core {
     /// # Cost
     ///
     /// That of `with_words`, and the memory for the room: 32 bytes for an entry of the history, 40
-    /// for a node, 4 for a bucket, and 48 for each change of a caller that has room for more than
-    /// eight changes. If the room is written, time in proportion to it.
+    /// for a node, 4 for a bucket, 16 for each savepoint of a caller, and 48 for each change of a
+    /// caller that has room for more than eight changes. If the room is written, time in proportion
+    /// to it.
     pub fn with_room(alloc: Global, limits: Limits, room: Room<'_>) -> Result<Core, Refusal>
         ensures ok { IfOk result (λ core. core ≡ start_with_words limits) }
         ensures err { IfErr result (λ refusal. refusal ≡ Refusal.NoMemory) }
@@ -66,7 +68,7 @@ impl Core {
     /// Asks for an operation with the right to the stripe of its key, like the step `Ask` of a core
     /// whose stripes are not words.
     ///
-    /// The answer is `Asked`, or the first refusal whose test fits: `NoSuchCaller`, `NotOpen`,
+    /// The answer is `Asked`, or the first refusal whose test holds: `NoSuchCaller`, `NotOpen`,
     /// `Leaving`, `OperationUnfinished`, `BadKey`, `NoMemory` for the history and the log,
     /// `StampsUsedUp`, `NoMemory` for the node, and `StaleWord` if by the core's record another
     /// caller holds the stripe. A refusal leaves the state unchanged, except that `StaleWord` may
@@ -84,19 +86,20 @@ impl Core {
         ensures limits { self.new.limits ≡ self.old.limits }
         ensures words { self.new.words ≡ true }
     {
-        // The caller only shows that it has the right; the step uses nothing of it.
+        // The caller only shows that it has the right. The step does not use the stripe's number.
         let _stripe = right.stripe();
         self.call(caller, Step::Ask(caller, op), Claim::Right)
     }
 
-    /// Asks for an operation if the word of its stripe names another caller: the word is one more
-    /// than that caller's number.
+    /// Asks for an operation whose stripe has a word that names a caller. The word is one more than
+    /// that caller's number.
     ///
-    /// The answer is `Busy` with that number, after which the caller leaves to the end, or the
-    /// first refusal whose test fits: `NoSuchCaller`, `NotOpen`, `Leaving`, `OperationUnfinished`,
-    /// `BadKey`, and `StaleWord` if the word names the caller itself or one that has never begun a
-    /// transaction. A refusal leaves the state unchanged. No spare is taken, and the room for the
-    /// entry was reserved when the transaction began.
+    /// The answer is `Busy` with the number of the caller that the word names, or a refusal. After
+    /// `Busy` the asking caller leaves to the end. The refusals are tested in this order:
+    /// `NoSuchCaller`, `NotOpen`, `Leaving`, `OperationUnfinished`, `BadKey`, and `StaleWord` if
+    /// the word names the asking caller or a caller that has never begun a transaction. A refusal
+    /// leaves the state unchanged. No spare is taken, and the room for the entry was reserved when
+    /// the transaction began.
     pub fn ask_held(&mut self, caller: u64, op: Op, word: u64) -> Answer
         requires words { self.old.words ≡ true }
         requires word { word ≢ 0 }
@@ -112,7 +115,7 @@ impl Core {
         self.call(caller, Step::Ask(caller, op), claim)
     }
 
-    /// The claim of `caller` if the word of its key's stripe names `named`.
+    /// The claim of `caller` to a stripe whose word names `named`.
     fn claim_of(&self, caller: u64, named: u64) -> Claim
         ensures { result ≡ claim_of self.now caller named }
     {

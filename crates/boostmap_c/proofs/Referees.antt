@@ -11,11 +11,11 @@ use Rattle.serial_check.specs.Fed as by_commits
 use Rattle.serial_check.specs.Verdicts as on_commits
 use Rattle.boostmap_c.specs.declared.referee.Way.TheVariants.{ByLocks, ByCommits}
 use Rattle.boostmap_c.specs.declared.referee.Referee.TheVariants.{Locks, Commits}
-use Rattle.boostmap_c.specs.Referees.{TakesIn, Stays, IsVerdictOf}
+use Rattle.boostmap_c.specs.Referees.{IsFedOneMore, Stays, IsVerdictOf}
 
 pub locks_taken : (entry : Entry) (old new : lock.Checker)
     → ((holder : Holder) (stripes : ℕ) (h : List Entry) → by_locks.IsFed holder stripes h old → by_locks.IsFed holder stripes (h ++ entry ∷ []) new)
-    → TakesIn entry (Locks old) (Locks new)
+    → IsFedOneMore entry (Locks old) (Locks new)
 locks_taken entry old new step (ByLocks holder) stripes h fed = step holder stripes h fed
 locks_taken entry old new step ByCommits stripes h fed = fed
 
@@ -33,7 +33,7 @@ locks_say checker outcome says ByCommits stripes h fed = absurd fed
 
 pub commits_taken : (entry : Entry) (old new : commit.Checker)
     → ((h : List Entry) → by_commits.IsFed h old → by_commits.IsFed (h ++ entry ∷ []) new)
-    → TakesIn entry (Commits old) (Commits new)
+    → IsFedOneMore entry (Commits old) (Commits new)
 commits_taken entry old new step (ByLocks holder) stripes h fed = fed
 commits_taken entry old new step ByCommits stripes h fed = step h fed
 

@@ -1,5 +1,5 @@
--- The effect of a call on a handle, from the states of the map that it owns before and after.
--- Except by `Makes`, a handle without a map stays without one, and C is told so.
+-- The effect of a call on a handle, in terms of the map that the handle owns before and after. A
+-- handle without a map stays without one, except by `MakesMap`, and C is told that it is empty.
 use Rattle.std.specs.Prelude.{◌≡◌, ℕ, Option, Some, None, Result, Ok, Err}
 use Rattle.txn_words.specs.declared.answer.Answer.{Answer}
 use Rattle.txn_words.specs.declared.refusal.Refusal.{Refusal}
@@ -9,30 +9,30 @@ use Rattle.txn_words.specs.Map.{count_of}
 use Rattle.txn_trace.specs.Now.{now}
 use Rattle.boost_core.specs.Machine.{State, start}
 use Rattle.boost_core.specs.Plain.{Helps}
-use Rattle.boostmap_c.specs.Replies.{done, empty, full, refused, status_of, word_after, status_of_result}
+use Rattle.boostmap_c.specs.Replies.{done, empty_handle, full, refused, status_of_answer, word_after, status_of_result}
 
 -- The map takes a step of this kind, and C is told the answer.
-abbrev pub Answers : (State → Answer → State → Type 0) → Option State → ℕ → ℕ → ℕ → Option State
+abbrev pub TellsAnswer : (State → Answer → State → Type 0) → Option State → ℕ → ℕ → ℕ → Option State
     → Type 0
-Answers Steps (Some old) status before after (Some new) =
-    (answer : Answer) × Steps old answer new × (status ≡ status_of answer)
+TellsAnswer Steps (Some old) status before after (Some new) =
+    (answer : Answer) × Steps old answer new × (status ≡ status_of_answer answer)
     × (after ≡ word_after before answer)
-Answers Steps None status before after None = (status ≡ empty) × (after ≡ before)
-Answers Steps old status before after new = ⊥
+TellsAnswer Steps None status before after None = (status ≡ empty_handle) × (after ≡ before)
+TellsAnswer Steps old status before after new = ⊥
 
 -- The map helps its table to grow.
 abbrev pub HelpsWith : Option State → ℕ → ℕ → ℕ → Option State → Type 0
 HelpsWith (Some old) c key status (Some new) =
     (outcome : Result Unit Refusal) × Helps old c key outcome new
     × (status ≡ status_of_result outcome)
-HelpsWith None c key status None = status ≡ empty
+HelpsWith None c key status None = status ≡ empty_handle
 HelpsWith old c key status new = ⊥
 
 -- The word is the number of keys of the map.
 abbrev pub Counts : Option State → ℕ → ℕ → ℕ → Option State → Type 0
 Counts (Some old) status before after (Some new) =
     (new ≡ old) × (status ≡ done) × (after ≡ count_of (now old.history))
-Counts None status before after None = (status ≡ empty) × (after ≡ before)
+Counts None status before after None = (status ≡ empty_handle) × (after ≡ before)
 Counts old status before after new = ⊥
 
 -- A new map; or none, if its limits or memory are refused.
@@ -43,12 +43,12 @@ MakesWithin (Err refusal) status (Some new) = ⊥
 MakesWithin (Err refusal) status None = status ≡ refused refusal
 
 -- A handle without a map gets one; a handle with a map keeps it.
-abbrev pub Makes : Option State → ℕ → ℕ → ℕ → ℕ → Option State → Type 0
-Makes None callers stripes buckets status new =
+abbrev pub MakesMap : Option State → ℕ → ℕ → ℕ → ℕ → Option State → Type 0
+MakesMap None callers stripes buckets status new =
     MakesWithin (limits_of callers stripes buckets) status new
-Makes (Some old) callers stripes buckets status new = (status ≡ full) × (new ≡ Some old)
+MakesMap (Some old) callers stripes buckets status new = (status ≡ full) × (new ≡ Some old)
 
 -- The handle no longer has a map.
 abbrev pub Frees : Option State → ℕ → Option State → Type 0
 Frees (Some old) status new = (status ≡ done) × (new ≡ None)
-Frees None status new = (status ≡ empty) × (new ≡ None)
+Frees None status new = (status ≡ empty_handle) × (new ≡ None)

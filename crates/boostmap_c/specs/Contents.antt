@@ -5,14 +5,14 @@ use Rattle.boost_core.specs.State.{State}
 use Rattle.txn_trace.specs.Now.{now}
 use Rattle.txn_words.specs.Ordered.{ordered}
 use Rattle.boostmap_c.specs.declared.read.CPair.{CPair}
-use Rattle.boostmap_c.specs.Replies.{empty, short, refused}
+use Rattle.boostmap_c.specs.Replies.{empty_handle, short, refused}
 
-abbrev pub pair_of : ℕ × ℕ → CPair
-pair_of pair = record { key = pair.0; value = pair.1 }
+abbrev pub c_pair_of : ℕ × ℕ → CPair
+c_pair_of pair = record { key = pair.0; value = pair.1 }
 
 -- The pairs lie at the front of an array, whose rest is unchanged.
 pub record Lie (pairs : List (ℕ × ℕ)) (before after : List CPair) : Type 0 where
-  pub front : take (length pairs) after ≡ map pair_of pairs
+  pub front : take (length pairs) after ≡ map c_pair_of pairs
   pub rest : drop (length pairs) after ≡ drop (length pairs) before
 
 -- At status 0 these pairs are at the front of the array, in this order; otherwise the array has too
@@ -33,5 +33,5 @@ abbrev pub Reads : Option State → ℕ → List CPair → List CPair → ℕ �
 Reads (Some old) status before after was word (Some new) =
     (new ≡ old) × ReadsOf (ordered (now old.history)) status before after was word
 Reads None status before after was word None =
-    (status ≡ empty) × (after ≡ before) × (word ≡ was)
+    (status ≡ empty_handle) × (after ≡ before) × (word ≡ was)
 Reads old status before after was word new = ⊥

@@ -20,33 +20,33 @@ op_of e =
     else (if nat_eq e.operation 4 then Some (Get e.key) else None)))
 
 -- The Asked entry and the Busy entry of an operation; none if there is no operation.
-abbrev pub asked_of : CEntry → Option Op → Option Entry
-asked_of e None = None
-asked_of e (Some op) = Some (Asked e.caller op)
+abbrev pub asked_entry_of : CEntry → Option Op → Option Entry
+asked_entry_of e None = None
+asked_entry_of e (Some op) = Some (Asked e.caller op)
 
-abbrev pub busy_of : CEntry → Option Op → Option Entry
-busy_of e None = None
-busy_of e (Some op) = Some (Busy e.caller op e.number)
+abbrev pub busy_entry_of : CEntry → Option Op → Option Entry
+busy_entry_of e None = None
+busy_entry_of e (Some op) = Some (Busy e.caller op e.number)
 
 -- The entry that the numbers stand for; none if no kind of entry has the number `kind`, or if an
 -- Asked or a Busy has no operation.
 abbrev pub entry_of : CEntry → Option Entry
 entry_of e =
     if nat_eq e.kind 1 then Some (Began e.caller e.number)
-    else (if nat_eq e.kind 2 then asked_of e (op_of e)
+    else (if nat_eq e.kind 2 then asked_entry_of e (op_of e)
     else (if nat_eq e.kind 3 then Some (Did e.caller (optional e.has e.value))
     else (if nat_eq e.kind 4 then Some (Saved e.caller)
     else (if nat_eq e.kind 5 then Some (Leave e.caller (optional e.has e.number))
     else (if nat_eq e.kind 6 then Some (Undone e.caller)
     else (if nat_eq e.kind 7 then Some (Returned e.caller e.number)
     else (if nat_eq e.kind 8 then Some (Committed e.caller e.number)
-    else (if nat_eq e.kind 9 then busy_of e (op_of e)
+    else (if nat_eq e.kind 9 then busy_entry_of e (op_of e)
     else (if nat_eq e.kind 10 then Some (Aborted e.caller) else None)))))))))
 
 -- An entry that the checker takes: its caller is below 64.
-abbrev pub taken : Option Entry → Option Entry
-taken None = None
-taken (Some entry) = if nat_le 64 (caller_of entry) then None else Some entry
+abbrev pub accepted_entry : Option Entry → Option Entry
+accepted_entry None = None
+accepted_entry (Some entry) = if nat_le 64 (caller_of entry) then None else Some entry
 
 abbrev pub judged_entry : CEntry → Option Entry
-judged_entry e = taken (entry_of e)
+judged_entry e = accepted_entry (entry_of e)

@@ -1,4 +1,4 @@
--- The effect of a call on a judge, from the referees that its handle owns before and after.
+-- The effect of a call on a judge, in terms of the referee that its handle owns before and after.
 use Rattle.std.specs.Prelude.{◌≡◌, ℕ, zero, suc, nat_eq, [], ◌∷◌, List, length, take, slice_get, Option, Some, None, if◌then◌else◌}
 use Rattle.txn_words.specs.declared.entry.Entry.{Entry}
 use Rattle.txn_words.specs.declared.holder.Holder.TheVariants.{Now, Begun}
@@ -9,11 +9,11 @@ use Rattle.history_check.specs.Verdicts.{number_of}
 use Rattle.boostmap_c.specs.declared.referee.Way.{Way}
 use Rattle.boostmap_c.specs.declared.referee.Way.TheVariants.{ByLocks, ByCommits}
 use Rattle.boostmap_c.specs.declared.referee.Referee.{Referee}
-use Rattle.boostmap_c.specs.Referees.{IsFedBy, IsVerdictOf, TakesIn, Stays}
+use Rattle.boostmap_c.specs.Referees.{IsFedBy, IsVerdictOf, IsFedOneMore, Stays}
 use Rattle.boostmap_c.specs.declared.c_entry.CEntry.{CEntry}
 use Rattle.boostmap_c.specs.declared.judge.CVerdict.{CVerdict}
 use Rattle.boostmap_c.specs.Entries.{judged_entry}
-use Rattle.boostmap_c.specs.Replies.{done, empty, full, no_entry, refused}
+use Rattle.boostmap_c.specs.Replies.{done, empty_handle, full, no_entry, refused}
 
 -- The rule that a number stands for, if it stands for one. A rule by locks needs at least one
 -- stripe.
@@ -42,23 +42,23 @@ BeginsFor None stripes status new = (status ≡ refused Limit) × (new ≡ None)
 BeginsFor (Some way) stripes status new = BeginsWith way stripes status new
 
 -- A handle without a referee gets one; a handle with one keeps it.
-abbrev pub Begins : Option Referee → ℕ → ℕ → ℕ → Option Referee → Type 0
-Begins None stripes number status new = BeginsFor (way_for stripes number) stripes status new
-Begins (Some old) stripes number status new = (status ≡ full) × (new ≡ Some old)
+abbrev pub BeginsJudging : Option Referee → ℕ → ℕ → ℕ → Option Referee → Type 0
+BeginsJudging None stripes number status new = BeginsFor (way_for stripes number) stripes status new
+BeginsJudging (Some old) stripes number status new = (status ≡ full) × (new ≡ Some old)
 
 -- The entry is fed; or memory is refused.
-abbrev pub FedBy : ℕ → Entry → Referee → Referee → Type 0
-FedBy zero entry old new = TakesIn entry old new
-FedBy (suc status) entry old new = (suc status ≡ refused NoMemory) × Stays old new
+abbrev pub FedOrRefused : ℕ → Entry → Referee → Referee → Type 0
+FedOrRefused zero entry old new = IsFedOneMore entry old new
+FedOrRefused (suc status) entry old new = (suc status ≡ refused NoMemory) × Stays old new
 
 -- If the numbers stand for no entry, nothing is fed and C is told so.
 abbrev pub FeedsEntry : Option Entry → Referee → ℕ → Referee → Type 0
 FeedsEntry None old status new = (status ≡ no_entry) × (new ≡ old)
-FeedsEntry (Some entry) old status new = FedBy status entry old new
+FeedsEntry (Some entry) old status new = FedOrRefused status entry old new
 
 abbrev pub Feeds : Option Referee → CEntry → ℕ → Option Referee → Type 0
 Feeds (Some old) e status (Some new) = FeedsEntry (judged_entry e) old status new
-Feeds None e status None = status ≡ empty
+Feeds None e status None = status ≡ empty_handle
 Feeds old e status new = ⊥
 
 -- All these entries are fed, one after the other.
@@ -78,18 +78,18 @@ FedFront entries old (suc status) count new =
 
 abbrev pub FeedsAll : Option Referee → List CEntry → ℕ → ℕ → ℕ → Option Referee → Type 0
 FeedsAll (Some old) entries status before after (Some new) = FedFront entries old status after new
-FeedsAll None entries status before after None = (status ≡ empty) × (after ≡ before)
+FeedsAll None entries status before after None = (status ≡ empty_handle) × (after ≡ before)
 FeedsAll old entries status before after new = ⊥
 
 -- C is told the referee's verdict on the entries that the referee was fed.
-abbrev pub Tells : Option Referee → ℕ → CVerdict → CVerdict → Option Referee → Type 0
-Tells (Some old) status before after (Some new) =
+abbrev pub TellsVerdict : Option Referee → ℕ → CVerdict → CVerdict → Option Referee → Type 0
+TellsVerdict (Some old) status before after (Some new) =
     (new ≡ old) × (status ≡ done)
     × (outcome : Verdict) × (after ≡ verdict_of outcome) × IsVerdictOf old outcome
-Tells None status before after None = (status ≡ empty) × (after ≡ before)
-Tells old status before after new = ⊥
+TellsVerdict None status before after None = (status ≡ empty_handle) × (after ≡ before)
+TellsVerdict old status before after new = ⊥
 
 -- The handle no longer has a referee.
 abbrev pub Frees : Option Referee → ℕ → Option Referee → Type 0
 Frees (Some old) status new = (status ≡ done) × (new ≡ None)
-Frees None status new = (status ≡ empty) × (new ≡ None)
+Frees None status new = (status ≡ empty_handle) × (new ≡ None)

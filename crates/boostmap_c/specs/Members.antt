@@ -1,5 +1,6 @@
--- The effect of a striped map's call on a handle, from the members that the handle owns before and
--- after. Except by `Opens` and `Joins`, an empty handle stays empty, and C is told so.
+-- The effect of a striped map's call on a handle, in terms of the member that the handle owns
+-- before and after. An empty handle stays empty, except by `Opens` and `Joins`, and C is told that
+-- it is empty.
 use Rattle.std.specs.Prelude.{◌≡◌, ℕ, ◌+◌, ◌<◌, ◌&&◌, nat_le, Bool, true, [], ◌∷◌, ◌++◌, length, Option, Some, None, Result, if◌then◌else◌}
 use Rattle.std.specs.List.{HoldsAt}
 use Rattle.txn_words.specs.declared.refusal.Refusal.TheVariants.{NoMemory, NoSuchCaller, Limit}
@@ -8,46 +9,46 @@ use Rattle.striped_map.specs.declared.map.StripedMap.{StripedMap}
 use Rattle.map_answers.specs.declared.stop.Stop.{Stop}
 use Rattle.striped_map.specs.Callers.{IsNew}
 use Rattle.boostmap_c.specs.declared.member.Member.{Member}
-use Rattle.boostmap_c.specs.Replies.{done, empty, full, refused}
+use Rattle.boostmap_c.specs.Replies.{done, empty_handle, full, refused}
 use Rattle.boostmap_c.specs.Stops.{status_of_reply, word_of_reply, status_of_number, word_of_number, status_of_end}
 
 -- The member's caller makes a call that answers a value or none, and C is told the answer. The
 -- callers that wait still wait.
-abbrev pub Replies : (Caller → Result (Option ℕ) Stop → Caller → Type 0) → Option Member → ℕ → ℕ
+abbrev pub TellsReply : (Caller → Result (Option ℕ) Stop → Caller → Type 0) → Option Member → ℕ → ℕ
     → ℕ → Option Member → Type 0
-Replies Calls (Some old) status before after (Some new) =
+TellsReply Calls (Some old) status before after (Some new) =
     (answer : Result (Option ℕ) Stop) × Calls old.caller answer new.caller
     × (new.waiting ≡ old.waiting)
     × (status ≡ status_of_reply answer) × (after ≡ word_of_reply before answer)
-Replies Calls None status before after None = (status ≡ empty) × (after ≡ before)
-Replies Calls old status before after new = ⊥
+TellsReply Calls None status before after None = (status ≡ empty_handle) × (after ≡ before)
+TellsReply Calls old status before after new = ⊥
 
 -- The member's caller makes a call that answers a number, and C is told the answer.
-abbrev pub Numbers : (Caller → Result ℕ Stop → Caller → Type 0) → Option Member → ℕ → ℕ → ℕ
+abbrev pub TellsNumber : (Caller → Result ℕ Stop → Caller → Type 0) → Option Member → ℕ → ℕ → ℕ
     → Option Member → Type 0
-Numbers Calls (Some old) status before after (Some new) =
+TellsNumber Calls (Some old) status before after (Some new) =
     (answer : Result ℕ Stop) × Calls old.caller answer new.caller × (new.waiting ≡ old.waiting)
     × (status ≡ status_of_number answer) × (after ≡ word_of_number before answer)
-Numbers Calls None status before after None = (status ≡ empty) × (after ≡ before)
-Numbers Calls old status before after new = ⊥
+TellsNumber Calls None status before after None = (status ≡ empty_handle) × (after ≡ before)
+TellsNumber Calls old status before after new = ⊥
 
 -- The member's caller makes a call that answers nothing, and C is told the status.
-abbrev pub Ends : (Caller → Result Unit Stop → Caller → Type 0) → Option Member → ℕ
+abbrev pub TellsEnd : (Caller → Result Unit Stop → Caller → Type 0) → Option Member → ℕ
     → Option Member → Type 0
-Ends Calls (Some old) status (Some new) =
+TellsEnd Calls (Some old) status (Some new) =
     (answer : Result Unit Stop) × Calls old.caller answer new.caller
     × (new.waiting ≡ old.waiting) × (status ≡ status_of_end answer)
-Ends Calls None status None = status ≡ empty
-Ends Calls old status new = ⊥
+TellsEnd Calls None status None = status ≡ empty_handle
+TellsEnd Calls old status new = ⊥
 
 -- Whether a map can have these numbers of callers and stripes.
-abbrev pub are_limits : ℕ → ℕ → Bool
-are_limits callers stripes =
+abbrev pub are_striped_limits : ℕ → ℕ → Bool
+are_striped_limits callers stripes =
     (nat_le 1 callers && nat_le callers 4096) && (nat_le 1 stripes && nat_le stripes 4096)
 
 -- The first member of a map. No caller of the map has made a call. The member's own caller has the
 -- last number; the other callers wait in the member, in the order of their numbers from 1.
-pub record IsFirst (callers stripes : ℕ) (m : Member) : Type 0 where
+pub record IsFirstMember (callers stripes : ℕ) (m : Member) : Type 0 where
   pub map : StripedMap
   pub caller : IsNew map stripes callers m.caller
   pub count : length m.waiting.items + 1 ≡ callers
@@ -57,10 +58,10 @@ pub record IsFirst (callers stripes : ℕ) (m : Member) : Type 0 where
 -- The first member of a new map; or none, if the map's limits or memory are refused.
 abbrev pub OpensAt : ℕ → ℕ → ℕ → ℕ → ℕ → Option Member → Type 0
 OpensAt callers stripes status before after (Some new) =
-    (are_limits callers stripes ≡ true) × (status ≡ done) × (after ≡ callers)
-    × IsFirst callers stripes new
+    (are_striped_limits callers stripes ≡ true) × (status ≡ done) × (after ≡ callers)
+    × IsFirstMember callers stripes new
 OpensAt callers stripes status before after None =
-    (status ≡ refused (if are_limits callers stripes then NoMemory else Limit))
+    (status ≡ refused (if are_striped_limits callers stripes then NoMemory else Limit))
     × (after ≡ before)
 
 -- An empty handle gets the first member of a map; a handle with a member keeps it.
@@ -75,8 +76,8 @@ abbrev pub IsSame : Member → Member → Type 0
 IsSame old new = (new.caller ≡ old.caller) × (new.waiting.items ≡ old.waiting.items)
 
 -- The last caller that waits gets its own member, in which no caller waits. The word is the number
--- of the callers that waited, which by `IsFirst` is the number of this caller. Or no member is
--- made, since no caller waits or memory is refused.
+-- of the callers that waited, which by `IsFirstMember` is the number of this caller. If no caller
+-- waits or memory is refused, no member is made.
 abbrev pub JoinsOf : Member → ℕ → ℕ → ℕ → Member → Option Member → Type 0
 JoinsOf old status before after new (Some made) =
     (new.caller ≡ old.caller) × (old.waiting.items ≡ new.waiting.items ++ made.caller ∷ [])
@@ -90,12 +91,12 @@ abbrev pub Joins : Option Member → Option Member → ℕ → ℕ → ℕ → O
     → Type 0
 Joins (Some old) None status before after (Some new) made = JoinsOf old status before after new made
 Joins None None status before after new made =
-    (status ≡ empty) × (after ≡ before) × (new ≡ None) × (made ≡ None)
+    (status ≡ empty_handle) × (after ≡ before) × (new ≡ None) × (made ≡ None)
 Joins first (Some next) status before after new made =
     (status ≡ full) × (after ≡ before) × (new ≡ first) × (made ≡ Some next)
 Joins (Some old) None status before after None made = ⊥
 
 -- The handle no longer has a member.
-abbrev pub Leaves : Option Member → ℕ → Option Member → Type 0
-Leaves (Some old) status new = (status ≡ done) × (new ≡ None)
-Leaves None status new = (status ≡ empty) × (new ≡ None)
+abbrev pub LeavesMap : Option Member → ℕ → Option Member → Type 0
+LeavesMap (Some old) status new = (status ≡ done) × (new ≡ None)
+LeavesMap None status new = (status ≡ empty_handle) × (new ≡ None)

@@ -28,8 +28,8 @@ IsVerdictBy (ByLocks holder) stripes h outcome = on_locks.IsVerdictOn holder str
 IsVerdictBy ByCommits stripes h outcome = on_commits.IsVerdictOn h outcome
 
 -- The referee has been fed the same entries as before, and then this one.
-abbrev pub TakesIn : Entry → Referee → Referee → Type 0
-TakesIn entry old new =
+abbrev pub IsFedOneMore : Entry → Referee → Referee → Type 0
+IsFedOneMore entry old new =
     (way : Way) (stripes : ℕ) (h : List Entry)
     → IsFedBy way stripes h old → IsFedBy way stripes (h ++ entry ∷ []) new
 

@@ -18,8 +18,8 @@ abbrev pub busy : ℕ
 busy = 2
 
 -- The status of a call on a handle that owns nothing.
-abbrev pub empty : ℕ
-empty = 3
+abbrev pub empty_handle : ℕ
+empty_handle = 3
 
 -- The status of a call on a handle that owns something already.
 abbrev pub full : ℕ
@@ -38,17 +38,17 @@ abbrev pub refused : Refusal → ℕ
 refused refusal = 16 + number_of refusal
 
 -- The status of an answer. No call that C can make has an answer other than these.
-abbrev pub status_of : Answer → ℕ
-status_of (Done None) = absent
-status_of (Done (Some value)) = done
-status_of (Began transaction) = done
-status_of (Saved level) = done
-status_of (Returned level) = done
-status_of (Committed number) = done
-status_of Aborted = done
-status_of (Busy holder) = busy
-status_of (Refused refusal) = refused refusal
-status_of other = 63
+abbrev pub status_of_answer : Answer → ℕ
+status_of_answer (Done None) = absent
+status_of_answer (Done (Some value)) = done
+status_of_answer (Began transaction) = done
+status_of_answer (Saved level) = done
+status_of_answer (Returned level) = done
+status_of_answer (Committed number) = done
+status_of_answer Aborted = done
+status_of_answer (Busy holder) = busy
+status_of_answer (Refused refusal) = refused refusal
+status_of_answer other = 63
 
 -- The word after an answer: still `before` if the answer has no word.
 abbrev pub word_after : ℕ → Answer → ℕ
@@ -60,7 +60,7 @@ word_after before (Committed number) = number
 word_after before (Busy holder) = holder
 word_after before other = before
 
--- The status of a call that only succeeds or is refused.
+-- The status of a call that either succeeds or is refused.
 abbrev pub status_of_result : Result Unit Refusal → ℕ
 status_of_result (Ok succeeded) = done
 status_of_result (Err refusal) = refused refusal

@@ -1,5 +1,5 @@
--- The effect of each call of a striped map's caller, by the answer, in the words of the map's
--- contracts: the history that the caller has seen continues with entries of other callers, and then
+-- The effect of each call of a striped map's caller, for each answer, in the words of the map's
+-- contracts. The history that the caller has seen continues with entries of other callers, and then
 -- with exactly the entries that are listed here.
 use Rattle.std.specs.Prelude.{◌≡◌, ℕ, ◌<◌, ◌≤◌, ◌%◌, ◌^◌, [], ◌∷◌, true, false, Option, Some, None, Result, Ok, Err, if◌then◌else◌}
 use Rattle.txn_words.specs.declared.entry.Entry.TheVariants.{Began, Asked, Did, Saved, Leave, Returned, Committed, Aborted}
@@ -8,7 +8,7 @@ use Rattle.txn_words.specs.declared.refusal.Refusal.TheVariants.{NoMemory, NotOp
 use Rattle.striped_map.specs.declared.caller.Caller.{Caller}
 use Rattle.map_answers.specs.declared.stop.Stop.{Stop}
 use Rattle.map_answers.specs.declared.stop.Stop.TheVariants.{Refused}
-use Rattle.striped_map.specs.Callers.{number, seen, levels, changes, changes_above, IsStep, IsStopped}
+use Rattle.striped_map.specs.Callers.{number, seen, levels, changes_made, changes_above, IsStep, IsStopped}
 use Rattle.striped_map.specs.Lone.{RunsAlone}
 use Rattle.striped_map.specs.Steps.{undoing}
 
@@ -39,8 +39,9 @@ Returns level a (Ok nothing) b = (a.is_open ≡ true) × (b.is_open ≡ true) ×
 Returns level a (Err stop) b = (stop ≡ Refused (if a.is_open then NoSuchLevel else NotOpen))
     × (a.is_open ≡ true → levels a < level) × (b ≡ a)
 
--- The transaction is committed with a number, which is told modulo 2^64, and has the replies of
--- running alone after the commits before it; or there is no transaction.
+-- The transaction is committed, and its commit number is told modulo 2^64; or there is no
+-- transaction. A committed transaction has the same replies as if it ran alone on the map that the
+-- earlier commits leave.
 abbrev pub Commits : Caller → Result ℕ Stop → Caller → Type 0
 Commits a (Ok found) b = (a.is_open ≡ true) × (b.is_open ≡ false)
     × (place : ℕ) × (found ≡ place % 2 ^ 64) × IsStep a (Committed (number a) place ∷ []) b
@@ -50,5 +51,5 @@ Commits a (Err stop) b = (stop ≡ Refused NotOpen) × (a.is_open ≡ false) × 
 -- All changes are taken back, and the transaction is over; or there is no transaction.
 abbrev pub Aborts : Caller → Result Unit Stop → Caller → Type 0
 Aborts a (Ok nothing) b = (a.is_open ≡ true) × (b.is_open ≡ false)
-    × IsStep a (Leave (number a) None ∷ undoing (number a) (changes a) (Aborted (number a))) b
+    × IsStep a (Leave (number a) None ∷ undoing (number a) (changes_made a) (Aborted (number a))) b
 Aborts a (Err stop) b = (stop ≡ Refused NotOpen) × (a.is_open ≡ false) × (b ≡ a)

@@ -9,7 +9,7 @@ use Rattle.striped_map.specs.Callers.{seen, IsCut, IsStep}
 use Rattle.boostmap_c.specs.declared.member.Member.{Member}
 use Rattle.boostmap_c.specs.declared.read.CPair.{CPair}
 use Rattle.boostmap_c.specs.Contents.{LaysOf}
-use Rattle.boostmap_c.specs.Replies.{empty}
+use Rattle.boostmap_c.specs.Replies.{empty_handle}
 use Rattle.boostmap_c.specs.Stops.{status_of_stop, word_of_stop}
 
 -- The caller is in a transaction, before and after, and has added no entry.
@@ -31,5 +31,5 @@ ReadsMap (Some old) status before after was word (Some new) =
     ⊎ ((stop : Stop) × IsCut old.caller new.caller stop × (status ≡ status_of_stop stop)
     × (word ≡ word_of_stop was stop) × (after ≡ before)))
 ReadsMap None status before after was word None =
-    (status ≡ empty) × (after ≡ before) × (word ≡ was)
+    (status ≡ empty_handle) × (after ≡ before) × (word ≡ was)
 ReadsMap old status before after was word new = ⊥

@@ -3,7 +3,7 @@
 //! module reads the numbers, so a checker is fed only entries of callers below 64, as it requires.
 ghost use Rattle.std.specs.Prelude.{◌≡◌, ◌<◌, Some, IfSome};
 ghost use Rattle.txn_words.specs.Kinds.{caller_of};
-ghost use Rattle.boostmap_c.specs.Entries.{asked_of, busy_of, entry_of, judged_entry, op_of, optional, taken};
+ghost use Rattle.boostmap_c.specs.Entries.{asked_entry_of, busy_entry_of, entry_of, judged_entry, op_of, optional, accepted_entry};
 
 use txn_trace::{Entry, Op};
 
@@ -109,7 +109,7 @@ impl CEntry {
 
     /// The Asked entry of its operation, if that operation exists.
     fn asked(&self) -> Option<Entry>
-        ensures { result ≡ asked_of self.now (op_of self.now) }
+        ensures { result ≡ asked_entry_of self.now (op_of self.now) }
     {
         match self.op() {
             Some(op) => Some(Entry::Asked(self.caller, op)),
@@ -119,7 +119,7 @@ impl CEntry {
 
     /// The Busy entry of its operation, if that operation exists.
     fn busy(&self) -> Option<Entry>
-        ensures { result ≡ busy_of self.now (op_of self.now) }
+        ensures { result ≡ busy_entry_of self.now (op_of self.now) }
     {
         match self.op() {
             Some(op) => Some(Entry::Busy(self.caller, op, self.number)),
@@ -159,7 +159,7 @@ impl CEntry {
 
 /// An entry, if its caller is below 64.
 fn taken(entry: Entry) -> Option<Entry>
-    ensures value { result ≡ taken (Some entry) }
+    ensures value { result ≡ accepted_entry (Some entry) }
     ensures caller { IfSome result (λ entry. caller_of entry < 64) }
 {
     if entry.caller() >= 64 {

@@ -1,6 +1,6 @@
-//! The handle that C keeps, and the ways of a map out of it and back. No export sees the pointer:
-//! the tag says whether there is a map, so a call on an empty handle, except `boostmap_new`,
-//! answers 3 and touches nothing.
+//! The handle that C keeps, and the functions that take a map out of it and put one into it. No
+//! export sees the pointer: the tag says whether there is a map. So a call on an empty handle,
+//! except `boostmap_new`, answers 3 and touches nothing.
 ghost use Rattle.std.specs.Prelude.{◌≡◌, Some, None, IfSome, IsNone, true, false, is_some};
 ghost use Rattle.boostmap_c.specs.Held.{takes_stripes};
 
@@ -10,8 +10,8 @@ use owned_pointer::OwnedPointer;
 use std::alloc::Global;
 use std::mem;
 
-/// The tag of a handle with a map: the bytes of "bmap". It fits in 31 bits, so that a call compares
-/// and writes it within one instruction.
+/// The tag of a handle with a map: the bytes of "bmap". It fits in 31 bits, so one instruction can
+/// compare or write it.
 const LIVE: u64 = 0x7061_6d62;
 
 /// The handle of a map in C's memory: all zeros, or a map.
@@ -62,7 +62,7 @@ pub(crate) fn close(handle: &mut Handle, core: Box<Core, Global>)
     };
 }
 
-/// Answers this value, of a type that may go to another thread.
+/// Answers this value, which may go to another thread.
 pub(crate) fn sends<T: Send>(value: T) -> T
     ensures { result ≡ value }
 {

@@ -2,7 +2,7 @@
 //! handle, fed entry by entry. It needs no map of this library: entries are C's numbers. Invariant:
 //! the tag says whether the handle has a checker. A feed that is refused memory may be made again.
 ghost use Rattle.std.specs.Prelude.{◌≡◌, ◌<◌, Some, None, IfSome, IsNone, true, is_some};
-ghost use Rattle.boostmap_c.specs.Judges.{Begins, FedFront, Feeds, FeedsAll, FeedsEntry, Frees, Tells, verdict_of, way_for};
+ghost use Rattle.boostmap_c.specs.Judges.{BeginsJudging, FedFront, Feeds, FeedsAll, FeedsEntry, Frees, TellsVerdict, verdict_of, way_for};
 ghost use Rattle.boostmap_c.specs.Entries.{judged_entry};
 ghost use Rattle.boostmap_c.specs.Referees.{has_stripes};
 
@@ -172,7 +172,7 @@ pub extern "C" fn boostmap_judge_new(
     stripes: u64,
     rule: u32,
 ) -> u32
-    ensures { Begins judge.old.held.referee stripes rule result judge.new.held.referee }
+    ensures { BeginsJudging judge.old.held.referee stripes rule result judge.new.held.referee }
 {
     if judge.is_live() {
         return FULL;
@@ -257,7 +257,8 @@ pub extern "C" fn boostmap_judge_verdict(
     judge: &mut Judge,
     verdict: &mut CVerdict,
 ) -> u32
-    ensures { Tells judge.old.held.referee result verdict.old verdict.new judge.new.held.referee }
+    ensures { TellsVerdict judge.old.held.referee result verdict.old verdict.new
+        judge.new.held.referee }
 {
     let Some(referee) = open(alloc, judge) else {
         return EMPTY;

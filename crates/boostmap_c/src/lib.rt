@@ -21,8 +21,9 @@
 //!
 //! A call takes the object out of the handle, makes the library's call and puts the object back; a
 //! call of a striped map's caller borrows the member through the pointer instead. Each call tells C
-//! the answer by a status and at most one word. Besides, the two reads write pairs into an array,
-//! and `boostmap_judge_verdict` writes a `CVerdict`. The statuses:
+//! the answer by a status and at most one word. Besides, `boostmap_read` and
+//! `boostmap_striped_read` write pairs into an array, and `boostmap_judge_verdict` writes a
+//! `CVerdict`. The statuses:
 //!
 //! | Status | Meaning | The transaction then |
 //! |---|---|---|
@@ -47,11 +48,13 @@
 //! or waits.
 //!
 //! Proved of each export, in the words of `specs/Calls.antt`, `Contents.antt`, `Striped.antt`,
-//! `Members.antt` and `Judges.antt`: the contract of the library's call holds of the handle's
-//! object before and after the call and of the answer; the status and the word are those of this
-//! answer; no word is written if the answer has none; and a handle that owns an object still owns
-//! one after every call except a `free`. The judge's verdict is that of the checker's definition on
-//! the entries that the judge was fed, which are those that C's numbers stand for.
+//! `Members.antt` and `Judges.antt`:
+//! - The contract of the library's call holds of the handle's object before and after the call, and
+//!   of the answer.
+//! - The status and the word are those of this answer. No word is written if the answer has none.
+//! - A handle that owns an object still owns one after every call except a `free`.
+//! - The judge's verdict is the one that the checker's definition gives for the entries that were
+//!   fed. These are the entries that C's numbers stand for.
 //!
 //! Crossing from C to Rattle and back takes no memory and little time: `boostmap_count`, with its
 //! caller's loop, is 23 instructions. Calls take constant time and no memory unless they say

@@ -4,7 +4,7 @@
 ghost use Rattle.std.specs.Prelude.{◌≡◌, Some, None};
 ghost use Rattle.txn_words.specs.Map.{count_of};
 ghost use Rattle.txn_trace.specs.Now.{now};
-ghost use Rattle.boostmap_c.specs.Calls.{Counts, Frees, HelpsWith, Makes};
+ghost use Rattle.boostmap_c.specs.Calls.{Counts, Frees, HelpsWith, MakesMap};
 
 use crate::handle::{Handle, close, open};
 use crate::status::{DONE, EMPTY, FULL, refused, status_of};
@@ -31,7 +31,7 @@ pub extern "C" fn boostmap_new(
     stripes: u64,
     buckets: u64,
 ) -> u32
-    ensures { Makes map.old.held.core callers stripes buckets result map.new.held.core }
+    ensures { MakesMap map.old.held.core callers stripes buckets result map.new.held.core }
 {
     if map.is_live() {
         return FULL;
@@ -88,8 +88,8 @@ pub extern "C" fn boostmap_count(alloc: Global, map: &mut Handle, word: &mut u64
 }
 
 /// Doubles the table if it has more than two keys for each bucket and is not at its largest size,
-/// then initialises the bucket of a key. Nothing else doubles the table: call it now and then
-/// beside puts.
+/// then initialises the bucket of a key. Nothing else doubles the table, so a program should make
+/// this call now and then between its puts.
 ///
 /// # Errors
 ///

@@ -1,7 +1,10 @@
-//! A caller of a striped map as its handle owns it. The pointer of a handle names one type, so the
-//! callers that have no handle yet wait in the member of the first caller. Only this member has
-//! callers that wait, and no new caller is added to them. So if a join is refused memory, its
-//! caller goes back to its place among them, which takes no memory.
+//! A handle of a striped map owns a member. A member has one caller of the map, and a list of
+//! callers that wait for their handles. The list is empty in all members but that of the first
+//! caller. Every member has a list, since the pointers of all handles must name the same type.
+//!
+//! A join takes a caller from the list, and makes a member of it. If the join is refused memory,
+//! the caller goes back to the list. This takes no memory, since the list has kept the room for the
+//! caller.
 use striped_map::Caller;
 
 /// A caller of a striped map, and the callers of the map that wait for their handles.

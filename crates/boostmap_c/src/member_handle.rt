@@ -1,7 +1,7 @@
-//! The handle of a striped map's caller, and the ways of a member into it and out of it, as in
-//! `handle` for a map. It is another type, since a call of the caller borrows the member through
-//! the pointer. By the invariants `live` and `dead` the tag is "bmca" exactly if the pointer owns a
-//! member. That a call leaves the bytes of the handle unchanged is not promised.
+//! The handle of a striped map's caller, and the functions that put a member into it and take one
+//! out of it. The type differs from `Handle`, since a call of the caller borrows the member through
+//! the pointer. By the invariants `live` and `dead`, the tag is "bmca" exactly if the pointer owns
+//! a member. No contract promises that a call leaves the bytes of the handle unchanged.
 ghost use Rattle.std.specs.Prelude.{◌≡◌, Some, None, IfSome, IsNone, IsSome, true, false, is_some};
 
 use crate::handle::sends;

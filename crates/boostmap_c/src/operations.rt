@@ -1,9 +1,9 @@
 //! The operations of a transaction on one key. They are apart from `transactions`, since only they
-//! take a stripe, which the transaction holds to its end, and may be busy. Each puts the core back
-//! into the handle before it answers, so the handle has its map whatever the status is.
+//! may be busy: each takes a stripe, which the transaction then holds to its end. Each puts the
+//! core back into the handle before it answers, so the handle has its map whatever the status is.
 ghost use Rattle.std.specs.Prelude.{Some, None};
 ghost use Rattle.boost_core.specs.Plain.{Operates};
-ghost use Rattle.boostmap_c.specs.Calls.{Answers};
+ghost use Rattle.boostmap_c.specs.Calls.{TellsAnswer};
 
 use crate::handle::{Handle, close, open};
 use crate::status::{EMPTY, tell};
@@ -31,7 +31,7 @@ pub extern "C" fn boostmap_put(
     value: u64,
     word: &mut u64,
 ) -> u32
-    ensures { Answers (λ old answer new. Operates old caller (Op.Put key value) answer new)
+    ensures { TellsAnswer (λ old answer new. Operates old caller (Op.Put key value) answer new)
         map.old.held.core result word.old word.new map.new.held.core }
 {
     let Some(mut core) = open(alloc, map) else {
@@ -64,7 +64,8 @@ pub extern "C" fn boostmap_put_if_absent(
     value: u64,
     word: &mut u64,
 ) -> u32
-    ensures { Answers (λ old answer new. Operates old caller (Op.PutIf key None value) answer new)
+    ensures { TellsAnswer
+        (λ old answer new. Operates old caller (Op.PutIf key None value) answer new)
         map.old.held.core result word.old word.new map.new.held.core }
 {
     let Some(mut core) = open(alloc, map) else {
@@ -98,7 +99,7 @@ pub extern "C" fn boostmap_put_if_equal(
     value: u64,
     word: &mut u64,
 ) -> u32
-    ensures { Answers (λ old answer new. Operates old caller (Op.PutIf key (Some expected) value) answer new)
+    ensures { TellsAnswer (λ old answer new. Operates old caller (Op.PutIf key (Some expected) value) answer new)
         map.old.held.core result word.old word.new map.new.held.core }
 {
     let Some(mut core) = open(alloc, map) else {
@@ -129,7 +130,7 @@ pub extern "C" fn boostmap_take(
     key: u64,
     word: &mut u64,
 ) -> u32
-    ensures { Answers (λ old answer new. Operates old caller (Op.Take key) answer new)
+    ensures { TellsAnswer (λ old answer new. Operates old caller (Op.Take key) answer new)
         map.old.held.core result word.old word.new map.new.held.core }
 {
     let Some(mut core) = open(alloc, map) else {
@@ -160,7 +161,7 @@ pub extern "C" fn boostmap_get(
     key: u64,
     word: &mut u64,
 ) -> u32
-    ensures { Answers (λ old answer new. Operates old caller (Op.Get key) answer new)
+    ensures { TellsAnswer (λ old answer new. Operates old caller (Op.Get key) answer new)
         map.old.held.core result word.old word.new map.new.held.core }
 {
     let Some(mut core) = open(alloc, map) else {

@@ -1,6 +1,6 @@
 //! The content of a map, written into an array of C's: all pairs if there is room for them, and
-//! none if there is not. `striped_read` writes by the same function, and C has one type of pairs.
-//! The call takes memory for the pairs, which it frees before it ends.
+//! none if there is not. The module `striped_read` also calls `lay_all`, so C has one type of
+//! pairs. `boostmap_read` takes memory for the pairs, and frees it before it ends.
 ghost use Rattle.std.specs.Prelude.{◌≡◌, ◌≤◌, length};
 ghost use Rattle.boostmap_c.specs.Contents.{LaysOf, Lie, Reads};
 
@@ -18,7 +18,8 @@ pub struct CPair {
 }
 
 /// Writes the pairs of the map now, including the changes of open transactions, to the front of an
-/// array, in the order of the list, which is that of reversed bits; the word is their number.
+/// array; the word is their number. The pairs are in the order of the list, which is that of their
+/// keys' reversed bits.
 ///
 /// # Errors
 ///
@@ -49,8 +50,8 @@ pub extern "C" fn boostmap_read(
     lay_all(&listed, pairs, word)
 }
 
-/// Writes the number of these pairs, and, if the array has room for them, the pairs to its front.
-/// Answers the status.
+/// Writes the number of these pairs to the word. If the array has room for the pairs, writes them
+/// to its front. Answers the status.
 pub(crate) fn lay_all(listed: &[(u64, u64)], pairs: &mut [CPair], word: &mut u64) -> u32
     ensures { LaysOf listed.now result pairs.old pairs.new word.new }
 {

@@ -1,10 +1,11 @@
-//! The checker that a judge's handle owns: by locks, or by the order of commits. Both are one type,
-//! since the pointer of a handle names one type. A referee takes entries and not C's numbers, so
-//! its contracts speak only of checkers. Its rule is chosen when the referee is made, and never
-//! changes. A call costs as much as the same call of the checker.
+//! The checker that a judge's handle owns: by locks, or by the order of commits. The enum `Referee`
+//! is one type for both checkers, since the pointer of a handle names one type. A referee takes
+//! entries and not C's numbers, so its contracts do not mention these numbers. Its rule is chosen
+//! when the referee is made, and never changes. A call costs as much as the same call of the
+//! checker.
 ghost use Rattle.std.specs.Prelude.{◌≡◌, ◌<◌, [], IfOk, OnOk, OnErr};
 ghost use Rattle.txn_words.specs.Kinds.{caller_of};
-ghost use Rattle.boostmap_c.specs.Referees.{IsFedBy, IsVerdictOf, Stays, TakesIn, has_stripes};
+ghost use Rattle.boostmap_c.specs.Referees.{IsFedBy, IsVerdictOf, Stays, IsFedOneMore, has_stripes};
 
 use history_check::{Checker as LockChecker, Verdict};
 use serial_check::Checker as CommitChecker;
@@ -43,7 +44,7 @@ impl Referee {
     #[tactic(auto, using(crate::proofs::Referees::locks_taken, crate::proofs::Referees::locks_stay, crate::proofs::Referees::commits_taken, crate::proofs::Referees::commits_stay))]
     pub(crate) fn feed(&mut self, entry: &Entry) -> Result<(), AllocError>
         requires { caller_of entry.now < 64 }
-        ensures ok { OnOk result (TakesIn entry.now self.old self.new) }
+        ensures ok { OnOk result (IsFedOneMore entry.now self.old self.new) }
         ensures err { OnErr result (Stays self.old self.new) }
     {
         match self {

@@ -2,7 +2,7 @@
 //! some answers a word. The numbers are in one module because the calls of maps, striped maps and
 //! judges share them. An answer without a word leaves C's word unchanged.
 ghost use Rattle.std.specs.Prelude.{◌≡◌};
-ghost use Rattle.boostmap_c.specs.Replies.{refused, status_of, status_of_result, word_after};
+ghost use Rattle.boostmap_c.specs.Replies.{refused, status_of_answer, status_of_result, word_after};
 
 use txn_trace::{Answer, Refusal};
 
@@ -25,7 +25,7 @@ pub(crate) const FULL: u32 = 4;
 /// The array has too few places.
 pub(crate) const SHORT: u32 = 7;
 
-/// The numbers stand for no entry of a caller below 64.
+/// C's numbers stand for no entry, or for an entry whose caller is not below 64.
 pub(crate) const NO_ENTRY: u32 = 8;
 
 /// The status of a refusal is this number plus the refusal's number.
@@ -41,7 +41,7 @@ pub(crate) fn refused(refusal: Refusal) -> u32
     REFUSED + refusal.number() as u32
 }
 
-/// The status of a call that only succeeds or is refused.
+/// The status of a call that either succeeds or is refused.
 pub(crate) fn status_of(outcome: Result<(), Refusal>) -> u32
     ensures { result ≡ status_of_result outcome }
 {
@@ -53,7 +53,7 @@ pub(crate) fn status_of(outcome: Result<(), Refusal>) -> u32
 
 /// Writes an answer's word, if it has one, and answers its status.
 pub(crate) fn tell(answer: Answer, word: &mut u64) -> u32
-    ensures status { result ≡ status_of answer }
+    ensures status { result ≡ status_of_answer answer }
     ensures word { word.new ≡ word_after word.old answer }
 {
     match answer {

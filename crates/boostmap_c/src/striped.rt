@@ -3,7 +3,7 @@
 //! All callers are made when the map is opened; a join takes memory only for its member.
 ghost use Rattle.std.specs.Prelude.{◌≡◌, ◌++◌, [], ◌∷◌, IfOk, IfErr, OnOk, OnErr, true, length, nat_le, if◌then◌else◌};
 ghost use Rattle.txn_words.specs.declared.refusal.Refusal.TheVariants.{NoMemory, NoSuchCaller, Limit};
-ghost use Rattle.boostmap_c.specs.Members.{IsFirst, IsSame, Joins, Leaves, Opens, are_limits};
+ghost use Rattle.boostmap_c.specs.Members.{IsFirstMember, IsSame, Joins, LeavesMap, Opens, are_striped_limits};
 
 use crate::member::Member;
 use crate::member_handle::{CallerHandle, put_in, take_out};
@@ -14,17 +14,17 @@ use txn_trace::Refusal;
 
 /// Whether a map can have these numbers of callers and stripes.
 fn are_limits(callers: u64, stripes: u64) -> bool
-    ensures { result ≡ are_limits callers stripes }
+    ensures { result ≡ are_striped_limits callers stripes }
 {
     (1 <= callers && callers <= MOST as u64) && (1 <= stripes && stripes <= MOST as u64)
 }
 
 /// Opens a map, and answers its first member.
 fn first_member(alloc: Global, callers: u64, stripes: u64) -> Result<Box<Member, Global>, Refusal>
-    ensures limits { OnOk result (are_limits callers stripes ≡ true) }
-    ensures ok { IfOk result (λ member. IsFirst callers stripes member.value) }
+    ensures limits { OnOk result (are_striped_limits callers stripes ≡ true) }
+    ensures ok { IfOk result (λ member. IsFirstMember callers stripes member.value) }
     ensures err { IfErr result (λ refusal. refusal
-        ≡ (if are_limits callers stripes then NoMemory else Limit)) }
+        ≡ (if are_striped_limits callers stripes then NoMemory else Limit)) }
 {
     if !are_limits(callers, stripes) {
         return Err(Refusal::Limit);
@@ -41,7 +41,7 @@ fn first_member(alloc: Global, callers: u64, stripes: u64) -> Result<Box<Member,
     Ok(member)
 }
 
-/// Takes out the last caller that waits, as its own member.
+/// Takes out the last caller that waits, and puts it in a member of its own.
 fn next_member(alloc: Global, first: &mut Member) -> Result<Box<Member, Global>, Refusal>
     ensures caller { first.new.caller ≡ first.old.caller }
     ensures ok { IfOk result (λ member. (first.old.waiting.items
@@ -66,8 +66,8 @@ fn next_member(alloc: Global, first: &mut Member) -> Result<Box<Member, Global>,
     }
 }
 
-/// Opens a striped map with no keys, and gives the handle to its first caller; the word is that
-/// caller's number, which is the number of callers. The others wait, and get their handles by
+/// Opens a striped map with no keys, and gives the handle to its first caller. The word is this
+/// caller's number: `callers`, the largest one. The other callers wait, and get their handles by
 /// `boostmap_striped_join`.
 ///
 /// # Errors
@@ -156,7 +156,7 @@ pub extern "C" fn boostmap_striped_join(
 /// to the stripes and the keys. Takes no memory.
 #[unsafe(no_mangle)]
 pub extern "C" fn boostmap_striped_free(alloc: Global, caller: &mut CallerHandle) -> u32
-    ensures { Leaves caller.old.held.member result caller.new.held.member }
+    ensures { LeavesMap caller.old.held.member result caller.new.held.member }
 {
     match take_out(alloc, caller) {
         Some(_member) => DONE,

@@ -2,7 +2,7 @@
 //! waits, so callers of one map may be in calls at the same time, each with its own handle. None
 //! fills, empties or moves a handle. To pass through a handle takes constant time and no memory.
 ghost use Rattle.std.specs.Prelude.{Some, None};
-ghost use Rattle.boostmap_c.specs.Members.{Ends, Numbers, Replies};
+ghost use Rattle.boostmap_c.specs.Members.{TellsEnd, TellsNumber, TellsReply};
 ghost use Rattle.boostmap_c.specs.Striped.{Aborts, Begins, Commits, Operates, Returns, Saves};
 
 use crate::member_handle::CallerHandle;
@@ -18,7 +18,7 @@ use txn_trace::Op;
 /// on.
 #[unsafe(no_mangle)]
 pub extern "C" fn boostmap_striped_begin(caller: &mut CallerHandle) -> u32
-    ensures { Ends Begins caller.old.held.member result caller.new.held.member }
+    ensures { TellsEnd Begins caller.old.held.member result caller.new.held.member }
 {
     if !caller.is_live() {
         return EMPTY;
@@ -33,16 +33,16 @@ pub extern "C" fn boostmap_striped_begin(caller: &mut CallerHandle) -> u32
 /// # Errors
 ///
 /// 3 if the handle has no caller; 2 if another caller held the key's stripe: then the transaction
-/// is aborted, with all its changes taken back, and the word is the holder. A refusal leaves the
-/// transaction unchanged, except that after 30 it may hold the key's stripe: 19 (`NotOpen`), 30
-/// (`NoMemory`).
+/// is aborted, with all its changes taken back, and the word is the holder. The refusals are 19
+/// (`NotOpen`) and 30 (`NoMemory`). They leave the transaction unchanged, except that after 30 it
+/// may hold the key's stripe.
 ///
 /// # Cost
 ///
 /// That of `striped_map::Caller::get`.
 #[unsafe(no_mangle)]
 pub extern "C" fn boostmap_striped_get(caller: &mut CallerHandle, key: u64, word: &mut u64) -> u32
-    ensures { Replies (Operates (Op.Get key)) caller.old.held.member result word.old word.new
+    ensures { TellsReply (Operates (Op.Get key)) caller.old.held.member result word.old word.new
         caller.new.held.member }
 {
     if !caller.is_live() {
@@ -58,9 +58,9 @@ pub extern "C" fn boostmap_striped_get(caller: &mut CallerHandle, key: u64, word
 /// # Errors
 ///
 /// 3 if the handle has no caller; 2 if another caller held the key's stripe: then the transaction
-/// is aborted, with all its changes taken back, and the word is the holder. A refusal leaves the
-/// transaction unchanged, except that after 30 it may hold the key's stripe: 19 (`NotOpen`), 30
-/// (`NoMemory`).
+/// is aborted, with all its changes taken back, and the word is the holder. The refusals are 19
+/// (`NotOpen`) and 30 (`NoMemory`). They leave the transaction unchanged, except that after 30 it
+/// may hold the key's stripe.
 ///
 /// # Cost
 ///
@@ -72,8 +72,8 @@ pub extern "C" fn boostmap_striped_put(
     value: u64,
     word: &mut u64,
 ) -> u32
-    ensures { Replies (Operates (Op.Put key value)) caller.old.held.member result word.old word.new
-        caller.new.held.member }
+    ensures { TellsReply (Operates (Op.Put key value)) caller.old.held.member result
+        word.old word.new caller.new.held.member }
 {
     if !caller.is_live() {
         return EMPTY;
@@ -88,16 +88,16 @@ pub extern "C" fn boostmap_striped_put(
 /// # Errors
 ///
 /// 3 if the handle has no caller; 2 if another caller held the key's stripe: then the transaction
-/// is aborted, with all its changes taken back, and the word is the holder. A refusal leaves the
-/// transaction unchanged, except that after 30 it may hold the key's stripe: 19 (`NotOpen`), 30
-/// (`NoMemory`).
+/// is aborted, with all its changes taken back, and the word is the holder. The refusals are 19
+/// (`NotOpen`) and 30 (`NoMemory`). They leave the transaction unchanged, except that after 30 it
+/// may hold the key's stripe.
 ///
 /// # Cost
 ///
 /// That of `striped_map::Caller::take`.
 #[unsafe(no_mangle)]
 pub extern "C" fn boostmap_striped_take(caller: &mut CallerHandle, key: u64, word: &mut u64) -> u32
-    ensures { Replies (Operates (Op.Take key)) caller.old.held.member result word.old word.new
+    ensures { TellsReply (Operates (Op.Take key)) caller.old.held.member result word.old word.new
         caller.new.held.member }
 {
     if !caller.is_live() {
@@ -114,9 +114,9 @@ pub extern "C" fn boostmap_striped_take(caller: &mut CallerHandle, key: u64, wor
 /// # Errors
 ///
 /// 3 if the handle has no caller; 2 if another caller held the key's stripe: then the transaction
-/// is aborted, with all its changes taken back, and the word is the holder. A refusal leaves the
-/// transaction unchanged, except that after 30 it may hold the key's stripe: 19 (`NotOpen`), 30
-/// (`NoMemory`).
+/// is aborted, with all its changes taken back, and the word is the holder. The refusals are 19
+/// (`NotOpen`) and 30 (`NoMemory`). They leave the transaction unchanged, except that after 30 it
+/// may hold the key's stripe.
 ///
 /// # Cost
 ///
@@ -128,7 +128,7 @@ pub extern "C" fn boostmap_striped_put_if_absent(
     value: u64,
     word: &mut u64,
 ) -> u32
-    ensures { Replies (Operates (Op.PutIf key None value)) caller.old.held.member result word.old word.new
+    ensures { TellsReply (Operates (Op.PutIf key None value)) caller.old.held.member result word.old word.new
         caller.new.held.member }
 {
     if !caller.is_live() {
@@ -145,9 +145,9 @@ pub extern "C" fn boostmap_striped_put_if_absent(
 /// # Errors
 ///
 /// 3 if the handle has no caller; 2 if another caller held the key's stripe: then the transaction
-/// is aborted, with all its changes taken back, and the word is the holder. A refusal leaves the
-/// transaction unchanged, except that after 30 it may hold the key's stripe: 19 (`NotOpen`), 30
-/// (`NoMemory`).
+/// is aborted, with all its changes taken back, and the word is the holder. The refusals are 19
+/// (`NotOpen`) and 30 (`NoMemory`). They leave the transaction unchanged, except that after 30 it
+/// may hold the key's stripe.
 ///
 /// # Cost
 ///
@@ -160,7 +160,7 @@ pub extern "C" fn boostmap_striped_put_if_equal(
     value: u64,
     word: &mut u64,
 ) -> u32
-    ensures { Replies (Operates (Op.PutIf key (Some expected) value)) caller.old.held.member result word.old word.new
+    ensures { TellsReply (Operates (Op.PutIf key (Some expected) value)) caller.old.held.member result word.old word.new
         caller.new.held.member }
 {
     if !caller.is_live() {
@@ -183,7 +183,8 @@ pub extern "C" fn boostmap_striped_put_if_equal(
 /// That of `striped_map::Caller::save`.
 #[unsafe(no_mangle)]
 pub extern "C" fn boostmap_striped_save(caller: &mut CallerHandle, word: &mut u64) -> u32
-    ensures { Numbers Saves caller.old.held.member result word.old word.new caller.new.held.member }
+    ensures { TellsNumber Saves caller.old.held.member result word.old word.new
+        caller.new.held.member }
 {
     if !caller.is_live() {
         return EMPTY;
@@ -206,7 +207,7 @@ pub extern "C" fn boostmap_striped_save(caller: &mut CallerHandle, word: &mut u6
 /// A step for each change that is taken back; takes no memory.
 #[unsafe(no_mangle)]
 pub extern "C" fn boostmap_striped_back(caller: &mut CallerHandle, level: u64) -> u32
-    ensures { Ends (Returns level) caller.old.held.member result caller.new.held.member }
+    ensures { TellsEnd (Returns level) caller.old.held.member result caller.new.held.member }
 {
     if !caller.is_live() {
         return EMPTY;
@@ -227,7 +228,7 @@ pub extern "C" fn boostmap_striped_back(caller: &mut CallerHandle, level: u64) -
 /// A step for each change, each savepoint and each stripe; takes no memory.
 #[unsafe(no_mangle)]
 pub extern "C" fn boostmap_striped_commit(caller: &mut CallerHandle, word: &mut u64) -> u32
-    ensures { Numbers Commits caller.old.held.member result word.old word.new
+    ensures { TellsNumber Commits caller.old.held.member result word.old word.new
         caller.new.held.member }
 {
     if !caller.is_live() {
@@ -249,7 +250,7 @@ pub extern "C" fn boostmap_striped_commit(caller: &mut CallerHandle, word: &mut 
 /// A step for each change, each savepoint and each stripe; takes no memory.
 #[unsafe(no_mangle)]
 pub extern "C" fn boostmap_striped_abort(caller: &mut CallerHandle) -> u32
-    ensures { Ends Aborts caller.old.held.member result caller.new.held.member }
+    ensures { TellsEnd Aborts caller.old.held.member result caller.new.held.member }
 {
     if !caller.is_live() {
         return EMPTY;

@@ -2,7 +2,7 @@
 //! that look at the whole map. Each takes time in proportion to the stripes; the read also walks
 //! over each stripe's hash map, and sorts the pairs. After a call that answers 0 or 7, the
 //! transaction holds every stripe: until it ends, no operation of another caller is done.
-ghost use Rattle.boostmap_c.specs.Members.{Numbers};
+ghost use Rattle.boostmap_c.specs.Members.{TellsNumber};
 ghost use Rattle.boostmap_c.specs.StripedContents.{Counts, ReadsMap};
 
 use crate::member_handle::CallerHandle;
@@ -16,15 +16,16 @@ use crate::stops::{tell_number, tell_stop};
 /// # Errors
 ///
 /// 3 if the handle has no caller; 2 if another caller held a stripe: then the transaction is
-/// aborted, with all its changes taken back, and the word is the holder. A refusal leaves the
-/// transaction unchanged, except that it may hold more stripes: 19 (`NotOpen`), 30 (`NoMemory`).
+/// aborted, with all its changes taken back, and the word is the holder. The refusals are 19
+/// (`NotOpen`) and 30 (`NoMemory`). They leave the transaction unchanged, except that it may hold
+/// more stripes.
 ///
 /// # Cost
 ///
 /// That of `striped_map::Caller::len`.
 #[unsafe(no_mangle)]
 pub extern "C" fn boostmap_striped_count(caller: &mut CallerHandle, word: &mut u64) -> u32
-    ensures { Numbers Counts caller.old.held.member result word.old word.new
+    ensures { TellsNumber Counts caller.old.held.member result word.old word.new
         caller.new.held.member }
 {
     if !caller.is_live() {
@@ -41,8 +42,8 @@ pub extern "C" fn boostmap_striped_count(caller: &mut CallerHandle, word: &mut u
 ///
 /// # Errors
 ///
-/// The array is unchanged: those of `boostmap_striped_count`, and 7 if it has too few places; then
-/// the word is the number that it needs.
+/// Those of `boostmap_striped_count`, and 7 if the array has too few places; after 7 the word is
+/// the number of places that are needed. The array is unchanged after each error.
 ///
 /// # Cost
 ///

@@ -1,9 +1,9 @@
 //! The beginning and the ends of a transaction, and its savepoints. These calls name no key and ask
 //! for no stripe, so none of them is busy. By their contracts a commit and an abort are never
 //! refused with `NoMemory`, so a transaction can be ended when other calls are refused memory.
-ghost use Rattle.boost_core.specs.Machine.{Event};
+ghost use Rattle.boost_core.specs.Machine.{Happens};
 ghost use Rattle.boost_core.specs.Plain.{Aborts, Returns};
-ghost use Rattle.boostmap_c.specs.Calls.{Answers};
+ghost use Rattle.boostmap_c.specs.Calls.{TellsAnswer};
 
 use crate::handle::{Handle, close, open};
 use crate::status::{EMPTY, tell};
@@ -27,7 +27,7 @@ pub extern "C" fn boostmap_begin(
     caller: u64,
     word: &mut u64,
 ) -> u32
-    ensures { Answers (λ old answer new. Event old (Step.Begin caller) answer new)
+    ensures { TellsAnswer (λ old answer new. Happens old (Step.Begin caller) answer new)
         map.old.held.core result word.old word.new map.new.held.core }
 {
     let Some(mut core) = open(alloc, map) else {
@@ -50,7 +50,7 @@ pub extern "C" fn boostmap_begin(
 /// Amortized constant time; may take memory for the history and the level.
 #[unsafe(no_mangle)]
 pub extern "C" fn boostmap_save(alloc: Global, map: &mut Handle, caller: u64, word: &mut u64) -> u32
-    ensures { Answers (λ old answer new. Event old (Step.Save caller) answer new)
+    ensures { TellsAnswer (λ old answer new. Happens old (Step.Save caller) answer new)
         map.old.held.core result word.old word.new map.new.held.core }
 {
     let Some(mut core) = open(alloc, map) else {
@@ -72,7 +72,7 @@ pub extern "C" fn boostmap_save(alloc: Global, map: &mut Handle, caller: u64, wo
 /// # Cost
 ///
 /// That of an operation for each change that is taken back, and a step for each savepoint that is
-/// dropped; may take memory, only for the history.
+/// dropped; may take memory, but only for the history.
 #[unsafe(no_mangle)]
 pub extern "C" fn boostmap_back(
     alloc: Global,
@@ -81,7 +81,7 @@ pub extern "C" fn boostmap_back(
     level: u64,
     word: &mut u64,
 ) -> u32
-    ensures { Answers (λ old answer new. Returns old caller level answer new)
+    ensures { TellsAnswer (λ old answer new. Returns old caller level answer new)
         map.old.held.core result word.old word.new map.new.held.core }
 {
     let Some(mut core) = open(alloc, map) else {
@@ -109,7 +109,7 @@ pub extern "C" fn boostmap_commit(
     caller: u64,
     word: &mut u64,
 ) -> u32
-    ensures { Answers (λ old answer new. Event old (Step.Commit caller) answer new)
+    ensures { TellsAnswer (λ old answer new. Happens old (Step.Commit caller) answer new)
         map.old.held.core result word.old word.new map.new.held.core }
 {
     let Some(mut core) = open(alloc, map) else {
@@ -137,7 +137,7 @@ pub extern "C" fn boostmap_abort(
     caller: u64,
     word: &mut u64,
 ) -> u32
-    ensures { Answers (λ old answer new. Aborts old caller answer new)
+    ensures { TellsAnswer (λ old answer new. Aborts old caller answer new)
         map.old.held.core result word.old word.new map.new.held.core }
 {
     let Some(mut core) = open(alloc, map) else {

@@ -1,12 +1,13 @@
 -- The lines of verdicts, written completely or in part.
 use Rattle.std.proofs.Common.{◌≡◌, List, ℕ, Option, refl, ◌∙◌}
-use Rattle.txn_trace.specs.Legal.{Verdict}
+use Rattle.history_check.specs.declared.verdict.Verdict.{Verdict}
+use Rattle.history_check.specs.Verdicts.{says_legal, verdict_line}
 use Rattle.boostmap_engine.specs.declared.fault.Fault.TheVariants.{Write}
-use Rattle.boostmap_engine.specs.Written.{IsRead, AppendsPart, Leaves}
-use Rattle.boostmap_engine.specs.Judgement.{verdict_line, says_legal, IsJudged, IsJudgementOf, IsNoHistoryFile}
+use Rattle.boostmap_engine.specs.Written.{IsRead, AppendsPart, LeavesOutput}
+use Rattle.boostmap_engine.specs.Judgement.{IsJudged, IsJudgementOf, IsNoHistoryFile}
 
 -- If a write failed, the output has grown by a proper beginning of the line of the verdict on the
 -- bytes that were read.
-pub Leaves-line : (remaining old new : Option (List ℕ)) (read bytes line text : List ℕ) (outcome : Verdict) → IsRead remaining read → bytes ≡ read → IsJudged bytes outcome → line ≡ verdict_line outcome → text ≡ line → AppendsPart old new text → Leaves IsJudgementOf IsNoHistoryFile remaining old new Write
+pub Leaves-line : (remaining old new : Option (List ℕ)) (read bytes line text : List ℕ) (outcome : Verdict) → IsRead remaining read → bytes ≡ read → IsJudged bytes outcome → line ≡ verdict_line outcome → text ≡ line → AppendsPart old new text → LeavesOutput IsJudgementOf IsNoHistoryFile remaining old new Write
 Leaves-line remaining old new read bytes line text outcome was_read same judged is_line whole part =
     (bytes, text, rw same was_read, (says_legal outcome, (outcome, judged, refl, whole ∙ is_line)), part)

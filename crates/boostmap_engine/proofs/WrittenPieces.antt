@@ -7,7 +7,7 @@ use Rattle.std.proofs.lemmas.List.{append-nil, drop_at, take_at, take-append-le}
 use Rattle.txn_files.specs.FileFault.{FileFault}
 use Rattle.boostmap_engine.specs.declared.fault.Fault.{Fault}
 use Rattle.boostmap_engine.specs.declared.fault.Fault.TheVariants as faults
-use Rattle.boostmap_engine.specs.Written.{AppendsPart, IsRead, Leaves, LeavesText}
+use Rattle.boostmap_engine.specs.Written.{AppendsPart, IsRead, LeavesOutput, LeavesText}
 use Rattle.boostmap_engine.proofs.Known.{Appends-then}
 
 take-past : (xs ys : List ℕ) (n : ℕ) → take (length xs + n) (xs ++ ys) ≡ xs ++ take n ys
@@ -49,7 +49,7 @@ if_err (Ok x) P Q f h = tt
 if_err (Err e) P Q f h = f e h
 
 -- The output after a fault in writing a text of the bytes that were read.
-pub leaves_of : (IsTextOf : List ℕ → List ℕ → Type 0) (IsRefused : List ℕ → FileFault → Type 0) (remaining old new : Option (List ℕ)) (bytes text : List ℕ) → IsRead remaining bytes → IsTextOf bytes text → (fault : Fault) → LeavesText old new text fault → Leaves IsTextOf IsRefused remaining old new fault
+pub leaves_of : (IsTextOf : List ℕ → List ℕ → Type 0) (IsRefused : List ℕ → FileFault → Type 0) (remaining old new : Option (List ℕ)) (bytes text : List ℕ) → IsRead remaining bytes → IsTextOf bytes text → (fault : Fault) → LeavesText old new text fault → LeavesOutput IsTextOf IsRefused remaining old new fault
 leaves_of IsTextOf IsRefused remaining old new bytes text read is faults.Write h = (bytes, text, read, is, h)
 leaves_of IsTextOf IsRefused remaining old new bytes text read is faults.NoMemory h = h
 leaves_of IsTextOf IsRefused remaining old new bytes text read is (faults.Input fault) h = absurd h

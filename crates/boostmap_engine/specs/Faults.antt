@@ -27,7 +27,7 @@ message_of Read = codes "read failed"
 message_of Write = codes "write failed"
 message_of OutOfStep = codes "out of step"
 
--- The fault that a fault of a file becomes. Lack of memory is not the file's fault.
+-- The program's fault for a fault of a file. Lack of memory is not the file's fault.
 abbrev pub of_file : FileFault → Fault
 of_file files.NoMemory = NoMemory
 of_file files.NotJson = Input files.NotJson

@@ -34,7 +34,7 @@ last_text last =
     size_text last.size (count_of (now last.history))
     ++ pairs_text (ordered (now last.history))
 
--- The answers of a run, then the end of the report, from its last state.
+-- The report of a run: its answers, then the text of its last state.
 abbrev pub report : List Answer → State → List ℕ
 report answers last = answers_text answers ++ last_text last
 
@@ -45,12 +45,12 @@ pub record IsReport (sizes : Sizes) (steps : List Step) (text : List ℕ) : Type
   pub run : Run sizes steps answers last
   pub whole : text ≡ report answers last
 
--- The report of a run of the steps that the bytes are.
+-- The report of a run of the steps in the bytes.
 abbrev pub IsReportOf : List ℕ → List ℕ → Type 0
 IsReportOf bytes text =
     (sizes : Sizes) × (steps : List Step) × (file_of bytes ≡ Ok (sizes, steps))
     × IsReport sizes steps text
 
--- The bytes are no step file, for this fault.
+-- The bytes are refused as a step file, with this fault.
 abbrev pub IsNoStepFile : List ℕ → FileFault → Type 0
 IsNoStepFile bytes fault = file_of bytes ≡ Err fault

@@ -2,7 +2,7 @@
 //! all of its memory, and only then writes. So a fault before the first write leaves the output
 //! unchanged.
 ghost use Rattle.std.specs.Prelude.{OnOk, IfOk, IfErr};
-ghost use Rattle.boostmap_engine.specs.Written.{Writes, Leaves};
+ghost use Rattle.boostmap_engine.specs.Written.{WritesTextOf, LeavesOutput};
 ghost use Rattle.boostmap_engine.specs.Report.{IsReportOf, IsNoStepFile};
 ghost use Rattle.boostmap_engine.specs.Judgement.{IsJudgement, IsJudgementOf, IsNoHistoryFile};
 ghost use Rattle.boostmap_engine.specs.Mixture.{IsMixtureOf, IsNoScriptFile};
@@ -40,9 +40,9 @@ use std::io::{Read, Write};
 /// That of `Core::new` and of the steps, and time and memory in proportion to the file and the
 /// report.
 pub fn replay<R: Read, W: Write>(alloc: Global, input: &mut R, output: &mut W) -> Result<(), Fault>
-    ensures reports { OnOk result (Writes IsReportOf (R.remaining input.old)
+    ensures reports { OnOk result (WritesTextOf IsReportOf (R.remaining input.old)
         (W.contents output.old) (W.contents output.new)) }
-    ensures fault { IfErr result (Leaves IsReportOf IsNoStepFile (R.remaining input.old)
+    ensures fault { IfErr result (LeavesOutput IsReportOf IsNoStepFile (R.remaining input.old)
         (W.contents output.old) (W.contents output.new)) }
 {
     let bytes = read_input(alloc, input)?;
@@ -52,9 +52,9 @@ pub fn replay<R: Read, W: Write>(alloc: Global, input: &mut R, output: &mut W) -
 
 /// Reads a history file to its end, judges the history, writes the verdict as one line that ends
 /// with a line feed, and answers whether the history is legal. The line is `legal C commits O open`
-/// with the numbers of commits and of callers that are in a transaction at the end, or `illegal
-/// entry I rule R` with the index, from 0, of the first entry that breaks a rule, and the rule: 1
-/// replies, 2 locks, 3 shape.
+/// or `illegal entry I rule R`. `C` is the number of commits, and `O` the number of callers that
+/// are in a transaction at the end. `I` is the index, from 0, of the first entry that breaks a
+/// rule, and `R` is that rule: 1 for replies, 2 for locks, 3 for shape.
 ///
 /// At most 16,777,217 bytes are read. No call of the reader or the writer is repeated after it
 /// failed.
@@ -72,9 +72,9 @@ pub fn replay<R: Read, W: Write>(alloc: Global, input: &mut R, output: &mut W) -
 ///
 /// That of `history_check::check`, and time and memory in proportion to the file.
 pub fn check<R: Read, W: Write>(alloc: Global, input: &mut R, output: &mut W) -> Result<bool, Fault>
-    ensures judges { IfOk result (λ legal. Writes (IsJudgement legal) (R.remaining input.old)
+    ensures judges { IfOk result (λ legal. WritesTextOf (IsJudgement legal) (R.remaining input.old)
         (W.contents output.old) (W.contents output.new)) }
-    ensures fault { IfErr result (Leaves IsJudgementOf IsNoHistoryFile (R.remaining input.old)
+    ensures fault { IfErr result (LeavesOutput IsJudgementOf IsNoHistoryFile (R.remaining input.old)
         (W.contents output.old) (W.contents output.new)) }
 {
     let bytes = read_input(alloc, input)?;
@@ -89,8 +89,9 @@ pub fn check<R: Read, W: Write>(alloc: Global, input: &mut R, output: &mut W) ->
 ///
 /// Before each turn the generator `Pcg32` of this seed draws its next word, even if only one worker
 /// still has a step to take. The workers that still have a step to take get places from 0, in
-/// rising order; the turn goes to the worker whose place is the word modulo the number of these
-/// workers. So, if no step is refused memory, the same file and seed give the same bytes.
+/// rising order of their numbers. The turn goes to the worker whose place is the word modulo the
+/// number of these workers. So, if no step is refused memory, the same file and seed give the same
+/// bytes.
 ///
 /// At most 16,777,217 bytes are read. No call of the reader or the writer is repeated after it
 /// failed.
@@ -115,9 +116,9 @@ pub fn mix<R: Read, W: Write>(
     input: &mut R,
     output: &mut W,
 ) -> Result<(), Fault>
-    ensures mixes { OnOk result (Writes (IsMixtureOf seed) (R.remaining input.old)
+    ensures mixes { OnOk result (WritesTextOf (IsMixtureOf seed) (R.remaining input.old)
         (W.contents output.old) (W.contents output.new)) }
-    ensures fault { IfErr result (Leaves (IsMixtureOf seed) IsNoScriptFile
+    ensures fault { IfErr result (LeavesOutput (IsMixtureOf seed) IsNoScriptFile
         (R.remaining input.old) (W.contents output.old) (W.contents output.new)) }
 {
     let bytes = read_input(alloc, input)?;

@@ -10,7 +10,7 @@ use std::fmt;
 use thiserror::Error;
 use txn_files::FileFault;
 
-/// The usage, which is printed if the words of the call are no call of the program.
+/// The usage, which is printed if the command line is no call of the program.
 const USAGE: &str = "usage: boostmap replay FILE | boostmap run FILE
        boostmap mix --seed N FILE | boostmap check FILE
 
@@ -32,9 +32,9 @@ Example: boostmap check examples/checked.json";
 #[derive(Debug, Drop, Error)]
 #[error("{}", Message {fault: self})]
 pub enum Fault {
-    /// The words are no call of the program.
+    /// The command line is no call of the program.
     Usage,
-    /// The input was refused as a file, for this fault.
+    /// The file was refused, with this fault.
     Input(FileFault),
     /// Memory was refused.
     NoMemory,

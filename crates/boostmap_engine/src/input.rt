@@ -1,6 +1,6 @@
-//! Reading the input of each command, also of `run` in the crate above: up to one byte more than a
-//! file may have, so a file that is too long is found without reading all of it. A reader is not
-//! called again after it failed. Takes memory for the bytes, and 64 KB for a chunk.
+//! Reading the input of each command, also that of `run` in the crate above. At most one byte more
+//! than a file may have is read, so a file that is too long is found without reading all of it. A
+//! reader is not called again after it failed. Takes memory for the bytes, and 64 KB for a chunk.
 ghost use Rattle.std.specs.Prelude.{◌≡◌, length, IfOk, IfErr};
 ghost use Rattle.boostmap_engine.specs.Written.{IsRead};
 ghost use Rattle.piece_files.specs.Faults.{Gives};
@@ -29,8 +29,8 @@ fn zeros(alloc: Global, count: usize) -> Result<Vec<u8>, AllocError>
 ///
 /// # Errors
 ///
-/// `Read` if a read fails, after which the reader is not called again; `NoMemory` if memory
-/// is refused.
+/// `Read` if a read fails; the reader is not called again after that. `NoMemory` if memory is
+/// refused.
 ///
 /// # Cost
 ///

@@ -1,9 +1,9 @@
 //! The line that `check` prints: the verdict on the entries of a history file, by the rule of locks
-//! that the file's version has. The checker knows no versions; here the version chooses its rule.
-//! The bytes are dropped before the entries are judged.
+//! that the file's version has. The checker knows no versions, so this module chooses the
+//! checker's rule by the version. The bytes are dropped before the entries are judged.
 ghost use Rattle.std.specs.Prelude.{◌≡◌, IfOk, IfErr, string_bytes};
-ghost use Rattle.history_check.specs.Verdicts.{meaning_of};
-ghost use Rattle.boostmap_engine.specs.Judgement.{verdict_line, says_legal, IsJudged, IsNoHistoryFile};
+ghost use Rattle.history_check.specs.Verdicts.{says_legal, verdict_line};
+ghost use Rattle.boostmap_engine.specs.Judgement.{IsJudged, IsNoHistoryFile};
 ghost use Rattle.boostmap_engine.specs.Written.{HasNone};
 
 use crate::fault::Fault;
@@ -11,7 +11,7 @@ use history_check::{Verdict, check_packed};
 use std::alloc::{AllocError, Global};
 use txn_files::{holder_in, into_packed_history};
 
-/// The verdict on the history that the bytes are, by the rule of their version.
+/// The verdict on the history in the bytes, by the rule of their version.
 ///
 /// # Errors
 ///
@@ -21,7 +21,7 @@ use txn_files::{holder_in, into_packed_history};
 ///
 /// That of `history_check::check`, and time and memory in proportion to the bytes.
 pub fn judge(alloc: Global, bytes: Vec<u8>) -> Result<Verdict, Fault>
-    ensures ok { IfOk result (λ verdict. IsJudged bytes.items (meaning_of verdict)) }
+    ensures ok { IfOk result (IsJudged bytes.items) }
     ensures err { IfErr result (HasNone IsNoHistoryFile bytes.items) }
 {
     let (stripes, entries, version) = into_packed_history(alloc, bytes)?;
@@ -39,7 +39,7 @@ pub fn judge(alloc: Global, bytes: Vec<u8>) -> Result<Verdict, Fault>
 ///
 /// Time and memory in proportion to the line, which is at most 61 bytes.
 pub fn line_of(alloc: Global, verdict: Verdict) -> Result<String, AllocError>
-    ensures { IfOk result (λ line. string_bytes line ≡ verdict_line (meaning_of verdict)) }
+    ensures { IfOk result (λ line. string_bytes line ≡ verdict_line verdict) }
 {
     let mut line = String::new(alloc);
     match verdict {
@@ -60,7 +60,7 @@ pub fn line_of(alloc: Global, verdict: Verdict) -> Result<String, AllocError>
 ///
 /// Constant time; takes no memory.
 pub fn is_legal(verdict: Verdict) -> bool
-    ensures { result ≡ says_legal (meaning_of verdict) }
+    ensures { result ≡ says_legal verdict }
 {
     matches!(verdict, Verdict::Legal { .. })
 }

@@ -5,16 +5,16 @@
 //! - `replay` runs the steps of a step file on a new core, and writes the report: each step's
 //!   answer, the size and the count, and the pairs of the map in list order.
 //! - `check` judges the history of a history file, and writes the verdict as one line.
-//! - `mix` runs the scripts of a script file, its workers' turns mixed as a seed says, and writes
-//!   the history.
+//! - `mix` runs the scripts of a script file, with the workers' turns mixed as a seed says, and
+//!   writes the history.
 //!
 //! The engine of `run` is in `boostmap_program`, since it starts threads; it uses `read_input`,
 //! `scripts_in` and `write_history` too.
 //!
-//! Proved: the output is exactly the report of a run of the steps that the bytes are
-//! (`specs/Report.antt`), the line of the verdict on the history that they are
-//! (`specs/Judgement.antt`), or a legal history in which the workers' committed transactions play
-//! the scripts that the bytes are (`specs/Mixture.antt`). At the faults `Input`, `Read` and
+//! Proved: `replay` writes exactly the report of a run of the file's steps (`specs/Report.antt`),
+//! and `check` writes exactly the line of the verdict on the file's history
+//! (`specs/Judgement.antt`). `mix` writes a legal history in which the workers' committed
+//! transactions play the file's scripts (`specs/Mixture.antt`). At the faults `Input`, `Read` and
 //! `NoMemory` nothing is written; at `Write`, a proper beginning of the text is written
 //! (`specs/Written.antt`).
 //!

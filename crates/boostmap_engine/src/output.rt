@@ -18,7 +18,7 @@ use txn_words::SmallEntry;
 ///
 /// # Errors
 ///
-/// `Write` if the writer fails or takes nothing, after which it is not called again: a proper
+/// `Write` if the writer fails or takes nothing. Then it is not called again, and a proper
 /// beginning of the text is written.
 ///
 /// # Cost
@@ -41,13 +41,14 @@ pub fn write_text<W: Write>(output: &mut W, text: &[u8]) -> Result<(), Fault>
     Ok(())
 }
 
-/// Writes the text of a history, as `history_text` makes it, and a line feed. It is written in
-/// pieces of 64 KB, so it is never in memory as a whole.
+/// Writes the text of a history, as `history_text` makes it, and a line feed. The text is written
+/// in pieces of 64 KB, so it is never in memory as a whole.
 ///
 /// # Errors
 ///
-/// - `NoMemory` if memory is refused, before the first write: nothing is written.
-/// - `Write` if the writer fails or takes nothing, after which it is not called again: a proper
+/// - `NoMemory` if memory is refused. All memory is taken before the first write, so nothing is
+///   written.
+/// - `Write` if the writer fails or takes nothing. Then it is not called again, and a proper
 ///   beginning of the line is written.
 ///
 /// # Cost

@@ -30,11 +30,11 @@ fn give_back(steps: &mut Vec<PackedStep>)
     }
 }
 
-/// Takes the steps one after the other on a core whose stripes are not words, and appends the
-/// answer to each to the text, one on each line.
+/// Takes the steps one after the other on a core whose stripes are not words, and appends each
+/// answer to the text, as one line.
 ///
-/// The steps are reversed first, and taken from the end of the vector. So the memory of those that
-/// were taken can be given back while the history grows.
+/// The steps are reversed first, and taken from the end of the vector. So the memory of the steps
+/// that were taken can be given back while the history grows.
 fn put_answers(
     text: &mut String,
     core: &mut Core,
@@ -86,7 +86,8 @@ fn text_of_run(alloc: Global, limits: Limits, steps: Vec<PackedStep>) -> Result<
     let Ok(mut core) = Core::new(alloc, limits) else {
         return Err(AllocError);
     };
-    // If room for an entry of each step is refused, the history grows as they are added.
+    // If this room, for an entry of each step, is refused, the history grows while entries are
+    // added.
     let _room = core.reserve(steps.len(), false);
     let mut text = String::with_capacity(alloc, steps.len().saturating_mul(ANSWER))?;
     put_answers(&mut text, &mut core, steps)?;
@@ -94,7 +95,7 @@ fn text_of_run(alloc: Global, limits: Limits, steps: Vec<PackedStep>) -> Result<
     Ok(text)
 }
 
-/// The report of the steps that the bytes are, run on a new core. If the file is of version 1, the
+/// The report of a run, on a new core, of the steps in the bytes. If the file is of version 1, the
 /// core takes only keys below 2^63. The bytes are dropped before the first step is taken.
 ///
 /// # Errors

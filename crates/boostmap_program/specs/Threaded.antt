@@ -13,7 +13,7 @@ use Rattle.boostmap_engine.specs.declared.fault.Fault.{Fault}
 use Rattle.boostmap_engine.specs.declared.fault.Fault.TheVariants as faults
 use Rattle.boostmap_engine.specs.Mixture.{IsNoScriptFile}
 use Rattle.boostmap_engine.specs.Report.{line}
-use Rattle.boostmap_engine.specs.Written.{HasNone, Leaves, Writes}
+use Rattle.boostmap_engine.specs.Written.{HasNone, LeavesOutput, WritesTextOf}
 use Rattle.unthreaded_program.specs.Runs.{Engine}
 
 -- The outcomes and the history of a run of the scripts in threads; and the history's text, of
@@ -24,29 +24,28 @@ pub record IsThreaded (work : Work) (text : List ℕ) : Type 0 where
   pub run : HasRunScripts work.sizes work.sizes.callers work.tries work.scripts outcomes trace
   pub whole : text ≡ line (text_of_history 3 work.sizes.stripes trace)
 
--- The outcomes and the history of a run of the scripts that these bytes are, and the history's
--- text.
+-- The outcomes and the history of a run of the scripts in these bytes, and the history's text.
 abbrev pub IsThreadedOf : List ℕ → List ℕ → Type 0
 IsThreadedOf bytes text = (work : Work) × (scripts_of bytes ≡ Ok work) × IsThreaded work text
 
--- The reason why bytes have no such text: the same as for a mixed run, or a thread was not started,
--- or the history is not what the workers saw.
+-- The reason why bytes have no such text: a thread was not started, the history is not what the
+-- workers saw, or a reason that a mixed run can have too.
 abbrev pub HasNoneThreaded : List ℕ → Fault → Type 0
 HasNoneThreaded bytes faults.NoThread = Unit {0}
 HasNoneThreaded bytes faults.OutOfStep = Unit {0}
 HasNoneThreaded bytes fault = HasNone IsNoScriptFile bytes fault
 
--- The output at a fault: nothing was written if a thread was not started, or if the history is not
--- what the workers saw.
+-- The output after a fault. If a thread was not started, or if the history is not what the workers
+-- saw, nothing was written. After any other fault the output is as `LeavesOutput` says.
 abbrev pub LeavesThreaded : Option (List ℕ) → Option (List ℕ) → Option (List ℕ) → Fault → Type 0
 LeavesThreaded remaining old new faults.NoThread = Keeps old new
 LeavesThreaded remaining old new faults.OutOfStep = Keeps old new
 LeavesThreaded remaining old new fault =
-    Leaves IsThreadedOf IsNoScriptFile remaining old new fault
+    LeavesOutput IsThreadedOf IsNoScriptFile remaining old new fault
 
 -- The engine of `run` in threads.
 abbrev pub RunsThreads : Engine
-RunsThreads bytes old new (Ok well) = Writes IsThreadedOf bytes old new × (well ≡ true)
+RunsThreads bytes old new (Ok well) = WritesTextOf IsThreadedOf bytes old new × (well ≡ true)
 RunsThreads bytes old new (Err fault) = LeavesThreaded bytes old new fault
 
 -- The fault of a run in threads that was refused as a whole.

@@ -6,12 +6,12 @@
 //! the seed says; `boostmap check FILE` says whether the recorded history of a file is legal.
 //!
 //! `run` does all that the program does, over any system that has words and opens files, and over
-//! any two writers. It promises (`Runs` of `unthreaded_program`): the engine of the command that
-//! the words ask for ran on the file that they name, and standard output has exactly what that
-//! engine wrote; or no engine ran, since the words are no call, their file was not opened or memory
-//! was refused, and standard output is unchanged. Standard error has the line of the fault, if
-//! there is one, and nothing else, unless a write of it fails; and the status is that of the
-//! outcome.
+//! any two writers. It promises (`Runs` of `unthreaded_program`) that one of two things has
+//! happened. Either an engine ran on the file that the words name. It is the engine of the command
+//! that the words ask for, and standard output has exactly what this engine wrote. Or no engine
+//! ran, and standard output is unchanged: the words are no call, their file was not opened, or
+//! memory was refused. Standard error has the line of the fault, if there is one, and nothing else,
+//! unless writing the line failed. The status is that of the outcome.
 //!
 //! `threaded::run` is the engine of the command `run` (`specs/Threaded.antt`): it writes a legal
 //! history of a run of the scripts in threads (`HasRunScripts`). All else is in

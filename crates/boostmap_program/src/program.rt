@@ -3,7 +3,7 @@
 //! parameters, so that contracts and tests reach the whole call.
 ghost use Rattle.std.specs.Prelude.{◌≡◌};
 ghost use Rattle.boostmap_program.specs.Threaded.{RunsThreads};
-ghost use Rattle.unthreaded_program.specs.Runs.{Does, HasEnded, Runs, Tells};
+ghost use Rattle.unthreaded_program.specs.Runs.{RunsCommand, HasExited, Runs, TellsError};
 
 use crate::threaded;
 use boostmap_engine::Fault;
@@ -24,7 +24,7 @@ fn run_command<T: Threads + Wait + Sync, R: Read, W: Write>(
     input: &mut R,
     output: &mut W,
 ) -> Result<bool, Fault>
-    ensures { Does RunsThreads command (R.remaining input.old) (W.contents output.old)
+    ensures { RunsCommand RunsThreads command (R.remaining input.old) (W.contents output.old)
         (W.contents output.new) result }
 {
     match command {
@@ -50,10 +50,10 @@ fn run_words<T: Threads + Wait + Sync, S: System, W: Write>(
     run_command(rt, alloc, opened.command, &mut opened.input, output)
 }
 
-/// Does all that the program does: reads the words of the call, opens the file that they name, runs
-/// the engine of the command on it, which writes to `output`, and writes the line of a fault to
-/// `errors`. If `errors` does not take the line, nothing else changes. Only the command `run`
-/// starts threads, by `rt`.
+/// Does all that the program does: reads the words of the call, opens the file that they name, and
+/// runs the engine of the command on this file. The engine writes to `output`; the line of a fault
+/// is written to `errors`. If `errors` does not take the line, nothing else changes. Only the
+/// command `run` starts threads, by `rt`.
 ///
 /// # Cost
 ///
@@ -65,9 +65,9 @@ pub fn run<T: Threads + Wait + Sync, S: System, W: Write, E: Write>(
     output: &mut W,
     errors: &mut E,
 ) -> Ending
-    ensures { HasEnded (Runs RunsThreads (S.spoken system.now) (S.bytes system.now)
+    ensures { HasExited (Runs RunsThreads (S.spoken system.now) (S.bytes system.now)
         (W.contents output.old) (W.contents output.new))
-        (Tells (E.contents errors.old) (E.contents errors.new)) result }
+        (TellsError (E.contents errors.old) (E.contents errors.new)) result }
 {
     let outcome = run_words(rt, alloc, system, output);
     end(&outcome, errors)

@@ -1,10 +1,10 @@
 //! The engine of `run`: each worker of a script file runs its scripts in its own thread, and the
-//! history is printed. The other engines are in a crate below, since only this one starts threads
-//! and waits: so they do not depend on the proofs of the map of threads.
+//! history is printed. Only this engine starts threads and waits. The other engines are in a crate
+//! below, so they do not depend on the proofs about the map of threads.
 ghost use Rattle.std.specs.Prelude.{◌≡◌, OnOk, IfOk, IfErr};
 ghost use Rattle.txn_files.specs.HistoryText.{text_of_history};
 ghost use Rattle.boostmap_engine.specs.Report.{line};
-ghost use Rattle.boostmap_engine.specs.Written.{Writes};
+ghost use Rattle.boostmap_engine.specs.Written.{WritesTextOf};
 ghost use Rattle.boostmap_program.specs.Threaded.{HasNoneThreaded, IsThreadedOf, LeavesThreaded, of_run};
 
 use boostmap_engine::{Fault, read_input, scripts_in, write_history};
@@ -25,15 +25,17 @@ struct ThreadedHistory {
     entries: Vec<SmallEntry>,
 }
 
-/// Runs the scripts of the file that the bytes are, each worker in its own thread, and answers the
-/// history. The history has version 3, whatever version the script file has, since a Busy entry
-/// names a caller that has begun a transaction and may have ended it.
+/// Runs the scripts in the bytes of a script file, each worker in its own thread, and answers the
+/// history. The history has version 3, whatever version the script file has. A Busy entry of this
+/// history names a caller that has begun a transaction and may have ended it. Only version 3 allows
+/// such an entry.
 ///
 /// # Errors
 ///
 /// `Input` if the bytes are no script file; `NoMemory` if memory is refused outside a call;
 /// `NoThread` if a thread could not be started; `OutOfStep` if the history is not what the workers
-/// saw. If only room that is made beforehand is refused, the run goes on.
+/// saw. Before a thread starts, the map takes room for what the scripts add. If memory for this
+/// room is refused, the run goes on.
 ///
 /// # Cost
 ///
@@ -82,8 +84,8 @@ fn fault_of(refusal: Refusal) -> Fault
 }
 
 /// Reads a script file to its end, runs its scripts on one map, each worker in its own thread, and
-/// writes the history as one line of compact JSON, which ends with a line feed, and nothing else.
-/// The order of the workers' steps is not fixed, so two runs of a file may write different
+/// writes the history as one line of compact JSON, which ends with a line feed. Nothing else is
+/// written. The order of the workers' steps is not fixed, so two runs of a file may write different
 /// histories; each is legal.
 ///
 /// At most 16,777,217 bytes are read, and no call of the reader or the writer is repeated after it
@@ -91,12 +93,13 @@ fn fault_of(refusal: Refusal) -> Fault
 ///
 /// # Errors
 ///
-/// Nothing is written, except before `Write`.
+/// Nothing is written, unless the error is `Write`.
 ///
 /// - `Read` if a read fails.
 /// - `Input` if the file is refused.
-/// - `NoMemory` if memory is refused outside a call. If only room that is made beforehand is
-///   refused, the run goes on. A call that is refused memory ends its script as refused.
+/// - `NoMemory` if memory is refused outside a call. Before a thread starts, the map takes room for
+///   what the scripts add. If memory for this room is refused, the run goes on. A call that is
+///   refused memory ends its script as refused.
 /// - `NoThread` if a thread could not be started; the workers that were started finish.
 /// - `OutOfStep` if the history is not what the workers saw.
 /// - `Write` if a write fails or takes nothing: a proper beginning of the line is written.
@@ -111,7 +114,7 @@ pub fn run<T: Threads + Wait + Sync, R: Read, W: Write>(
     input: &mut R,
     output: &mut W,
 ) -> Result<(), Fault>
-    ensures runs { OnOk result (Writes IsThreadedOf (R.remaining input.old)
+    ensures runs { OnOk result (WritesTextOf IsThreadedOf (R.remaining input.old)
         (W.contents output.old) (W.contents output.new)) }
     ensures fault { IfErr result (LeavesThreaded (R.remaining input.old)
         (W.contents output.old) (W.contents output.new)) }

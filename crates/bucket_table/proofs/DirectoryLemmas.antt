@@ -10,7 +10,7 @@ use Rattle.std.specs.List.{slice_get}
 use Rattle.split_key.specs.Split.{parent_of, IsPowerOfTwo}
 use Rattle.bucket_table.specs.declared.helper.Helper.{Helper}
 use Rattle.bucket_table.specs.declared.helper.Helper.TheVariants.{Idle, Seeking, Holding}
-use Rattle.bucket_table.specs.Directory.{Directory, dummy_of, is_stored, limit_of, with_helper, with_dummy, with_size, beginning, IsReady, IsInOrder, IsSound}
+use Rattle.bucket_table.specs.Directory.{Directory, dummy_of, is_stored, limit_of, with_helper, with_dummy, with_size, beginning, MayBeStored, IsReadyHelper, IsSound}
 
 -- A statement that holds of all helpers holds of the helper with a given number.
 pub helper_found : (P : Helper → Type 0) (helpers : List Helper) (number : ℕ) (helper : Helper) → All P helpers → slice_get helpers number ≡ Some helper → P helper
@@ -18,19 +18,19 @@ helper_found P helpers number helper each is =
     subst P (get_or_from_slice_get helpers number helper helper is) (All-get_or P helpers number helper (slice_get_within helpers number helper is) each)
 
 -- A bucket stays ready if the size does not fall and each stored bucket stays stored.
-pub ready_kept : (old new : Directory) → old.size ≤ new.size → ((bucket : ℕ) → is_stored old bucket ≡ true → is_stored new bucket ≡ true) → (bucket : ℕ) → IsReady old bucket → IsReady new bucket
+pub ready_kept : (old new : Directory) → old.size ≤ new.size → ((bucket : ℕ) → is_stored old bucket ≡ true → is_stored new bucket ≡ true) → (bucket : ℕ) → MayBeStored old bucket → MayBeStored new bucket
 ready_kept old new more kept bucket ready = record {
   within = omega (arith, ready.within);
   above = ready.above;
   parent = kept (parent_of bucket) ready.parent;
 }
 
-in_order_kept : (old new : Directory) → old.size ≤ new.size → ((bucket : ℕ) → is_stored old bucket ≡ true → is_stored new bucket ≡ true) → (helper : Helper) → IsInOrder old helper → IsInOrder new helper
+in_order_kept : (old new : Directory) → old.size ≤ new.size → ((bucket : ℕ) → is_stored old bucket ≡ true → is_stored new bucket ≡ true) → (helper : Helper) → IsReadyHelper old helper → IsReadyHelper new helper
 in_order_kept old new more kept Idle order = tt
 in_order_kept old new more kept (Seeking bucket cursor) order = ready_kept old new more kept bucket order
 in_order_kept old new more kept (Holding bucket dummy) order = ready_kept old new more kept bucket order
 
-pub sound_with_helper : (d : Directory) (helper : ℕ) (now : Helper) → IsSound d → IsInOrder d now → IsSound (with_helper d helper now)
+pub sound_with_helper : (d : Directory) (helper : ℕ) (now : Helper) → IsSound d → IsReadyHelper d now → IsSound (with_helper d helper now)
 sound_with_helper d helper now sound order = record {
   size = sound.size;
   limit = sound.limit;
@@ -43,10 +43,10 @@ sound_with_helper d helper now sound order = record {
   helpers =
       let new = with_helper d helper now in
       let kept = in_order_kept d new (omega arith) (λ bucket stored. stored) in
-      All-set (IsInOrder new) d.helpers helper now (kept now order) (All-weaker (IsInOrder d) (IsInOrder new) kept d.helpers sound.helpers);
+      All-set (IsReadyHelper new) d.helpers helper now (kept now order) (All-weaker (IsReadyHelper d) (IsReadyHelper new) kept d.helpers sound.helpers);
 }
 
--- The stored buckets after one more is stored.
+-- The stored buckets after one more bucket is stored.
 pub stored_here : (d : Directory) (bucket place : ℕ) → bucket < limit_of d → is_stored (with_dummy d bucket place) bucket ≡ true
 stored_here d bucket place within = ap is_some (get_or-set_same d.entries bucket (Some place) None within)
 
@@ -59,7 +59,7 @@ stored_more d bucket place within other stored = elim (cases_eq other bucket) [
   | inr apart ↦ ap is_some (stored_elsewhere d bucket place other apart) ∙ stored
 ]
 
-pub sound_with_dummy : (d : Directory) (bucket place : ℕ) → IsSound d → IsReady d bucket → IsSound (with_dummy d bucket place)
+pub sound_with_dummy : (d : Directory) (bucket place : ℕ) → IsSound d → MayBeStored d bucket → IsSound (with_dummy d bucket place)
 sound_with_dummy d bucket place sound ready =
     let new = with_dummy d bucket place in
     let inside : bucket < limit_of d = omega (arith, ready.within, sound.most) in
@@ -80,7 +80,7 @@ sound_with_dummy d bucket place sound ready =
         | inl here ↦ rw here (more (parent_of bucket) ready.parent)
         | inr apart ↦ more (parent_of other) (sound.parents other above (sym (ap is_some (stored_elsewhere d bucket place other apart)) ∙ stored))
       ];
-      helpers = All-weaker (IsInOrder d) (IsInOrder new) (in_order_kept d new (omega arith) more) d.helpers sound.helpers;
+      helpers = All-weaker (IsReadyHelper d) (IsReadyHelper new) (in_order_kept d new (omega arith) more) d.helpers sound.helpers;
     }
 
 power_doubled : (a : ℕ) → 2 ^ (a + 1) ≡ 2 * 2 ^ a
@@ -114,7 +114,7 @@ sound_with_size d sound apart =
       first = sound.first;
       within = λ bucket stored. let below = sound.within bucket stored in omega (arith, below);
       parents = sound.parents;
-      helpers = All-weaker (IsInOrder d) (IsInOrder new) (in_order_kept d new more (λ bucket stored. stored)) d.helpers sound.helpers;
+      helpers = All-weaker (IsReadyHelper d) (IsReadyHelper new) (in_order_kept d new more (λ bucket stored. stored)) d.helpers sound.helpers;
     }
 
 none_there : (count at : ℕ) → get_or (replicate {A = Option ℕ} count None) at None ≡ None
@@ -144,5 +144,5 @@ sound_beginning limit helpers head power least fits =
       first = refl;
       within = λ bucket stored. let zero_is = stored_first limit helpers head bucket stored in omega (arith, zero_is);
       parents = λ bucket above stored. let zero_is = stored_first limit helpers head bucket stored in absurd (omega (arith, zero_is));
-      helpers = All-replicate (IsInOrder d) helpers Idle tt;
+      helpers = All-replicate (IsReadyHelper d) helpers Idle tt;
     }

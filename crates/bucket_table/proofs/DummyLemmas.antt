@@ -44,7 +44,7 @@ each_sought P (n ∷ rest) from at each = elim (eqb_tells n.place from) [
   | inr past ↦ rw past.0 (each.0, each_sought P rest from at each.1)
 ]
 
--- The nodes that are dummies of a bucket.
+-- Lemmas on whether a node is the dummy of a bucket.
 pub is_dummy_true : (bucket : ℕ) (n : NodeAt) → n.kind ≡ Dummy → n.at ≡ dummy_at bucket → is_dummy_of bucket n ≡ true
 is_dummy_true bucket n dummy same = elim (cases_same n.at (dummy_at bucket)) [
   | inl here ↦ rw (dummy, here.0) refl
@@ -152,7 +152,7 @@ dummy_there n bucket fits keyed same = go n.kind refl
         let parity : split n.at.key ≡ reversed bucket = ap (λ (at : SortKey). at.split) (sym own ∙ same) in
         absurd (omega (arith, odd, even, parity))
 
--- A dummy is no regular node, so `IsKeyedNode` holds of it.
+-- A dummy is not a regular node, so `IsKeyedNode` holds of it.
 pub keyed_dummy : (n : NodeAt) → n.kind ≡ Dummy → IsKeyedNode n
 keyed_dummy n dummy regular = absurd (cc (sym dummy ∙ regular))
 

@@ -24,7 +24,7 @@ use Rattle.bucket_table.specs.Links.{IsUnlinked, LinksAt}
 use Rattle.bucket_table.specs.Refusals.{refusal_of}
 use Rattle.bucket_table.proofs.DummyLemmas.{has_dummy-linked_after, is_dummy_of-dummy_node, dummy_there, dummy_had, no_dummy}
 
--- The refusal if there was no spare.
+-- If the list gave no spare, the refusal of the link is right (`IsUnlinked`).
 pub unlinked : (before after : Listing) (fault : SpareFault) → (◌≡◌ {A = Result SpareAt SpareFault} (Err fault) (Err Worn) ↔ (before.last ≡ 2 ^ 64 - 2)) → after ≡ before → IsUnlinked before after (refusal_of fault)
 unlinked before after Worn worn same = (same, worn.0 refl)
 unlinked before after SpareNoMemory worn same = (same, λ last. absurd (cc (worn.1 last)))

@@ -5,20 +5,20 @@ use Rattle.std.specs.Prelude.{Result, Ok, Err, IfOk, OnErr}
 use Rattle.std.proofs.lemmas.Bool.{cases_eq, cases_lt}
 use Rattle.std.proofs.lemmas.List.{ext_get_or, get_or_past, get_or_read, get_or-set_same, get_or-set_other, set-get_or, length-replicate}
 use Rattle.std.proofs.lemmas.List.FromFn.{get_or-map-range_with_len, length-map-range_with_len}
-use Rattle.bucket_table.specs.Segments.{HasStored, IsRow, Puts, LacksSegment, entries_of, entry_in, held_by, is_stored_in}
+use Rattle.bucket_table.specs.Segments.{HasStored, IsRow, Puts, LacksSegment, bucket_entries, bucket_entry, held_by, is_stored_in}
 
 -- The entries of a row, one by one.
-pub entries_length : (limit : ℕ) (row : List (Option (List (Option ℕ)))) → length (entries_of limit row) ≡ limit
-entries_length limit row = length-map-range_with_len (entry_in row) 0 limit
+pub entries_length : (limit : ℕ) (row : List (Option (List (Option ℕ)))) → length (bucket_entries limit row) ≡ limit
+entries_length limit row = length-map-range_with_len (bucket_entry row) 0 limit
 
-pub entry_at : (limit : ℕ) (row : List (Option (List (Option ℕ)))) (bucket : ℕ) → bucket < limit → slice_index_or (entries_of limit row) bucket None ≡ entry_in row bucket
-entry_at limit row bucket within = get_or-map-range_with_len (entry_in row) 0 limit bucket bucket None within (omega arith)
+pub entry_at : (limit : ℕ) (row : List (Option (List (Option ℕ)))) (bucket : ℕ) → bucket < limit → slice_index_or (bucket_entries limit row) bucket None ≡ bucket_entry row bucket
+entry_at limit row bucket within = get_or-map-range_with_len (bucket_entry row) 0 limit bucket bucket None within (omega arith)
 
-pub entry_past : (limit : ℕ) (row : List (Option (List (Option ℕ)))) (bucket : ℕ) → limit ≤ bucket → slice_index_or (entries_of limit row) bucket None ≡ None
-entry_past limit row bucket beyond = get_or_past (entries_of limit row) bucket None (omega (arith, entries_length limit row, beyond))
+pub entry_past : (limit : ℕ) (row : List (Option (List (Option ℕ)))) (bucket : ℕ) → limit ≤ bucket → slice_index_or (bucket_entries limit row) bucket None ≡ None
+entry_past limit row bucket beyond = get_or_past (bucket_entries limit row) bucket None (omega (arith, entries_length limit row, beyond))
 
 -- A bucket that has an entry is below the limit.
-pub within_limit : (limit : ℕ) (row : List (Option (List (Option ℕ)))) (bucket : ℕ) (entries : List (Option ℕ)) → entries_of limit row ≡ entries → bucket < length entries → bucket < limit
+pub within_limit : (limit : ℕ) (row : List (Option (List (Option ℕ)))) (bucket : ℕ) (entries : List (Option ℕ)) → bucket_entries limit row ≡ entries → bucket < length entries → bucket < limit
 within_limit limit row bucket entries is below = let same = ap length is in omega (arith, same, entries_length limit row, below)
 
 -- The row has a place for the segment of each bucket below the limit.
@@ -42,17 +42,17 @@ module _ (limit : ℕ) (row : List (Option (List (Option ℕ)))) (bucket : ℕ) 
   own : slice_index_or changed (bucket / 64) None ≡ Some segment
   own = get_or-set_same row (bucket / 64) (Some segment) None there
 
-  entry : (other : ℕ) → entry_in changed other ≡ slice_index_or (slice_set (entries_of limit row) bucket (Some dummy)) other None ⊎ (limit ≤ other)
+  entry : (other : ℕ) → bucket_entry changed other ≡ slice_index_or (slice_set (bucket_entries limit row) bucket (Some dummy)) other None ⊎ (limit ≤ other)
   entry other = elim (cases_lt other limit) [
     | inr beyond ↦ inr beyond
     | inl inside ↦ inl (elim (cases_eq other bucket) [
-      | inl same ↦ ap (entry_in changed) same ∙ ap (λ (o : Option (List (Option ℕ))). slice_index_or (held_by o) (bucket % 64) None) own ∙ here
-          ∙ sym (ap (λ (k : ℕ). slice_index_or (slice_set (entries_of limit row) bucket (Some dummy)) k None) same ∙ get_or-set_same (entries_of limit row) bucket (Some dummy) None (omega (arith, within, entries_length limit row)))
-      | inr apart ↦ kept other apart ∙ sym (get_or-set_other (entries_of limit row) bucket other (Some dummy) None apart ∙ entry_at limit row other inside)
+      | inl same ↦ ap (bucket_entry changed) same ∙ ap (λ (o : Option (List (Option ℕ))). slice_index_or (held_by o) (bucket % 64) None) own ∙ here
+          ∙ sym (ap (λ (k : ℕ). slice_index_or (slice_set (bucket_entries limit row) bucket (Some dummy)) k None) same ∙ get_or-set_same (bucket_entries limit row) bucket (Some dummy) None (omega (arith, within, entries_length limit row)))
+      | inr apart ↦ kept other apart ∙ sym (get_or-set_other (bucket_entries limit row) bucket other (Some dummy) None apart ∙ entry_at limit row other inside)
     ])
   ]
     where
-      kept : (other : ℕ) → other ≢ bucket → entry_in changed other ≡ entry_in row other
+      kept : (other : ℕ) → other ≢ bucket → bucket_entry changed other ≡ bucket_entry row other
       kept other apart = elim (cases_eq (other / 64) (bucket / 64)) [
         | inl same ↦ ap (λ (k : ℕ). slice_index_or (held_by (slice_index_or changed k None)) (other % 64) None) same
             ∙ ap (λ (o : Option (List (Option ℕ))). slice_index_or (held_by o) (other % 64) None) own
@@ -61,11 +61,11 @@ module _ (limit : ℕ) (row : List (Option (List (Option ℕ)))) (bucket : ℕ) 
         | inr else ↦ ap (λ (o : Option (List (Option ℕ))). slice_index_or (held_by o) (other % 64) None) (get_or-set_other row (bucket / 64) (other / 64) (Some segment) None else)
       ]
 
-  pub entries_set : entries_of limit changed ≡ slice_set (entries_of limit row) bucket (Some dummy)
+  pub entries_set : bucket_entries limit changed ≡ slice_set (bucket_entries limit row) bucket (Some dummy)
   entries_set =
-      ext_get_or None _ _ (entries_length limit changed ∙ sym (entries_length limit row) ∙ sym (length-set (entries_of limit row) bucket (Some dummy))) each
+      ext_get_or None _ _ (entries_length limit changed ∙ sym (entries_length limit row) ∙ sym (length-set (bucket_entries limit row) bucket (Some dummy))) each
     where
-      each : (i : ℕ) → i < length (entries_of limit changed) → get_or (entries_of limit changed) i None ≡ get_or (slice_set (entries_of limit row) bucket (Some dummy)) i None
+      each : (i : ℕ) → i < length (bucket_entries limit changed) → get_or (bucket_entries limit changed) i None ≡ get_or (slice_set (bucket_entries limit row) bucket (Some dummy)) i None
       each i below =
           let inside : i < limit = omega (arith, below, entries_length limit changed) in
           elim (entry i) [
@@ -82,28 +82,28 @@ module _ (limit : ℕ) (row : List (Option (List (Option ℕ)))) (bucket : ℕ) 
     used = used;
   }
     where
-      stored : (other : ℕ) → is_stored_in (slice_set (entries_of limit row) bucket (Some dummy)) other ≡ true → is_stored_in (entries_of limit changed) other ≡ true
+      stored : (other : ℕ) → is_stored_in (slice_set (bucket_entries limit row) bucket (Some dummy)) other ≡ true → is_stored_in (bucket_entries limit changed) other ≡ true
       stored other is = ap (λ (entries : List (Option ℕ)). is_stored_in entries other) entries_set ∙ is
 
-      used_now : (at : ℕ) → (at ≡ bucket / 64) ⊎ (at ≢ bucket / 64) → is_some (slice_index_or changed at None) ≡ true → HasStored (entries_of limit changed) at
+      used_now : (at : ℕ) → (at ≡ bucket / 64) ⊎ (at ≢ bucket / 64) → is_some (slice_index_or changed at None) ≡ true → HasStored (bucket_entries limit changed) at
       used_now at (inl same) there_is = record {
         bucket = bucket;
         of = sym same;
-        stored = stored bucket (ap is_some (get_or-set_same (entries_of limit row) bucket (Some dummy) None (omega (arith, within, entries_length limit row))));
+        stored = stored bucket (ap is_some (get_or-set_same (bucket_entries limit row) bucket (Some dummy) None (omega (arith, within, entries_length limit row))));
       }
       used_now at (inr apart) there_is =
           let old = is.used at (sym (ap is_some (get_or-set_other row (bucket / 64) at (Some segment) None apart)) ∙ there_is) in
           record {
             bucket = old.bucket;
             of = old.of;
-            stored = stored old.bucket (ap is_some (get_or-set_other (entries_of limit row) bucket old.bucket (Some dummy) None (λ same. apart (sym old.of ∙ ap (λ n. n / 64) same))) ∙ old.stored);
+            stored = stored old.bucket (ap is_some (get_or-set_other (bucket_entries limit row) bucket old.bucket (Some dummy) None (λ same. apart (sym old.of ∙ ap (λ n. n / 64) same))) ∙ old.stored);
           }
 
-      used : (at : ℕ) → is_some (slice_index_or changed at None) ≡ true → HasStored (entries_of limit changed) at
+      used : (at : ℕ) → is_some (slice_index_or changed at None) ≡ true → HasStored (bucket_entries limit changed) at
       used at = used_now at (cases_eq at (bucket / 64))
 
 -- No bucket of a missing segment is stored.
-pub lacks_missing : (limit : ℕ) (row : List (Option (List (Option ℕ)))) (bucket : ℕ) → slice_index_or row (bucket / 64) None ≡ None → LacksSegment (entries_of limit row) bucket
+pub lacks_missing : (limit : ℕ) (row : List (Option (List (Option ℕ)))) (bucket : ℕ) → slice_index_or row (bucket / 64) None ≡ None → LacksSegment (bucket_entries limit row) bucket
 lacks_missing limit row bucket missing other same = elim (cases_lt other limit) [
   | inl inside ↦ ap is_some (entry_at limit row other inside
       ∙ ap (λ (k : ℕ). slice_index_or (held_by (slice_index_or row k None)) (other % 64) None) same
@@ -134,10 +134,10 @@ row_missing limit count long no_longer fits = record {
 }
 
 -- All entries of a row of missing segments are `None`.
-pub entries_missing : (limit count : ℕ) → entries_of limit (replicate count None) ≡ replicate limit None
+pub entries_missing : (limit count : ℕ) → bucket_entries limit (replicate count None) ≡ replicate limit None
 entries_missing limit count = ext_get_or None _ _ (entries_length limit (replicate count None) ∙ sym (length-replicate limit None)) each
   where
-    each : (i : ℕ) → i < length (entries_of limit (replicate count None)) → get_or (entries_of limit (replicate count None)) i None ≡ get_or (replicate {A = Option ℕ} limit None) i None
+    each : (i : ℕ) → i < length (bucket_entries limit (replicate count None)) → get_or (bucket_entries limit (replicate count None)) i None ≡ get_or (replicate {A = Option ℕ} limit None) i None
     each i below =
         entry_at limit (replicate count None) i (omega (arith, below, entries_length limit (replicate count None)))
         ∙ ap (λ (o : Option (List (Option ℕ))). slice_index_or (held_by o) (i % 64) None) (none_in count (i / 64)) ∙ sym (none_in limit i)
@@ -155,10 +155,10 @@ module _ (limit : ℕ) (row : List (Option (List (Option ℕ)))) (bucket dummy :
   row_put (Ok done) puts same = subst (λ (o : Option (List (Option ℕ))). IsRow limit (slice_set row (bucket / 64) o)) (sym puts.there) (row_set limit row bucket puts.segment dummy within is.long puts.here (others puts) is)
   row_put (Err fault) puts same = subst (λ (r : List (Option (List (Option ℕ)))). IsRow limit r) (sym (ap (λ (o : Option (List (Option ℕ))). slice_set row (bucket / 64) o) (same ∙ was) ∙ set-get_or row (bucket / 64) None)) is
 
-  pub entries_put : {E : Type 0} (result : Result Unit E) → IfOk result (λ done. Puts old new (bucket % 64) dummy) → IfOk result (λ done. entries_of limit (slice_set row (bucket / 64) new) ≡ slice_set (entries_of limit row) bucket (Some dummy))
-  entries_put (Ok done) puts = ap (λ (o : Option (List (Option ℕ))). entries_of limit (slice_set row (bucket / 64) o)) puts.there ∙ entries_set limit row bucket puts.segment dummy within is.long puts.here (others puts)
+  pub entries_put : {E : Type 0} (result : Result Unit E) → IfOk result (λ done. Puts old new (bucket % 64) dummy) → IfOk result (λ done. bucket_entries limit (slice_set row (bucket / 64) new) ≡ slice_set (bucket_entries limit row) bucket (Some dummy))
+  entries_put (Ok done) puts = ap (λ (o : Option (List (Option ℕ))). bucket_entries limit (slice_set row (bucket / 64) o)) puts.there ∙ entries_set limit row bucket puts.segment dummy within is.long puts.here (others puts)
   entries_put (Err fault) puts = tt
 
-  pub lacks_put : {E : Type 0} (result : Result Unit E) → OnErr result (old ≡ None) → OnErr result (LacksSegment (entries_of limit row) bucket)
+  pub lacks_put : {E : Type 0} (result : Result Unit E) → OnErr result (old ≡ None) → OnErr result (LacksSegment (bucket_entries limit row) bucket)
   lacks_put (Ok done) none = tt
   lacks_put (Err fault) none = lacks_missing limit row bucket (sym was ∙ none)

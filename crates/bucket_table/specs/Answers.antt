@@ -1,4 +1,4 @@
--- The answer to each call. A `Table` of `map_ops` answers the same.
+-- The answer to each call. A `Table` of `map_ops` gives these answers too.
 use Rattle.std.specs.Prelude.{ℕ, ◌*◌, ◌-◌, ◌^◌, Bool, Option, Some, None, Result, Ok, Err, ◌==◌, not, nat_le, if◌then◌else◌}
 use Rattle.node_list.specs.Nodes.{Listing}
 use Rattle.split_key.specs.Split.{parent_of}
@@ -23,8 +23,8 @@ seek_answer size stored (Some help) bucket =
     else (if stored (parent_of bucket) then Ok Placed
     else Err ParentMissing))
 
--- The answer to a link if memory lasts. It depends on whether the helper's cursor fits, on which
--- dummies are linked, on the last stamp and on the helper's state.
+-- The answer to a link if memory lasts. The arguments are: whether the helper's cursor fits; for
+-- each bucket, whether its dummy is linked; the last stamp; and the helper's state.
 abbrev pub link_answer : Bool → (ℕ → Bool) → ℕ → Option Help → Result InitLink InitRefusal
 link_answer fitting linked last None = Err NoSuchHelper
 link_answer fitting linked last (Some Nothing) = Err HelperOutOfOrder

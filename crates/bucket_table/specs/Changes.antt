@@ -42,8 +42,8 @@ SeekChanges old new before after helper bucket (Ok Placed) =
     Seeks old new before after helper bucket
 SeekChanges old new before after helper bucket (Err refusal) = (new ≡ old) × (after ≡ before)
 
--- The helper has the dummy of its bucket, which is linked.
-pub record Holds (old new : Directory) (after : Listing) (helper : ℕ) : Type 0 where
+-- The helper has the dummy of its bucket, and this dummy is linked.
+pub record HoldsDummy (old new : Directory) (after : Listing) (helper : ℕ) : Type 0 where
   pub bucket : ℕ
   pub cursor : Cursor
   pub place : ℕ
@@ -65,7 +65,8 @@ abbrev pub LinkChanges : Directory → Directory → Listing → Listing → ℕ
     → Result InitLink InitRefusal → Type 0
 LinkChanges old new before after helper (Ok Again) = (new ≡ with_helper old helper Idle)
     × (after ≡ before)
-LinkChanges old new before after helper (Ok Present) = Holds old new after helper × (after ≡ before)
+LinkChanges old new before after helper (Ok Present) = HoldsDummy old new after helper
+    × (after ≡ before)
 LinkChanges old new before after helper (Ok Linked) = LinksDummy old new before after helper
 LinkChanges old new before after helper (Err refusal) = (new ≡ old) × (after ≡ before)
 

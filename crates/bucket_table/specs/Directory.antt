@@ -36,7 +36,7 @@ beginning limit helpers head = record {
   helpers = replicate helpers Idle;
 }
 
--- The buckets with a helper in this state.
+-- The buckets, with this helper in this state.
 abbrev pub with_helper : Directory → ℕ → Helper → Directory
 with_helper d helper now = record d { helpers = slice_set d.helpers helper now }
 
@@ -49,16 +49,16 @@ abbrev pub with_size : Directory → ℕ → Directory
 with_size d size = record d { size = size }
 
 -- The bucket is in the table, is not bucket 0, and its parent is stored, so it may be stored too.
-pub record IsReady (d : Directory) (bucket : ℕ) : Type 0 where
+pub record MayBeStored (d : Directory) (bucket : ℕ) : Type 0 where
   pub within : bucket < d.size
   pub above : 0 < bucket
   pub parent : is_stored d (parent_of bucket) ≡ true
 
 -- The bucket of a helper, if the helper has one, may be stored.
-abbrev pub IsInOrder : Directory → Helper → Type 0
-IsInOrder d Idle = Unit {0}
-IsInOrder d (Seeking bucket cursor) = IsReady d bucket
-IsInOrder d (Holding bucket dummy) = IsReady d bucket
+abbrev pub IsReadyHelper : Directory → Helper → Type 0
+IsReadyHelper d Idle = Unit {0}
+IsReadyHelper d (Seeking bucket cursor) = MayBeStored d bucket
+IsReadyHelper d (Holding bucket dummy) = MayBeStored d bucket
 
 -- The sizes are powers of two, and no bucket is stored before its parent.
 pub record IsSound (d : Directory) : Type 0 where
@@ -71,7 +71,7 @@ pub record IsSound (d : Directory) : Type 0 where
   pub within : (bucket : ℕ) → is_stored d bucket ≡ true → bucket < d.size
   pub parents : (bucket : ℕ) → 0 < bucket → is_stored d bucket ≡ true
       → is_stored d (parent_of bucket) ≡ true
-  pub helpers : All (IsInOrder d) d.helpers
+  pub helpers : All (IsReadyHelper d) d.helpers
 
 -- The dummy at this place belongs to the nearest stored bucket among this bucket, its parent, the
 -- parent's parent and so on.

@@ -3,7 +3,7 @@ use Rattle.std.specs.Prelude.{ℕ, Bool, false, Option, Some, None, Result, Ok, 
 use Rattle.std.specs.Option.{option_map}
 use Rattle.node_list.specs.Nodes.{Listing}
 use Rattle.list_steps.specs.declared.cursor.Cursor.{Cursor}
-use Rattle.list_steps.specs.Found.{changes_of, fits}
+use Rattle.list_steps.specs.Found.{change_number_of, fits}
 use Rattle.bucket_table.specs.Directory.{Directory, helper_of}
 use Rattle.bucket_table.specs.declared.answer.InitRefusal.{InitRefusal}
 use Rattle.bucket_table.specs.declared.answer.InitRefusal.TheVariants.{HelperOutOfOrder}
@@ -31,14 +31,14 @@ pub data Help : Type 0 where
 
 abbrev pub help_of : Helper → Help
 help_of Idle = Nothing
-help_of (Seeking bucket cursor) = Sought bucket (changes_of cursor)
+help_of (Seeking bucket cursor) = Sought bucket (change_number_of cursor)
 help_of (Holding bucket dummy) = Dummy bucket
 
 -- The state of the helper of this number, if there is one.
 abbrev pub help_at : Directory → ℕ → Option Help
 help_at d helper = option_map help_of (helper_of d helper)
 
--- Whether a helper has a cursor, and it fits.
+-- Whether a helper has a cursor that fits.
 abbrev pub cursor_fits : Listing → Option Helper → Bool
 cursor_fits l (Some (Seeking bucket cursor)) = fits l cursor
 cursor_fits l (Some Idle) = false

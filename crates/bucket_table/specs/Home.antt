@@ -15,7 +15,7 @@ IsHelperHome l (Seeking bucket cursor) = IsPlaced l cursor × (at_of cursor ≡ 
 IsHelperHome l (Holding bucket dummy) = IsDummyAt l.nodes dummy bucket
 
 -- The buckets fit this list: each stored bucket names its linked dummy, and each helper's cursor or
--- dummy is one of this list (`IsHelperHome`). A change of the list leaves this so.
+-- dummy is one of this list (`IsHelperHome`). A change of the list keeps the buckets at home.
 pub record IsHome (d : Directory) (l : Listing) : Type 0 where
   pub stored : (bucket place : ℕ) → dummy_of d bucket ≡ Some place → IsDummyAt l.nodes place bucket
   pub helpers : All (IsHelperHome l) d.helpers

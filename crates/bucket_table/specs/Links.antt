@@ -19,8 +19,8 @@ pub record LinksAt (before after : Listing) (pred bucket place : ℕ) : Type 0 w
   pub dummies : (other : ℕ) → other < 2 ^ 32
       → has_dummy after.nodes other ≡ ((bucket == other) || has_dummy before.nodes other)
 
--- The reason why no dummy is linked: the stamps are used up exactly if the last one given is
--- 2^64 - 2; else memory was refused, or the list has no place left. Nothing has changed.
+-- The reason why no dummy is linked. Nothing has changed. The stamps are used up exactly if the
+-- last stamp given is 2^64 - 2. Otherwise memory was refused, or the list has no place left.
 abbrev pub IsUnlinked : Listing → Listing → InitRefusal → Type 0
 IsUnlinked before after StampsUsedUp = (after ≡ before) × (before.last ≡ 2 ^ 64 - 2)
 IsUnlinked before after NoMemory = (after ≡ before) × (before.last ≢ 2 ^ 64 - 2)

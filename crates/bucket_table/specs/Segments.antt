@@ -8,13 +8,13 @@ held_by None = []
 held_by (Some segment) = segment
 
 -- The entry of a bucket, at its place in its segment.
-abbrev pub entry_in : List (Option (List (Option ℕ))) → ℕ → Option ℕ
-entry_in row bucket =
+abbrev pub bucket_entry : List (Option (List (Option ℕ))) → ℕ → Option ℕ
+bucket_entry row bucket =
     slice_index_or (held_by (slice_index_or row (bucket / 64) None)) (bucket % 64) None
 
 -- The entries of this number of buckets.
-abbrev pub entries_of : ℕ → List (Option (List (Option ℕ))) → List (Option ℕ)
-entries_of limit row = map (entry_in row) (range_with_len 0 limit)
+abbrev pub bucket_entries : ℕ → List (Option (List (Option ℕ))) → List (Option ℕ)
+bucket_entries limit row = map (bucket_entry row) (range_with_len 0 limit)
 
 -- Whether a bucket is stored, by the entries of all buckets.
 abbrev pub is_stored_in : List (Option ℕ) → ℕ → Bool
@@ -50,4 +50,4 @@ pub record IsRow (limit : ℕ) (row : List (Option (List (Option ℕ)))) : Type 
   pub no_longer : 64 * length row < limit + 64
   pub fits : limit < 2 ^ 32
   pub used : (segment : ℕ) → is_some (slice_index_or row segment None) ≡ true
-      → HasStored (entries_of limit row) segment
+      → HasStored (bucket_entries limit row) segment

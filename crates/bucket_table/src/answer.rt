@@ -1,6 +1,6 @@
 //! The answers of the calls on buckets, and their refusals. This crate does not use `txn_words`, so
-//! `map_ops` converts the refusals to those of steps, and `boost_core` the other answers. Each
-//! answer but `NoMemory` is a function of the state before the call (`specs/Answers.antt`).
+//! `map_ops` converts the refusals to those of steps, and `boost_core` converts the other answers.
+//! Each answer but `NoMemory` is a function of the state before the call (`specs/Answers.antt`).
 ghost use Rattle.std.specs.Prelude.{◌≡◌};
 ghost use Rattle.bucket_table.specs.Refusals.{refusal_of};
 ghost use Rattle.bucket_table.specs.Text.{refusal_text};
@@ -29,8 +29,8 @@ pub enum InitLink {
     Linked,
 }
 
-/// The refusal of a step of a bucket's initialisation, which leaves everything unchanged. Each is
-/// printed as a sentence.
+/// The refusal of a step of a bucket's initialisation. A refused step leaves everything unchanged.
+/// Each refusal is printed as a sentence.
 #[derive(Clone, Copy, Debug, PartialEq, Eq)]
 pub enum InitRefusal {
     /// The bucket is not below the size.
@@ -44,7 +44,7 @@ pub enum InitRefusal {
     /// Memory was refused for the dummy's node or for the bucket's segment, or the list has no
     /// place left for the dummy.
     NoMemory,
-    /// No stamp is left for the dummy: the list's last one is 2^64 - 2.
+    /// No stamp is left for the dummy: the list's last stamp is 2^64 - 2.
     StampsUsedUp,
 }
 

@@ -46,7 +46,7 @@ impl Model for Buckets {
 }
 
 impl Buckets {
-    ghost use Rattle.bucket_table.specs.Directory.{beginning, dummy_of, helper_of, is_stored, limit_of, with_helper, with_dummy, IsSound as IsSoundDirectory, IsInOrder, IsReady, IsNearest};
+    ghost use Rattle.bucket_table.specs.Directory.{beginning, dummy_of, helper_of, is_stored, limit_of, with_helper, with_dummy, IsSound as IsSoundDirectory, IsReadyHelper, MayBeStored, IsNearest};
     ghost use Rattle.bucket_table.specs.declared.helper.Helper.TheVariants.{Seeking};
     ghost use Rattle.bucket_table.specs.Helpers.{Dummy, help_at};
     ghost use Rattle.bucket_table.specs.Home.{IsHome};
@@ -72,8 +72,8 @@ impl Buckets {
         Buckets::with_capacity(alloc, max, helpers, list, 0)
     }
 
-    /// Buckets as `new` makes them, with memory for the entries of the first `buckets` buckets
-    /// taken at once.
+    /// Buckets as `new` makes them. This call also takes the memory for the entries of the first
+    /// `buckets` buckets, and writes it.
     ///
     /// # Errors
     ///
@@ -119,7 +119,7 @@ impl Buckets {
     }
 
     /// The dummy of a bucket, or that of its nearest stored ancestor. A seek for any key of the
-    /// bucket may begin there, since it precedes all of them.
+    /// bucket may begin at this dummy, since the dummy precedes all keys of the bucket.
     ///
     /// # Cost
     ///
@@ -154,7 +154,7 @@ impl Buckets {
 
     /// Stores a bucket with its dummy, or answers `NoMemory`.
     fn set_dummy(&mut self, bucket: u32, dummy: NodeRef) -> Result<(), InitRefusal>
-        requires { IsReady self.old bucket }
+        requires { MayBeStored self.old bucket }
         ensures ok { IfOk result (λ done. self.new ≡ with_dummy self.old bucket dummy) }
         ensures err { IfErr result (λ refusal. refusal ≡ InitRefusal.NoMemory) }
         ensures unchanged { OnErr result (self.new ≡ self.old) }
@@ -169,7 +169,7 @@ impl Buckets {
     /// Sets a helper's state.
     fn set_helper(&mut self, helper: u64, now: Helper)
         requires there { helper < length self.old.helpers }
-        requires order { IsInOrder self.old now }
+        requires order { IsReadyHelper self.old now }
         ensures { self.new ≡ with_helper self.old helper now }
     {
         self.helpers[helper as usize] = now;
@@ -220,7 +220,8 @@ impl Buckets {
         let Some(from) = self.dummy(parent) else {
             return Err(InitRefusal::ParentMissing);
         };
-        // By the list's invariants no dummy is marked, so the seek unlinks none.
+        // By the contract of this call the list is sound, so no dummy is marked. The proof needs
+        // this fact, not the answer: a seek unlinks only marked nodes, so it unlinks no dummy.
         let _changes = list.changes();
         let cursor = seek(list, from, SortKey::dummy(bucket));
         self.set_helper(helper, Helper::Seeking(bucket, cursor));
@@ -238,7 +239,7 @@ impl Buckets {
         requires home { IsHome self.old list.old }
         requires keyed { IsKeyed list.old.nodes }
         requires had { helper_of self.old helper ≡ Some (Seeking bucket cursor) }
-        requires ready { IsReady self.old bucket }
+        requires ready { MayBeStored self.old bucket }
         ensures answer { result ≢ Err InitRefusal.NoMemory
             → result ≡ link_answer_at self.old list.old helper }
         ensures no_memory { result ≡ Err InitRefusal.NoMemory
@@ -327,8 +328,9 @@ impl Buckets {
         Ok(())
     }
 
-    /// Doubles the size, if it is the one that the caller saw, is not the largest, and the list has
-    /// more than twice as many keys as there are buckets. These are tested in this order.
+    /// Doubles the size if it is the one that the caller saw, if it is not the largest one, and if
+    /// the list has more than twice as many keys as there are buckets. These conditions are tested
+    /// in this order.
     ///
     /// Nothing else changes: no node moves, and the new buckets are not stored yet.
     pub fn double(&mut self, list: &NodeList, seen: u64) -> Double

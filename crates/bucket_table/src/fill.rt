@@ -1,6 +1,7 @@
-//! Vectors filled with one value: the idle helpers of a new table, and the entries of a new
-//! segment. The module knows neither helpers nor entries, so one loop and one proof serve both. The
-//! time is in proportion to the length; `fill` takes memory only for what the vector lacks.
+//! Vectors filled with one value: the idle helpers of a new table, the entries of a new segment,
+//! and the memory for segments to come. The module knows neither helpers nor entries, so one loop
+//! and one proof serve all three. The time is in proportion to the length; `fill` takes memory only
+//! for what the vector lacks.
 ghost use Rattle.std.specs.Prelude.{◌≡◌, replicate, IfOk};
 
 use std::alloc::{AllocError, Global};

@@ -5,7 +5,7 @@
 ghost use Rattle.std.specs.Prelude.{◌≡◌, ℕ, ◌-◌, ◌*◌, ◌<◌, ◌≤◌, ◌^◌, ◌∷◌, List, Option, Some, None, length, replicate, slice_index_or, slice_set, IfOk, OnErr};
 ghost use Rattle.bucket_table.specs.Segments.{LacksSegment, Puts};
 
-use crate::fill::fill;
+use crate::fill::{fill, vec_of};
 use node_list::{NodeRef, PackedRef};
 use std::alloc::{AllocError, Global};
 use std::marker::Model;
@@ -61,7 +61,7 @@ impl Segment {
     }
 }
 
-/// The dummies of the stored buckets, by bucket: a row of segments; each is there exactly if one of
+/// The dummies of the stored buckets, in a row of segments. A segment is there exactly if one of
 /// its buckets is stored. Memory may have been taken for segments that are not there yet.
 ///
 /// A contract sees them as the flat list of all entries.
@@ -75,18 +75,19 @@ pub(crate) struct Segments {
 
 impl Model for Segments {
     ghost use Rattle.std.specs.Prelude.{ℕ, List, Option};
-    ghost use Rattle.bucket_table.specs.Segments.{entries_of, IsRow};
+    ghost use Rattle.bucket_table.specs.Segments.{bucket_entries, IsRow};
 
     ghost Value = { List (Option ℕ) };
 
-    ghost view = { λ s. entries_of s.limit s.row.items };
+    ghost view = { λ s. bucket_entries s.limit s.row.items };
 
     ghost invariant = { λ s. IsRow s.limit s.row.items };
 }
 
 impl Segments {
     /// The entries of this number of buckets; only bucket 0 is stored, with this dummy. Takes
-    /// memory for the row, for the first segment, and for the segments of the first `room` buckets.
+    /// memory for the row, for the first segment, and for the segments of the first `room` buckets,
+    /// and writes all of it.
     pub(crate) fn new(
         alloc: Global,
         limit: u32,
@@ -102,7 +103,7 @@ impl Segments {
     }
 
     /// The entries of this number of buckets, none of them stored. Takes memory for the row, and
-    /// for the segments of the first `room` buckets.
+    /// for the segments of the first `room` buckets, and writes all of it.
     fn empty(alloc: Global, limit: u32, room: usize) -> Result<Self, AllocError>
         ensures { IfOk result (λ entries. entries ≡ replicate limit None) }
     {
@@ -180,11 +181,12 @@ fn put(
     Ok(())
 }
 
-/// The memory for this number of segments.
+/// The memory for this number of segments, written, so that no later store is the first to touch a
+/// page of it.
 fn spares_of(alloc: Global, count: usize) -> Result<Vec<Vec<PackedRef>>, AllocError> {
     let mut spares = Vec::with_capacity(alloc, count)?;
     for _ in 0..count {
-        spares.push(Vec::with_capacity(alloc, WIDTH)?)?;
+        spares.push(vec_of(alloc, WIDTH as u32, PackedRef::none())?)?;
     }
     Ok(spares)
 }

@@ -58,7 +58,7 @@ command_line =
     let mix = with_subcommand run seeded.top in
     with_subcommand mix (over_file (codes "check")).top
 
--- The number that a word of one or more decimal digits writes, if it is below 2^64.
+-- The number that a word spells in one or more decimal digits, if the number is below 2^64.
 abbrev pub seed_of : Text → Option ℕ
 seed_of word =
     let seed = digits_value 10 word in

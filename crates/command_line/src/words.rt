@@ -4,7 +4,7 @@
 ghost use Rattle.std.specs.Prelude.{◌≡◌, ◌⊎◌, Some, None, false, IfOk, IfErr, codes, map, option_map};
 ghost use Rattle.std.specs.String.{string_bytes};
 ghost use Rattle.clap.specs.Words.{found_of, rows_of, rule_of};
-ghost use Rattle.program_host.specs.Words.{Has, file_word};
+ghost use Rattle.program_host.specs.Words.{IsApp, file_word};
 ghost use Rattle.command_line.specs.Words.{asked, asked_in, asked_of, seed_of};
 ghost use Rattle.command_line.specs.Words.{command_line, over_file, seed_word, seeded};
 ghost use Rattle.command_line.specs.declared.no_call.NoCall.TheVariants as reasons;
@@ -35,7 +35,7 @@ pub enum Command {
 pub struct Call<'a> {
     /// The command.
     pub command: Command,
-    /// The name of the file that it runs on.
+    /// The name of the file that the command runs on.
     pub file: &'a str,
 }
 
@@ -60,16 +60,16 @@ fn seed_option<'a>(alloc: Global) -> Arg<'a>
         .action(ArgAction::Set)
 }
 
-/// A command of this name over one file.
+/// The command of this name, which takes one file.
 fn command_on_file<'a>(alloc: Global, name: &'a str) -> Result<clap::Command<'a>, AllocError>
-    ensures { IfOk result (λ command. Has command (over_file name.entry.now)) }
+    ensures { IfOk result (λ command. IsApp command (over_file name.entry.now)) }
 {
     clap::Command::new(alloc, name).arg(file_name(alloc))
 }
 
-/// The command `mix`, which also has a seed.
+/// The command `mix`, which also takes a seed.
 fn mix_command<'a>(alloc: Global) -> Result<clap::Command<'a>, AllocError>
-    ensures { IfOk result (λ command. Has command seeded) }
+    ensures { IfOk result (λ command. IsApp command seeded) }
 {
     command_on_file(alloc, "mix")?.arg(seed_option(alloc))
 }
@@ -77,7 +77,7 @@ fn mix_command<'a>(alloc: Global) -> Result<clap::Command<'a>, AllocError>
 /// The command line of the program. Each command is added as soon as it is made, so that little has
 /// to be freed if memory is refused.
 fn all_commands<'a>(alloc: Global) -> Result<clap::Command<'a>, AllocError>
-    ensures { IfOk result (λ command. Has command command_line) }
+    ensures { IfOk result (λ command. IsApp command command_line) }
 {
     clap::Command::new(alloc, "boostmap")
         .subcommand_required(true)
@@ -87,7 +87,7 @@ fn all_commands<'a>(alloc: Global) -> Result<clap::Command<'a>, AllocError>
         .subcommand(command_on_file(alloc, "check")?)
 }
 
-/// The number that a word of one or more decimal digits writes, if it is below 2^64.
+/// The number that a word spells in one or more decimal digits, if the number is below 2^64.
 fn seed_in(word: &str) -> Option<u64>
     ensures { result ≡ seed_of word.now }
 {

@@ -1,6 +1,7 @@
 //! Worked runs on the core: calls in tables, each with its answer, and the pairs and the history
-//! that they leave. Contracts say what an answer means, but not that a call is given memory.
-//! `limits` plays its tables by the functions here.
+//! that they leave. A contract says what each answer means, and allows that a call is refused
+//! memory. These runs fail if a call is refused memory. `limits` plays its tables by the functions
+//! here.
 mod limits;
 mod pairs;
 mod plain_map;
@@ -69,7 +70,7 @@ fn play_calls(
     Ok(())
 }
 
-/// Checks that there are two buckets, and that list, map and count have these pairs.
+/// Checks that there are two buckets, and that the list, the map and the count have these pairs.
 fn has_pairs(
     rt: &impl Abort,
     alloc: Global,
@@ -150,9 +151,9 @@ const EACH_KIND: [(Call, Answer); 17] = [
     (Call::Step(Step::Sweep), Answer::Clean),
 ];
 
-/// Plain aborts. An abort is refused if there is no transaction or no such caller, and on the way
-/// to a level. If the caller already leaves to the end, after a busy operation or after a step
-/// `abort`, the plain abort takes the steps that are left.
+/// Plain aborts. An abort is refused if there is no transaction, if there is no such caller, and
+/// while the caller goes back to a level. If the caller already leaves to the end, after a busy
+/// operation or after a step `abort`, the plain abort takes the steps that are left.
 const ABORTS: [(Call, Answer); 15] = [
     (Call::Abort(0), Answer::Refused(Refusal::NotOpen)),
     (Call::Abort(3), Answer::Refused(Refusal::NoSuchCaller)),
@@ -171,9 +172,9 @@ const ABORTS: [(Call, Answer); 15] = [
     (Call::Abort(0), Answer::Aborted),
 ];
 
-/// Each sweep unlinks one marked node. An act is done at its cursor although the list has changed
-/// elsewhere since its seek, and although another caller has read; a helper's dummy is linked
-/// although the list has changed elsewhere.
+/// Each sweep unlinks one marked node. Between the seek and the act of caller 0, caller 1 changes
+/// the list elsewhere and reads a key. The act still succeeds at its cursor. Between the seek and
+/// the link of helper 0, caller 1 changes the list elsewhere. The link still succeeds.
 const SWEEPS_AND_CURSORS: [(Call, Answer); 20] = [
     (Call::Run(Step::Begin(0)), Answer::Began(1)),
     (Call::Op(0, Op::Put(4, 40)), Answer::Done(None)),
@@ -228,7 +229,7 @@ const WIDE_PAIRS: [(u64, u64); 4] = [
     (18_446_744_073_709_551_615, 7),
 ];
 
-/// The same transaction, by steps, and aborted by steps: five changes are taken back.
+/// The transaction of `WIDE_KEYS`, made by steps and aborted by steps. Five changes are taken back.
 const WIDE_KEYS_ABORTED: [(Call, Answer); 34] = [
     (Call::Step(Step::Begin(0)), Answer::Began(1)),
     (
@@ -318,7 +319,7 @@ const HALF_KEYS: [(Call, Answer); 8] = [
 ];
 
 /// A run on a new core of two buckets: the number of callers, whether only half keys are taken, the
-/// calls, the pairs that are left, and the history if it is compared.
+/// calls, the pairs that are left, and the wanted history, if one is wanted.
 #[derive(Drop)]
 struct Run {
     callers: u64,
@@ -391,7 +392,7 @@ fn core_in(rt: &impl Abort, alloc: Global, run: &Run) -> Core {
     core_with(rt, alloc, limits)
 }
 
-/// Checks that the history is this one, if it is compared.
+/// Checks that the history is the wanted one, if one is wanted.
 fn has_history(rt: &impl Abort, core: &Core, wanted: Option<&'static [Entry]>) {
     if let Some(history) = wanted {
         assert!(rt; is_history(core, history));
@@ -488,9 +489,9 @@ fn nine_undone_newest_first(rt: HostRuntime) -> Result<(), Fail> {
     put_and_undo_nine(&rt, alloc, &mut small_core(&rt, alloc))
 }
 
-/// Steps, each with the number of entries owed after it: two for an open transaction and one for
-/// each change that stands; two more for a put that waits and one for a get; one more on the way to
-/// a level, and one less on the way to the end.
+/// Steps, each with the number of entries owed after it. Two are owed for an open transaction, and
+/// one for each change that stands. A put that waits owes two more, and a get that waits owes one
+/// more. On the way to a level one more is owed, and on the way to the end one less.
 static OWED: [(Step, usize); 16] = [
     (Step::Begin(0), 2),
     (Step::Ask(0, Op::Put(1, 10)), 4),
@@ -549,7 +550,8 @@ fn help_is(
     assert_eq!(rt; helped, wanted, "for {caller_and_key:?}");
 }
 
-/// Caller 0 begins, puts keys and helps after each; there is no helper 1.
+/// Caller 0 begins, puts keys, and helps after each put. Help by caller 1 is refused, since there
+/// is no helper 1.
 fn helped_are(rt: &impl Abort, core: &mut Core, rows: &[(u64, u32, u64)]) -> Result<(), Fail> {
     begin(rt, core)?;
     for (key, size, bucket) in rows {

@@ -23,7 +23,8 @@ pub(crate) fn core_with(rt: &impl Abort, alloc: Global, limits: Limits) -> Core 
     core_if_made(alloc, limits).expect(rt, "a core")
 }
 
-/// A core of these limits. Tries twice if memory is refused once; `None` if it is refused again.
+/// A core of these limits, made at a second try if memory is refused at the first. `None` if memory
+/// is refused twice.
 pub(crate) fn core_if_made(alloc: Global, limits: Limits) -> Option<Core> {
     match Core::new(alloc, limits) {
         Ok(core) => Some(core),

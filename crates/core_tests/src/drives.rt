@@ -35,7 +35,7 @@ enum Turns {
     /// Two turns, this number of times. The first is a turn of the first step, a seek, which is
     /// placed. The second is a turn of the second step, whose position no longer fits.
     Again(u32, Step, Step),
-    /// This number of times, at this size of the table, a turn of two steps: the answer to the
+    /// A turn of two steps, this number of times, at this size of the table. The answer to the
     /// first step is `placed`, and the second step has this answer.
     Both(u32, u32, Step, Step, Answer),
 }
@@ -91,7 +91,7 @@ fn drive_rows(rt: &impl Abort, rows: &[Row]) {
     }
 }
 
-/// Calls of one step, also calls that are refused.
+/// Calls of one step, including calls that are refused.
 const ONE_STEP: [Row; 10] = [
     (
         0,

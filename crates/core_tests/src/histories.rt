@@ -45,8 +45,8 @@ fn verdict_so_far(checker: &Checker) -> Verdict {
     checker.verdict()
 }
 
-/// The verdict of the plain program on the entries up to this place, if `bad` is the first bad one
-/// of all entries.
+/// The verdict of the plain program on the entries up to this place. `bad` is the first bad entry
+/// of all the entries, if there is one.
 fn plain_at(entries: &[Entry], place: usize, bad: Option<(usize, Rule)>) -> Verdict {
     match bad {
         Some(bad) if bad.0 <= place => plain::verdict(entries, Some(bad)),
@@ -154,7 +154,8 @@ const NOT_UNDONE: [Entry; 9] = [
     Entry::Aborted(1),
 ];
 
-/// Keys 1 and 9, which have different stripes if there are 16.
+/// Two callers ask for keys 1 and 9. The keys have the same stripe if there are 8 stripes, and
+/// different stripes if there are 16.
 const ONE_STRIPE: [Entry; 4] = [
     Entry::Began(0, 1),
     Entry::Asked(0, Op::Get(1)),
@@ -260,7 +261,7 @@ type Row = (&'static [Entry], Option<(usize, Entry)>, u64, Verdict);
 
 /// The verdicts if a Busy must name a caller that holds the stripe at that moment (`Holder::Now`).
 static BY_HOLDERS_OF_NOW: [Row; 19] = [
-    // Histories about replies, as `checker_replies` in `crates/txn_trace/proofs/Cases.antt`.
+    // Histories about replies, like `checker_replies` in `crates/txn_trace/proofs/Cases.antt`.
     (
         &REPLIES,
         None,
@@ -382,8 +383,8 @@ static BY_HOLDERS_OF_NOW: [Row; 19] = [
             running: 2,
         },
     ),
-    // `put_if_history` of `crates/txn_trace/proofs/WideCases.antt`; and one with a reply that the
-    // map does not give.
+    // `put_if_history` of `crates/txn_trace/proofs/WideCases.antt`; and a history with a reply that
+    // the map does not give.
     (
         &PUT_IF,
         None,
@@ -558,7 +559,8 @@ fn is_refused(alloc: Global) -> bool {
     Box::new(alloc, 0).is_err()
 }
 
-/// Makes a checker, once more if that is refused; `None` if memory is refused again.
+/// Makes a checker, at a second try if memory is refused at the first. `None` if memory is refused
+/// twice.
 fn start_checker(rt: &impl Abort, alloc: Global) -> Option<Checker> {
     for _ in 0..2 {
         if let Ok(checker) = checker_of(rt, alloc, 8, Holder::Now) {
@@ -569,8 +571,8 @@ fn start_checker(rt: &impl Abort, alloc: Global) -> Option<Checker> {
     None
 }
 
-/// Feeds a checker an entry, and once more if that is refused. Answers whether the checker took it.
-/// A refused entry changes nothing.
+/// Feeds a checker an entry, and feeds it once more if the entry is refused. Answers whether the
+/// checker took the entry. A refused entry changes nothing.
 fn is_fed(rt: &impl Abort, checker: &mut Checker, entry: &Entry) -> bool {
     let before = verdict_so_far(checker);
     for _ in 0..2 {
@@ -610,7 +612,8 @@ fn verdict_at(rows: &[(usize, Verdict)], place: usize) -> Option<Verdict> {
     found
 }
 
-/// Feeds a checker, once more if it is refused memory, and compares its verdict after each entry.
+/// Feeds a checker each entry, once more if memory is refused, and compares its verdict after the
+/// entry.
 fn feed_rows(
     rt: &impl Abort,
     alloc: Global,

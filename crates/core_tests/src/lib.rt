@@ -1,10 +1,10 @@
-//! Tests of `txn_words`, `txn_drive`, `script_worker`, `history_check`, `boost_core` and
-//! `script_mix`: of the words of transactions, drives, workers, the checker that judges histories,
-//! the core, and mixes of scripts.
+//! Tests of `txn_words` (the words of transactions), `txn_drive` (drives), `script_worker`
+//! (workers), `history_check` (the checker that judges histories), `boost_core` (the core) and
+//! `script_mix` (mixes of scripts).
 //!
-//! A crate with tests is proved twice, so they are a separate crate. Each call of a library is made
-//! once, in a small function without a contract: a test that uses these has only its own safety to
-//! prove.
+//! A crate with tests is proved twice, so the tests are a separate crate. Each call of a library is
+//! made in one small function without a contract. A test that uses these functions has only its own
+//! safety to prove.
 #![tactic(auto)]
 
 #[cfg(test)]

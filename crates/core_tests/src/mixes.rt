@@ -1,6 +1,6 @@
 //! Workers that take turns as a seed says: the history of each mix, compared with the turns of its
-//! workers. `workers` tests workers without a core or a seed. The worker of each turn is drawn here
-//! once more, from the words of the same generator; the turns were written by hand.
+//! workers. `workers` tests workers without a core or a seed. These tests draw the worker of each
+//! turn for themselves, from the words of the same generator. The turns were written by hand.
 use rand_core::SeedableRng;
 use rand_core::utils::NextWord;
 use rand_pcg::Pcg32;
@@ -127,7 +127,7 @@ fn mixed_history(alloc: Global, seed: u64, scripts: &str) -> Result<Vec<Entry>, 
     Ok(Unpacked::new(trace.as_slice()).collect(alloc)?)
 }
 
-/// As long as a worker has a turn left, draws a place in the list of these workers, which is in
+/// As long as workers have turns left, draws a place in the list of these workers, which is in
 /// rising order, and takes the turn of the worker at that place. Checks that the turns add exactly
 /// the entries of the history.
 fn take_turns(
@@ -180,7 +180,8 @@ const BESIDE_AN_ABORT: Mix = Mix {
     workers: &[(0, TWO_EMPTY), (1, ABORT)],
 };
 
-/// The last of three workers has one script fewer: by most seeds it ends first, by some later.
+/// The last of three workers has one script fewer than the others. By most seeds it ends first, and
+/// by some seeds it ends later.
 const THREE_WORKERS: Mix = Mix {
     scripts: "{\"version\":1,\"workers\":3,\"stripes\":1,\"buckets\":2,\"tries\":0,\
         \"scripts\":[[],[],[],[],[]]}",
@@ -197,8 +198,8 @@ const FOUR_WORKERS: Mix = Mix {
     workers: &[(0, ONE_EMPTY), (1, ONE_EMPTY), (2, ONE_EMPTY)],
 };
 
-/// An action `help` with a bad key takes no turn. Worker 0 has no other action, and takes eight
-/// turns. Worker 1 also puts, and takes nine turns.
+/// An action `help` with a bad key takes no turn. Worker 0 has no other action. Its eight turns
+/// begin and abort the transactions of its two scripts. Worker 1 also puts, and takes nine turns.
 const BAD_HELPS_BESIDE_A_PUT: Mix = Mix {
     scripts: "{\"version\":1,\"workers\":2,\"stripes\":1,\"buckets\":2,\"tries\":0,\
         \"scripts\":[[[\"help\",9223372036854775808]],[[\"help\",9223372036854775808],\

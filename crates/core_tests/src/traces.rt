@@ -1,6 +1,7 @@
 //! Tests of `txn_words`, the vocabulary of transactions: numbers, texts, limits and seats. The
-//! tables were written by hand and test what the definitions in its contracts mean. No contract
-//! says that a seat is given room for a savepoint.
+//! tables were written by hand and test what the definitions in its contracts mean. A contract
+//! allows that a seat is refused room for a savepoint. One test checks that the next try then makes
+//! the room.
 use std::alloc::{AllocError, Global};
 use std::process::Abort;
 use std::test::Fail;
@@ -206,7 +207,7 @@ fn key_and_change(op: Op, reply: Reply) -> (u64, bool) {
 }
 
 /// Operations, each with a reply, the operation's key, and whether the operation is a change if it
-/// has this reply: a `PutIf` is one if the reply is the value that it expects.
+/// has this reply: a `PutIf` is a change if the reply is the value that it expects.
 const OPERATIONS: [(Op, Reply, u64, bool); 10] = [
     (Op::Put(1, 10), None, 1, true),
     (Op::Take(2), None, 2, false),
@@ -267,8 +268,8 @@ fn save(rt: &impl Abort, seat: &mut Seat) -> Result<(), AllocError> {
     Ok(())
 }
 
-/// Meant to be run with each allocation refused in turn: the seat is unchanged, and is given room
-/// when asked once more.
+/// Meant to be run with each allocation refused in turn. A refusal leaves the seat unchanged, and
+/// the next try makes room.
 #[test]
 fn savepoints_without_memory(rt: HostRuntime) -> Result<(), Fail> {
     save_nine(&rt, &mut open_seat(&rt, rt.alloc()))

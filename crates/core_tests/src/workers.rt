@@ -1,6 +1,6 @@
 //! Workers of `script_worker` that run scripts, step by step, without a core. The contracts say
 //! that a worker follows `specs/Workers.antt`; the cases were made by hand and test what that
-//! means. Each is played twice: by `turn` and `told`, and by `take_turn`.
+//! means. Each case is played twice: by `turn` and `told`, and by `take_turn`.
 use script_worker::{Finish, Stage, Worker};
 use std::alloc::{AllocError, Global};
 use std::process::Abort;
@@ -56,7 +56,7 @@ fn has_turn(worker: &mut Worker) -> bool {
 }
 
 /// Tells the worker the answer to the one step of its next turn, with one further try allowed.
-/// Answers the step, and the outcome of its script, if it ended.
+/// Answers the step, and the outcome of the script if the script has ended.
 fn tell(worker: &mut Worker, scripts: &[Script], answer: Answer) -> (Option<Step>, Option<Finish>) {
     let step = match worker.turn(2) {
         Some(Turn::One(step)) => Some(step),
@@ -65,8 +65,8 @@ fn tell(worker: &mut Worker, scripts: &[Script], answer: Answer) -> (Option<Step
     (step, worker.told(scripts, 1, answer))
 }
 
-/// Takes the worker's next turn, in which each step has this answer. Answers the last step that it
-/// takes, and the outcome of its script, if it ended.
+/// Takes the worker's next turn, in which each step has this answer. Answers the last step that the
+/// worker takes, and the outcome of the script if the script has ended.
 fn take_turn(
     worker: &mut Worker,
     scripts: &[Script],
@@ -149,7 +149,7 @@ const NO_MEMORY: Option<Finish> = Some(Finish::Refused(Refusal::NoMemory));
 
 /// Workers and their steps.
 static CASES: [Case; 9] = [
-    // The worker of number 1 of 2 runs scripts 1 and 3.
+    // The second of 2 workers runs scripts 1 and 3.
     Case {
         number: 1,
         workers: 2,
@@ -235,7 +235,7 @@ static CASES: [Case; 9] = [
             (Step::Act(0), Answer::Aborted, Some(Finish::Busy), Some(1)),
         ],
     },
-    // If every key is taken, help with a key of 2^63 takes steps; an action `put_if` is an
+    // The limits take every key, so a help with the key 2^63 takes steps. An action `put_if` is an
     // operation.
     Case {
         number: 0,
@@ -319,8 +319,8 @@ static CASES: [Case; 9] = [
             ),
         ],
     },
-    // The first help with a bad key is refused without a step, and the transaction is given up:
-    // neither the other helps of its script nor the put follow.
+    // The first help with a bad key is refused without a step, and the transaction is given up. The
+    // other helps of the script and its put do not follow.
     Case {
         number: 0,
         workers: 1,

@@ -1,17 +1,17 @@
--- The outcome of a step of a caller, by the claim of its last trial.
+-- The outcome of a caller's step that uses the claim of the caller's last trial.
 use Rattle.std.proofs.Common.{[], ℕ, ◌++◌, ◌+◌, ◌<◌, ◌∙◌, ◌∷◌, ◌≡◌, ◌⊎◌, Bool, IsTrue, List, None, Option, Some, ap, arith, false, inl, inr}
 use Rattle.std.proofs.Common.{length, length-append, refl, subst, sym, true}
-use Rattle.core_tokens.proofs.Vocabulary.{Answer, Call, Claim, Doubling, Drive, Entry, Fresh, Goes, IsStale, Move, Op, Phase, Refusal, Seat}
-use Rattle.core_tokens.proofs.Vocabulary.{State, Step, append-nil, are_limits, caller_of, entries_of, false≢true, first_step, holder_by}
+use Rattle.core_tokens.proofs.Vocabulary.{Answer, Call, Claim, Doubling, Drive, Entry, Fresh, Goes, IsStale, Move, Op, Phase, Seat}
+use Rattle.core_tokens.proofs.Vocabulary.{State, Step, are_limits, caller_of, entries_of, false≢true, first_step, holder_by}
 use Rattle.core_tokens.proofs.Vocabulary.{is_ask, is_stale, sized_in, sized_of, step_in, step_of, told_first, told_in}
 use Rattle.std.proofs.lemmas.List.Elements.{All-pop}
 use Rattle.std.specs.List.{All}
 use Rattle.txn_trace.specs.Legal.{IsLegal}
 use Rattle.txn_words.specs.declared.refusal.Refusal.TheVariants.{StaleWord}
-use Rattle.txn_words.specs.declared.step.Step.TheVariants.{Ask, Begin}
+use Rattle.txn_words.specs.declared.step.Step.TheVariants.{Ask}
 use Rattle.boost_core.proofs.Named.{grown_small}
 use Rattle.boost_core.proofs.Starting.{few_callers}
-use Rattle.boost_core.specs.Answers.{after}
+use Rattle.boost_core.proofs.Moves.{GoesOver, move_over, refused_over}
 use Rattle.boost_core.specs.declared.claim.Claim.TheVariants.{Lock}
 use Rattle.core_tokens.specs.Claims.{HasTriedFor, HasTriedIf, HasTriedStep, Trial, claim_in}
 use Rattle.core_tokens.specs.Noted.{AddsSmall}
@@ -20,40 +20,19 @@ use Rattle.core_tokens.specs.Tokens.{HasTried, HasTriedNext, Token}
 use Rattle.txn_drive.specs.declared.call.Call.TheVariants as calls
 use Rattle.txn_words.specs.declared.answer.Answer.TheVariants as answers
 
--- A move or a stale word adds the entries of its step to the history, and changes neither the
--- limits nor whether stripes are words.
-no_entries : (step : Step) (r : Refusal) → entries_of step (answers.Refused r) ≡ []
-no_entries (Begin c) r = refl
-no_entries step r = refl
-
-pub record GoesOver (m n : State) (step : Step) (a : Answer) : Type 0 where
-  pub history : n.history ≡ m.history ++ entries_of step a
-  pub limits : n.limits ≡ m.limits
-  pub words : n.words ≡ m.words
-
-refused_over : (m : State) (step : Step) (r : Refusal) → m.history ≡ m.history ++ entries_of step (answers.Refused r)
-refused_over m step r = sym (ap (λ es. m.history ++ es) (no_entries step r) ∙ append-nil m.history)
-
-after_over : (m : State) (step : Step) (a : Answer) (changes stamp : ℕ) → GoesOver m (after m step a changes stamp) step a
-after_over m step (answers.Refused r) changes stamp = record { history = refused_over m step r; limits = refl; words = refl }
-after_over m step a changes stamp = record { history = refl; limits = refl; words = refl }
-
 pub goes_cases : (claim : Claim) (m n : State) (step : Step) (a : Answer) → Goes claim m step a n → IsStale claim m step a n ⊎ Move m step a n
 goes_cases Lock m n step a goes = inr goes
 goes_cases claim m n step a (inl stale) = inl stale
 goes_cases claim m n step a (inr asks) = inr asks.1
 
+-- A move, or a refusal with a stale word, adds the entries of its step to the history. It changes
+-- neither the limits nor whether stripes are words.
 pub goes_over : (claim : Claim) (m n : State) (step : Step) (a : Answer) → Goes claim m step a n → GoesOver m n step a
 goes_over claim m n step a goes = elim (goes_cases claim m n step a goes) [
   | inl stale ↦
       subst (λ x. GoesOver m x step a) (sym stale.state)
       (record { history = refused_over m step StaleWord ∙ ap (λ x. m.history ++ entries_of step x) (sym stale.refused); limits = refl; words = refl })
-  | inr move ↦
-      let over = after_over m step a n.changes n.stamp in record {
-        history = ap (λ (x : State). x.history) move.state ∙ over.history;
-        limits = ap (λ (x : State). x.limits) move.state ∙ over.limits;
-        words = ap (λ (x : State). x.words) move.state ∙ over.words;
-      }
+  | inr move ↦ move_over m n step a move
 ]
 
 -- A step that does not ask for an operation claims no stripe.
@@ -66,8 +45,7 @@ plain_claim (Some trial) m step other = refl
 pub counted_more : (h more es : List Entry) (total next : ℕ) → total ≡ length h → next ≡ total + length es → more ≡ h ++ es → next ≡ length more
 counted_more h more es total next counts adds is = omega (arith, counts, adds, simp length-append at (ap length is))
 
--- If the word of an operation's stripe was tried, it was tried for each step of the operation's
--- drive.
+-- If `HasTriedFor` holds for a call, `HasTriedIf` holds for each step of the call's drive.
 tried_first : (tried : Option Trial) (stripes c : ℕ) (call : Call) → HasTriedFor tried stripes call → HasTriedStep tried stripes (first_step c call)
 tried_first tried stripes c (calls.Op op) has = has
 tried_first tried stripes c call has = tt
@@ -82,13 +60,13 @@ tried_next k d has = tried_in k.claims.tried k.limits.stripes d.caller d.call d.
 pub tried_step : (tried : Option Trial) (stripes : ℕ) (d : Drive) (step : Step) → step_of d ≡ Some step → HasTriedIf tried stripes (step_of d) → HasTriedStep tried stripes step
 tried_step tried stripes d step is = subst (HasTriedIf tried stripes) is
 
--- If the word for a drive's next step was tried, it was also tried for the next step after the
+-- If `HasTriedIf` holds for the next step of a drive, it still holds for the next step once the
 -- drive has noted a size.
 tried_sized_in : (tried : Option Trial) (stripes c size : ℕ) (call : Call) (phase : Phase) → HasTriedIf tried stripes (step_in c call phase) → HasTriedIf tried stripes (step_in c call (sized_in size phase))
 tried_sized_in tried stripes c size call (Doubling seen) has = tt
 tried_sized_in tried stripes c size call phase has = has
 
--- The word of a drive's next step was tried if it was tried before the size was noted.
+-- The same in terms of the values in the code: `d'` is the drive `d` after it has noted a size.
 pub may_next : {S : Type 0} (t k : Token S) (stripes size : ℕ) (d d' : Drive) → t ≡ k → stripes ≡ t.limits.stripes → d' ≡ sized_of size d → HasTriedNext k d → HasTriedIf t.claims.tried stripes (step_of d')
 may_next t k stripes size d d' view as_many sized has = rw (sized, as_many, view) (tried_sized_in k.claims.tried k.limits.stripes d.caller size d.call d.phase has)
 
@@ -116,8 +94,8 @@ suits_stale claim m n s c call phase step a is stale =
     subst (λ x. Suits n s c call (told_in call phase x)) (sym stale.refused)
     (stale_ends n s c call phase (ap asks_if is ∙ stale_asks claim m step stale.stale))
 
--- The entry that a step adds is small: its caller is one of the core's, and so is the holder that a
--- Busy entry names.
+-- The entry that a step adds is small: its caller is one of the core's callers, and so is the
+-- holder that a Busy entry names.
 pub small_added : (m n : State) (step : Step) (a : Answer) → GoesOver m n step a → All (λ e. caller_of e < n.limits.callers) n.history → IsLegal (holder_by n.words) n.limits.stripes n.history → are_limits n.limits.callers n.limits.stripes n.limits.buckets ≡ true → AddsSmall step a
 small_added m n step a over all legal are e is =
     let grown : n.history ≡ m.history ++ e ∷ [] = over.history ∙ ap (λ es. m.history ++ es) (sym is) in

@@ -1,4 +1,4 @@
--- A call in progress, over its steps.
+-- A call stays in progress over its steps.
 use Rattle.std.proofs.Common.{if◌then◌else◌, ℕ, ◌++◌, ◌∙◌, ◌≡◌, List, None, Option, Some, ap, append_assoc, false, is_some, nat_lt, refl}
 use Rattle.std.proofs.Common.{subst, sym, true, unwrap_or}
 use Rattle.core_tokens.proofs.Vocabulary.{Answer, Call, Doubling, Drive, Entry, Initialising, One, Phase, Seat, Seeking, Sizes, State, Step}
@@ -8,22 +8,22 @@ use Rattle.txn_drive.proofs.DriveLaws.{made-sized}
 use Rattle.txn_drive.proofs.MadeLemmas.{made-told_of}
 use Rattle.core_tokens.proofs.Phases.{fits_told, seat_on, seat_on_more, seat_told, some_is}
 use Rattle.core_tokens.specs.Claims.{Trial}
-use Rattle.core_tokens.specs.Holds.{FitsIf, GoesOn, TakesSecond}
-use Rattle.core_tokens.specs.Suits.{Fits, IsInStep, IsSized}
+use Rattle.core_tokens.specs.Holds.{FitsIf, IsUnderway, TakesSecond}
+use Rattle.core_tokens.specs.Suits.{SuitsSeat, IsInStep, IsSized}
 use Rattle.txn_words.specs.declared.answer.Answer.TheVariants as answers
 use Rattle.txn_words.specs.declared.step.Step.TheVariants as steps
 
--- `paired` gives the turn of the seek, or the turn of seek and act. So a statement that holds of
--- both turns holds of the turn that it gives.
+-- `paired` gives a turn with only the seek, or a turn with the seek and the act. So a statement
+-- that holds of both turns holds of the turn that `paired` gives.
 pub at_paired : (P : Turn → Type 0) (again : ℕ) (seeking acting : Step) → P (One seeking) → P (Two seeking acting) → P (paired again seeking acting)
 at_paired P again seeking acting one two = elim (nat_lt again 8) as (λ b. P (if b then One seeking else Two seeking acting)) [ true ↦ one | false ↦ two ]
 
-fits_on : (s : Seat) (d : Drive) (step : Step) (a : Answer) (o : Option Seat) → step_of d ≡ Some step → Fits s d.call d.phase → seat_on s (entries_of step a) ≡ o → FitsIf o d.call (told_in d.call d.phase a)
+fits_on : (s : Seat) (d : Drive) (step : Step) (a : Answer) (o : Option Seat) → step_of d ≡ Some step → SuitsSeat s d.call d.phase → seat_on s (entries_of step a) ≡ o → FitsIf o d.call (told_in d.call d.phase a)
 fits_on s d step a None is fits on = tt
 fits_on s d step a (Some next) is fits on = fits_told s next d.caller d.call d.phase a fits (ap (λ t. seat_told s t a) is ∙ on)
 
 pub goes_told : (base seen seen' : List Entry) (d e : Drive) (step : Step) (a : Answer) → step_of d ≡ Some step → is_some (seat_after seen) ≡ true → seen' ≡ seen ++ entries_of step a → e ≡ told_of d a
-    → GoesOn base seen d → GoesOn base seen' e
+    → IsUnderway base seen d → IsUnderway base seen' e
 goes_told base seen seen' d e step a is whole seen_is told goes =
     let es = entries_of step a in
     let s = unwrap_or (seat_after seen) closed_seat in
@@ -54,8 +54,8 @@ pub no_second : (tried : Option Trial) (m : State) (seen : List Entry) (d : Driv
 no_second tried m seen d next answers.Placed not_so = absurd (not_so refl)
 no_second tried m seen d next a not_so = (refl, refl, refl)
 
--- A call stays in progress, and in step, after its drive has noted the size.
-pub goes_sized : (base seen : List Entry) (d e : Drive) (size : ℕ) → e ≡ sized_of size d → GoesOn base seen d → GoesOn base seen e
+-- After its drive has noted the size, a call is still in progress and still in step.
+pub goes_sized : (base seen : List Entry) (d e : Drive) (size : ℕ) → e ≡ sized_of size d → IsUnderway base seen d → IsUnderway base seen e
 goes_sized base seen d e size is goes = rw is (record {
   entries = goes.entries ∙ ap (λ h. base ++ h) (sym (made-sized size d.caller d.call d.phase));
   fits = at (seat_after seen) d.phase goes.fits;

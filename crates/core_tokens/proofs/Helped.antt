@@ -8,8 +8,8 @@ use Rattle.boost_core.proofs.InStep.{Reaches, double_reaches, link_reaches, seek
 use Rattle.core_tokens.proofs.Claiming.{plain_claim}
 use Rattle.core_tokens.proofs.Going.{at_paired}
 use Rattle.core_tokens.specs.Claims.{Trial, claim_in}
-use Rattle.core_tokens.specs.Helps.{Begins, Heads, IsDoubling, IsTo}
-use Rattle.core_tokens.specs.Holds.{FoundOther, HadNoRoom, Held, InStep, Takes, TakesSecond, TakesTurn, TookTurn, WasBroken, end_in}
+use Rattle.core_tokens.specs.Helps.{BeginsHelp, Heads, IsDoubling, IsTo}
+use Rattle.core_tokens.specs.Holds.{FoundOther, HadNoRoom, Held, InStep, TakesOneStep, TakesSecond, TakesTurn, TookTurn, WasBroken, end_in}
 use Rattle.core_tokens.specs.Suits.{Suits}
 use Rattle.core_tokens.specs.Tokens.{Token}
 use Rattle.txn_drive.specs.declared.call.Call.TheVariants as calls
@@ -17,7 +17,7 @@ use Rattle.txn_drive.specs.declared.«end».End.TheVariants as ends
 use Rattle.txn_words.specs.declared.answer.Answer.TheVariants as answers
 use Rattle.txn_words.specs.declared.step.Step.TheVariants as steps
 
--- A hold has taken its turn if its call goes on after it or has ended with `Helped`.
+-- A hold has taken its turn if the call goes on after the hold or has ended with `Helped`.
 abbrev IsPlain : Option End → Type 0
 IsPlain None = Unit {0}
 IsPlain (Some ends.Helped) = Unit {0}
@@ -36,7 +36,7 @@ took m n k l d e outcome plain (FoundOther, was) = absurd (subst IsPlain was.2 p
 took m n k l d e outcome plain (HadNoRoom, was) = absurd (subst IsPlain was.1 plain)
 took m n k l d e outcome plain (TookTurn, was) = (was.turn, ended_plain l.broken (end_of e) outcome plain was.ends)
 
--- A helper's drive.
+-- The drive of a call for help.
 abbrev helping : ℕ → ℕ → Phase → Drive
 helping c key phase = record { caller = c; call = calls.Help key; phase = phase }
 
@@ -46,8 +46,8 @@ helping_is d key is = λ i. record { caller = d.caller; call = is i; phase = d.p
 moved : (tried : Option Trial) (m n : State) (step : Step) (a : Answer) → is_ask step ≡ false → Goes (claim_in tried m step) m step a n → Move m step a n
 moved tried m n step a plain goes = subst (λ (claim : Claim). Goes claim m step a n) (plain_claim tried m step (λ x op is. absurd (false≢true (sym plain ∙ ap is_ask is)))) goes
 
--- A call for help with this key keeps to this bucket. If `known`, the bucket is stored when the
--- call has ended with `Helped`.
+-- A call for help with this key keeps to this bucket. If `known` holds, the bucket is stored when
+-- the call has ended with `Helped`.
 abbrev Told : Type 0 → State → ℕ → ℕ → Drive → Type 0
 Told known n key bucket e = (e.call ≡ calls.Help key) × Reaches known n bucket e.phase
 
@@ -55,7 +55,7 @@ Told known n key bucket e = (e.call ≡ calls.Help key) × Reaches known n bucke
 module _ (known : Type 0) (tried : Option Trial) (c key bucket : ℕ) (n : State) (seen' : List Entry) (e : Drive) where
   -- The last step of the turn is a move of the core. If the call keeps to its bucket over this
   -- move, it keeps to the bucket over the turn.
-  took_last : {m : State} {seen : List Entry} {phase : Phase} {step : Step} {a : Answer} → is_ask step ≡ false → Takes tried m seen (helping c key phase) step a n seen' e
+  took_last : {m : State} {seen : List Entry} {phase : Phase} {step : Step} {a : Answer} → is_ask step ≡ false → TakesOneStep tried m seen (helping c key phase) step a n seen' e
       → (Move m step a n → Reaches known n bucket (told_in (calls.Help key) phase a)) → Told known n key bucket e
   took_last {m} {seen} {phase} {step} {a} plain takes reaches =
       subst (Told known n key bucket) (sym takes.told) (refl, reaches (moved tried m n step a plain takes.goes))
@@ -100,7 +100,7 @@ at_end n c bucket call phase reaches well = absurd reaches
 
 -- The first hold of a call for help gives the call the bucket of its key, and each later hold keeps
 -- to this bucket.
-first_hold : {S : Type 0} (known : Type 0) (key : ℕ) (m n : State) (k l : Token S) (d e : Drive) (outcome : Option End) → IsPlain outcome → (known → is_set n.stored 0 ≡ true) → Begins key d → Held m k d outcome n l e → Told known n key (key % n.size) e × (end_of e ≡ outcome)
+first_hold : {S : Type 0} (known : Type 0) (key : ℕ) (m n : State) (k l : Token S) (d e : Drive) (outcome : Option End) → IsPlain outcome → (known → is_set n.stored 0 ≡ true) → BeginsHelp key d → Held m k d outcome n l e → Told known n key (key % n.size) e × (end_of e ≡ outcome)
 first_hold {S} known key m n k l d e outcome plain first begins held =
     let turned = took m n k l d e outcome plain held in
     (begun known k.claims.tried m n k.seen l.seen d.caller key d.phase e first begins.1 (subst (λ (x : Drive). Turned k.claims.tried m k.seen x n l.seen e) (helping_is d key begins.0) turned.0), turned.1)
@@ -110,7 +110,8 @@ later_hold {S} known key size m n k l d e outcome plain suits heads held =
     let turned = took m n k l d e outcome plain held in
     (keeps known k.claims.tried d.caller key (key % size) n l.seen e m k.seen d.phase suits heads.1 (subst (λ (x : Drive). Turned k.claims.tried m k.seen x n l.seen e) (helping_is d key heads.0) turned.0), turned.1)
 
-pub heads : {S : Type 0} (key : ℕ) (m n : State) (k l : Token S) (d e : Drive) → Begins key d → Held m k d None n l e → Heads key n.size e
+pub heads : {S : Type 0} (key : ℕ) (m n : State) (k l : Token S) (d e : Drive) → BeginsHelp key d → Held m k d None n l e
+    → Heads key n.size e
 heads {S} key m n k l d e begins held =
     let on = first_hold ⊥ key m n k l d e None tt (λ no. absurd no) begins held in
     (on.0.0, going ⊥ n e.caller (key % n.size) e.call e.phase on.0.1 on.1)
@@ -133,7 +134,7 @@ stored {S} key size m n k l d e whole ins heads held =
     let on = later_hold (Unit {0}) key size m n k l d e (Some ends.Helped) tt (λ known. (whole, way_suits m (seat_in m.history k.number) d.caller (key % size) d.call d.phase heads.1 suits)) heads held in
     at_end n e.caller (key % size) e.call e.phase on.0.1 on.1
 
-pub at_once : {S : Type 0} (key : ℕ) (m n : State) (k l : Token S) (d e : Drive) → IsWhole n → Begins key d → Held m k d (Some ends.Helped) n l e → is_set n.stored (key % n.size) ≡ true
+pub at_once : {S : Type 0} (key : ℕ) (m n : State) (k l : Token S) (d e : Drive) → IsWhole n → BeginsHelp key d → Held m k d (Some ends.Helped) n l e → is_set n.stored (key % n.size) ≡ true
 at_once {S} key m n k l d e whole begins held =
     let on = first_hold (Unit {0}) key m n k l d e (Some ends.Helped) tt (λ known. whole.first) begins held in
     at_end n e.caller (key % n.size) e.call e.phase on.0.1 on.1

@@ -1,4 +1,4 @@
--- The call after a hold, with core and token in step.
+-- A call after a hold, and whether core and token are still in step.
 use Rattle.std.proofs.Common.{[], ℕ, ◌||◌, ◌∙◌, ◌≡◌, ◌≢◌, Bool, IfSome, List, None, Option, Some, ap, false, inl, inr, is_some, not, refl}
 use Rattle.std.proofs.Common.{subst, sym, true}
 use Rattle.core_tokens.proofs.Vocabulary.{Call, CommitNothing, Drive, End, Entry, First, Helped, IsQuiet, IsShaped, Last, Lost, Phase}
@@ -8,7 +8,7 @@ use Rattle.std.proofs.lemmas.Bool.{or_parts}
 use Rattle.txn_drive.proofs.DriveLaws.{made_at_end}
 use Rattle.txn_drive.proofs.Quiet.{going_quiet, made_quiet}
 use Rattle.txn_words.specs.declared.refusal.Refusal.TheVariants.{NoMemory, OutOfStep}
-use Rattle.core_tokens.specs.Holds.{GoesOn, GoesTo, HasRun, Held, HeldBy, How, InStep, MayEnd, end_in, is_out, odd_if, out_if}
+use Rattle.core_tokens.specs.Holds.{IsUnderway, GoesTo, HasRun, Held, HeldBy, How, InStep, MayEnd, end_in, is_out, odd_if, out_if}
 use Rattle.core_tokens.specs.Suits.{IsInStep, Suits, is_odd, may_refuse}
 use Rattle.core_tokens.specs.Tokens.{Token}
 use Rattle.txn_drive.specs.declared.call.Call.TheVariants as calls
@@ -26,9 +26,9 @@ plain_end call (ends.Refused OutOfStep) es plain = absurd (false≢true (sym pla
 plain_end call (ends.Refused r) es plain = (plain, tt, refl)
 plain_end call outcome es plain = (plain, tt, refl)
 
--- A call that ends out of step has committed nothing. A drive with an end that its call may not
--- have has committed nothing either.
-pub out_run : (base seen : List Entry) (e : Drive) → GoesOn base seen e → (is_some (seat_after seen) ≡ true → CommitNothing (made e)) → HasRun base seen e.caller e.call (ends.Refused OutOfStep)
+-- A call that ends out of step has committed nothing. A drive with an odd end has also committed
+-- nothing. An end is odd if the drive's call must not have it (`is_odd`).
+pub out_run : (base seen : List Entry) (e : Drive) → IsUnderway base seen e → (is_some (seat_after seen) ≡ true → CommitNothing (made e)) → HasRun base seen e.caller e.call (ends.Refused OutOfStep)
 out_run base seen e goes quiet = record { added = made e; entries = goes.entries; made = tt; may = tt; quiet = quiet }
 
 odd_quiet : (e : Drive) (end : Option End) → end_of e ≡ end → odd_if e.call end ≡ true → CommitNothing (made e)
@@ -37,7 +37,7 @@ odd_quiet e end is odd = elim (made_quiet e) [
   | inr committed ↦ absurd (false≢true (sym (ap (odd_if e.call) (sym is ∙ committed.1)) ∙ odd))
 ]
 
-goes_end : (base seen : List Entry) (e : Drive) (b : Bool) (end : Option End) → end_of e ≡ end → GoesOn base seen e → (b ≡ false → odd_if e.call end ≡ false)
+goes_end : (base seen : List Entry) (e : Drive) (b : Bool) (end : Option End) → end_of e ≡ end → IsUnderway base seen e → (b ≡ false → odd_if e.call end ≡ false)
     → (b ≡ true → is_some (seat_after seen) ≡ true → odd_if e.call end ≡ true) → GoesTo base seen e (end_in b end)
 goes_end base seen e true end is goes plain odd = out_run base seen e goes (λ whole. odd_quiet e end is (odd refl whole))
 goes_end base seen e false None is goes plain odd = record { on = goes; quiet = going_quiet e is }
@@ -46,7 +46,7 @@ goes_end base seen e false (Some outcome) is goes plain odd =
     record { added = made e; entries = goes.entries; made = made_at_end e outcome is; may = end.0; quiet = λ whole. end.1 }
 
 pub goes_held : (base seen : List Entry) (e : Drive) (b whole : Bool) (end r : Option End) → whole ≡ is_some (seat_after seen) → end ≡ end_of e → b ≡ (not whole || odd_if e.call end) → r ≡ end_in b end
-    → GoesOn base seen e → GoesTo base seen e r
+    → IsUnderway base seen e → GoesTo base seen e r
 goes_held base seen e b whole end r whole_is is broken ends goes =
     subst (GoesTo base seen e) (sym ends) (
     goes_end base seen e b end (sym is) goes (λ no. (or_parts (not whole) (odd_if e.call end) (sym broken ∙ no)).1)
@@ -65,11 +65,11 @@ not_out : (call : Call) (o : Option End) → odd_if call o ≡ false → IfSome 
 not_out call None plain = tt
 not_out call (Some outcome) plain = λ is. false≢true (sym plain ∙ ap (is_odd call) is ∙ no_out call)
 
-pub no_room_run : (base seen seen' : List Entry) (d e : Drive) → seen' ≡ seen → e ≡ d → (made d ≡ []) × (may_refuse d.call NoMemory ≡ true) → GoesOn base seen d → HasRun base seen' e.caller e.call (ends.Refused NoMemory)
+pub no_room_run : (base seen seen' : List Entry) (d e : Drive) → seen' ≡ seen → e ≡ d → (made d ≡ []) × (may_refuse d.call NoMemory ≡ true) → IsUnderway base seen d → HasRun base seen' e.caller e.call (ends.Refused NoMemory)
 no_room_run base seen seen' d e same is starts goes = rw is (record { added = []; entries = cc; made = refl; may = ap not starts.1; quiet = λ whole. tt })
 
--- A hold first tells the drive the core's size. So a course that begins with `d'`, the drive that
--- was told the size, is the course of a hold that begins with `d`.
+-- A hold first tells its drive the core's size, which turns `d` into `d'`. So a course (`HeldBy`)
+-- that begins with `d'` is a hold that begins with `d`.
 pub held_sized : {S : Type 0} (how : How) (m n : State) (k l : Token S) (d d' e : Drive) (size : ℕ) (r : Option End) → size ≡ m.size → d' ≡ sized_of size d → HeldBy how m k d' r n l e → Held m k d r n l e
 held_sized how m n k l d d' e size r size_is is held = (how, subst (λ x. HeldBy how m k x r n l e) (is ∙ ap (λ z. sized_of z d) size_is) held)
 

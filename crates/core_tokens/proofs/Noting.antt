@@ -11,7 +11,7 @@ use Rattle.core_tokens.proofs.Phases.{seat_on_more}
 use Rattle.core_tokens.specs.Noted.{HasRoomFor, IsNoted, adds_entry, began_by, last_txn}
 use Rattle.txn_words.specs.declared.seat.Phase.TheVariants as seats
 
--- If a step adds an entry with this answer, it is one of the steps that may add an entry.
+-- If a step with this answer adds an entry, the step is one that may add an entry.
 adds_if : (step : Step) (a : Answer) (e : Entry) → e ∷ [] ≡ entries_of step a → adds_entry step ≡ true
 adds_if (Begin c) a e is = refl
 adds_if step a e is = cc

@@ -8,14 +8,14 @@ use Rattle.core_tokens.proofs.Vocabulary.{told_in, told_seek, undone_in, undone_
 use Rattle.txn_drive.specs.Drives.{heading, refused_help, towards}
 use Rattle.txn_words.specs.declared.refusal.Refusal.TheVariants.{NothingToSeek}
 use Rattle.boost_core.proofs.InStep.{at_heading, at_refused, at_towards}
-use Rattle.core_tokens.specs.Suits.{Fits, undone_of, work_phase}
+use Rattle.core_tokens.specs.Suits.{SuitsSeat, undone_of, work_phase}
 use Rattle.txn_drive.specs.declared.call.Call.TheVariants as calls
 use Rattle.txn_words.specs.declared.answer.Answer.TheVariants as answers
 use Rattle.txn_words.specs.declared.entry.Entry.TheVariants as entries
 use Rattle.txn_words.specs.declared.seat.Phase.TheVariants as seats
 
--- If an entry with which a call goes on has a row, `phase_after` gives the seat's phase after the
--- entry. For all other entries it gives None.
+-- After an entry with which a call goes on, the seat has the phase that `phase_after` gives, if the
+-- entry has a row. For every other entry `phase_after` gives None.
 abbrev left_for : Option ℕ → Standing
 left_for None = seats.LeavingToEnd
 left_for (Some n) = seats.LeavingTo n
@@ -62,15 +62,15 @@ pub some_is : (o : Option Seat) → is_some o ≡ true → o ≡ Some (unwrap_or
 some_is None is = absurd (cc is)
 some_is (Some s) is = refl
 
-fits_first : (s next : Seat) (c : ℕ) (call : Call) (a : Answer) → seat_on s (entries_of (first_step c call) a) ≡ Some next → Fits next call (told_first call a)
+fits_first : (s next : Seat) (c : ℕ) (call : Call) (a : Answer) → seat_on s (entries_of (first_step c call) a) ≡ Some next → SuitsSeat next call (told_first call a)
 fits_first s next c (calls.Op op) answers.Asked is = row_phase s next (entries.Asked c op) (seats.Waiting op) refl is
 fits_first s next c (calls.Op op) (answers.Busy x) is = row_phase s next (entries.Busy c op x) seats.LeavingToEnd refl is
 fits_first s next c (calls.Back n) answers.Leaving is = row_phase s next (entries.Leave c (Some n)) (seats.LeavingTo n) refl is
 fits_first s next c calls.Abort answers.Leaving is = row_phase s next (entries.Leave c None) seats.LeavingToEnd refl is
 fits_first s next c call a is = tt
 
--- A statement that holds of both phases that may follow a seek holds of the phase that follows it.
--- The same for the two phases that may follow when one more change is taken back.
+-- Two phases may follow a seek. A statement that holds of both holds of the phase that does follow
+-- (`at_seek`). `at_counted` says the same for one more change that is taken back.
 at_seek : (P : Phase → Type 0) (work : Work) (again : ℕ) (a : Answer) → P (Acting work again) → P (Lost work) → P (told_seek work again a)
 at_seek P work again answers.Placed acting lost = acting
 at_seek P (Busy x k) again (answers.Refused NothingToSeek) acting lost = acting
@@ -80,7 +80,7 @@ at_seek P work again a acting lost = lost
 at_counted : (P : Phase → Type 0) (k : ℕ) (more work : Work) → P (Seeking more 0) → P (Last work answers.Undone) → P (counted k more work)
 at_counted P k more work on ended = elim (nat_lt k (2 ^ 64 - 1)) as (λ b. P (if b then Seeking more 0 else Last work answers.Undone)) [ true ↦ on | false ↦ ended ]
 
--- The phase of a work's caller does not depend on how many changes are taken back.
+-- The phase of a caller at work does not depend on how many changes it has taken back.
 work_more : (call : Call) (x k j : ℕ) → work_phase call (Busy x j) ≡ work_phase call (Busy x k)
 work_more (calls.Op op) x k j = refl
 work_more call x k j = refl
@@ -89,10 +89,10 @@ leave_more : (call : Call) (k j : ℕ) → work_phase call (Leaving j) ≡ work_
 leave_more (calls.Back n) k j = refl
 leave_more call k j = refl
 
-fits_undone : (s : Seat) (call : Call) (work : Work) → work_phase call work ≡ Some s.phase → Fits s call (undone_more work)
+fits_undone : (s : Seat) (call : Call) (work : Work) → work_phase call work ≡ Some s.phase → SuitsSeat s call (undone_more work)
 fits_undone s call Operation fits = tt
-fits_undone s call (Busy x k) fits = at_counted (Fits s call) k (Busy x (k + 1)) (Busy x k) (work_more call x k (k + 1) ∙ fits) tt
-fits_undone s call (Leaving k) fits = at_counted (Fits s call) k (Leaving (k + 1)) (Leaving k) (leave_more call k (k + 1) ∙ fits) tt
+fits_undone s call (Busy x k) fits = at_counted (SuitsSeat s call) k (Busy x (k + 1)) (Busy x k) (work_more call x k (k + 1) ∙ fits) tt
+fits_undone s call (Leaving k) fits = at_counted (SuitsSeat s call) k (Leaving (k + 1)) (Leaving k) (leave_more call k (k + 1) ∙ fits) tt
 
 -- The phases other than `Fresh` in which no work is done. No call comes back to its work from such
 -- a phase. So the phase that follows it fits each seat, and counts no change as taken back.
@@ -103,7 +103,7 @@ Aside Fresh = ⊥
 Aside phase = Unit {0}
 
 abbrev IsFree : Phase → Type 0
-IsFree phase = ((s : Seat) (call : Call) → Fits s call phase) × (undone_of phase ≡ 0)
+IsFree phase = ((s : Seat) (call : Call) → SuitsSeat s call phase) × (undone_of phase ≡ 0)
 
 free_towards : (last bucket : ℕ) → IsFree (towards last bucket)
 free_towards last bucket = at_towards IsFree last bucket (λ same. (λ s call. tt, refl)) (λ other. (λ s call. tt, refl))
@@ -142,9 +142,9 @@ seat_told s (Some step) a = seat_on s (entries_of step a)
 same_phase : (call : Call) (work : Work) (s next : Seat) → work_phase call work ≡ Some s.phase → Some s ≡ Some next → work_phase call work ≡ Some next.phase
 same_phase call work s next fits is = cc
 
-pub fits_told : (s next : Seat) (c : ℕ) (call : Call) (phase : Phase) (a : Answer) → Fits s call phase → seat_told s (step_in c call phase) a ≡ Some next → Fits next call (told_in call phase a)
+pub fits_told : (s next : Seat) (c : ℕ) (call : Call) (phase : Phase) (a : Answer) → SuitsSeat s call phase → seat_told s (step_in c call phase) a ≡ Some next → SuitsSeat next call (told_in call phase a)
 fits_told s next c call Fresh a fits is = fits_first s next c call a is
-fits_told s next c call (Seeking work again) a fits is = at_seek (Fits next call) work again a (same_phase call work s next fits is) tt
+fits_told s next c call (Seeking work again) a fits is = at_seek (SuitsSeat next call) work again a (same_phase call work s next fits is) tt
 fits_told s next c call (Acting work again) answers.Again fits is = same_phase call work s next fits is
 fits_told s next c call (Acting work again) answers.Undone fits is = fits_undone next call work (fits ∙ row_phase s next (entries.Undone c) s.phase refl is)
 fits_told s next c call (Acting work again) a fits is = tt

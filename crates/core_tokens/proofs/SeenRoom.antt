@@ -9,9 +9,9 @@ use Rattle.boost_core.proofs.Refused.{abort_runs, commit_open}
 use Rattle.core_tokens.proofs.Going.{at_paired}
 use Rattle.core_tokens.proofs.Phases.{some_is}
 use Rattle.core_tokens.proofs.Working.{IsAtWork, at_work}
-use Rattle.core_tokens.specs.Holds.{FitsIf, GoesOn}
+use Rattle.core_tokens.specs.Holds.{FitsIf, IsUnderway}
 use Rattle.core_tokens.specs.Noted.{HasRoomFor, Noted, adds_entry, is_save}
-use Rattle.core_tokens.specs.Suits.{Fits, may_refuse, work_phase}
+use Rattle.core_tokens.specs.Suits.{SuitsSeat, may_refuse, work_phase}
 use Rattle.txn_drive.specs.declared.call.Call.TheVariants as calls
 use Rattle.txn_words.specs.declared.seat.Phase.TheVariants as seats
 use Rattle.txn_words.specs.declared.step.Step.TheVariants as steps
@@ -22,7 +22,7 @@ asked_of (One step) = Some step
 asked_of (Two step next) = Some next
 asked_of (Ended outcome) = None
 
--- A step that adds no entry needs no more room than is owed.
+-- A step that adds no entry needs room only for the entries that are owed.
 saves_none : (step : Step) → adds_entry step ≡ false → (reserved step ≡ 0) × (is_save step ≡ false)
 saves_none (steps.Begin c) is = absurd (cc is)
 saves_none step is = (cc, cc)
@@ -35,8 +35,8 @@ room_for_none n step adds owes =
       save = λ is. absurd (false≢true (sym none.1 ∙ is));
     }
 
--- If a transaction is open, at least one entry is owed. So a step of an open transaction that
--- reserves nothing needs no more room than is owed, also if it adds an entry.
+-- An open transaction owes at least one entry. So within it, a step that reserves nothing needs
+-- room only for the entries that are owed, even if the step adds an entry.
 open_owes : (standing : ℕ) (q : Standing) → is_closed q ≡ false → 0 < owed_in standing q
 open_owes standing seats.Closed is = absurd (false≢true (sym is))
 open_owes standing q is = omega arith
@@ -45,7 +45,7 @@ open_owes standing q is = omega arith
 abbrev HasNotBegun : ℕ → Call → Phase → Type 0
 HasNotBegun c call phase = (made_in c call phase ≡ []) × (may_refuse call NoMemory ≡ true)
 
--- Each turn but the first has its room.
+-- Each turn but the first has the room that it needs.
 abbrev HasRoomIn : Noted → ℕ → Call → Phase → Type 0
 HasRoomIn n c call Fresh = Unit {0}
 HasRoomIn n c call phase = IfSome (asked_of (turn_in c call phase)) (HasRoomFor n)
@@ -63,7 +63,7 @@ module _ (n : Noted) (s : Seat) (c : ℕ) (at : seat_after n.entries ≡ Some s)
   act_room : (call : Call) (work : Work) → work_phase call work ≡ Some s.phase → HasRoomFor n (steps.Act c)
   act_room call work fits = room_owed (steps.Act c) (subst IsAtWork fits (at_work call work)).0 refl refl
 
-  room_in : (call : Call) (phase : Phase) → Fits s call phase → HasRoomIn n c call phase
+  room_in : (call : Call) (phase : Phase) → SuitsSeat s call phase → HasRoomIn n c call phase
   room_in call Fresh fits = tt
   room_in call (Seeking work again) fits =
       at_paired (λ t. IfSome (asked_of t) (HasRoomFor n)) again (steps.Seek c) (steps.Act c) (room_for_none n (steps.Seek c) refl owes) (act_room call work fits)
@@ -82,17 +82,17 @@ module _ (n : Noted) (s : Seat) (c : ℕ) (at : seat_after n.entries ≡ Some s)
   no_room_first (calls.Help key) half none full = absurd (full (room_for_none n (steps.Double 0) refl owes))
   no_room_first call half none full = (refl, refl)
 
-  no_room_in : (call : Call) (phase : Phase) (step : Step) → Fits s call phase → asked_of (turn_in c call phase) ≡ Some step → (HasRoomFor n step → ⊥) → HasNotBegun c call phase
+  no_room_in : (call : Call) (phase : Phase) (step : Step) → SuitsSeat s call phase → asked_of (turn_in c call phase) ≡ Some step → (HasRoomFor n step → ⊥) → HasNotBegun c call phase
   no_room_in call Fresh step fits is full = no_room_first call fits.0 fits.1 (subst (λ o. IfSome o (HasRoomFor n) → ⊥) (sym is) full)
   no_room_in call phase step fits is full = absurd (full (subst (λ o. IfSome o (HasRoomFor n)) is (room_in call phase fits)))
 
 pub no_room_starts : (n : Noted) (base : List Entry) (d : Drive) (step : Step) (turn : Turn) → turn ≡ turn_of d → asked_of turn ≡ Some step → is_some (seat_after n.entries) ≡ true → owed_by (seat_after n.entries) ≤ n.room
-    → (HasRoomFor n step → ⊥) → GoesOn base n.entries d → (made d ≡ []) × (may_refuse d.call NoMemory ≡ true)
+    → (HasRoomFor n step → ⊥) → IsUnderway base n.entries d → (made d ≡ []) × (may_refuse d.call NoMemory ≡ true)
 no_room_starts n base d step turn is asked whole owes full goes =
     let at = some_is (seat_after n.entries) whole in
     no_room_in n (unwrap_or (seat_after n.entries) closed_seat) d.caller at owes d.call d.phase step (subst (λ o. FitsIf o d.call d.phase) at goes.fits) (ap asked_of (sym is) ∙ asked) full
 
--- The first of two steps adds no entry.
+-- If a turn has two steps, the first adds no entry.
 abbrev IsSeekIf : Turn → Type 0
 IsSeekIf (Two step next) = adds_entry step ≡ false
 IsSeekIf turn = Unit {0}

@@ -4,7 +4,7 @@ use Rattle.core_tokens.proofs.Vocabulary.{Answer, Call, IsAllowed, Refusal, Seat
 use Rattle.core_tokens.proofs.Vocabulary.{refusal_parts, seat_in, told_first}
 use Rattle.txn_words.specs.declared.refusal.Refusal.TheVariants.{NoMemory, StampsUsedUp}
 use Rattle.boost_core.specs.Refusals.{MayLack, refusal_of}
-use Rattle.core_tokens.specs.Suits.{Fits, Suits, is_help, is_odd, may_refuse}
+use Rattle.core_tokens.specs.Suits.{SuitsSeat, Suits, is_help, is_odd, may_refuse}
 use Rattle.txn_drive.specs.declared.call.Call.TheVariants as calls
 use Rattle.txn_drive.specs.declared.«end».End.TheVariants as ends
 use Rattle.txn_words.specs.declared.answer.Answer.TheVariants as answers
@@ -28,7 +28,7 @@ plain_refused : (m : State) (c : ℕ) (call : Call) (r : Refusal) → refusal_of
 plain_refused m c call r none allowed = ap not (may_lack m c call r (never_refused m (first_step c call) r none allowed))
 
 pub suits_first : (m n : State) (c : ℕ) (s : Seat) (call : Call) (a : Answer) → refusal_of m (first_step c call) ≡ None → is_help call ≡ false → IsAllowed m (first_step c call) a
-    → Fits s call (told_first call a) → Suits n s c call (told_first call a)
+    → SuitsSeat s call (told_first call a) → Suits n s c call (told_first call a)
 suits_first m n c s (calls.Help key) a none plain allowed fits = absurd (cc plain)
 suits_first m n c s call (answers.Refused r) none plain allowed fits = plain_refused m c call r none allowed
 suits_first m n c s calls.Begin (answers.Began t) none plain allowed fits = refl

@@ -11,7 +11,7 @@ use Rattle.core_tokens.proofs.Claiming.{goes_cases, goes_over, suits_stale}
 use Rattle.core_tokens.proofs.Phases.{entries_if, fits_told, seat_on, seat_on_more, seat_told, some_is, undone_told}
 use Rattle.core_tokens.proofs.Suiting.{MoveIf, suits_fits, suits_told}
 use Rattle.core_tokens.specs.Claims.{Trial, claim_in}
-use Rattle.core_tokens.specs.Holds.{Takes}
+use Rattle.core_tokens.specs.Holds.{TakesOneStep}
 use Rattle.core_tokens.specs.Suits.{IsInStep, IsSized, Suits}
 
 own_all : (w : ℕ) (es : List Entry) → AllByRecursion (λ e. caller_of e ≡ w) es → own w es ≡ es
@@ -30,7 +30,7 @@ legal_seat h c shape = some_is (seat_after (own c h)) (has_seat h shape c)
 -- call, or the core has made its move.
 pub in_step_told : (tried : Option Trial) (m n : State) (limits : Sizes) (c : ℕ) (seen seen' : List Entry) (d e : Drive) (step : Step) (a : Answer)
     → IsWhole m → IsWhole n → IsShaped m.history → IsShaped n.history → length seen' < 2 ^ 63 → IsSized m.size d.phase → step_of d ≡ Some step
-    → Takes tried m seen d step a n seen' e → IsInStep m limits c seen d → IsInStep n limits c seen' e
+    → TakesOneStep tried m seen d step a n seen' e → IsInStep m limits c seen d → IsInStep n limits c seen' e
 in_step_told tried m n limits c seen seen' d e step a old whole shape shape' small sized is takes ins =
     let es = entries_of step a in
     let s = seat_in m.history c in

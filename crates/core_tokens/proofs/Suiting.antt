@@ -9,7 +9,7 @@ use Rattle.boost_core.proofs.InStep.{help_suits_told}
 use Rattle.core_tokens.proofs.Phases.{entries_if}
 use Rattle.core_tokens.proofs.Starting.{first_free, suits_first}
 use Rattle.core_tokens.proofs.Working.{suits_act, suits_seek}
-use Rattle.core_tokens.specs.Suits.{Fits, IsSized, Suits, is_help, undone_of}
+use Rattle.core_tokens.specs.Suits.{SuitsSeat, IsSized, Suits, is_help, undone_of}
 use Rattle.txn_drive.specs.declared.call.Call.TheVariants as calls
 
 -- A phase of a call for help that suits the core suits the call.
@@ -45,7 +45,7 @@ MoveIf m (Some step) a n = Move m step a n
 -- `s` is the caller's seat after the move.
 module _ (m n : State) (c : ℕ) (s : Seat) (call : Call) (within : nat_le m.limits.callers c ≡ false) (old : IsWhole m) (whole : IsWhole n) where
   pub suits_told : (phase : Phase) (a : Answer) → c < length m.cursors → IsSized m.size phase → undone_of phase < 2 ^ 64 - 1 → Suits m (seat_in m.history c) c call phase
-      → Fits s call (told_in call phase a) → (entries_if (step_in c call phase) a ≡ [] → s ≡ seat_in m.history c) → MoveIf m (step_in c call phase) a n → Suits n s c call (told_in call phase a)
+      → SuitsSeat s call (told_in call phase a) → (entries_if (step_in c call phase) a ≡ [] → s ≡ seat_in m.history c) → MoveIf m (step_in c call phase) a n → Suits n s c call (told_in call phase a)
   suits_told Fresh a cursors sized few suits fits same move = suits_first m n c s call a (first_free m c call within suits.1 suits.0) suits.1 move.allowed fits
   suits_told (Seeking work again) a cursors sized few suits fits same move =
       suits_seek m n c s call within work again a cursors (same refl) (suits ∙ ap (λ (t : Seat). Some t.phase) (sym (same refl))) move
@@ -62,7 +62,7 @@ no_caller half s c calls.Begin = refl
 no_caller half s c call = refl
 
 -- A phase that suits a seat fits it.
-pub suits_fits : (m : State) (c : ℕ) (s : Seat) (call : Call) (phase : Phase) → Suits m s c call phase → Fits s call phase
+pub suits_fits : (m : State) (c : ℕ) (s : Seat) (call : Call) (phase : Phase) → Suits m s c call phase → SuitsSeat s call phase
 suits_fits m c s call Fresh suits = (m.limits.half, no_caller m.limits.half s c call ∙ suits.0)
 suits_fits m c s call (Seeking work again) suits = suits
 suits_fits m c s call (Acting work again) suits = suits.0

@@ -13,7 +13,7 @@ use Rattle.boost_core.proofs.Calls.{act_free, and_none}
 use Rattle.boost_core.proofs.InStep.{set_there}
 use Rattle.boost_core.specs.Answers.{IsReply, is_at_end, is_back_at}
 use Rattle.boost_core.specs.Refusals.{lacks_in}
-use Rattle.core_tokens.specs.Suits.{Fits, Suits, is_odd, work_phase}
+use Rattle.core_tokens.specs.Suits.{SuitsSeat, Suits, is_odd, work_phase}
 use Rattle.txn_drive.specs.declared.call.Call.TheVariants as calls
 use Rattle.txn_drive.specs.declared.«end».End.TheVariants as ends
 use Rattle.txn_words.specs.declared.answer.Answer.TheVariants as answers
@@ -49,8 +49,8 @@ seek_refused m c r within there (inl is) =
     ∙ (λ i. cond (within i) (Some refusals.NoSuchCaller) (or_else (cond (there i) (Some refusals.NotOpen) (cond (not (has_target (seat_in m.history c))) (Some NothingToSeek) None)) None))) ∙ is)
 seek_refused m c r within there (inr lack) = absurd lack.1
 
--- If an act ends a call, the call may have this end, since the phase of its work passes the test of
--- the act's answer.
+-- If the phase of a call's work allows the answer to an act, the call may have the end that this
+-- answer gives. `passes` and `ReplyIf` say which answers a phase allows.
 abbrev passes : (Standing → Bool) → Option Standing → Bool
 passes test None = false
 passes test (Some q) = test q
@@ -98,18 +98,19 @@ module _ (m n : State) (c : ℕ) (s : Seat) (call : Call) (within : nat_le m.lim
 
   -- If fewer than 2^64 - 1 changes were taken back, the call goes on when one more change is taken
   -- back, and its next phase suits the seat and the core.
-  counted_suits : (k : ℕ) (more work : Work) → k < 2 ^ 64 - 1 → Fits s call (counted k more work) → Suits n s c call (counted k more work)
+  counted_suits : (k : ℕ) (more work : Work) → k < 2 ^ 64 - 1 → SuitsSeat s call (counted k more work)
+      → Suits n s c call (counted k more work)
   counted_suits k more work few =
-      subst (λ b. Fits s call (if b then Seeking more 0 else Last work answers.Undone) → Suits n s c call (if b then Seeking more 0 else Last work answers.Undone)) (sym (lt-ltb k (2 ^ 64 - 1) few))
+      subst (λ b. SuitsSeat s call (if b then Seeking more 0 else Last work answers.Undone) → Suits n s c call (if b then Seeking more 0 else Last work answers.Undone)) (sym (lt-ltb k (2 ^ 64 - 1) few))
       (λ fits. fits)
 
-  undone_suits : (t : Seat) (work : Work) → undone_in work < 2 ^ 64 - 1 → work_phase call work ≡ Some t.phase → has_job t ≡ true → Fits s call (undone_more work) → Suits n s c call (undone_more work)
+  undone_suits : (t : Seat) (work : Work) → undone_in work < 2 ^ 64 - 1 → work_phase call work ≡ Some t.phase → has_job t ≡ true → SuitsSeat s call (undone_more work) → Suits n s c call (undone_more work)
   undone_suits t Operation few at job fits = absurd (false≢true (ap (λ q. has_job (record t { phase = q })) (sym (asking call t.phase at).1) ∙ job))
   undone_suits t (Busy x k) few at job fits = counted_suits k (Busy x (k + 1)) (Busy x k) few fits
   undone_suits t (Leaving k) few at job fits = counted_suits k (Leaving (k + 1)) (Leaving k) few fits
 
   pub suits_act : (work : Work) (again : ℕ) (a : Answer) → undone_in work < 2 ^ 64 - 1 → work_phase call work ≡ Some (seat_in m.history c).phase
-      → lacks_in (seat_in m.history c) (is_some (caller_changes m.cursors c)) (steps.Act c) ≡ false → Move m (steps.Act c) a n → Fits s call (told_act work again a) → Suits n s c call (told_act work again a)
+      → lacks_in (seat_in m.history c) (is_some (caller_changes m.cursors c)) (steps.Act c) ≡ false → Move m (steps.Act c) a n → SuitsSeat s call (told_act work again a) → Suits n s c call (told_act work again a)
   suits_act work again (answers.Refused r) few at cursor move fits =
       let busy = subst IsAtWork at (at_work call work) in
       absurd (never_refused m (steps.Act c) r (act_free m c within busy.0 busy.1 cursor) move.allowed)

@@ -25,8 +25,9 @@ use Rattle.boost_core.specs.declared.claim.Claim.{Claim}
 use Rattle.boost_core.specs.declared.claim.Claim.TheVariants.{Lock, Right}
 use Rattle.boost_core.specs.Words.{claim_of}
 
--- A trial: its stripe, and the word that was found, or 0 if the caller has the right now. If the
--- caller had the right before, no word was tried.
+-- A trial of a stripe. If the caller has the stripe's right after the trial, `word` is 0. Otherwise
+-- `word` is the word that the trial found. If the caller had the right before the trial, no word
+-- was tried.
 pub record Trial : Type 0 where
   pub stripe : ℕ
   pub word : ℕ
@@ -43,7 +44,7 @@ pub record Claimed : Type 0 where
   pub held : List ℕ
   pub tried : Option Trial
 
--- The trial, from the result of the try.
+-- The trial of a stripe, given the result of the try.
 abbrev pub trial_of : ℕ → Option Tried → Option Trial
 trial_of stripe None = None
 trial_of stripe (Some (Mine place)) = trial stripe 0
@@ -62,14 +63,15 @@ pub record IsClaimed (words : KeyWords) (rights : Rights) (stripe : ℕ) (tried 
   pub seat : IsOf rights.seat words
   pub trial : IsTrial rights.rights.items stripe tried
 
--- Nothing was tried yet, and no right is held.
+-- There has been no trial yet, and no right is held.
 pub record IsIdle (k : Claimed) : Type 0 where
   pub notes : k.seat.notes ≡ []
   pub stripes : k.seat.held ≡ []
   pub held : k.held ≡ []
   pub tried : k.tried ≡ None
 
--- What a trial of a stripe finds: the right is in hand, the word is 0, or the word is another's.
+-- What a trial of a stripe finds: the right is in hand, the word is 0, or the word names another
+-- seat.
 pub data Found : Type 0 where
   InHand : Found
   WasFree : Found
@@ -77,7 +79,7 @@ pub data Found : Type 0 where
 
 -- With the right in hand no word is tried. Otherwise the stripe's word is tried, and the seat has
 -- one more note, of this stripe with the word that was found. If the word was 0, the caller gets
--- the right; if not, the word is not the seat's.
+-- the right; if not, the word names another seat.
 abbrev pub TriesAt : Found → Claimed → ℕ → Claimed → Type 0
 TriesAt InHand k stripe l = Holds k.seat stripe × (l ≡ record k { tried = trial stripe 0 })
 TriesAt WasFree k stripe l =
@@ -123,8 +125,8 @@ abbrev pub claim_by : State → ℕ → Trial → Claim
 claim_by m c trial = if trial.word == 0 then Right else claim_of m c (trial.word - 1)
 
 -- The claim of a step to its stripe. A step that asks for an operation has the claim by the last
--- trial. If nothing was tried yet, or the step is another one, the claim is `Lock`: it uses neither
--- a right nor a word.
+-- trial. Any other step has the claim `Lock`, which uses neither a right nor a word. If there is no
+-- last trial, each step has this claim.
 abbrev pub claim_in : Option Trial → State → Step → Claim
 claim_in None m step = Lock
 claim_in (Some trial) m (Ask c op) = claim_by m c trial
@@ -140,8 +142,8 @@ Readies k call l = l ≡ k
 abbrev pub given_back : Claimed → Claimed
 given_back k = record k { seat = none_held k.seat; held = []; tried = None }
 
--- The claims after the end of a call: all rights are given back if it ends the transaction, and if
--- not they are unchanged.
+-- The claims after the end of a call. If the call ends its transaction, all rights are given back;
+-- otherwise the claims are unchanged.
 abbrev pub claims_at : End → Claimed → Claimed
 claims_at (ends.Answered (answers.Committed place)) k = given_back k
 claims_at (ends.Answered answers.Aborted) k = given_back k

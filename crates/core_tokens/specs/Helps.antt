@@ -11,8 +11,8 @@ IsDoubling (Doubling seen) = Unit {0}
 IsDoubling phase = ⊥
 
 -- A drive helps with this key, and is to double the table first.
-abbrev pub Begins : ℕ → Drive → Type 0
-Begins key d = (d.call ≡ calls.Help key) × IsDoubling d.phase
+abbrev pub BeginsHelp : ℕ → Drive → Type 0
+BeginsHelp key d = (d.call ≡ calls.Help key) × IsDoubling d.phase
 
 abbrev pub IsTo : ℕ → Phase → Type 0
 IsTo bucket (Initialising way again) = way.target ≡ bucket

@@ -1,5 +1,6 @@
--- A hold is one turn of a call on the core. `Held` is its effect on core, token and drive. `GoesTo`
--- is about the entries that the call has added after a hold, whether the call goes on or has ended.
+-- A hold is one turn of a call on the core. `Held` is the effect of a hold on core, token and
+-- drive. `GoesTo` says which entries a call has added when a hold is over. It covers a call that
+-- goes on and a call that has ended.
 use Rattle.std.specs.Prelude.{ℕ, ◌≡◌, ◌≢◌, Bool, true, false, not, ◌||◌, List, [], ◌++◌}
 use Rattle.std.specs.Prelude.{Option, Some, None, is_some}
 use Rattle.txn_words.specs.declared.answer.Answer.{Answer}
@@ -20,10 +21,10 @@ use Rattle.txn_drive.specs.declared.phase.Phase.{Phase}
 use Rattle.txn_drive.specs.Made.{made, IsMade, CommitNothing, IsQuiet}
 use Rattle.txn_drive.specs.Drives.{sized_of, step_of, turn_of, told_of, end_of}
 use Rattle.boost_core.specs.State.{State}
-use Rattle.boost_core.specs.Words.{Goes}
+use Rattle.boost_core.specs.Words.{Goes, ListsBy}
 use Rattle.core_tokens.specs.Claims.{Claimed, Trial, HasTriedIf, claim_in}
 use Rattle.core_tokens.specs.Tokens.{Token, IsSameCaller, IsSameClaims}
-use Rattle.core_tokens.specs.Suits.{is_odd, may_refuse, Fits, IsInStep, IsSized}
+use Rattle.core_tokens.specs.Suits.{is_odd, may_refuse, SuitsSeat, IsInStep, IsSized}
 
 -- The course of a hold: the token was broken; the core does not have as many stripes as there are
 -- words; there was no room for what the turn may add; or the turn was taken.
@@ -33,7 +34,7 @@ pub data How : Type 0 where
   HadNoRoom : How
   TookTurn : How
 
--- Whether a call has ended with an end that it may not have.
+-- Whether a call has ended with an end that it must not have.
 abbrev pub odd_if : Call → Option End → Bool
 odd_if call None = false
 odd_if call (Some outcome) = is_odd call outcome
@@ -60,12 +61,14 @@ pub record MayTake (claims : Claimed) (m : State) (seen : List Entry) (d : Drive
   pub stripes : m.limits.stripes ≡ claims.stripes
   pub tried : HasTriedIf claims.tried claims.stripes (step_of d)
 
--- A step is taken: the core makes the step's move or, if the step asks for an operation, does what
--- the claim to the operation's stripe gives. The drive is told the answer, and the step's entries
--- are seen.
-pub record Takes (tried : Option Trial) (m : State) (seen : List Entry) (d : Drive) (step : Step)
+-- A step is taken. The core makes the step's move. If the step asks for an operation, the core
+-- instead does what the claim to the operation's stripe allows. The drive is told the answer, and
+-- the step's entries are seen.
+pub record TakesOneStep (tried : Option Trial) (m : State) (seen : List Entry) (d : Drive)
+    (step : Step)
     (answer : Answer) (n : State) (seen' : List Entry) (e : Drive) : Type 0 where
   pub goes : Goes (claim_in tried m step) m step answer n
+  pub lists : ListsBy (claim_in tried m step) m step answer n
   pub told : e ≡ told_of d answer
   pub entries : seen' ≡ seen ++ entries_of step answer
 
@@ -73,23 +76,23 @@ pub record Takes (tried : Option Trial) (m : State) (seen : List Entry) (d : Dri
 abbrev pub TakesSecond : Option Trial → State → List Entry → Drive → Step → Answer → State
     → List Entry → Drive → Type 0
 TakesSecond tried m seen d step answers.Placed n seen' e =
-    (answer : Answer) × Takes tried m seen d step answer n seen' e
+    (answer : Answer) × TakesOneStep tried m seen d step answer n seen' e
 TakesSecond tried m seen d step answer n seen' e = (n ≡ m) × (seen' ≡ seen) × (e ≡ d)
 
--- A turn is taken: its steps and no other.
+-- A turn is taken: its steps and no others.
 abbrev pub TakesTurn : Option Trial → State → List Entry → Drive → Turn → State → List Entry
     → Drive → Type 0
 TakesTurn tried m seen d (One step) n seen' e =
-    (answer : Answer) × Takes tried m seen d step answer n seen' e
+    (answer : Answer) × TakesOneStep tried m seen d step answer n seen' e
 TakesTurn tried m seen d (Two step next) n seen' e =
     (answer : Answer) × (between : State) × (middle : List Entry) × (half : Drive)
-    × Takes tried m seen d step answer between middle half
+    × TakesOneStep tried m seen d step answer between middle half
     × TakesSecond tried between middle half next answer n seen' e
 TakesTurn tried m seen d (Ended outcome) n seen' e = (n ≡ m) × (seen' ≡ seen) × (e ≡ d)
 
--- A hold that took the drive's turn: the core took the steps of the turn and no other, their
--- entries are seen and no other, and the drive was told their answers. The token breaks if an entry
--- has no row, or if the call may not have this end.
+-- A hold that took the drive's turn. The core took only the steps of the turn, only their entries
+-- were added to `seen`, and the drive was told their answers. The token breaks if an entry has no
+-- row, or if the call must not have this end.
 pub record TurnHeld {S : Type 0} (m : State) (k : Token S) (d : Drive) (outcome : Option End)
     (n : State) (l : Token S) (e : Drive) : Type 0 where
   pub sound : k.broken ≡ false
@@ -126,16 +129,16 @@ InStep m k d = (k.broken ≡ false) × IsInStep m k.limits k.number k.seen d
 -- If the caller's entries have rows, its seat fits the drive.
 abbrev pub FitsIf : Option Seat → Call → Phase → Type 0
 FitsIf None call phase = Unit {0}
-FitsIf (Some s) call phase = Fits s call phase
+FitsIf (Some s) call phase = SuitsSeat s call phase
 
 -- A call in progress; the entries `base` were seen before it.
-pub record GoesOn (base seen : List Entry) (d : Drive) : Type 0 where
+pub record IsUnderway (base seen : List Entry) (d : Drive) : Type 0 where
   pub entries : seen ≡ base ++ made d
   pub fits : FitsIf (seat_after seen) d.call d.phase
 
--- The effect of taking a turn: `taken` says whether there was room for what it may add. If there
--- was not, nothing is done, which happens only to a call that has added nothing yet and may be
--- refused memory.
+-- The effect of taking a turn. `taken` says whether there was room for what the turn may add.
+-- Without this room, nothing is done. That happens only to a call that has added nothing yet and
+-- may be refused with `NoMemory`.
 pub record TurnTaken (tried : Option Trial) (m : State) (seen : List Entry) (d : Drive)
     (turn : Turn) (taken : Bool) (n : State) (seen' : List Entry) (e : Drive) : Type 0 where
   pub took : taken ≡ true → TakesTurn tried m seen d turn n seen' e
@@ -143,8 +146,8 @@ pub record TurnTaken (tried : Option Trial) (m : State) (seen : List Entry) (d :
   pub no_room : taken ≡ false → (n ≡ m) × (seen' ≡ seen) × (e ≡ d)
   pub in_step : (limits : Sizes) (c : ℕ) → IsSized m.size d.phase → IsInStep m limits c seen d
       → IsInStep n limits c seen' e
-  pub goes : (base : List Entry) → GoesOn base seen d → GoesOn base seen' e
-  pub starts : taken ≡ false → (base : List Entry) → GoesOn base seen d
+  pub goes : (base : List Entry) → IsUnderway base seen d → IsUnderway base seen' e
+  pub starts : taken ≡ false → (base : List Entry) → IsUnderway base seen d
       → (made d ≡ []) × (may_refuse d.call NoMemory ≡ true)
 
 -- The ends that a call may have.
@@ -152,8 +155,8 @@ abbrev pub MayEnd : Call → End → Type 0
 MayEnd call (ends.Refused OutOfStep) = Unit {0}
 MayEnd call outcome = is_odd call outcome ≡ false
 
--- A call with this end; the entries `base` were seen before it. If it ended out of step it has
--- committed nothing, provided that the rule of shape has a row for each entry that was seen.
+-- A call with this end; the entries `base` were seen before it. If the rule of shape has a row for
+-- each seen entry, a call that ended out of step has committed nothing.
 pub record HasRun (base seen : List Entry) (c : ℕ) (call : Call) (outcome : End) : Type 0 where
   pub added : List Entry
   pub entries : seen ≡ base ++ added
@@ -161,9 +164,9 @@ pub record HasRun (base seen : List Entry) (c : ℕ) (call : Call) (outcome : En
   pub may : MayEnd call outcome
   pub quiet : is_some (seat_after seen) ≡ true → IsQuiet outcome added
 
--- A call in progress that may take its next turn: it has committed nothing.
+-- A call that has not ended. It is in progress, and has committed nothing.
 pub record IsGoing (base seen : List Entry) (d : Drive) : Type 0 where
-  pub on : GoesOn base seen d
+  pub on : IsUnderway base seen d
   pub quiet : CommitNothing (made d)
 
 -- The state of a call after a hold.

@@ -14,9 +14,9 @@ use Rattle.core_tokens.specs.Tokens.{Token}
 
 -- The refusal of a call for help whose key is bad; `half` says whether the map takes only half
 -- keys.
-abbrev pub refused_help : Bool → Call → Option Refusal
-refused_help half (calls.Help key) = if is_bad_key half key then Some BadKey else None
-refused_help half call = None
+abbrev pub refusal_of_help : Bool → Call → Option Refusal
+refusal_of_help half (calls.Help key) = if is_bad_key half key then Some BadKey else None
+refusal_of_help half call = None
 
 -- The refusal of a call by the token: `OutOfStep` if the token is broken or its entries give it no
 -- seat; else the refusal by this seat; else the refusal of help with a bad key.
@@ -24,14 +24,14 @@ abbrev pub refused_at : Bool → Bool → Option Seat → Call → Option Refusa
 refused_at half true seat call = Some OutOfStep
 refused_at half false None call = Some OutOfStep
 refused_at half false (Some s) call =
-    option_or (refusal_in half s (first_step 0 call)) (refused_help half call)
+    option_or (refusal_in half s (first_step 0 call)) (refusal_of_help half call)
 
 abbrev pub refused_by : {S : Type 0} → Token S → Call → Option Refusal
 refused_by k call = refused_at k.limits.half k.broken (seat_after k.seen) call
 
--- A token that lets a call pass and is not ready for it: memory was refused for one more right or
--- one more level, and nothing has changed; or the side value does not have the level of a return,
--- and the token is broken, and otherwise unchanged.
+-- A token that lets a call pass but is not ready for it. Either memory was refused for one more
+-- right or one more level, and the token is unchanged. Or the side value does not have the level of
+-- a return, and the token breaks and is otherwise unchanged.
 abbrev pub Lacks : {S : Type 0} → Token S → Call → Refusal → Token S → Type 0
 Lacks k (calls.Op op) refusal l = (refusal ≡ NoMemory) × (l ≡ k)
 Lacks k calls.Save refusal l = (refusal ≡ NoMemory) × (l ≡ k)
@@ -39,8 +39,8 @@ Lacks k (calls.Back level) refusal l =
     (refusal ≡ OutOfStep) × (length k.side.levels ≤ level) × (l ≡ record k { broken = true })
 Lacks k call refusal l = ⊥
 
--- A token that was not made ready for a call: it refuses the call, and is unchanged, or lacks what
--- the call needs.
+-- A token that was not made ready for a call. Either it refuses the call and is unchanged, or it
+-- lacks what the call needs.
 abbrev pub IsUnready : {S : Type 0} → Token S → Call → Refusal → Token S → Type 0
 IsUnready k call refusal l =
     ((refused_by k call ≡ Some refusal) × (l ≡ k))

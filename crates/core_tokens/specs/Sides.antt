@@ -9,14 +9,14 @@ use Rattle.undo_log.specs.SideValue.{Leveled}
 use Rattle.undo_log.specs.Sides.{IsSameSide, IsSettled, HasLevel, IsBackAt}
 
 -- The effect of the end of a call on the side value.
-abbrev pub Follows : {S : Type 0} → (S → List ℕ) → End → Leveled S → Leveled S → Type 0
-Follows words (ends.Answered (answers.Began t)) a b = IsSettled words a b
-Follows words (ends.Answered (answers.Committed p)) a b = IsSettled words a b
-Follows words (ends.Answered (answers.Saved n)) a b = HasLevel words a b
-Follows words (ends.Answered (answers.Returned n)) a b = IsBackAt words n a b
-Follows words (ends.Answered answers.Aborted) a b = IsBackAt words 0 a b
-Follows words (ends.Busy holder) a b = IsBackAt words 0 a b
-Follows words outcome a b = IsSameSide a b
+abbrev pub MovesSide : {S : Type 0} → (S → List ℕ) → End → Leveled S → Leveled S → Type 0
+MovesSide words (ends.Answered (answers.Began t)) a b = IsSettled words a b
+MovesSide words (ends.Answered (answers.Committed p)) a b = IsSettled words a b
+MovesSide words (ends.Answered (answers.Saved n)) a b = HasLevel words a b
+MovesSide words (ends.Answered (answers.Returned n)) a b = IsBackAt words n a b
+MovesSide words (ends.Answered answers.Aborted) a b = IsBackAt words 0 a b
+MovesSide words (ends.Busy holder) a b = IsBackAt words 0 a b
+MovesSide words outcome a b = IsSameSide a b
 
 -- The side value can follow an end: there is room for a level that is to be made, and a level that
 -- is to be restored exists.

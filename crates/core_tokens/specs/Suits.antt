@@ -50,19 +50,19 @@ may_refuse (calls.Help key) NoMemory = true
 may_refuse (calls.Help key) StampsUsedUp = true
 may_refuse call refusal = false
 
--- Whether a call may not have this end.
+-- Whether a call must not have this end.
 abbrev pub is_odd : Call → End → Bool
 is_odd call (ends.Refused refusal) = not (may_refuse call refusal)
 is_odd call outcome = false
 
--- The seat fits the drive: before the first step of the call is answered, there is a value of
--- `half` for which the seat does not refuse this step; while the drive works, the seat has the
+-- The seat fits the drive. Before the first step of the call is answered, there is a value of
+-- `half` for which the seat does not refuse this step. While the drive works, the seat has the
 -- phase of the work.
-abbrev pub Fits : Seat → Call → Phase → Type 0
-Fits s call Fresh = (half : Bool) × (refusal_in half s (first_step 0 call) ≡ None)
-Fits s call (Seeking work again) = work_phase call work ≡ Some s.phase
-Fits s call (Acting work again) = work_phase call work ≡ Some s.phase
-Fits s call phase = Unit {0}
+abbrev pub SuitsSeat : Seat → Call → Phase → Type 0
+SuitsSeat s call Fresh = (half : Bool) × (refusal_in half s (first_step 0 call) ≡ None)
+SuitsSeat s call (Seeking work again) = work_phase call work ≡ Some s.phase
+SuitsSeat s call (Acting work again) = work_phase call work ≡ Some s.phase
+SuitsSeat s call phase = Unit {0}
 
 -- How many changes a drive has taken back.
 abbrev pub undone_of : Phase → ℕ
@@ -88,7 +88,7 @@ Suits m s c call (Last work answer) = is_odd call (end_last call work answer) �
 Suits m s c call (Refused refusal) = is_odd call (ends.Refused refusal) ≡ false
 Suits m s c call phase = (is_help call ≡ true) × HelpSuits m c phase
 
--- The core has the limits, the caller's entries are those that were seen, and the caller's seat,
+-- The core has these limits, the caller's entries are those that were seen, and the caller's seat,
 -- cursor and helper fit the drive's phase.
 pub record IsInStep (m : State) (limits : Sizes) (c : ℕ) (seen : List Entry) (d : Drive) : Type 0
   where

@@ -32,7 +32,7 @@ pub record Ticket : Type 0 where
 abbrev pub new_ticket : Sizes → TableId → ℕ → Ticket
 new_ticket limits words number = record { number = number; limits = limits; words = words }
 
--- One pass for each caller's number, rising, all of them at the same words.
+-- One pass for each caller's number, in rising order. The passes share their words.
 pub record AreTickets (limits : Sizes) (passes : List Ticket) : Type 0 where
   pub words : TableId
   pub are : passes ≡ map (new_ticket limits words) (range_with_len 0 limits.callers)
@@ -46,13 +46,13 @@ pub record IsSameCaller {S : Type 0} (k l : Token S) : Type 0 where
 abbrev pub IsSameClaims : {S : Type 0} → Token S → Token S → Type 0
 IsSameClaims k l = l.claims ≡ k.claims
 
--- All of the caller except its side value and its claims is unchanged.
+-- The caller is unchanged except for its side value and its claims.
 pub record IsSameSeen {S : Type 0} (k l : Token S) : Type 0 where
   pub whose : IsSameCaller k l
   pub seen : l.seen ≡ k.seen
   pub broken : l.broken ≡ k.broken
 
--- All of the caller except its side value is unchanged.
+-- The caller is unchanged except for its side value.
 pub record IsSameButSide {S : Type 0} (k l : Token S) : Type 0 where
   pub whose : IsSameCaller k l
   pub seen : l.seen ≡ k.seen
@@ -61,13 +61,13 @@ pub record IsSameButSide {S : Type 0} (k l : Token S) : Type 0 where
 
 -- The seat of a pass or of a caller has the number of the pass or caller, and there is a word for
 -- each stripe.
-pub record IsSeated (number : ℕ) (limits : Sizes) (claims : Claimed) : Type 0 where
+pub record IsNumbered (number : ℕ) (limits : Sizes) (claims : Claimed) : Type 0 where
   pub number_is : claims.seat.number ≡ number
   pub stripes : claims.stripes ≡ limits.stripes
 
 -- A pass has tried nothing.
 pub record IsUnused (number : ℕ) (limits : Sizes) (claims : Claimed) : Type 0 where
-  pub seat : IsSeated number limits claims
+  pub seat : IsNumbered number limits claims
   pub idle : IsIdle claims
 
 -- Whether no transaction is open at a seat; `true` if the entries give no seat.

@@ -1,6 +1,7 @@
-//! A core with the book that counts its entries, made together with the passes of its callers. It
-//! is a type beside `Core`, since `boost_core` knows no ledger. Invariant: the book's total is the
-//! length of the history, so no entry can be added without a caller's share of the ledger.
+//! A core with the book that counts its entries. The core is made together with the passes of its
+//! callers. `Booked` is a type of its own, since `boost_core` knows no ledger. Invariant: the
+//! book's total is the length of the history, so no entry can be added without a caller's share of
+//! the ledger.
 ghost use Rattle.std.specs.Prelude.{◌≡◌, ◌+◌, true, length, IfErr, IfOk};
 ghost use Rattle.std.specs.List.{sum_by};
 ghost use Rattle.boost_core.specs.State.{start_with_words};
@@ -15,7 +16,7 @@ use txn_trace::{Limits, Refusal};
 use undo_log::Side;
 
 /// A core that callers share, and the book that counts the entries of its history. A map of threads
-/// keeps it under its lock.
+/// keeps both under its lock.
 ///
 /// A contract sees the core as `core`. The type guarantees that the core's stripes are words, and
 /// that the book's total is the length of the history. So a core with another number of entries
@@ -34,8 +35,9 @@ pub struct Booked<L: Ledger> {
 
 impl<L: Ledger> Booked<L> {
     /// A new core with these limits, a book that has counted nothing, and a pass for each caller's
-    /// number, rising. The callers of all passes share the words of the core's stripes, none of
-    /// which is taken. The blank ledger must be named `L` and have one part for each caller.
+    /// number, in rising order. The callers of all passes share the words of the core's stripes,
+    /// and all these words are free. The blank ledger must be named `L` and have one part for each
+    /// caller.
     ///
     /// # Errors
     ///
@@ -59,8 +61,8 @@ impl<L: Ledger> Booked<L> {
         Booked::with_room(alloc, blank, limits, Room::default())
     }
 
-    /// Makes what `new` makes, and takes this room at once. If the memory for the room is refused,
-    /// none of it is taken: history, table and logs grow as they are used.
+    /// Makes what `new` makes, and takes this room at once. If memory for the room is refused, no
+    /// room is taken, and the history, the table and the logs grow as they are used.
     ///
     /// # Errors
     ///

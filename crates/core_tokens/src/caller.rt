@@ -1,7 +1,7 @@
 //! A caller's token: the entries that its calls added, its rights to stripes and its side value.
-//! Each part has a type with its own invariant; here one call changes them together, and only here
-//! does a token break. Invariant: it has a word for each stripe of its map, and unless it is
-//! broken, the rule of shape has a row for each entry that it saw.
+//! Each part has a type with its own invariant. Here one call changes the parts together, and a
+//! token breaks only here. Invariant: the token has a word for each stripe of its map, and unless
+//! it is broken, the rule of shape has a row for each entry that it saw.
 ghost use Rattle.std.specs.Prelude.{◌≡◌, ◌≢◌, ◌<◌, true, false, is_some, length, unwrap_or, Some};
 ghost use Rattle.std.specs.Prelude.{None, [], ◌∷◌, List, ◌+◌, IfSome, IfNone, IfErr, OnOk, OnErr};
 ghost use Rattle.txn_words.specs.declared.entry.Entry.{Entry};
@@ -12,11 +12,11 @@ ghost use Rattle.txn_drive.specs.Drives.{first_step};
 ghost use Rattle.core_tokens.specs.Claims.{IsIdle, Readies, claims_at};
 ghost use Rattle.core_tokens.specs.Holds.{Held, InStep, IsGoing, GoesTo, out_if};
 ghost use Rattle.core_tokens.specs.Noted.{last_txn};
-ghost use Rattle.core_tokens.specs.Ready.{IsUnready, refused_by, refused_help, refused_side};
-ghost use Rattle.core_tokens.specs.Sides.{CanFollow, Follows, IsReadyFor};
+ghost use Rattle.core_tokens.specs.Ready.{IsUnready, refused_by, refusal_of_help, refused_side};
+ghost use Rattle.core_tokens.specs.Sides.{CanFollow, MovesSide, IsReadyFor};
 ghost use Rattle.undo_log.specs.Sides.{IsSameSide};
 ghost use Rattle.core_tokens.specs.Tokens.{HasTried, HasTriedNext, IsSameButSide, IsSameCaller};
-ghost use Rattle.core_tokens.specs.Tokens.{IsSameClaims, IsSameSeen, IsSeated, is_over};
+ghost use Rattle.core_tokens.specs.Tokens.{IsSameClaims, IsSameSeen, IsNumbered, is_over};
 
 use crate::booked::Booked;
 use crate::claims::Claims;
@@ -30,15 +30,16 @@ use std::sync::ledger::{Ledger, Share};
 use txn_trace::{Answer, Limits, Op, Refusal, SmallEntry, Step};
 use undo_log::{Side, SideJob, SideValue};
 
-/// One caller of a shared map: its token. It cannot be cloned, so each number has at most one.
+/// The token of one caller of a shared map. It cannot be cloned, so each caller's number has at
+/// most one token.
 ///
-/// A contract sees its number, the limits of its map, its side value, and whether it is `broken`: a
-/// call that falls out of step breaks it, and from then on each call is refused with
-/// `Refusal::OutOfStep`. In `seen` a contract sees the entries that its calls have added, and in
-/// `claims` the stripes whose rights it holds and all words that it has tried.
+/// A contract sees its number, the limits of its map, its side value, and whether it is `broken`. A
+/// call that falls out of step breaks the token, and from then on each call is refused with
+/// `Refusal::OutOfStep`. In `seen` a contract sees the entries that the token's calls have added,
+/// and in `claims` the stripes whose rights it holds and all words that it has tried.
 ///
 /// It keeps its rights until its transaction has committed or aborted. A broken token keeps them
-/// for good, and a token that is dropped loses them: their stripes stay held.
+/// for good. A token that is dropped loses them, and their stripes stay held.
 #[derive(Drop)]
 pub struct Caller<L: Ledger, S: Side> {
     number: u64,
@@ -52,7 +53,7 @@ pub struct Caller<L: Ledger, S: Side> {
 impl<L: Ledger, S: Side> Model for Caller<L, S> {
     ghost use Rattle.std.specs.Prelude.{◌≡◌, true, false, is_some};
     ghost use Rattle.txn_words.specs.Shape.{seat_after};
-    ghost use Rattle.core_tokens.specs.Tokens.{IsSeated, Token};
+    ghost use Rattle.core_tokens.specs.Tokens.{IsNumbered, Token};
 
     ghost Value = { Token S };
 
@@ -65,7 +66,7 @@ impl<L: Ledger, S: Side> Model for Caller<L, S> {
       broken = c.is_broken;
     } };
 
-    ghost invariant = { λ c. IsSeated c.number c.limits c.claims
+    ghost invariant = { λ c. IsNumbered c.number c.limits c.claims
         × (c.is_broken ≡ false → is_some (seat_after c.seen.entries) ≡ true) };
 }
 
@@ -81,7 +82,7 @@ impl<L: Ledger, S: Side> Caller<L, S> {
     ) -> Caller<L, S>
         requires parts { share.parts ≡ 1 }
         requires amount { share.amount ≡ 0 }
-        requires seat { IsSeated number limits claims }
+        requires seat { IsNumbered number limits claims }
         ensures number { result.number ≡ number }
         ensures limits { result.limits ≡ limits }
         ensures seen { result.seen ≡ [] }
@@ -166,10 +167,10 @@ impl<L: Ledger, S: Side> Caller<L, S> {
     /// Takes the drive's next turn on the core, and answers the end of the call if the drive has
     /// ended, with this turn or before. Nobody else has the core during the turn.
     ///
-    /// The core takes the steps of the turn and no other, and `seen` gains their entries and no
-    /// other. An operation is asked for by its stripe's right, or by the word that was tried last,
-    /// so call `make_ready` or `try_word` once before its first turn. Side value and rights are
-    /// unchanged: `follow` changes them as the end of the call requires.
+    /// The core takes only the steps of the turn, and `seen` gains only their entries. An operation
+    /// is asked for by its stripe's right, or by the word that was tried last, so call `make_ready`
+    /// or `try_word` once before its first turn. The side value and the rights are unchanged:
+    /// `follow` changes them as the end of the call requires.
     ///
     /// # Errors
     ///
@@ -182,7 +183,7 @@ impl<L: Ledger, S: Side> Caller<L, S> {
     /// - `OutOfStep` if the core's answer is impossible in the token's state, or if the token would
     ///   have refused the call, for instance help with a bad key: the token breaks.
     ///
-    /// If core and token are in step they stay so, and the end is never `OutOfStep`.
+    /// If the core and the token are in step, they stay in step, and the end is never `OutOfStep`.
     ///
     /// # Cost
     ///
@@ -301,6 +302,11 @@ impl<L: Ledger, S: Side> Caller<L, S> {
     /// side value, and tests that the level of a return exists. No step is taken, and `seen` and
     /// the side value with its levels are unchanged.
     ///
+    /// It also makes room in `seen` for all entries of the call, so that the holds of the call take
+    /// no memory for `seen`. If the last `reserve` wrote its room, this room is written too, so that
+    /// no hold is the first to touch a page of it. If memory is refused for that, each hold makes
+    /// its own room.
+    ///
     /// # Errors
     ///
     /// - The refusal of the call by the token: `OutOfStep` if it is broken; else the first refusal
@@ -313,8 +319,8 @@ impl<L: Ledger, S: Side> Caller<L, S> {
     ///
     /// # Cost
     ///
-    /// That of `try_word` for an operation, and else amortized constant time; takes memory only if
-    /// there is no room for one more right, or for the level of a save.
+    /// That of `try_word` for an operation, and amortized constant time; takes memory only if there
+    /// is no room for one more right, for the level of a save, or in `seen`.
     pub fn make_ready(&mut self, call: Call) -> Result<(), Refusal>
         ensures free { OnOk result (refused_by self.old call ≡ None) }
         ensures same { OnOk result (IsSameSeen self.old self.new) }
@@ -327,6 +333,7 @@ impl<L: Ledger, S: Side> Caller<L, S> {
         if let Some(refusal) = self.refusal(call) {
             return Err(refusal);
         }
+        self.seen.make_call_room(call);
         match call {
             Call::Op(op) => self.try_stripe(op),
             Call::Save => match self.side.save_room() {
@@ -359,7 +366,7 @@ impl<L: Ledger, S: Side> Caller<L, S> {
     pub fn follow(&mut self, end: End)
         requires { CanFollow end self.old.side }
         ensures same { IsSameSeen self.old self.new }
-        ensures side { Follows S.words_of end self.old.side self.new.side }
+        ensures side { MovesSide S.words_of end self.old.side self.new.side }
         ensures claims { self.new.claims ≡ claims_at end self.old.claims }
     {
         self.claims.follow(end);
@@ -440,7 +447,7 @@ fn first_step(call: Call) -> Step
 
 /// The refusal of a call for help whose key is bad.
 fn help_refusal(limits: Limits, call: Call) -> Option<Refusal>
-    ensures { result ≡ refused_help limits.half call }
+    ensures { result ≡ refusal_of_help limits.half call }
 {
     match call {
         Call::Help(key) if limits.is_bad_key(key) => Some(Refusal::BadKey),

@@ -1,11 +1,11 @@
 //! The rights to stripes that a caller holds, and the word that it tried last: an operation is
-//! asked for by one of these. They are apart from `seen`, since words are tried and rights given
-//! back between holds, and a hold changes none of them. Invariant: a right that the last trial
-//! found is at the position that the trial names, so asking by it takes constant time.
+//! asked for by one of these. They are kept apart from `seen`, since words are tried and rights are
+//! given back between holds, and a hold changes none of them. Invariant: a right that the last
+//! trial found is at the position that the trial names, so asking by it takes constant time.
 ghost use Rattle.std.specs.Prelude.{◌≡◌, ◌<◌, [], true, None, IfErr, OnOk};
 ghost use Rattle.txn_trace.specs.Locks.{stripe_of};
 ghost use Rattle.txn_words.specs.Map.{key_of};
-ghost use Rattle.boost_core.specs.Words.{Goes};
+ghost use Rattle.boost_core.specs.Words.{Goes, ListsBy};
 ghost use Rattle.core_tokens.specs.Claims.{HasTriedAt, HasTriedStep, IsIdle, Tries, claim_in};
 ghost use Rattle.core_tokens.specs.Claims.{claims_at};
 
@@ -48,7 +48,7 @@ impl Model for Claims {
 impl Claims {
     ghost use Rattle.key_words.specs.Seats.{IsOf, known, stripes_of};
 
-    /// The claims by this seat, which has tried nothing. Takes no memory.
+    /// New claims with this seat, which has tried nothing. Takes no memory.
     pub(crate) fn new(alloc: Global, words: Arc<KeyWords, Global>, seat: KeySeat) -> Claims
         requires seat { IsOf seat words.value }
         requires held { (known seat).held ≡ [] }
@@ -90,6 +90,8 @@ impl Claims {
         requires stripes { core.old.limits.stripes ≡ self.now.stripes }
         requires tried { HasTriedStep self.now.tried self.now.stripes step }
         ensures goes { Goes (claim_in self.now.tried core.old step) core.old step result core.new }
+        ensures lists { ListsBy (claim_in self.now.tried core.old step) core.old step result
+            core.new }
         ensures words { core.new.words ≡ true }
         ensures limits { core.new.limits ≡ core.old.limits }
     {
@@ -106,6 +108,8 @@ impl Claims {
         requires stripes { core.old.limits.stripes ≡ self.now.stripes }
         requires tried { HasTriedAt self.now.tried (stripe_of self.now.stripes (key_of op)) }
         ensures goes { Goes (claim_in self.now.tried core.old (Step.Ask caller op)) core.old
+            (Step.Ask caller op) result core.new }
+        ensures lists { ListsBy (claim_in self.now.tried core.old (Step.Ask caller op)) core.old
             (Step.Ask caller op) result core.new }
     {
         match self.tried {

@@ -1,6 +1,6 @@
-//! The ends that a call may have, and those that break its token: an end that a call may not have
-//! shows that core and token are out of step. These are functions of values, without core or token.
-//! A commit or an abort may not be refused once its token has let it pass.
+//! The ends that a call may have. Any other end shows that the core and the token are out of step,
+//! and breaks the token. These are functions of values, without core or token. A commit or an abort
+//! must not be refused once its token has let it pass.
 ghost use Rattle.std.specs.Prelude.{◌≡◌, ◌||◌, not};
 ghost use Rattle.core_tokens.specs.Suits.{is_odd, may_refuse};
 ghost use Rattle.core_tokens.specs.Holds.{end_in, odd_if};
@@ -8,7 +8,7 @@ ghost use Rattle.core_tokens.specs.Holds.{end_in, odd_if};
 use boost_core::{Call, End};
 use txn_trace::Refusal;
 
-/// Whether a token breaks after a turn: an entry that it saw has no row, or its call may not have
+/// Whether a token breaks after a turn: an entry that it saw has no row, or its call must not have
 /// this end.
 pub(crate) fn breaks(is_whole: bool, call: Call, end: Option<End>) -> bool
     ensures { result ≡ (not is_whole || odd_if call end) }
@@ -26,7 +26,7 @@ pub(crate) fn end_in(is_broken: bool, end: Option<End>) -> Option<End>
     end
 }
 
-/// Whether a call has ended with an end that it may not have.
+/// Whether a call has ended with an end that it must not have.
 fn odd_if(call: Call, end: Option<End>) -> bool
     ensures { result ≡ odd_if call end }
 {
@@ -36,7 +36,7 @@ fn odd_if(call: Call, end: Option<End>) -> bool
     }
 }
 
-/// Whether a call may not have this end.
+/// Whether a call must not have this end.
 fn is_odd(call: Call, end: End) -> bool
     ensures { result ≡ is_odd call end }
 {

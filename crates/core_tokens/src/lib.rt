@@ -1,30 +1,31 @@
 //! Tokens: each is one caller of a core that other callers use too. This crate takes no lock.
 //!
-//! - A *token*, `Caller`, is one caller. `Booked::new` makes a core with a `Pass` for each number,
-//!   and a pass makes the token of its number, once. A token keeps in `seen` the entries that its
-//!   calls have added to the history. It also has a side value: the changes that a transaction
-//!   makes to it are taken back with the transaction's other changes.
-//! - A *hold* is one turn of a call, one step of the core or two. Whoever calls `Caller::hold` has
+//! - A *token*, `Caller`, is one caller. `Booked::new` makes a core with a `Pass` for each caller's
+//!   number, and each pass makes the token of its number once. A token keeps in `seen` the entries
+//!   that its calls have added to the history. It also has a side value: the changes that a
+//!   transaction makes to it are taken back with the transaction's other changes.
+//! - A *hold* is one turn of a call: one or two steps of the core. Whoever calls `Caller::hold` has
 //!   the core until it answers: the core makes the moves of the turn, and `seen` gains their
 //!   entries. Other callers may take their steps between any two holds.
 //! - A call is `make_ready`, its holds until one answers the end, and `follow` with this end.
 //! - Unless its token has the right to the stripe of its key, an operation first tries the stripe's
 //!   *word*, an atomic word beside the core that says who holds the stripe. If the word was free,
-//!   the token has the right from then on, and asks the core by this right. If not, it asks by the
-//!   word, and unless it is refused, the operation is busy with the caller that the word names. A
-//!   token keeps its rights until its transaction has committed or aborted, and `follow` gives all
-//!   of them back. So a Busy entry may name a caller whose transaction has just ended.
+//!   the token has the right from then on, and asks the core by this right. If not, the token asks
+//!   by the word. The operation is then busy with the caller that the word names, unless the core
+//!   refuses it. A token keeps its rights until its transaction has committed or aborted, and
+//!   `follow` gives all of them back. So a Busy entry may name a caller whose transaction has just
+//!   ended.
 //! - Between two holds a token knows of the core only its own entries, and the seat that they give
-//!   it. If the core's answer is impossible by these, the call ends with `OutOfStep`, and so does
-//!   every later call of the token.
+//!   it. If the core gives an answer that these rule out, the call ends with `OutOfStep`, and so
+//!   does every later call of the token.
 //! - No entry can be added without a token: a ledger counts the entries, `Booked` has the ledger's
 //!   book, and each token has a share. So the history of the core that `Booked::into_core` takes
 //!   out has as many entries as the tokens saw. The ledger is `std`'s `sync::ledger`. Its name `L`
 //!   is the first parameter of `Booked`, `Pass` and `Caller`, and is picked as `sync::ledger` says.
-//! - `laws::helped` is about the holds of a call for help: if it ends well, its key's bucket is
-//!   initialised.
+//! - `laws::helped` is about the holds of a call for help: if the call ends well, the bucket of its
+//!   key is initialised.
 //!
-//! It is a separate crate since nothing here waits: the crates above say how callers take turns at
+//! This crate is separate since nothing in it waits: the crates above say how callers take turns at
 //! the core. Calls take constant time and no memory unless they say otherwise.
 #![tactic(auto)]
 
@@ -39,7 +40,7 @@ mod seen;
 mod turns;
 
 pub use booked::Booked;
-pub use boost_core::Room;
+pub use boost_core::{CallerRoom, Room};
 pub use caller::Caller;
 pub use no_side::{NoJob, NoSide};
 pub use pass::Pass;

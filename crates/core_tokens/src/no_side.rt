@@ -1,10 +1,10 @@
-//! The side value of callers that keep none: with it the calls of `Caller` are written only once,
-//! for callers with and without a side value. It stands here, since `undo_log` has only the trait
-//! that it implements. Invariant: its four words are 0 before and after each job, so no return
-//! changes it.
+//! The side value of callers that need none. With it, the calls of `Caller` are written only once,
+//! for callers with and without a side value. It is defined here, since `undo_log` has only the
+//! trait that it implements. Invariant: its four words are 0 before and after each job, so no
+//! return changes it.
 use undo_log::Side;
 
-/// No side value, for callers that keep nothing beside the map: its words never change.
+/// The side value of callers that keep nothing beside the map. Its words never change.
 #[derive(Drop)]
 pub struct NoSide;
 

@@ -1,6 +1,6 @@
-//! A pass: the right to be the caller of a number, with that number's part of the ledger and its
-//! seat at the words. There is one pass for each caller's number of a core, and `Booked::into_core`
-//! needs the callers of all passes to take the core out.
+//! A pass: the right to be the caller with a certain number. The pass has the number's part of the
+//! ledger and the number's seat at the words. A core has one pass for each caller's number, and
+//! `Booked::into_core` needs the callers of all passes to take the core out.
 ghost use Rattle.std.specs.Prelude.{◌≡◌, false, [], ◌∷◌, IfErr, IfOk, map};
 ghost use Rattle.std.specs.List.{range_with_len};
 ghost use Rattle.key_words.specs.Seats.{AreSeats, stripes_of};
@@ -16,7 +16,7 @@ use std::sync::ledger::{Ledger, Share};
 use txn_trace::{Limits, Refusal};
 use undo_log::Side;
 
-/// The right to be the caller of a number. It cannot be cloned.
+/// The right to be the caller with a certain number. It cannot be cloned.
 ///
 /// A contract sees its number, the limits of its map and which words the map has. It has one part
 /// of the map's ledger, and the number's seat at these words.
@@ -48,8 +48,8 @@ impl<L: Ledger> Pass<L> {
     ghost use Rattle.core_tokens.specs.Claims.{IsIdle};
     ghost use Rattle.core_tokens.specs.Tokens.{IsUnused};
 
-    /// The pass of a number, with a share of one part that has counted nothing, and the number's
-    /// seat.
+    /// The pass for this number, with the number's seat and a share of one part that has counted
+    /// nothing.
     pub(crate) fn new(number: u64, limits: Limits, share: Share<L>, claims: Claims) -> Pass<L>
         requires parts { share.parts ≡ 1 }
         requires amount { share.amount ≡ 0 }
@@ -71,7 +71,7 @@ impl<L: Ledger> Pass<L> {
         self.number
     }
 
-    /// The caller of this number, which has seen no entries, with this side value as level 0.
+    /// The caller with this number, which has seen no entries. This side value is its level 0.
     pub fn caller<S: Side>(self, alloc: Global, side: S) -> Caller<L, S>
         ensures number { result.number ≡ self.number }
         ensures limits { result.limits ≡ self.limits }
@@ -117,8 +117,8 @@ pub(crate) fn words_of(
     Ok((words, seats))
 }
 
-/// A pass for each seat, by rising number, with one part of the share each. The seats are taken out
-/// of their list, the last one first.
+/// A pass for each seat, in rising order of the numbers. Each pass gets one part of the share. The
+/// seats are taken out of their list, the last one first.
 pub(crate) fn passes_of<L: Ledger>(
     alloc: Global,
     limits: Limits,

@@ -11,12 +11,18 @@ ghost use Rattle.txn_words.specs.Seats.{refusal_in};
 ghost use Rattle.core_tokens.specs.Noted.{AddsSmall, HasRoomFor, adds_entry, began_by, last_txn};
 ghost use Rattle.core_tokens.specs.Tokens.{is_over};
 
+use boost_core::Call;
 use std::alloc::{AllocError, Global};
 use std::marker::Model;
 use std::sync::ledger::{Book, Ledger, Share};
 use txn_trace::{
     Answer, Entry, Limits, Phase, Refusal, Seat, SmallEntry, Step, entry_of, make_room,
 };
+
+/// The number of entries for which a call needs room at its beginning, besides the entries that its
+/// caller owes. No call needs room for more than three entries. Of the steps of a call, only the
+/// first needs such room.
+const CALL: usize = 3;
 
 /// The entries that a caller's calls have added, in order, and the seat that they give it.
 ///
@@ -28,6 +34,8 @@ pub(crate) struct Seen<L: Ledger> {
     seat: Seat,
     is_whole: bool,
     txn: u64,
+    // Whether room that is made for a call is written.
+    is_written: bool,
     pub(crate) share: Share<L>,
 }
 
@@ -59,6 +67,7 @@ impl<L: Ledger> Seen<L> {
             seat: Seat::new(alloc),
             is_whole: true,
             txn: 0,
+            is_written: false,
             share,
         }
     }
@@ -121,7 +130,27 @@ impl<L: Ledger> Seen<L> {
     ) -> Result<(), AllocError>
         ensures { self.new.entries ≡ self.old.entries }
     {
+        self.is_written = is_written;
         make_room(&mut self.entries, entries, is_written)
+    }
+
+    /// Makes room for all entries that a call may add, and for its savepoint if it is a save, so
+    /// that its holds find room. If `reserve_entries` last wrote its room, this room is written too,
+    /// so that no hold is the first to touch a page of it. If memory is refused, the holds have to
+    /// make the room.
+    pub(crate) fn make_call_room(&mut self, call: Call)
+        requires { is_some (seat_after self.old.entries) ≡ true }
+        ensures { self.new.entries ≡ self.old.entries }
+    {
+        // There is room for all that is owed.
+        let _seen = self.entries();
+        let wanted = self.seat.owed() as usize + CALL;
+        if self.entries.capacity() - self.entries.len() < wanted {
+            let _room = make_room(&mut self.entries, wanted, self.is_written);
+        }
+        if let Call::Save = call {
+            let _room = self.seat.make_room(1, true);
+        }
     }
 
     /// Makes room for the entry and the savepoint that a step may add, and for all that is owed

@@ -13,7 +13,7 @@ ghost use Rattle.txn_drive.specs.Drives.{step_of, turn_of};
 ghost use Rattle.txn_drive.specs.Made.{made};
 ghost use Rattle.core_tokens.specs.Noted.{HasRoomFor};
 ghost use Rattle.core_tokens.specs.Suits.{may_refuse, IsSized, IsInStep};
-ghost use Rattle.core_tokens.specs.Holds.{MayTake, Takes, TurnTaken, GoesOn};
+ghost use Rattle.core_tokens.specs.Holds.{MayTake, TakesOneStep, TurnTaken, IsUnderway};
 
 use crate::booked::Booked;
 use crate::claims::Claims;
@@ -22,8 +22,9 @@ use boost_core::{Drive, Turn};
 use std::sync::ledger::Ledger;
 use txn_trace::{Answer, Step};
 
-/// Takes a turn if there is room for what it may add, and says whether there was. Each kind of step
-/// that every operation takes has its own arm, so that `take_one` is compiled for it.
+/// Takes a turn if there is room for what it may add, and says whether there was. An operation
+/// takes the steps `Ask`, `Seek` and `Act`. Each of these steps has its own arm, so that `take_one`
+/// is compiled for it.
 pub(crate) fn take_turn<L: Ledger>(
     seen: &mut Seen<L>,
     claims: &Claims,
@@ -131,7 +132,8 @@ fn take<L: Ledger>(
     requires step { step_of drive.old ≡ Some step }
     requires may { MayTake claims.now booked.old.core seen.old.entries drive.old }
     requires room { HasRoomFor seen.old step }
-    ensures takes { Takes claims.now.tried booked.old.core seen.old.entries drive.old step result
+    ensures takes { TakesOneStep claims.now.tried booked.old.core seen.old.entries drive.old step
+        result
         booked.new.core seen.new.entries drive.new }
     ensures limits { booked.new.core.limits ≡ booked.old.core.limits }
     ensures whose { (drive.new.caller ≡ drive.old.caller) × (drive.new.call ≡ drive.old.call) }
@@ -139,8 +141,8 @@ fn take<L: Ledger>(
     ensures in_step { (limits : Sizes) (c : ℕ) → IsSized booked.old.core.size drive.old.phase
         → IsInStep booked.old.core limits c seen.old.entries drive.old
         → IsInStep booked.new.core limits c seen.new.entries drive.new }
-    ensures goes { (base : List Entry) → GoesOn base seen.old.entries drive.old
-        → GoesOn base seen.new.entries drive.new }
+    ensures goes { (base : List Entry) → IsUnderway base seen.old.entries drive.old
+        → IsUnderway base seen.new.entries drive.new }
 {
     let Booked {
         core,

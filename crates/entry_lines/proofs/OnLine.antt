@@ -8,7 +8,7 @@ use Rattle.serde_json.specs.Read.{read}
 use Rattle.piece_files.specs.declared.file_fault.FileFault.{FileFault}
 use Rattle.piece_files.specs.declared.file_fault.FileFault.TheVariants.{NotJson, Member, Piece, Limit, NoMemory}
 use Rattle.piece_files.specs.Elements.{elements_of}
-use Rattle.piece_files.specs.Faults.{◌>>=◌, or_fault, Fails, Gives}
+use Rattle.piece_files.specs.Faults.{◌>>=◌, or_fault, FailsAs, Gives}
 use Rattle.piece_files.proofs.Read.{json_of-is, json_of-unread}
 use Rattle.piece_files.proofs.Whole.{fails_first}
 use Rattle.txn_files.specs.Entries.{entry_of}
@@ -27,9 +27,9 @@ pub entry_on-found : (line text : List ℕ) (d : Data) (found : Option Entry) (g
 entry_on-found line text d found gives short some is_text same was is made =
     entry_on-text line text short some is_text same ∙ ap (λ r. or_fault NotJson r >>= entry_in) was ∙ ap entry_found (sym is) ∙ sym made
 
-pub entry_on-fails : (line text : List ℕ) (fault : FileFault) → length line ≤ 1000 → is_blank line ≡ false → IsUtf8 line → text ≡ line → Fails fault (or_fault NotJson (read text)) → Fails fault (entry_on line)
+pub entry_on-fails : (line text : List ℕ) (fault : FileFault) → length line ≤ 1000 → is_blank line ≡ false → IsUtf8 line → text ≡ line → FailsAs fault (or_fault NotJson (read text)) → FailsAs fault (entry_on line)
 entry_on-fails line text fault short some is_text same h =
-    subst (Fails fault) (sym (entry_on-text line text short some is_text same)) (fails_first fault (or_fault NotJson (read text)) entry_in h)
+    subst (FailsAs fault) (sym (entry_on-text line text short some is_text same)) (fails_first fault (or_fault NotJson (read text)) entry_in h)
 
 -- An answer that equals the definition's answer meets `Gives`.
 pub Gives-same : {A : Type 0} (r : Result A FileFault) → Gives (λ x. x) r r

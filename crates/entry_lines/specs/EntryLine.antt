@@ -1,5 +1,5 @@
--- The entry that a line is. The line has the array that a history file of the newest version has
--- for the entry.
+-- The entry on a line. The line has the array that a history file of the newest version has for the
+-- entry.
 use Rattle.std.specs.Prelude.{ℕ, ◌==◌, ◌||◌, Bool, nat_le, List, length, Option, Some, None, option_and_then, Result, Ok, Err, if◌then◌else◌}
 use Rattle.std.specs.List.{list_all}
 use Rattle.serde_json.specs.Data.{Data}
@@ -24,20 +24,20 @@ is_space byte = byte == 32 || byte == 9 || byte == 13 || byte == 10
 abbrev pub is_blank : List ℕ → Bool
 is_blank line = list_all is_space line
 
--- An entry whose callers are in range.
-abbrev pub in_range : Entry → Result (Option Entry) FileFault
-in_range entry = if is_in_range entry then Ok (Some entry) else Err Limit
+-- The entry, if its callers are in range.
+abbrev pub ranged_entry : Entry → Result (Option Entry) FileFault
+ranged_entry entry = if is_in_range entry then Ok (Some entry) else Err Limit
 
 -- The entry that was found, if there is one and its callers are in range.
 abbrev pub entry_found : Option Entry → Result (Option Entry) FileFault
-entry_found found = or_fault Member found >>= in_range
+entry_found found = or_fault Member found >>= ranged_entry
 
--- The entry that a JSON value is.
+-- The entry that a JSON value stands for.
 abbrev pub entry_in : Data → Result (Option Entry) FileFault
 entry_in d = entry_found (option_and_then entry_of (elements_of d))
 
--- The entry that a line is, none if it is blank, or its first fault: it is too long, it is not
--- JSON, it is no entry, or a caller is out of range.
+-- The entry on a line, none if the line is blank, or the line's first fault: it is too long, it is
+-- not JSON, it is no entry, or a caller is out of range.
 unfoldable pub entry_on : List ℕ → Result (Option Entry) FileFault
 entry_on line =
     if nat_le (length line) max_line

@@ -1,18 +1,17 @@
--- The lines that bytes are, and the history that lines are.
+-- The lines of a text, and the history in the lines.
 use Rattle.std.specs.Prelude.{ℕ, ◌+◌, ◌==◌, List, [], ◌∷◌, Option, Some, None, Ok, Err}
 use Rattle.std.specs.List.{slice_split}
 use Rattle.piece_files.specs.declared.file_fault.FileFault.{FileFault}
 use Rattle.txn_words.specs.declared.entry.Entry.{Entry}
 use Rattle.entry_lines.specs.EntryLine.{entry_on}
 
--- The lines that bytes are: the parts before, between and after line feeds. The last has no line
--- feed, and is empty if the bytes end with one.
-abbrev pub lines_of : List ℕ → List (List ℕ)
-lines_of bytes = slice_split (λ byte. byte == 10) bytes
+-- The lines of these bytes: the parts before, between and after line feeds. No line feed follows
+-- the last line. It is empty if the bytes end with a line feed.
+abbrev pub split_lines : List ℕ → List (List ℕ)
+split_lines bytes = slice_split (λ byte. byte == 10) bytes
 
--- The entries that lines are, up to the first line that is refused; and the number of that line
--- with its fault, if there is one. The first line has the given number, and a blank line is
--- skipped.
+-- The entries on the lines, up to the first line that is refused; and the number of that line with
+-- its fault, if there is one. The first line has the given number, and a blank line is skipped.
 unfoldable pub history_from : ℕ → List (List ℕ) → List Entry × Option (ℕ × FileFault)
 history_from number [] = ([], None)
 history_from number (line ∷ lines) = elim (entry_on line) [
@@ -22,7 +21,7 @@ history_from number (line ∷ lines) = elim (entry_on line) [
       let rest = history_from (number + 1) lines in (entry ∷ rest.0, rest.1)
 ]
 
--- The entries that bytes are, one for each line that is not blank, up to the first line that is
+-- The entries in these bytes, one for each line that is not blank, up to the first line that is
 -- refused; and that line's number, counted from 1, with its fault.
 abbrev pub history_of_lines : List ℕ → List Entry × Option (ℕ × FileFault)
-history_of_lines bytes = history_from 1 (lines_of bytes)
+history_of_lines bytes = history_from 1 (split_lines bytes)

@@ -1,6 +1,7 @@
-//! An entry from the elements of its array, in the form of the newest version of history files. It
-//! is apart from `txn_files`, whose readers take whole files, and computes the same definitions.
-//! The elements were read before, so this takes constant time and no memory.
+//! An entry from the elements of its array, in the form of the newest version of history files.
+//! This module computes definitions of `txn_files`. It is not in `txn_files`, since the readers
+//! there take whole files. The elements were read before, so making the entry takes constant time
+//! and no memory.
 ghost use Rattle.std.specs.Prelude.{◌≡◌, map, option_map};
 ghost use Rattle.piece_files.specs.Plain.{data_of};
 ghost use Rattle.txn_files.specs.Entries.{busy_of, entry_named, entry_of, transaction_entry};
@@ -35,7 +36,7 @@ fn leading_op<'v, 'a>(values: &'v [Plain<'a>]) -> Option<(Op, &'v [Plain<'a>])>
     }
 }
 
-/// The operation that elements are.
+/// The operation that has exactly these elements.
 #[tactic(auto, unfolding(txn_files::specs::Operations::op_of))]
 fn whole_op(values: &[Plain<'_>]) -> Option<Op>
     ensures { result ≡ op_of (map data_of values.now) }

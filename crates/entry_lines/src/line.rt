@@ -1,12 +1,13 @@
 //! Reads a line: the answer is its entry, or none if the line is blank, or the line's first fault.
-//! A line is read by itself, so a stream of lines needs only the memory for one. Its length is
-//! tested first, so that memory is bounded, and its callers last, against the limits of a map.
+//! A line is read by itself, so a stream of lines needs only the memory for one. The line's length
+//! is tested first, so that memory is bounded. The entry's callers are tested last, against the
+//! limits of a map.
 ghost use Rattle.std.specs.Prelude.{◌≡◌, ◌<◌, List, true, Some, None, Err, MatchResult, IfOk, IfSome, option_and_then};
 ghost use Rattle.std.specs.List.{list_all};
 ghost use Rattle.serde_json.specs.Data.{Data};
 ghost use Rattle.serde_json.specs.Read.{max_depth, read};
 ghost use Rattle.piece_files.specs.Elements.{elements_of};
-ghost use Rattle.piece_files.specs.Faults.{Fails, Gives, or_fault};
+ghost use Rattle.piece_files.specs.Faults.{FailsAs, Gives, or_fault};
 ghost use Rattle.piece_files.specs.Tokens.{value_at, items_at, items_from};
 ghost use Rattle.piece_files.specs.declared.file_fault.FileFault.TheVariants.{NotJson};
 ghost use Rattle.piece_files.specs.declared.stop.Stop.TheVariants as stops;
@@ -70,8 +71,8 @@ fn entry_in_range(found: Option<Entry>) -> Result<Option<Entry>, FileFault>
     }
 }
 
-/// The entry that an array is, or none if it is no entry. The reader has read the array's opening
-/// bracket.
+/// The entry that an array stands for, or none if it stands for no entry. The reader has read the
+/// array's opening bracket.
 #[tactic(auto, using(txn_files::proofs::PlainPieces::no_entry))]
 fn entry_in_array(reader: &mut Reader<'_>) -> Result<Option<Entry>, Stop>
     ensures ok { IfOk result (λ found. (ds : List Data)
@@ -87,7 +88,7 @@ fn entry_in_array(reader: &mut Reader<'_>) -> Result<Option<Entry>, Stop>
     }
 }
 
-/// The entry that the next value is, or none if it is no entry.
+/// The entry that the next value stands for, or none if it stands for no entry.
 fn entry_in_value(reader: &mut Reader<'_>) -> Result<Option<Entry>, Stop>
     ensures ok { IfOk result (λ found. (d : Data)
         × (value_at max_depth reader.old ≡ Some (d, reader.new))
@@ -112,9 +113,9 @@ fn entry_in_value(reader: &mut Reader<'_>) -> Result<Option<Entry>, Stop>
     }
 }
 
-/// The entry that a text is, if the text is an array in plain form, of 1 to 7 elements and with no
-/// white space before it. Answers `Some(None)` if this array is no entry, and `None` if the text is
-/// no such array.
+/// The entry that a text stands for, if the text is an array in plain form, of 1 to 7 elements and
+/// with no white space before it. Answers `Some(None)` if this array is no entry, and `None` if the
+/// text is no such array.
 fn entry_in_plain(text: &str) -> Option<Option<Entry>>
     ensures { IfSome result (λ found. (d : Data) × (read text.now ≡ Some d)
         × (found ≡ option_and_then entry_of (elements_of d))) }
@@ -127,12 +128,12 @@ fn entry_in_plain(text: &str) -> Option<Option<Entry>>
     }
 }
 
-/// The entry that a text is, or none if it is another value.
+/// The entry that a text stands for, or none if the text is another value.
 fn entry_in_text(text: &str, scratch: &mut Scratch<Global>) -> Result<Option<Entry>, FileFault>
     ensures { MatchResult result
         (λ found. (d : Data) × (read text.now ≡ Some d)
         × (found ≡ option_and_then entry_of (elements_of d)))
-        (λ fault. Fails fault (or_fault NotJson (read text.now))) }
+        (λ fault. FailsAs fault (or_fault NotJson (read text.now))) }
 {
     if let Some(found) = entry_in_plain(text) {
         return Ok(found);

@@ -1,6 +1,6 @@
 //! Runs the files of the folder `examples`, each by the engine of its command: `replay`, `mix` or
-//! `check`. The command `run` is not among them. What it prints may depend on its threads, and the
-//! gate compares this program's output with a fixed text.
+//! `check`. The command `run` is left out: what it prints may depend on its threads, but the gate
+//! compares this program's output with a fixed text.
 use anyhow::anyhow;
 use boostmap_engine::{Fault, check, mix, replay};
 use std::alloc::Global;
@@ -41,7 +41,7 @@ impl fmt::Display for Command {
     }
 }
 
-/// Runs the text of a file by a command.
+/// Runs a command on the text of a file.
 fn run_on<I: Read, O: Write>(
     alloc: Global,
     command: Command,
@@ -58,7 +58,7 @@ fn run_on<I: Read, O: Write>(
     }
 }
 
-/// Runs a file by a command.
+/// Runs a command on a file.
 fn run<R: Runtime + AllocGlobal>(rt: &R, command: Command, file: &str) -> Result<(), Fault> {
     match fs::open(rt, file) {
         Ok(mut input) => run_on(rt.alloc(), command, &mut input, &mut io::writer(rt)),

@@ -38,7 +38,7 @@ fn fill<L: Ledger, R: Wait>(t: &mut Transaction<'_, L, R>) -> Result<(), Stop>
     Ok(())
 }
 
-/// Claims a job, if it waits, and answers whether it did.
+/// Claims a job, if it waits, and answers whether the job was claimed.
 fn claim<L: Ledger, R: Wait>(t: &mut Transaction<'_, L, R>, job: u64) -> Result<bool, Stop>
     ensures { Keeps t.old.me t.new.me }
 {
@@ -147,7 +147,8 @@ impl<R: Wait> Work<R> for Worker {
     }
 }
 
-/// The core after all jobs. The filler has a caller too.
+/// Has the filler fill the queue and the workers do all jobs, and answers the core. The filler has
+/// a caller too.
 fn do_all<R: Threads + Wait + Sync>(rt: &R, alloc: Global) -> Result<Core, Refusal> {
     let limits = Limits::new(WORKERS + 1, 8, 8)?;
     let workers = Vec::from_slice(alloc, &[Worker; WORKERS as usize])?;

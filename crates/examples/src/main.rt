@@ -3,7 +3,7 @@
 //! of each example begins with a line: the example's name, or its command and its file.
 //!
 //! The gate compares the output with the file `stdout`, which was written by hand. So what the
-//! pages say of the examples stays true. Nothing is promised of this program.
+//! documentation says of the examples stays true. Nothing is promised of this program.
 #![tactic(auto)]
 
 mod call_audit;

@@ -113,7 +113,7 @@ impl<R: Wait> Work<R> for Transfers {
     }
 }
 
-/// The core after all transfers. The opening needs a caller too.
+/// Opens the accounts, makes all transfers, and answers the core. The opening needs a caller too.
 fn play_all<R: Threads + Wait + Sync>(rt: &R, alloc: Global) -> Result<Core, Refusal> {
     let limits = Limits::new(THREADS + 1, 8, 8)?;
     let works = Vec::from_slice(alloc, &[Transfers { rounds: TRANSFERS }; THREADS as usize])?;

@@ -84,7 +84,7 @@ undone_from s (LeavingTo n) c h = inl (n, refl, ltb-true _ _ (some_if (nat_lt (s
 undone_from s LeavingToEnd c h = inr (refl, ltb-true _ _ (some_if (nat_lt 0 s.standing) _ h))
 undone_from s _ c h = absurd (false≢true h)
 
--- At least one change stands if one is taken back.
+-- If a change is taken back, at least one change stands.
 pub undone_some : (s : Seat) (q : Phase) (c : ℕ) → is_some (row s q (Undone c)) ≡ true → 0 < s.standing
 undone_some s q c h = elim (undone_from s q c h) [
   | inl to ↦ (let more = to.2 in omega arith)

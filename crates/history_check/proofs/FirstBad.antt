@@ -48,7 +48,7 @@ module _ (broken : List Entry → Entry → Option ℕ) where
             first_bad_by-push (g ++ x ∷ []) h e (i + 1) ∙ (λ j. then_bad (first_bad_by broken (g ++ x ∷ []) h (i + 1)) (broken (append_assoc g (x ∷ []) h j) e) (next j))
       ])
 
-  -- A bad entry stays the first one.
+  -- The first bad entry stays the first one when an entry is added.
   pub bad_stays : (told after : Type 0) (h : List Entry) (e : Entry) (fed : ℕ) (bad : Option (ℕ × Rule)) → is_some bad ≡ true → FedBy broken told h fed bad → FedBy broken after (h ++ e ∷ []) fed bad
   bad_stays told after h e fed None some is = absurd (false≢true some)
   bad_stays told after h e fed (Some bad) some is = first_bad_by-push [] h e 0 ∙ ap (λ o. then_bad o (broken h e) (0 + length h)) is
@@ -64,7 +64,7 @@ module _ (broken : List Entry → Entry → Option ℕ) where
   told_of told h fed None none is = is.0
   told_of told h fed (Some bad) none is = absurd (cc (sym none ∙ is))
 
-  -- The verdict if no entry is bad, and if one is.
+  -- The verdict if no entry is bad, and the verdict if some entry is bad.
   pub verdict_by-none : (h : List Entry) (commits count : ℕ) → first_bad_by broken [] h 0 ≡ None → commits ≡ how_many is_commit h → count ≡ length (running (callers_in h) h) → legal.Legal commits count ≡ verdict_by broken h
   verdict_by-none h commits count none commits_are count_is = (λ i. legal.Legal (commits_are i) (count_is i)) ∙ sym (rw (none, verdict_by) refl)
 
@@ -74,10 +74,10 @@ module _ (broken : List Entry → Entry → Option ℕ) where
   -- Given that a history is good exactly if no entry is bad, the verdict says legal exactly if the
   -- history is good.
   pub says : (good : Type 0) (h : List Entry) (v : Verdict) → good ↔ (first_bad_by broken [] h 0 ≡ None) → meaning_of v ≡ verdict_by broken h → SaysLegal v ↔ good
-  says good h (Legal commits count) iff is = (λ u. iff.1 (none (first_bad_by broken [] h 0) refl), λ g. tt)
+  says good h (Legal commits count) iff is = (λ u. iff.1 (none (first_bad_by broken [] h 0) refl), λ g. refl)
     where
       none : (o : Option (ℕ × ℕ)) → first_bad_by broken [] h 0 ≡ o → first_bad_by broken [] h 0 ≡ None
       none None found = found
       none (Some bad) found = absurd (let differ : legal.Legal commits count ≡ legal.Illegal bad.0 bad.1 = is ∙ sym (verdict_by-some h bad found) in cc differ)
   says good h (Illegal entry rule) iff is =
-      (λ u. absurd u, λ g. absurd (let differ : legal.Illegal entry (number_of rule) ≡ legal.Legal (how_many is_commit h) (length (running (callers_in h) h)) = is ∙ sym (verdict_by-none h _ _ (iff.0 g) refl refl) in cc differ))
+      (λ u. absurd (false≢true u), λ g. absurd (let differ : legal.Illegal entry (number_of rule) ≡ legal.Legal (how_many is_commit h) (length (running (callers_in h) h)) = is ∙ sym (verdict_by-none h _ _ (iff.0 g) refl refl) in cc differ))

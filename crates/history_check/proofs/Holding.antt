@@ -42,7 +42,7 @@ busy-begun {holder} stripes h legal c op begun x other =
     ∙ ap (λ b. not b && has_begun x h) (ne_eqb x c other)
 
 module _ {holder : Holder} (stripes : ℕ) (h : List Entry) (legal : IsLegal holder stripes h) (live : LiveMap) (t : Shows holder stripes h live) (c : ℕ) where
-  -- A caller's stripes are free when it gives them back.
+  -- If a caller gives its stripes back, they become free, and the other stripes keep their holders.
   pub released : (new : List (Option ℕ)) → locks.Releases c live.locks new → (s : ℕ) → s < stripes → locks.holder_of new s ≡ cond (option_eq nat_eq (holder_of stripes s h) (Some c)) None (holder_of stripes s h)
   released new is s below = is.each s ∙ ap (locks.without_caller c) (t.holders s below) ∙ without c (holder_of stripes s h)
 
@@ -59,7 +59,7 @@ module _ {holder : Holder} (stripes : ℕ) (h : List Entry) (legal : IsLegal hol
     abbrev asked_test : Option ℕ → Bool
     asked_test o = elim o as (λ o. Bool) [ None ↦ true | Some d ↦ d == c ]
 
-    -- An Asked is legal if the stripe is granted, and not if another caller holds it.
+    -- An Asked is legal if the stripe is granted, and illegal if another caller holds it.
     pub asked-granted : (new : List (Option ℕ)) → locks.Grants c (key % live.stripes) live.locks new → is_locked holder stripes h (Asked c op) ≡ true
     asked-granted new is = is_locked-asked holder stripes h c op legal.shape legal.locks ∙ elim is.open_to_caller [
       | inl none ↦ ap asked_test (sym held ∙ none)
@@ -78,6 +78,6 @@ module _ {holder : Holder} (stripes : ℕ) (h : List Entry) (legal : IsLegal hol
         ∙ ap (λ b. not b && option_eq nat_eq (holder_of stripes (stripe_of stripes (key_of op)) h) (Some x)) (ne_eqb x c other)
         ∙ ap (λ o. option_eq nat_eq o (Some x)) (sym held)
 
-    -- A stripe that is granted is the caller's.
+    -- If a stripe is granted, the caller holds it, and the other stripes keep their holders.
     pub granted : (new : List (Option ℕ)) → locks.Grants c (key % live.stripes) live.locks new → (s : ℕ) → s < stripes → locks.holder_of new s ≡ cond (stripe_of stripes (key_of op) == s) (Some c) (holder_of stripes s h)
     granted new is s below = is.each s ∙ (λ i. cond ((ap (λ r. s == r) stripe_is ∙ same_test s (stripe_of stripes (key_of op))) i) (Some c) (t.holders s below i))

@@ -20,18 +20,17 @@ use Rattle.history_check.proofs.Seating.{each-set, if_some, at_some}
 pub is_at-nat : (k q : ℕ) → is_at (nat_cmp k) q ≡ (q == k)
 is_at-nat k q = (eq_by_cmp_equiv nat_cmp_total).symm k q ∙ unsigned_tied q k
 
--- If a key gets another value, or is gone, in the map and in a sorted map, the sorted map stays
--- right.
+-- If a key is set or removed in the map and likewise in a sorted map, the sorted map stays right.
 has_of-set_at : (m : Map) (r : ℕ) (old new : BTreeMap ℕ ℕ) (k : ℕ) (v : Option ℕ) → HasOf m r old → ((q : ℕ) → value_at nat_cmp new q ≡ cond (is_at (nat_cmp k) q) v (value_at nat_cmp old q)) → HasOf (set_at m k v) r new
 has_of-set_at m r old new k v has updates q at =
     updates q ∙ (λ i. cond (is_at-nat k q i) v (has q at i)) ∙ sym (get-set_at m k v q)
 
--- If a key gets another value, or is gone, the sorted maps of other remainders stay right.
+-- If a key is set or removed in the map, the sorted maps of other remainders stay right.
 has_of-other : (m : Map) (r : ℕ) (values : BTreeMap ℕ ℕ) (k : ℕ) (v : Option ℕ) → r ≢ k % 1021 → HasOf m r values → HasOf (set_at m k v) r values
 has_of-other m r values k v other has q at =
     has q at ∙ sym (get-set_at m k v q ∙ ap (λ b. cond b v (get m q)) (ne_eqb q k (λ is. other (sym at ∙ ap (λ x. x % 1021) is))))
 
--- At the remainder of a key there is a sorted map: the one that is read there.
+-- A read at the remainder of a key gives the sorted map of this remainder.
 map_at : (values : Values) (k : ℕ) (tree : BTreeMap ℕ ℕ) → tree ≡ get_or values.maps.items (k % 1021) tree → slice_get values.maps.items (k % 1021) ≡ Some tree
 map_at values k tree is =
     let below : k % 1021 < 1021 = omega arith in
@@ -42,8 +41,8 @@ map_at values k tree is =
 pub has-get : (m : Map) (values : Values) (k : ℕ) (tree : BTreeMap ℕ ℕ) → Have m values → tree ≡ get_or values.maps.items (k % 1021) tree → value_at nat_cmp tree k ≡ get m k
 has-get m values k tree has is = at_some (HasOf m (k % 1021)) (slice_get values.maps.items (k % 1021)) tree (map_at values k tree is) (has (k % 1021)) k refl
 
--- If a key gets another value, or is gone, in the map and in the sorted map of its remainder, all
--- sorted maps stay right.
+-- If a key is set or removed in the map and likewise in the sorted map of its remainder, all sorted
+-- maps stay right.
 pub has-set_at : (m : Map) (old : Values) (k : ℕ) (v : Option ℕ) (tree tree' : BTreeMap ℕ ℕ) → Have m old → tree ≡ get_or old.maps.items (k % 1021) tree
     → ((q : ℕ) → value_at nat_cmp tree' q ≡ cond (is_at (nat_cmp k) q) v (value_at nat_cmp tree q)) → (r : ℕ) → IfSome (slice_get (set old.maps.items (k % 1021) tree') r) (HasOf (set_at m k v) r)
 has-set_at m old k v tree tree' has is updates r =

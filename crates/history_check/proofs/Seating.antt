@@ -26,8 +26,8 @@ use Rattle.history_check.specs.Callers.{seat_of, log_in, Enters, HasRoom, HasRoo
 use Rattle.history_check.specs.Logs.{log_entered, log_replied}
 use Rattle.history_check.proofs.EachKind.{did_waits, undone_some}
 
--- After a write, each element has its property if the written element has it, and all other
--- elements had it before.
+-- If the written element has its property, and all other elements had theirs before, each element
+-- has its property after the write.
 pub each-set : {A : Type 0} (P : ℕ → A → Type 0) (xs : List A) (i : ℕ) (a : A) → P i a → ((k : ℕ) → k ≢ i → IfSome (slice_get xs k) (P k)) → (k : ℕ) → IfSome (slice_get (set xs i a) k) (P k)
 each-set P [] i a here others k = tt
 each-set P (x ∷ xs) zero a here others zero = here
@@ -95,7 +95,7 @@ undone_newest h c shaped none =
     let empty : seat.0.standing ≡ 0 = sym (length-log_of h c seat.0 seat.1) ∙ ap length (no_first (log_of c h) none) in
     omega arith
 
--- The log after an entry, by the phase before it.
+-- The log after an entry, computed from the log and the phase before the entry.
 log_did-is : (phase : Phase) (log : Log) (c : ℕ) (x : Option ℕ) (s : Seat) → PhaseLogged phase log → is_some (row s phase (Did c x)) ≡ true → (log_did log log.pending x).standing ≡ log_replied phase log.standing x
 log_did-is (Waiting op) log c x s pending there = ap (λ p. (log_did log p x).standing) pending
 log_did-is _ log c x s pending there = absurd (false≢true there)
@@ -115,7 +115,7 @@ log_step-is phase log (Aborted c) s pending there = refl
 pub log_entered-is : (g : List Entry) (e : Entry) (seat : Seat) → seat_after (own (caller_of e) g) ≡ Some seat → is_some (row seat seat.phase e) ≡ true → log_of (caller_of e) (g ++ e ∷ []) ≡ log_entered seat.phase (log_of (caller_of e) g) e
 log_entered-is g e seat seat_is there = log_of-own g e ∙ log_step-is seat.phase (log_after (own (caller_of e) g)) e seat (seat_logged (own (caller_of e) g) seat seat_is).phase there
 
--- The table has entered one more entry if the entry's caller is changed as the entry says.
+-- If the caller of an entry is changed as the entry says, the table has taken in the entry.
 pub entered-push : (h : List Entry) (e : Entry) (old new : Callers) (before after : Caller) → HaveEntered h old → is_shaped h e ≡ true → caller_of e < 64 → Sits h (caller_of e) before
     → (is_some (row (seat_of before) (seat_of before).phase e) ≡ true → Enters e before after) → new.table.items ≡ set old.table.items (caller_of e) after
     → new.began ≡ how_many is_began (h ++ e ∷ []) → new.committed ≡ how_many is_commit (h ++ e ∷ []) → HaveEntered (h ++ e ∷ []) new
@@ -140,7 +140,7 @@ entered-push h e old new before after entered shaped below sits enters table_is 
     goes : Enters e before after
     goes = enters there
 
--- The table has entered the same entries if the caller's seat, log and `has_begun` stay the same.
+-- The table has taken in the same entries if the caller's seat, log and `has_begun` stay the same.
 pub entered-same : (h : List Entry) (old new : Callers) (c : ℕ) (before after : Caller) → HaveEntered h old → Sits h c before → seat_of after ≡ seat_of before → log_in after ≡ log_in before → after.has_begun ≡ before.has_begun
     → new.table.items ≡ set old.table.items c after → new.began ≡ old.began → new.committed ≡ old.committed → HaveEntered h new
 entered-same h old new c before after entered sits seat log begun table_is begins commits = record {

@@ -37,7 +37,7 @@ entered-none callers fresh none_began none_committed = record {
   seats = λ c. fresh_sits callers.table.items fresh c c;
 }
 
--- Counted in the table or in the history, equally many callers are in a transaction.
+-- The table and the history agree on how many callers are in a transaction.
 count_by-sits : (h : List Entry) (callers : List Caller) (start : ℕ) → ((k : ℕ) → IfSome (slice_get callers k) (Sits h (start + k)))
     → count_by (λ (caller : Caller). runs (seat_of caller).phase) callers ≡ count_by (λ c. is_running (seat_after (own c h))) (range_with_len start (length callers))
 count_by-sits h [] start sits = refl

@@ -14,13 +14,13 @@ use Rattle.history_check.specs.declared.caller.Caller.{Caller}
 use Rattle.history_check.specs.declared.callers.Callers.{Callers}
 use Rattle.history_check.specs.Logs.{is_did, log_entered}
 
--- The phase of a caller that goes back to this level or, if no level is given, takes all changes
--- back and ends its transaction.
+-- The phase of a caller that goes back to this level. If no level is given, the caller takes all
+-- changes back and ends its transaction.
 abbrev pub goal_of : Option ℕ → Phase
 goal_of None = LeavingToEnd
 goal_of (Some level) = LeavingTo level
 
--- The seat.
+-- The seat of a caller.
 abbrev pub seat_of : Caller → Seat
 seat_of caller = caller.seat.seat
 
@@ -28,8 +28,8 @@ seat_of caller = caller.seat.seat
 abbrev pub log_in : Caller → List (ℕ × Option ℕ)
 log_in caller = reverse caller.changes.items
 
--- The seat and the changes are those after the entry, and the caller has begun a transaction if it
--- had before or the entry begins one.
+-- The seat and the changes are those after the entry. The caller has begun a transaction if it had
+-- begun one before, or if the entry begins one.
 pub record Enters (e : Entry) (old new : Caller) : Type 0 where
   pub seat : row (seat_of old) (seat_of old).phase e ≡ Some (seat_of new)
   pub log : log_in new ≡ log_entered (seat_of old).phase (log_in old) e
@@ -47,9 +47,9 @@ pub record Sits (h : List Entry) (c : ℕ) (caller : Caller) : Type 0 where
   pub log : log_of c h ≡ log_in caller
   pub begun : has_begun c h ≡ caller.has_begun
 
--- The callers have entered these entries, which have the right shape: each caller has the seat and
--- the log that its own entries give it, and `began` and `committed` count the transactions of all
--- entries.
+-- The entries `h` have the right shape, and the table `callers` has taken them in. Each caller has
+-- the seat and the log that its own entries give it. `began` and `committed` are the numbers of all
+-- Began and Committed entries.
 pub record HaveEntered (h : List Entry) (callers : Callers) : Type 0 where
   pub shape : IsShaped h
   pub below : All (λ e. caller_of e < 64) h

@@ -7,8 +7,8 @@ use Rattle.history_check.specs.declared.checker.Checker.{Checker}
 use Rattle.history_check.specs.FirstBad.{FedBy}
 use Rattle.history_check.specs.States.{Tells}
 
--- The checker was fed these entries, in this order, of a map with `stripes` stripes, in which
--- `holder` says whom a Busy may name.
+-- The checker was fed these entries, in this order. They are entries of a map with `stripes`
+-- stripes, and `holder` says whom a Busy may name.
 abbrev pub IsFed : Holder → ℕ → List Entry → Checker → Type 0
 IsFed holder stripes h checker =
     FedBy (broken holder stripes) (Tells holder stripes h checker.state) h checker.fed checker.bad

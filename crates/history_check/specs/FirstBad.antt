@@ -1,5 +1,5 @@
--- The first bad entry of a history, by any function that answers which rule an entry breaks after
--- the entries before it.
+-- The first bad entry of a history, for any rules. The function `broken` answers which rule an
+-- entry breaks after the entries before it.
 use Rattle.std.specs.Prelude.{◌≡◌, ℕ, ◌+◌, Option, Some, None, List, [], ◌∷◌, ◌++◌, length}
 use Rattle.txn_words.specs.declared.entry.Entry.{Entry}
 use Rattle.txn_words.specs.Kinds.{is_commit}
@@ -18,8 +18,8 @@ first_bad_by broken g (e ∷ h) i = elim (broken g e) [
   | None ↦ first_bad_by broken (g ++ e ∷ []) h (i + 1)
 ]
 
--- The verdict on a history: the first bad entry; if none is bad, the numbers of commits and of
--- callers that are not closed.
+-- The verdict on a history: the first bad entry or, if no entry is bad, the numbers of commits and
+-- of callers that are not closed.
 abbrev pub verdict_by : (List Entry → Entry → Option ℕ) → List Entry → Verdict
 verdict_by broken h = elim (first_bad_by broken [] h 0) [
   | None ↦ Legal (how_many is_commit h) (length (running (callers_in h) h))

@@ -13,28 +13,28 @@ use Rattle.history_check.specs.Callers.{HaveEntered}
 use Rattle.history_check.specs.Remainders.{Have}
 
 -- The live map has the values of the map now, and its stripes have the holders that the history
--- says.
+-- gives them.
 pub record Shows (holder : Holder) (stripes : ℕ) (h : List Entry) (live : LiveMap) : Type 0 where
   pub holder_is : live.holder ≡ holder
   pub stripes_are : live.stripes ≡ stripes
   pub values : Have (now h) live.values
   pub holders : (s : ℕ) → s < stripes → locks.holder_of live.locks s ≡ holder_of stripes s h
 
--- The new map shows what the old one shows.
-abbrev pub Keeps : LiveMap → LiveMap → Type 0
-Keeps old new =
+-- The new map shows each history that the old one shows.
+abbrev pub StillShows : LiveMap → LiveMap → Type 0
+StillShows old new =
     (holder : Holder) (stripes : ℕ) (h : List Entry)
     → Shows holder stripes h old → Shows holder stripes h new
 
--- After a legal history, for an entry of right shape and reply: `right` says whether the entry
--- keeps the rule of locks. If it does, the new map shows the history with this entry added.
+-- `right` says whether an entry of the right shape and reply, after a legal history, keeps the rule
+-- of locks. If it does, the new map shows the history with this entry added.
 pub record FollowsAt (holder : Holder) (stripes : ℕ) (h : List Entry) (e : Entry) (right : Bool)
     (new : LiveMap) : Type 0 where
   pub locked : is_locked holder stripes h e ≡ right
   pub shows : right ≡ true → Shows holder stripes (h ++ e ∷ []) new
 
-abbrev pub Follows : Entry → Callers → LiveMap → Bool → LiveMap → Type 0
-Follows e callers old right new =
+abbrev pub FollowsEntry : Entry → Callers → LiveMap → Bool → LiveMap → Type 0
+FollowsEntry e callers old right new =
     (holder : Holder) (stripes : ℕ) (h : List Entry)
     → IsLegal holder stripes h → HaveEntered h callers → Shows holder stripes h old
     → is_shaped h e ≡ true → replies_hold (h ++ e ∷ []) ≡ true

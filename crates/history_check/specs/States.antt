@@ -9,13 +9,14 @@ use Rattle.history_check.specs.Callers.{HaveEntered}
 use Rattle.history_check.specs.LiveMaps.{Shows}
 use Rattle.history_check.specs.Verdicts.{number_of}
 
--- The entries are a legal history; the callers and the map are what it says.
+-- The entries are a legal history, and the state has the callers and the live map that this history
+-- leaves.
 pub record Tells (holder : Holder) (stripes : ℕ) (h : List Entry) (state : State) : Type 0 where
   pub legal : IsLegal holder stripes h
   pub entered : HaveEntered h state.callers
   pub shows : Shows holder stripes h state.map
 
--- The new state tells what the old one tells.
+-- The new state tells each history that the old one tells.
 abbrev pub Stays : State → State → Type 0
 Stays old new =
     (holder : Holder) (stripes : ℕ) (h : List Entry)

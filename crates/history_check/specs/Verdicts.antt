@@ -1,5 +1,5 @@
 -- The meaning of a checker's verdict.
-use Rattle.std.specs.Prelude.{ℕ, ◌≡◌, ◌↔◌, List, ◌++◌, codes, decimal}
+use Rattle.std.specs.Prelude.{ℕ, ◌≡◌, ◌↔◌, Bool, true, false, IsTrue, List, [], ◌∷◌, ◌++◌, codes, decimal}
 use Rattle.txn_words.specs.declared.entry.Entry.{Entry}
 use Rattle.txn_words.specs.declared.holder.Holder.{Holder}
 use Rattle.txn_trace.specs.Legal as legal
@@ -25,15 +25,23 @@ verdict_words (Legal commits running) =
 verdict_words (Illegal entry rule) =
     codes "illegal entry " ++ (decimal entry ++ (codes " " ++ rule_words rule))
 
+-- The line of a verdict.
+abbrev pub verdict_line : Verdict → List ℕ
+verdict_line outcome = verdict_words outcome ++ 10 ∷ []
+
 -- A verdict of the checker, as a verdict of the definitions.
 abbrev pub meaning_of : Verdict → legal.Verdict
 meaning_of (Legal commits running) = legal.Legal commits running
 meaning_of (Illegal entry rule) = legal.Illegal entry (number_of rule)
 
+-- Whether a verdict is that the history is legal.
+abbrev pub says_legal : Verdict → Bool
+says_legal (Legal commits running) = true
+says_legal (Illegal entry rule) = false
+
 -- The verdict is that the history is legal.
 abbrev pub SaysLegal : Verdict → Type 0
-SaysLegal (Legal commits running) = Unit {0}
-SaysLegal (Illegal entry rule) = ⊥
+SaysLegal outcome = IsTrue (says_legal outcome)
 
 -- The outcome is the definitions' verdict on the history, and it says legal exactly if the history
 -- is legal.

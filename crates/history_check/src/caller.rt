@@ -37,7 +37,7 @@ impl Caller {
         }
     }
 
-    /// The phase of its seat.
+    /// The phase of the caller's seat.
     #[inline(always)]
     pub(crate) fn phase(&self) -> Phase
         ensures { result ≡ (seat_of self.now).phase }
@@ -45,14 +45,14 @@ impl Caller {
         self.seat.phase()
     }
 
-    /// Whether it is in a transaction.
+    /// Whether the caller is in a transaction.
     pub(crate) fn is_running(&self) -> bool
         ensures { result ≡ runs (seat_of self.now).phase }
     {
         !matches!(self.seat.phase(), Phase::Closed)
     }
 
-    /// Whether its next entry may be this one.
+    /// Whether the caller's next entry may be this one.
     #[inline(always)]
     pub(crate) fn allows(&self, entry: &Entry) -> bool
         ensures { result ≡ is_some (row (seat_of self.now) (seat_of self.now).phase entry.now) }

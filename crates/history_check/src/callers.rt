@@ -15,8 +15,8 @@ use txn_trace::{Entry, Phase, Reply};
 /// and how many transactions began and committed.
 ///
 /// It is the judge of the rule of shape: `has_shape` says whether an entry may follow, and `enter`
-/// takes in an entry that may follow. In a contract, `HaveEntered h callers` says that it was fed
-/// the entries `h`, and that they have the right shape.
+/// takes in an entry that may follow. In a contract, `HaveEntered h callers` says that `callers`
+/// has taken in the entries `h`, and that these entries have the right shape.
 #[derive(Drop)]
 pub struct Callers {
     /// How many transactions began.
@@ -202,7 +202,7 @@ fn is_next(before: u64, number: u64) -> bool
     before.checked_add(1) == Some(number)
 }
 
-/// How many transactions began, after one more entry, whose number is right.
+/// How many transactions began, this entry included. The entry's number is right.
 #[inline(always)]
 fn began_after(began: u64, entry: Entry) -> u64
     ensures { (h : List Entry) → began ≡ how_many is_began h → is_numbered h entry ≡ true →
@@ -214,7 +214,7 @@ fn began_after(began: u64, entry: Entry) -> u64
     }
 }
 
-/// How many transactions committed, after one more entry, whose number is right.
+/// How many transactions committed, this entry included. The entry's number is right.
 #[inline(always)]
 fn committed_after(committed: u64, entry: Entry) -> u64
     ensures { (h : List Entry) → committed ≡ how_many is_commit h → is_numbered h entry ≡ true →

@@ -1,6 +1,6 @@
 //! The checker that is fed entry by entry: a state, the number of entries so far, and the first bad
-//! one. The state judges one entry; this module keeps the verdict, which stays once an entry breaks
-//! a rule, whatever is fed after it. If memory is refused, the same entry may be fed again.
+//! entry. The state judges one entry, and this module keeps the verdict. Once an entry breaks a
+//! rule, no later entry changes the verdict. If memory is refused, the entry may be fed again.
 ghost use Rattle.std.specs.Prelude.{◌≡◌, ℕ, ◌<◌, ◌++◌, [], ◌∷◌, List, IfOk, OnOk, OnErr};
 ghost use Rattle.txn_words.specs.Kinds.{caller_of};
 ghost use Rattle.txn_words.specs.declared.holder.Holder.{Holder};
@@ -14,8 +14,8 @@ use txn_trace::{Entry, Holder};
 
 /// A checker that is fed the entries of a history one after another, and keeps none of them.
 ///
-/// In a contract, `IsFed holder stripes h checker` says that it was fed the entries `h` of a map
-/// with `stripes` stripes, and that `holder` says whom a Busy may name.
+/// In a contract, `IsFed holder stripes h checker` says that the checker was fed the entries `h` of
+/// a map with `stripes` stripes, and that `holder` says whom a Busy may name.
 #[derive(Drop)]
 pub struct Checker {
     state: State,
@@ -55,20 +55,20 @@ impl Checker {
         })
     }
 
-    /// Feeds it the next entry, whose caller is below 64. After the first bad entry all further
-    /// ones change nothing.
+    /// Feeds the checker the next entry, whose caller is below 64. Entries after the first bad one
+    /// change nothing.
     ///
     /// # Errors
     ///
-    /// `AllocError` if memory is refused, or 2^64 - 1 entries were fed already. The entry was not
-    /// fed then, and may be fed again.
+    /// `AllocError` if memory is refused, or if 2^64 - 1 entries were fed. Then the entry was not
+    /// fed, and may be fed again.
     ///
     /// # Cost
     ///
-    /// Amortized time in proportion to the logarithm of the number of keys; for a Committed or an
-    /// Aborted also to the stripes that it gives back and the changes that stood. Takes memory only
-    /// for a Did (also for a Did that changes nothing), an Undone or a Saved. After the first bad
-    /// entry constant time, and no memory.
+    /// Amortized time in proportion to the logarithm of the number of keys. A Committed or an
+    /// Aborted also takes time in proportion to the stripes that it gives back and the changes that
+    /// stood. Takes memory only for a Did (also for a Did that changes nothing), an Undone or a
+    /// Saved. After the first bad entry a call takes constant time and no memory.
     #[inline(always)]
     pub fn feed(&mut self, entry: &Entry) -> Result<(), AllocError>
         requires { caller_of entry.now < 64 }

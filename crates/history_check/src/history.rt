@@ -1,6 +1,6 @@
-//! The check of a whole history in memory: a checker, fed with every entry. Only this module takes
-//! lists of entries. Packed ones are unpacked one at a time, so a check takes no memory besides the
-//! checker's; after a bad entry it reads on, in constant time for each entry.
+//! The check of a whole history in memory: a checker is fed every entry. Only this module takes
+//! lists of entries. Packed entries are unpacked one at a time, so a check takes no memory besides
+//! the checker's. After a bad entry the check reads on, in constant time for each entry.
 ghost use Rattle.std.specs.Prelude.{◌<◌, IfOk};
 ghost use Rattle.std.specs.List.{All};
 ghost use Rattle.txn_words.specs.Kinds.{caller_of};
@@ -15,8 +15,8 @@ use txn_trace::{Entry, Holder, SmallEntry};
 /// says whom its Busy entries may name.
 ///
 /// The verdict is `Legal`, with the number of commits and of callers that are in a transaction at
-/// the end, exactly if the history is legal. Otherwise it is `Illegal`, with the index of the
-/// first entry that breaks a rule, from 0, and the first rule that it breaks, in the order shape,
+/// the end, exactly if the history is legal. Otherwise it is `Illegal`, with the index, from 0, of
+/// the first entry that breaks a rule, and the first rule that it breaks, in the order shape,
 /// replies, locks.
 ///
 /// # Errors
@@ -25,10 +25,10 @@ use txn_trace::{Entry, Holder, SmallEntry};
 ///
 /// # Cost
 ///
-/// Time for each entry in proportion to the logarithm of the number of keys, and for a Committed or
-/// an Aborted also to the stripes that it gives back and the changes that stood; memory in
-/// proportion to the stripes, and to the greatest numbers of keys, of changes that can be taken
-/// back and of savepoints at one time.
+/// Each entry takes time in proportion to the logarithm of the number of keys. A Committed or an
+/// Aborted also takes time in proportion to the stripes that it gives back and the changes that
+/// stood. Memory is in proportion to the stripes, and to the greatest numbers of keys, of changes
+/// that can be taken back and of savepoints at one time.
 pub fn check(
     alloc: Global,
     entries: &[Entry],

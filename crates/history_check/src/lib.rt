@@ -1,10 +1,14 @@
 //! A checker of recorded histories of a transactional map.
 //!
-//! A history is a list of `txn_trace`'s entries. It is legal if each open transaction has the
-//! replies of running alone after the committed ones, a stripe of keys belongs to one open
-//! transaction at a time, and each caller's entries have the right shape: `IsLegal` of
-//! `txn_trace`. In the usual terms these are serializability in the order of commits (which open
-//! transactions must have too), strict two-phase locking of stripes, and well-formed callers. The
+//! A history is a list of `txn_trace`'s entries. It is legal (`IsLegal` of `txn_trace`) if three
+//! rules hold:
+//! - Each open transaction has the same replies as if it ran alone on the map that the committed
+//!   transactions leave.
+//! - A stripe of keys belongs to at most one open transaction at a time.
+//! - Each caller's entries have the right shape.
+//!
+//! In the usual terms these rules are serializability in the order of commits, strict two-phase
+//! locking of stripes, and well-formed callers. Open transactions must be serializable too. The
 //! checker says whether a history is legal, and if it is not, names the first entry that breaks a
 //! rule. Whom a Busy may name is a parameter (`Holder`): a caller that holds the stripe now, or one
 //! that has begun a transaction before.
@@ -13,19 +17,19 @@
 //! different stripes, so the map as it is now gives the right reply to each of them: the stripes
 //! are the abstract locks of Herlihy and Koskinen, "Transactional Boosting" (PPoPP 2008). So the
 //! checker keeps that map, the holder of each stripe, and of each caller its phase, its standing
-//! changes with the values before them, its savepoints and whether it has begun a transaction: it
+//! changes with the values before them, its savepoints and whether it has begun a transaction. It
 //! copies no map and keeps no list of the entries. An entry costs the logarithm of the number of
-//! keys, and one that ends a transaction also a step for each of its stripes and changes. Memory is
-//! in proportion to the stripes, and to the greatest numbers of keys, of changes that can be taken
-//! back and of savepoints at one time.
+//! keys. An entry that ends a transaction also costs a step for each of the transaction's stripes
+//! and changes. Memory is in proportion to the stripes, and to the greatest numbers of keys, of
+//! changes that can be taken back and of savepoints at one time.
 //!
 //! `Callers` judges the rule of shape. The map and its stripes judge the rules of replies and
 //! locks. `serial_check`, the judge by the order of commits, uses `Callers` too. Both judges share
 //! the verdict and what is proved of the first bad entry (`FirstBad`).
 //!
 //! Proved: `check`, `check_packed`, and a `Checker` that was fed the same entries, say what the
-//! definition `verdict` of `txn_trace` says, and they say legal exactly if `IsLegal` holds. If
-//! memory is refused, the entry is not fed: the checker was fed the same entries as before.
+//! definition `verdict` of `txn_trace` says, and they say legal exactly if `IsLegal` holds. An
+//! entry that is refused for lack of memory was not fed to the checker.
 #![tactic(auto)]
 
 mod caller;

@@ -32,7 +32,7 @@ impl LiveMap {
     ghost use Rattle.txn_trace.specs.Locks.{is_locked};
     ghost use Rattle.txn_words.specs.Shape.{is_shaped};
     ghost use Rattle.history_check.specs.Callers.{HaveEntered, IsIn};
-    ghost use Rattle.history_check.specs.LiveMaps.{Shows, Follows, Keeps};
+    ghost use Rattle.history_check.specs.LiveMaps.{Shows, FollowsEntry, StillShows};
 
     /// The empty map, whose stripes are free.
     pub(crate) fn new(alloc: Global, stripes: u64, holder: Holder) -> Result<LiveMap, AllocError>
@@ -64,13 +64,14 @@ impl LiveMap {
         }
     }
 
-    /// Applies an entry of the right shape and reply and answers `true`, or answers `false` if the
-    /// entry breaks the rule of locks.
+    /// Judges an entry whose shape and reply are right. If the entry keeps the rule of locks, it is
+    /// applied, and the answer is `true`. Otherwise the answer is `false`.
     #[inline(always)]
     pub(crate) fn follow(&mut self, callers: &Callers, entry: &Entry) -> Result<bool, AllocError>
         requires { caller_of entry.now < 64 }
-        ensures ok { IfOk result (λ right. Follows entry.now callers.now self.old right self.new) }
-        ensures err { OnErr result (Keeps self.old self.new) }
+        ensures ok { IfOk result
+            (λ right. FollowsEntry entry.now callers.now self.old right self.new) }
+        ensures err { OnErr result (StillShows self.old self.new) }
     {
         match *entry {
             Entry::Asked(caller, op) => return Ok(self.ask(caller, op)),
@@ -98,7 +99,7 @@ impl LiveMap {
     fn ask(&mut self, caller: u64, op: Op) -> bool
         requires { caller < 64 }
         ensures { (callers : Callers) →
-            Follows (Entry.Asked caller op) callers self.old result self.new }
+            FollowsEntry (Entry.Asked caller op) callers self.old result self.new }
     {
         let stripe = op.key() % self.stripes;
         match self.locks.lock(caller as usize, stripe as usize) {
@@ -110,7 +111,7 @@ impl LiveMap {
     /// Whether the rule of locks lets a Busy of `caller` name `named`.
     #[inline(always)]
     fn may_name(&self, callers: &Callers, caller: u64, op: Op, named: u64) -> bool
-        ensures { Follows (Entry.Busy caller op named) callers.now self.now result self.now }
+        ensures { FollowsEntry (Entry.Busy caller op named) callers.now self.now result self.now }
     {
         if named == caller {
             return false;

@@ -1,6 +1,6 @@
-//! The state of a checker: callers and live map, by which each entry is judged, first its shape,
-//! then replies, then locks. The checker notes the first bad entry, and asks the state no more
-//! after it. A contract sees the history that the state tells; no list of the entries is kept.
+//! The state of a checker: the callers and the live map. They judge each entry: first its shape,
+//! then its reply, then its locks. The checker notes the first bad entry, and never asks the state
+//! again. A contract sees the history that the state tells; no list of the entries is kept.
 ghost use Rattle.std.specs.Prelude.{◌<◌, [], IfOk, OnErr};
 ghost use Rattle.txn_words.specs.Kinds.{caller_of};
 

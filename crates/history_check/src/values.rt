@@ -1,7 +1,7 @@
-//! The map as it is now, as sorted maps among which the keys are divided by remainder. It gives a
-//! key's value, does an operation, and restores a key's value. Each sorted map has few keys, so a
-//! look-up reads less memory than in one map of all keys. If all keys have the same remainder, a
-//! look-up still takes only the logarithm of their number.
+//! The map as it is now, kept in several sorted maps. A key is in the sorted map of its remainder.
+//! This module gives a key's value, does an operation, and restores a key's value. Each sorted map
+//! has few keys, so a look-up reads less memory than in one map of all keys. If all keys have the
+//! same remainder, a look-up still takes only the logarithm of their number.
 ghost use Rattle.std.specs.Prelude.{◌≡◌, Option, Some, None, IfOk, OnOk, OnErr, vec_len};
 ghost use Rattle.txn_words.specs.Map.{Map, empty, get, after, set_at};
 
@@ -9,13 +9,14 @@ use std::alloc::{AllocError, Global};
 use std::collections::BTreeMap;
 use txn_trace::Op;
 
-/// How many sorted maps there are: a prime, so that keys at equal distances are shared out too.
+/// The number of sorted maps. It is a prime, so that keys at equal distances are spread over the
+/// maps too.
 const MAPS: u64 = 1021;
 
 /// The values of the keys.
 #[derive(Drop)]
 pub(crate) struct Values {
-    /// For each remainder of keys divided by 1021, the values of the keys that have it.
+    /// For each remainder on division by 1021, the values of the keys with this remainder.
     pub(crate) maps: Vec<BTreeMap<u64, u64>>,
     ghost all: { vec_len maps ≡ 1021 },
 }
@@ -23,7 +24,7 @@ pub(crate) struct Values {
 impl Values {
     ghost use Rattle.history_check.specs.Remainders.{Have};
 
-    /// No key has a value.
+    /// The values of a map without keys.
     pub(crate) fn new(alloc: Global) -> Result<Values, AllocError>
         ensures { IfOk result (Have empty) }
     {

@@ -11,9 +11,9 @@ use std::fmt;
 /// A rule that an entry of a history may break, with its number. It is printed as `rule 1`.
 #[derive(Clone, Copy, Debug, PartialEq, Eq)]
 pub enum Rule {
-    /// Each open transaction has the replies of running alone on the map of the committed ones,
-    /// also for operations that it has taken back. For the judge by the order of commits, only a
-    /// transaction that commits must have these replies.
+    /// Each open transaction has the same replies as if it ran alone on the map that the committed
+    /// transactions leave. This includes the replies of operations that it has taken back. The
+    /// judge by the order of commits applies this rule only to a transaction that commits.
     Replies = 1,
     /// A stripe of keys belongs to one open transaction at a time: an Asked finds no other holder,
     /// and a Busy names another caller that holds the stripe, or that has begun a transaction.
@@ -62,9 +62,9 @@ pub enum Verdict {
     },
     /// An entry breaks a rule.
     Illegal {
-        /// The index of the first entry that breaks one, from 0.
+        /// The index, from 0, of the first entry that breaks a rule.
         entry: u64,
-        /// The rule that it breaks: shape, or else the one with the least number.
+        /// The first rule that the entry breaks, in the order shape, replies, locks.
         rule: Rule,
     },
 }

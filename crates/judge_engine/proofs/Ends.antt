@@ -9,7 +9,7 @@ use Rattle.judge_engine.specs.declared.fault.Fault.TheVariants.{Input, Line, NoM
 use Rattle.entry_lines.specs.Lines.{history_of_lines}
 use Rattle.txn_files.specs.Reading.{max_read}
 use Rattle.judge_engine.specs.Files.{FailsToCheck, FailsToExplain, IsUnjudgedFile}
-use Rattle.judge_engine.specs.Outputs.{Leaves}
+use Rattle.judge_engine.specs.Outputs.{LeavesOutput}
 use Rattle.judge_engine.specs.Watching.{FailsToWatch, IsJudgedLines, IsRefusedLine, IsUnjudged, Watches}
 use Rattle.judge_engine.proofs.Known.{OfAll-early, OfAll-read}
 
@@ -53,14 +53,14 @@ keeps_all : (a : Option (List ℕ)) → Keeps a a
 keeps_all None = tt
 keeps_all (Some xs) = refl
 
-pub leaves_watch : (P : Verdict → Type 0) (basis : Basis) (remaining old : Option (List ℕ)) (fault : Fault) → FailsToWatch basis remaining fault → Leaves P (FailsToWatch basis remaining) old old fault
+pub leaves_watch : (P : Verdict → Type 0) (basis : Basis) (remaining old : Option (List ℕ)) (fault : Fault) → FailsToWatch basis remaining fault → LeavesOutput P (FailsToWatch basis remaining) old old fault
 leaves_watch P basis remaining old (Line number fault) h = (keeps_all old, h)
 leaves_watch P basis remaining old NoMemory h = keeps_all old
 leaves_watch P basis remaining old Read h = keeps_all old
 leaves_watch P basis remaining old (Input fault) h = absurd h
 leaves_watch P basis remaining old Write h = absurd h
 
-pub leaves_check : (P : Verdict → Type 0) (remaining old : Option (List ℕ)) (bytes : List ℕ) (fault : Fault) → IfSome remaining (λ all. bytes ≡ take max_read all) → IsUnjudgedFile bytes fault → Leaves P (FailsToCheck remaining) old old fault
+pub leaves_check : (P : Verdict → Type 0) (remaining old : Option (List ℕ)) (bytes : List ℕ) (fault : Fault) → IfSome remaining (λ all. bytes ≡ take max_read all) → IsUnjudgedFile bytes fault → LeavesOutput P (FailsToCheck remaining) old old fault
 leaves_check P remaining old bytes (Input fault) known h = (keeps_all old, (bytes, known, h))
 leaves_check P remaining old bytes NoMemory known h = keeps_all old
 leaves_check P remaining old bytes Read known h = keeps_all old

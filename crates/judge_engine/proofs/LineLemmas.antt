@@ -1,4 +1,4 @@
--- The lines that bytes consist of, and the entries that the lines are.
+-- The lines of bytes, and the entries in the lines.
 use Rattle.std.proofs.Common.{◌≡◌, ℕ, suc, ◌+◌, ◌-◌, ◌<◌, Bool, true, false, cond, nat_le, List, [], ◌∷◌, ◌++◌, length, take, drop, get_or, Option, Some, None, Result, Ok, Err, refl, sym, ap, ◌∙◌, append_assoc, append-nil, add-one, arith, take-append-drop, length-take-le, get_or-take, drop-cons, length-append, length-drop}
 use Rattle.std.specs.List.{position, position_or_len, onto_first}
 use Rattle.std.proofs.lemmas.Bool.{eqb-true, ltb-false}
@@ -12,10 +12,10 @@ use Rattle.txn_words.specs.declared.entry.Entry.{Entry}
 use Rattle.piece_files.specs.declared.file_fault.FileFault.{FileFault}
 use Rattle.piece_files.specs.declared.file_fault.FileFault.TheVariants.{Limit}
 use Rattle.entry_lines.specs.EntryLine.{entry_on}
-use Rattle.entry_lines.specs.Lines.{history_from, history_of_lines, lines_of}
+use Rattle.entry_lines.specs.Lines.{history_from, history_of_lines, split_lines}
 use Rattle.judge_engine.specs.Breaks.{is_break, IsUnbroken}
 use Rattle.judge_engine.specs.LineReads.{those}
-use Rattle.judge_engine.specs.Watchers.{ahead, StandsAt}
+use Rattle.judge_engine.specs.Watchers.{ahead, HasWatched}
 
 -- ---- the place of the first line feed
 
@@ -51,36 +51,36 @@ cut_line chunk done rest i n is e long =
 
 -- ---- lines
 
-pub line_then : (xs ys : List ℕ) → IsUnbroken xs → lines_of (xs ++ 10 ∷ ys) ≡ xs ∷ lines_of ys
+pub line_then : (xs ys : List ℕ) → IsUnbroken xs → split_lines (xs ++ 10 ∷ ys) ≡ xs ∷ split_lines ys
 line_then xs ys h = slice_split_at is_break xs 10 ys h refl
 
-first_split : (x : ℕ) (xs : List ℕ) (b : Bool) → is_break x ≡ b → (first : List ℕ) (rest : List (List ℕ)) → lines_of xs ≡ first ∷ rest → (f : List ℕ) × (r : List (List ℕ)) × (lines_of (x ∷ xs) ≡ f ∷ r)
-first_split x xs true e first rest is = ([], lines_of xs, slice_split-cons_yes is_break x xs e)
+first_split : (x : ℕ) (xs : List ℕ) (b : Bool) → is_break x ≡ b → (first : List ℕ) (rest : List (List ℕ)) → split_lines xs ≡ first ∷ rest → (f : List ℕ) × (r : List (List ℕ)) × (split_lines (x ∷ xs) ≡ f ∷ r)
+first_split x xs true e first rest is = ([], split_lines xs, slice_split-cons_yes is_break x xs e)
 first_split x xs false e first rest is = (x ∷ first, rest, slice_split-cons_no is_break x xs e ∙ ap (onto_first x) is)
 
 -- There is a first line.
-pub some_line : (xs : List ℕ) → (first : List ℕ) × (rest : List (List ℕ)) × (lines_of xs ≡ first ∷ rest)
+pub some_line : (xs : List ℕ) → (first : List ℕ) × (rest : List (List ℕ)) × (split_lines xs ≡ first ∷ rest)
 some_line [] = ([], [], refl)
 some_line (x ∷ xs) = let s = some_line xs in first_split x xs (is_break x) refl s.0 s.1 s.2
 
 -- If a text begins with bytes that have no line feed, its first line begins with them.
-pub line_begins : (xs more : List ℕ) → IsUnbroken xs → (first : List ℕ) × (rest : List (List ℕ)) × (lines_of (xs ++ more) ≡ (xs ++ first) ∷ rest)
+pub line_begins : (xs more : List ℕ) → IsUnbroken xs → (first : List ℕ) × (rest : List (List ℕ)) × (split_lines (xs ++ more) ≡ (xs ++ first) ∷ rest)
 line_begins [] more h = some_line more
 line_begins (x ∷ xs) more h =
     let s = line_begins xs more (All-tail (λ byte. is_break byte ≡ false) x xs h) in
     (s.0, s.1, slice_split-cons_no is_break x (xs ++ more) (All-head (λ byte. is_break byte ≡ false) x xs h) ∙ ap (onto_first x) s.2)
 
-onto_more : (x : ℕ) (xs : List ℕ) (first : List ℕ) (rest lines : List (List ℕ)) → lines_of xs ≡ first ∷ rest → onto_first x (lines_of xs ++ lines) ≡ onto_first x (lines_of xs) ++ lines
+onto_more : (x : ℕ) (xs : List ℕ) (first : List ℕ) (rest lines : List (List ℕ)) → split_lines xs ≡ first ∷ rest → onto_first x (split_lines xs ++ lines) ≡ onto_first x (split_lines xs) ++ lines
 onto_more x xs first rest lines is = rw is refl
 
-last_break : (x : ℕ) (xs : List ℕ) (b : Bool) → is_break x ≡ b → lines_of (xs ++ 10 ∷ []) ≡ lines_of xs ++ [] ∷ [] → lines_of ((x ∷ xs) ++ 10 ∷ []) ≡ lines_of (x ∷ xs) ++ [] ∷ []
+last_break : (x : ℕ) (xs : List ℕ) (b : Bool) → is_break x ≡ b → split_lines (xs ++ 10 ∷ []) ≡ split_lines xs ++ [] ∷ [] → split_lines ((x ∷ xs) ++ 10 ∷ []) ≡ split_lines (x ∷ xs) ++ [] ∷ []
 last_break x xs true e is = slice_split-cons_yes is_break x (xs ++ 10 ∷ []) e ∙ ap (λ ls. [] ∷ ls) is ∙ sym (ap (λ ls. ls ++ [] ∷ []) (slice_split-cons_yes is_break x xs e))
 last_break x xs false e is =
     let s = some_line xs in
     slice_split-cons_no is_break x (xs ++ 10 ∷ []) e ∙ ap (onto_first x) is ∙ onto_more x xs s.0 s.1 ([] ∷ []) s.2 ∙ sym (ap (λ ls. ls ++ [] ∷ []) (slice_split-cons_no is_break x xs e))
 
 -- A last line feed adds an empty line.
-lines_ended : (xs : List ℕ) → lines_of (xs ++ 10 ∷ []) ≡ lines_of xs ++ [] ∷ []
+lines_ended : (xs : List ℕ) → split_lines (xs ++ 10 ∷ []) ≡ split_lines xs ++ [] ∷ []
 lines_ended [] = refl
 lines_ended (x ∷ xs) = last_break x xs (is_break x) refl (lines_ended xs)
 
@@ -122,7 +122,7 @@ history-ended n (line ∷ lines) = empty_last n line lines (entry_on line) refl 
 
 -- A last line feed changes nothing.
 pub last_line : (bytes : List ℕ) → history_of_lines (bytes ++ 10 ∷ []) ≡ history_of_lines bytes
-last_line bytes = ap (history_from 1) (lines_ended bytes) ∙ history-ended 1 (lines_of bytes)
+last_line bytes = ap (history_from 1) (lines_ended bytes) ∙ history-ended 1 (split_lines bytes)
 
 -- ---- the place of a watcher
 
@@ -132,36 +132,36 @@ ahead-ahead h t more = ap (λ (es : List Entry). (es, more.1)) (sym (append_asso
 ahead-last : (h : List Entry) (o : Option (ℕ × FileFault)) → ahead h ([], o) ≡ (h, o)
 ahead-last h o = ap (λ (es : List Entry). (es, o)) (append-nil h)
 
-pub stands_first : StandsAt [] [] [] 1 None
+pub stands_first : HasWatched [] [] [] 1 None
 stands_first = (λ k d lt. absurd (omega (arith, lt)), λ more. refl)
 
 module _ (bytes : List ℕ) (h : List Entry) (part : List ℕ) (n : ℕ) where
-  pub stands_refused : (refused : ℕ × FileFault) (piece other : List ℕ) (m : ℕ) → StandsAt bytes h part n (Some refused) → StandsAt (bytes ++ piece) h other m (Some refused)
+  pub stands_refused : (refused : ℕ × FileFault) (piece other : List ℕ) (m : ℕ) → HasWatched bytes h part n (Some refused) → HasWatched (bytes ++ piece) h other m (Some refused)
   stands_refused refused piece other m s more = ap history_of_lines (append_assoc bytes piece more) ∙ s (piece ++ more)
 
-  module _ (piece : List ℕ) (unbroken : IsUnbroken piece) (s : StandsAt bytes h part n None) where
-    joined : (more : List ℕ) → history_of_lines ((bytes ++ piece) ++ more) ≡ ahead h (history_from n (lines_of ((part ++ piece) ++ more)))
-    joined more = ap history_of_lines (append_assoc bytes piece more) ∙ s.1 (piece ++ more) ∙ ap (λ l. ahead h (history_from n (lines_of l))) (sym (append_assoc part piece more))
+  module _ (piece : List ℕ) (unbroken : IsUnbroken piece) (s : HasWatched bytes h part n None) where
+    joined : (more : List ℕ) → history_of_lines ((bytes ++ piece) ++ more) ≡ ahead h (history_from n (split_lines ((part ++ piece) ++ more)))
+    joined more = ap history_of_lines (append_assoc bytes piece more) ∙ s.1 (piece ++ more) ∙ ap (λ l. ahead h (history_from n (split_lines l))) (sym (append_assoc part piece more))
 
     both : IsUnbroken (part ++ piece)
     both = All-append (λ byte. is_break byte ≡ false) part piece s.0 unbroken
 
-    pub stands_held : StandsAt (bytes ++ piece) h (part ++ piece) n None
+    pub stands_held : HasWatched (bytes ++ piece) h (part ++ piece) n None
     stands_held = (both, joined)
 
-    pub stands_long : (other : List ℕ) (m : ℕ) → 1000 < length (part ++ piece) → StandsAt (bytes ++ piece) h other m (Some (n, Limit))
+    pub stands_long : (other : List ℕ) (m : ℕ) → 1000 < length (part ++ piece) → HasWatched (bytes ++ piece) h other m (Some (n, Limit))
     stands_long other m long more =
         let l = line_begins (part ++ piece) more both in
         let longer : 1000 < length ((part ++ piece) ++ l.0) = omega (arith, long, length-append (part ++ piece) l.0) in
         joined more ∙ ap (λ ls. ahead h (history_from n ls)) l.2 ∙ ap (ahead h) (history-refused n ((part ++ piece) ++ l.0) l.1 Limit (long_line _ longer)) ∙ ahead-last h (Some (n, Limit))
 
-    ended : (more : List ℕ) → history_of_lines ((bytes ++ (piece ++ 10 ∷ [])) ++ more) ≡ ahead h (history_from n ((part ++ piece) ∷ lines_of more))
+    ended : (more : List ℕ) → history_of_lines ((bytes ++ (piece ++ 10 ∷ [])) ++ more) ≡ ahead h (history_from n ((part ++ piece) ∷ split_lines more))
     ended more =
         let same : (bytes ++ (piece ++ 10 ∷ [])) ++ more ≡ (bytes ++ piece) ++ 10 ∷ more = simp append_assoc in
         ap history_of_lines same ∙ joined (10 ∷ more) ∙ ap (λ ls. ahead h (history_from n ls)) (line_then (part ++ piece) more both)
 
-    pub stands_read : (found : Option Entry) → entry_on (part ++ piece) ≡ Ok found → StandsAt (bytes ++ (piece ++ 10 ∷ [])) (h ++ those found) [] (n + 1) None
-    stands_read found e = (λ k d lt. absurd (omega (arith, lt)), λ more. ended more ∙ ap (ahead h) (history-read n (part ++ piece) (lines_of more) found e) ∙ ahead-ahead h (those found) (history_from (n + 1) (lines_of more)))
+    pub stands_read : (found : Option Entry) → entry_on (part ++ piece) ≡ Ok found → HasWatched (bytes ++ (piece ++ 10 ∷ [])) (h ++ those found) [] (n + 1) None
+    stands_read found e = (λ k d lt. absurd (omega (arith, lt)), λ more. ended more ∙ ap (ahead h) (history-read n (part ++ piece) (split_lines more) found e) ∙ ahead-ahead h (those found) (history_from (n + 1) (split_lines more)))
 
-    pub stands_wrong : (fault : FileFault) (other : List ℕ) (m : ℕ) → entry_on (part ++ piece) ≡ Err fault → StandsAt (bytes ++ (piece ++ 10 ∷ [])) h other m (Some (n, fault))
-    stands_wrong fault other m e more = ended more ∙ ap (ahead h) (history-refused n (part ++ piece) (lines_of more) fault e) ∙ ahead-last h (Some (n, fault))
+    pub stands_wrong : (fault : FileFault) (other : List ℕ) (m : ℕ) → entry_on (part ++ piece) ≡ Err fault → HasWatched (bytes ++ (piece ++ 10 ∷ [])) h other m (Some (n, fault))
+    stands_wrong fault other m e more = ended more ∙ ap (ahead h) (history-refused n (part ++ piece) (split_lines more) fault e) ∙ ahead-last h (Some (n, fault))

@@ -1,5 +1,6 @@
 -- A bad entry stays the first bad one, whatever follows.
 use Rattle.std.proofs.Common.{◌≡◌, ℕ, ◌+◌, List, [], ◌∷◌, ◌++◌, Option, Some, None, refl, ◌∙◌}
+use Rattle.std.proofs.lemmas.Bool.{false≢true}
 use Rattle.txn_words.specs.declared.entry.Entry.{Entry}
 use Rattle.txn_words.specs.declared.holder.Holder.{Holder}
 use Rattle.txn_trace.specs.Legal as legal
@@ -46,17 +47,17 @@ illegal_stays (Locks stripes holder) h more entry rule v =
     let there = locks_stay holder stripes [] h more 0 f.0 f.1 in
     record {
       meaning = f.2 ∙ made (legal.first_bad holder stripes [] (h ++ more) 0) _ _ f.0 there;
-      legal = (λ no. absurd no, λ all. let none = (legal_iff stripes (h ++ more)).0 all in absurd (cc (there, none)));
+      legal = (λ no. absurd (false≢true no), λ all. let none = (legal_iff stripes (h ++ more)).0 all in absurd (cc (there, none)));
     }
 illegal_stays Commits h more entry rule v =
     let f = found (serializable.first_bad [] h 0) _ _ entry (number_of rule) v.meaning in
     let there = commits_stay [] h more 0 f.0 f.1 in
     record {
       meaning = f.2 ∙ made (serializable.first_bad [] (h ++ more) 0) _ _ f.0 there;
-      serializable = (λ no. absurd no, λ all. let none = (serializable_iff (h ++ more)).0 all in absurd (cc (there, none)));
+      serializable = (λ no. absurd (false≢true no), λ all. let none = (serializable_iff (h ++ more)).0 all in absurd (cc (there, none)));
     }
 
 -- A history with the verdict legal is legal.
 pub legal_said : (basis : Basis) (h : List Entry) (commits running : ℕ) → IsVerdictBy basis h (Legal commits running) → IsLegalBy basis h
-legal_said (Locks stripes holder) h commits running v = v.legal.0 tt
-legal_said Commits h commits running v = v.serializable.0 tt
+legal_said (Locks stripes holder) h commits running v = v.legal.0 refl
+legal_said Commits h commits running v = v.serializable.0 refl

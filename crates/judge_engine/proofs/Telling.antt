@@ -10,13 +10,13 @@ use Rattle.txn_words.specs.declared.entry.Entry.{Entry}
 use Rattle.txn_words.specs.Work.{Work}
 use Rattle.txn_files.specs.HistoryFile.{history_of}
 use Rattle.txn_files.specs.ScriptFile.{scripts_of}
-use Rattle.piece_files.specs.Faults.{Fails}
+use Rattle.piece_files.specs.Faults.{FailsAs}
 use Rattle.piece_files.specs.declared.file_fault.FileFault.{FileFault}
 use Rattle.piece_files.specs.declared.file_fault.FileFault.TheVariants as files
 use Rattle.script_outcomes.specs.Outcomes.{AreOutcomes}
 use Rattle.txn_files.specs.Reading.{max_read}
 use Rattle.judge_engine.specs.Files.{OfFile}
-use Rattle.judge_engine.specs.Outcomes.{is_kind, how_many, outcome_line, lines_from, outcomes_text, IsWell, HistoryOf, FailsForScripts, FailsForHistory, of_scripts, of_history, Tells}
+use Rattle.judge_engine.specs.Outcomes.{is_kind, how_many, outcome_line, outcome_lines, outcomes_text, IsWell, HistoryOf, FailsForScripts, FailsForHistory, of_scripts, of_history, TellsOutcomes}
 
 count_push : (kind : Kind) (os : List Outcome) (o : Outcome) → how_many kind (os ++ o ∷ []) ≡ how_many kind os + cond (is_kind kind o) 1 0
 count_push kind os o =
@@ -26,41 +26,41 @@ count_push kind os o =
     one true = refl
     one false = refl
 
--- One outcome more is counted.
+-- How one more outcome changes the count.
 pub count_more : (kind : Kind) (os : List Outcome) (i : ℕ) (d : Outcome) → i < length os → how_many kind (take (i + 1) os) ≡ how_many kind (take i os) + cond (is_kind kind (get_or os i d)) 1 0
 count_more kind os i d within = ap (how_many kind) (take_more os i d within) ∙ count_push kind (take i os) (get_or os i d)
 
-lines_push : (workers n : ℕ) (os : List Outcome) (o : Outcome) → lines_from workers n (os ++ o ∷ []) ≡ lines_from workers n os ++ outcome_line workers (n + length os) o
+lines_push : (workers n : ℕ) (os : List Outcome) (o : Outcome) → outcome_lines workers n (os ++ o ∷ []) ≡ outcome_lines workers n os ++ outcome_line workers (n + length os) o
 lines_push workers n [] o = append-nil (outcome_line workers n o) ∙ ap (λ k. outcome_line workers k o) (none n)
   where
     none : (n : ℕ) → n ≡ n + 0
     none n = omega arith
 lines_push workers n (x ∷ os) o =
     ap (λ more. outcome_line workers n x ++ more) (lines_push workers (suc n) os o)
-    ∙ sym (append_assoc (outcome_line workers n x) (lines_from workers (suc n) os) (outcome_line workers (suc n + length os) o))
-    ∙ ap (λ k. (outcome_line workers n x ++ lines_from workers (suc n) os) ++ outcome_line workers k o) (moved n (length os))
+    ∙ sym (append_assoc (outcome_line workers n x) (outcome_lines workers (suc n) os) (outcome_line workers (suc n + length os) o))
+    ∙ ap (λ k. (outcome_line workers n x ++ outcome_lines workers (suc n) os) ++ outcome_line workers k o) (moved n (length os))
   where
     moved : (n k : ℕ) → suc n + k ≡ n + suc k
     moved n k = omega arith
 
 -- One more outcome adds its line behind the lines of the outcomes before it.
-pub lines_more : (workers : ℕ) (os : List Outcome) (i : ℕ) (d : Outcome) → i < length os → lines_from workers 0 (take (i + 1) os) ≡ lines_from workers 0 (take i os) ++ outcome_line workers i (get_or os i d)
+pub lines_more : (workers : ℕ) (os : List Outcome) (i : ℕ) (d : Outcome) → i < length os → outcome_lines workers 0 (take (i + 1) os) ≡ outcome_lines workers 0 (take i os) ++ outcome_line workers i (get_or os i d)
 lines_more workers os i d within =
     let len = length-take-le i os (omega arith) in
     let place : 0 + length (take i os) ≡ i = omega (arith, len) in
-    ap (lines_from workers 0) (take_more os i d within) ∙ lines_push workers 0 (take i os) (get_or os i d)
-    ∙ ap (λ k. lines_from workers 0 (take i os) ++ outcome_line workers k (get_or os i d)) place
+    ap (outcome_lines workers 0) (take_more os i d within) ∙ lines_push workers 0 (take i os) (get_or os i d)
+    ∙ ap (λ k. outcome_lines workers 0 (take i os) ++ outcome_line workers k (get_or os i d)) place
 
 -- A text is `start` and the lines of the first `i` outcomes. With the next outcome's line added,
 -- the text is `start` and the lines of the first `i + 1` outcomes.
-pub grown_lines : (new old start : List ℕ) (workers : ℕ) (os : List Outcome) (i : ℕ) (d : Outcome) → new ≡ old ++ outcome_line workers i (get_or os i d) → old ≡ start ++ lines_from workers 0 (take i os) → i < length os
-    → new ≡ start ++ lines_from workers 0 (take (i + 1) os)
+pub grown_lines : (new old start : List ℕ) (workers : ℕ) (os : List Outcome) (i : ℕ) (d : Outcome) → new ≡ old ++ outcome_line workers i (get_or os i d) → old ≡ start ++ outcome_lines workers 0 (take i os) → i < length os
+    → new ≡ start ++ outcome_lines workers 0 (take (i + 1) os)
 grown_lines new old start workers os i d line before within =
-    line ∙ ap (λ t. t ++ outcome_line workers i (get_or os i d)) before ∙ append_assoc start (lines_from workers 0 (take i os)) (outcome_line workers i (get_or os i d))
+    line ∙ ap (λ t. t ++ outcome_line workers i (get_or os i d)) before ∙ append_assoc start (outcome_lines workers 0 (take i os)) (outcome_line workers i (get_or os i d))
     ∙ ap (λ m. start ++ m) (sym (lines_more workers os i d within))
 
 -- Why there are no scripts: the script file or memory was refused.
-pub fails_scripts : (left : Option (List ℕ)) (bytes : List ℕ) (fault : FileFault) → IfSome left (λ all. bytes ≡ take max_read all) → Fails fault (scripts_of bytes) → FailsForScripts left (of_scripts fault)
+pub fails_scripts : (left : Option (List ℕ)) (bytes : List ℕ) (fault : FileFault) → IfSome left (λ all. bytes ≡ take max_read all) → FailsAs fault (scripts_of bytes) → FailsForScripts left (of_scripts fault)
 fails_scripts left bytes files.NoMemory known fails = tt
 fails_scripts left bytes files.NotJson known fails = (bytes, known, fails)
 fails_scripts left bytes files.Member known fails = (bytes, known, fails)
@@ -68,7 +68,7 @@ fails_scripts left bytes (files.Piece part i) known fails = (bytes, known, fails
 fails_scripts left bytes files.Limit known fails = (bytes, known, fails)
 
 -- Why there is no history: the history file or memory was refused.
-pub fails_history : (left : Option (List ℕ)) (bytes : List ℕ) (fault : FileFault) → IfSome left (λ all. bytes ≡ take max_read all) → Fails fault (history_of bytes) → FailsForHistory left (of_history fault)
+pub fails_history : (left : Option (List ℕ)) (bytes : List ℕ) (fault : FileFault) → IfSome left (λ all. bytes ≡ take max_read all) → FailsAs fault (history_of bytes) → FailsForHistory left (of_history fault)
 fails_history left bytes files.NoMemory known fails = tt
 fails_history left bytes files.NotJson known fails = (bytes, known, fails)
 fails_history left bytes files.Member known fails = (bytes, known, fails)
@@ -78,7 +78,7 @@ fails_history left bytes files.Limit known fails = (bytes, known, fails)
 -- The text of the right outcomes is a report on the two files.
 pub told : (scripts history : Option (List ℕ)) (work : Work) (entries read : List Entry) (found seen : List Outcome) (workers : ℕ) (text : List ℕ) (well : Bool)
     → OfFile scripts (λ bytes. scripts_of bytes ≡ Ok work) → OfFile history (HistoryOf entries) → read ≡ entries → AreOutcomes work.sizes.callers work.scripts read found
-    → workers ≡ work.sizes.callers → seen ≡ found → text ≡ outcomes_text workers seen → ((well ≡ true) ↔ IsWell work.scripts found) → Tells scripts history text well
+    → workers ≡ work.sizes.callers → seen ≡ found → text ≡ outcomes_text workers seen → ((well ≡ true) ↔ IsWell work.scripts found) → TellsOutcomes scripts history text well
 told scripts history work entries read found seen workers text well first second same right callers all is well_is = (
   first.0,
   first.1,

@@ -1,7 +1,7 @@
 -- The answers about a history file.
 use Rattle.std.specs.Prelude.{◌≡◌, ℕ, Bool, true, false, List, take, Option, Ok, Err, IfSome}
 use Rattle.txn_words.specs.declared.entry.Entry.{Entry}
-use Rattle.txn_files.specs.HistoryFile.{history_of, holder_in}
+use Rattle.txn_files.specs.HistoryFile.{history_of, holder_rule}
 pub use Rattle.txn_files.specs.Reading.{max_read}
 use Rattle.history_check.specs.declared.verdict.Verdict.{Verdict}
 use Rattle.judge_engine.specs.declared.basis.Basis.{Basis}
@@ -13,9 +13,9 @@ use Rattle.judge_engine.specs.Bases.{IsVerdictBy}
 -- The rules by which a history file is judged.
 abbrev pub basis_of : Bool → ℕ → ℕ → Basis
 basis_of true stripes version = Commits
-basis_of false stripes version = Locks stripes (holder_in version)
+basis_of false stripes version = Locks stripes (holder_rule version)
 
--- The verdict on the history that the bytes are: by the order of commits, or by the locks of the
+-- The verdict on the history file with these bytes: by the order of commits, or by the locks of the
 -- file's stripes.
 pub record IsJudgedFile (by_commits : Bool) (bytes : List ℕ) (outcome : Verdict) : Type 0 where
   pub stripes : ℕ
@@ -24,8 +24,8 @@ pub record IsJudgedFile (by_commits : Bool) (bytes : List ℕ) (outcome : Verdic
   pub file : history_of bytes ≡ Ok (stripes, history, version)
   pub verdict : IsVerdictBy (basis_of by_commits stripes version) history outcome
 
--- Why there is no verdict on the file that the bytes are: the file is refused, memory is refused,
--- or a read failed.
+-- Why there is no verdict on the file with these bytes: the file is refused, memory is refused, or
+-- a read failed.
 abbrev pub IsUnjudgedFile : List ℕ → Fault → Type 0
 IsUnjudgedFile bytes (Input fault) = history_of bytes ≡ Err fault
 IsUnjudgedFile bytes NoMemory = Unit {0}
@@ -38,12 +38,12 @@ IsUnjudgedFile bytes Write = ⊥
 abbrev pub OfFile : Option (List ℕ) → (List ℕ → Type 0) → Type 0
 OfFile remaining P = (bytes : List ℕ) × IfSome remaining (λ all. bytes ≡ take max_read all) × P bytes
 
--- The verdict on the history file that a reader had left.
+-- The verdict on the history file that was still to be read from a reader.
 abbrev pub Checks : Bool → Option (List ℕ) → Verdict → Type 0
 Checks by_commits remaining outcome =
     OfFile remaining (λ bytes. IsJudgedFile by_commits bytes outcome)
 
--- Why there is no verdict on the history file that a reader had left.
+-- Why there is no verdict on the history file that was still to be read from a reader.
 abbrev pub FailsToCheck : Option (List ℕ) → Fault → Type 0
 FailsToCheck remaining (Input fault) =
     OfFile remaining (λ bytes. IsUnjudgedFile bytes (Input fault))
@@ -52,8 +52,8 @@ FailsToCheck remaining Read = Unit {0}
 FailsToCheck remaining (Line number fault) = ⊥
 FailsToCheck remaining Write = ⊥
 
--- Why a history file that a reader had left was not explained: as for the verdict, or a write
--- failed.
+-- Why there is no explanation of the history file that was still to be read from a reader: there is
+-- no verdict on the file, or a write failed.
 abbrev pub FailsToExplain : Option (List ℕ) → Fault → Type 0
 FailsToExplain remaining (Input fault) =
     OfFile remaining (λ bytes. IsUnjudgedFile bytes (Input fault))

@@ -74,10 +74,10 @@ outcome_line workers n outcome =
     ++ (codes " " ++ (outcome_words outcome ++ 10 ∷ [])))))
 
 -- The lines of the scripts from this number on.
-abbrev pub lines_from : ℕ → ℕ → List Outcome → List ℕ
-lines_from workers n [] = []
-lines_from workers n (outcome ∷ more) =
-    outcome_line workers n outcome ++ lines_from workers (suc n) more
+abbrev pub outcome_lines : ℕ → ℕ → List Outcome → List ℕ
+outcome_lines workers n [] = []
+outcome_lines workers n (outcome ∷ more) =
+    outcome_line workers n outcome ++ outcome_lines workers (suc n) more
 
 -- The last line: how many outcomes are of each kind.
 abbrev pub counts_line : List Outcome → List ℕ
@@ -88,7 +88,7 @@ counts_line os =
 
 -- All lines.
 abbrev pub outcomes_text : ℕ → List Outcome → List ℕ
-outcomes_text workers os = lines_from workers 0 os ++ counts_line os
+outcomes_text workers os = outcome_lines workers 0 os ++ counts_line os
 
 -- Whether a script has an abort.
 abbrev pub has_abort : List Action → Bool
@@ -103,7 +103,7 @@ IsWell scripts os = (n : ℕ) (script : List Action) → slice_get scripts n ≡
 
 -- The text has the outcomes that the scripts of a script file have in the history of a history
 -- file. `well` is whether each script that is given up has an abort.
-pub record IsReport (scripts history text : List ℕ) (well : Bool) : Type 0 where
+pub record IsOutcomesText (scripts history text : List ℕ) (well : Bool) : Type 0 where
   pub work : Work
   pub stripes : ℕ
   pub entries : List Entry
@@ -115,39 +115,39 @@ pub record IsReport (scripts history text : List ℕ) (well : Bool) : Type 0 whe
   pub text_is : text ≡ outcomes_text work.sizes.callers found
   pub well_is : (well ≡ true) ↔ IsWell work.scripts found
 
--- A report on the files that two readers had left.
-abbrev pub Tells : Option (List ℕ) → Option (List ℕ) → List ℕ → Bool → Type 0
-Tells scripts history text well =
-    OfFile scripts (λ left. OfFile history (λ right. IsReport left right text well))
+-- A report on the two files that were still to be read, each from a reader of its own.
+abbrev pub TellsOutcomes : Option (List ℕ) → Option (List ℕ) → List ℕ → Bool → Type 0
+TellsOutcomes scripts history text well =
+    OfFile scripts (λ left. OfFile history (λ right. IsOutcomesText left right text well))
 
--- The entries are those of the history file that the bytes are.
+-- The entries are those of the history file with these bytes.
 abbrev pub HistoryOf : List Entry → List ℕ → Type 0
 HistoryOf entries bytes =
     (stripes : ℕ) × (version : ℕ) × (history_of bytes ≡ Ok (stripes, entries, version))
 
--- Why there are no scripts in the file that a reader had left.
+-- Why there are no scripts in the file that was still to be read from a reader.
 abbrev pub FailsForScripts : Option (List ℕ) → OutcomesFault → Type 0
 FailsForScripts left (Scripts fault) = OfFile left (λ bytes. scripts_of bytes ≡ Err fault)
 FailsForScripts left ScriptsRead = Unit {0}
 FailsForScripts left NoMemory = Unit {0}
 FailsForScripts left fault = ⊥
 
--- Why there is no history in the file that a reader had left.
+-- Why there is no history in the file that was still to be read from a reader.
 abbrev pub FailsForHistory : Option (List ℕ) → OutcomesFault → Type 0
 FailsForHistory left (History fault) = OfFile left (λ bytes. history_of bytes ≡ Err fault)
 FailsForHistory left HistoryRead = Unit {0}
 FailsForHistory left NoMemory = Unit {0}
 FailsForHistory left fault = ⊥
 
--- The text was written, and nothing else.
+-- The text of a report on the two files was written, and nothing else.
 abbrev pub WritesOutcomes : Option (List ℕ) → Option (List ℕ) → Option (List ℕ)
     → Option (List ℕ) → Bool → Type 0
 WritesOutcomes scripts history old new well =
-    (text : List ℕ) × Tells scripts history text well × Appends old new text
+    (text : List ℕ) × TellsOutcomes scripts history text well × Appends old new text
 
--- The output at a fault. If a write failed, there is a text as `Tells` says, and nothing is stated
--- of the output. At any other fault nothing is written; if a file is refused, the fault is the one
--- that `scripts_of` or `history_of` answers.
+-- The output at a fault. If a write failed, there is a text as `TellsOutcomes` says, and nothing is
+-- stated of the output. At any other fault nothing is written; if a file is refused, the fault is
+-- the one that `scripts_of` or `history_of` answers.
 abbrev pub LeavesOutcomes : Option (List ℕ) → Option (List ℕ) → Option (List ℕ)
     → Option (List ℕ) → OutcomesFault → Type 0
 LeavesOutcomes scripts history old new (Scripts fault) =
@@ -158,4 +158,4 @@ LeavesOutcomes scripts history old new ScriptsRead = Keeps old new
 LeavesOutcomes scripts history old new HistoryRead = Keeps old new
 LeavesOutcomes scripts history old new NoMemory = Keeps old new
 LeavesOutcomes scripts history old new Write =
-    (text : List ℕ) × (well : Bool) × Tells scripts history text well
+    (text : List ℕ) × (well : Bool) × TellsOutcomes scripts history text well

@@ -1,20 +1,10 @@
 -- The output for a verdict.
-use Rattle.std.specs.Prelude.{◌≡◌, ℕ, Bool, true, false, List, [], ◌∷◌, ◌++◌, Option}
+use Rattle.std.specs.Prelude.{◌≡◌, ℕ, Bool, List, ◌++◌, Option}
 use Rattle.std.specs.Io.KnownBytes.{Appends, Keeps}
 use Rattle.history_check.specs.declared.verdict.Verdict.{Verdict}
-use Rattle.history_check.specs.declared.verdict.Verdict.TheVariants.{Legal, Illegal}
-use Rattle.history_check.specs.Verdicts.{verdict_words}
+use Rattle.history_check.specs.Verdicts.{says_legal, verdict_line}
 use Rattle.judge_engine.specs.declared.fault.Fault.{Fault}
 use Rattle.judge_engine.specs.declared.fault.Fault.TheVariants.{Input, Line, NoMemory, Read, Write}
-
--- The line of a verdict.
-abbrev pub verdict_line : Verdict → List ℕ
-verdict_line outcome = verdict_words outcome ++ 10 ∷ []
-
--- Whether a verdict is that the history is legal.
-abbrev pub says_legal : Verdict → Bool
-says_legal (Legal commits running) = true
-says_legal (Illegal entry rule) = false
 
 -- The output if a verdict was not written. If memory was refused, the output is unchanged. If a
 -- write failed, nothing is stated of the output.
@@ -42,11 +32,12 @@ WritesLines IsRight legal old new =
 -- The output at a fault. If a write failed, there is a verdict as `IsRight` says, and nothing is
 -- stated of the output. At any other fault nothing is written; if a file or a line is refused, the
 -- fault is as `IsWrong` says.
-abbrev pub Leaves : (Verdict → Type 0) → (Fault → Type 0) → Option (List ℕ) → Option (List ℕ)
+abbrev pub LeavesOutput : (Verdict → Type 0) → (Fault → Type 0) → Option (List ℕ) → Option (List ℕ)
     → Fault → Type 0
-Leaves IsRight IsWrong old new Write =
+LeavesOutput IsRight IsWrong old new Write =
     (outcome : Verdict) × IsRight outcome
-Leaves IsRight IsWrong old new (Input fault) = Keeps old new × IsWrong (Input fault)
-Leaves IsRight IsWrong old new (Line number fault) = Keeps old new × IsWrong (Line number fault)
-Leaves IsRight IsWrong old new NoMemory = Keeps old new
-Leaves IsRight IsWrong old new Read = Keeps old new
+LeavesOutput IsRight IsWrong old new (Input fault) = Keeps old new × IsWrong (Input fault)
+LeavesOutput IsRight IsWrong old new (Line number fault) = Keeps old new
+    × IsWrong (Line number fault)
+LeavesOutput IsRight IsWrong old new NoMemory = Keeps old new
+LeavesOutput IsRight IsWrong old new Read = Keeps old new

@@ -2,7 +2,7 @@
 use Rattle.std.specs.Prelude.{◌≡◌, ℕ, List, ◌++◌, Option, Some, None}
 use Rattle.txn_words.specs.declared.entry.Entry.{Entry}
 use Rattle.piece_files.specs.declared.file_fault.FileFault.{FileFault}
-use Rattle.entry_lines.specs.Lines.{history_from, history_of_lines, lines_of}
+use Rattle.entry_lines.specs.Lines.{history_from, history_of_lines, split_lines}
 use Rattle.judge_engine.specs.declared.basis.Basis.{Basis}
 use Rattle.judge_engine.specs.declared.watcher.Watcher.{Watcher}
 use Rattle.judge_engine.specs.Bases.{IsFedBy}
@@ -13,17 +13,18 @@ abbrev pub ahead : List Entry → List Entry × Option (ℕ × FileFault)
     → List Entry × Option (ℕ × FileFault)
 ahead h more = (h ++ more.0, more.1)
 
--- The bytes have these entries, and then a part of the line with this number. Or they have these
--- entries, and then a line with this number and fault was refused. Both hold whatever bytes follow.
-abbrev pub StandsAt : List ℕ → List Entry → List ℕ → ℕ → Option (ℕ × FileFault) → Type 0
-StandsAt bytes h part number None =
+-- If no line was refused, the bytes have the entries `h`, and then `part`, the beginning of line
+-- `number`. If a line was refused, the bytes have the entries `h` before that line, and `refused`
+-- has its number and its fault. In either case, this stays true whatever bytes follow.
+abbrev pub HasWatched : List ℕ → List Entry → List ℕ → ℕ → Option (ℕ × FileFault) → Type 0
+HasWatched bytes h part number None =
     IsUnbroken part × ((more : List ℕ) → history_of_lines (bytes ++ more)
-    ≡ ahead h (history_from number (lines_of (part ++ more))))
-StandsAt bytes h part number (Some refused) =
+    ≡ ahead h (history_from number (split_lines (part ++ more))))
+HasWatched bytes h part number (Some refused) =
     (more : List ℕ) → history_of_lines (bytes ++ more) ≡ (h, Some refused)
 
 -- The watcher took in these bytes, and judges by these rules.
 pub record TookIn (basis : Basis) (bytes : List ℕ) (watcher : Watcher) : Type 0 where
   pub entries : List Entry
   pub fed : IsFedBy basis entries watcher.judge
-  pub place : StandsAt bytes entries watcher.part.items watcher.number watcher.refused
+  pub place : HasWatched bytes entries watcher.part.items watcher.number watcher.refused

@@ -17,7 +17,7 @@ pub record IsJudged (basis : Basis) (found : List Entry × Option (ℕ × FileFa
   pub verdict : IsVerdictBy basis found.0 outcome
   pub whole : SaysLegal outcome → found.1 ≡ None
 
--- The verdict on the entries that the lines of the bytes are.
+-- The verdict on the entries in the lines of the bytes.
 abbrev pub IsJudgedLines : Basis → List ℕ → Verdict → Type 0
 IsJudgedLines basis bytes outcome = IsJudged basis (history_of_lines bytes) outcome
 
@@ -41,16 +41,17 @@ HasNoVerdict basis found Write = ⊥
 abbrev pub IsUnjudged : Basis → List ℕ → Fault → Type 0
 IsUnjudged basis bytes fault = HasNoVerdict basis (history_of_lines bytes) fault
 
--- The property holds of the whole list of bytes that were still to be read at first, though not all
--- of them need have been read since.
+-- At the beginning, a reader has the bytes `remaining` left. `P` holds of the whole list of these
+-- bytes, even if some of them are not read later. If `remaining` is `None`, the bytes are not
+-- known, and `P` holds of some list.
 abbrev pub OfAll : Option (List ℕ) → (List ℕ → Type 0) → Type 0
 OfAll remaining P = (bytes : List ℕ) × IfSome remaining (λ all. bytes ≡ all) × P bytes
 
--- The verdict on the lines that a reader had left.
+-- The verdict on the lines that were still to be read from a reader.
 abbrev pub Watches : Basis → Option (List ℕ) → Verdict → Type 0
 Watches basis remaining outcome = OfAll remaining (λ bytes. IsJudgedLines basis bytes outcome)
 
--- Why there is no verdict on the lines that a reader had left.
+-- Why there is no verdict on the lines that were still to be read from a reader.
 abbrev pub FailsToWatch : Basis → Option (List ℕ) → Fault → Type 0
 FailsToWatch basis remaining (Line number fault) =
     OfAll remaining (λ bytes. IsRefusedLine basis (history_of_lines bytes) number fault)

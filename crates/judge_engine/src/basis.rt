@@ -7,13 +7,14 @@ use txn_trace::Holder;
 /// The rules by which a history is judged.
 #[derive(Clone, Copy, Debug, PartialEq, Eq)]
 pub enum Basis {
-    /// By exclusive locks: a history is legal if it is `IsLegal` of `txn_trace`.
+    /// By exclusive locks: a history is legal if `IsLegal` of `txn_trace` holds of it.
     Locks {
-        /// How many stripes the keys are shared out to.
+        /// The number of stripes that the keys are shared out to.
         stripes: u64,
         /// Whom a Busy may name.
         holder: Holder,
     },
-    /// By the order of commits: a history is legal if it is `IsSerializable` of `serial_check`.
+    /// By the order of commits: a history is legal if `IsSerializable` of `serial_check` holds of
+    /// it.
     Commits,
 }

@@ -1,11 +1,12 @@
 //! The commands of `judge` that answer a verdict, over a reader and a writer; other modules read,
 //! judge and write. Each command makes the whole text of a verdict before it writes. So a fault
-//! before that leaves the output unchanged, except that `why` writes the flaw of a refused file.
-//! `watch` keeps a checker and a part of the input in memory; the others keep a whole file.
+//! before the first write leaves the output unchanged, except that `why` writes the flaw of a
+//! refused file. `watch` keeps a checker and a part of the input in memory; the others keep a whole
+//! file.
 ghost use Rattle.std.specs.Prelude.{IfOk, IfErr};
 ghost use Rattle.judge_engine.specs.Bases.{HasStripes};
 ghost use Rattle.judge_engine.specs.Files.{Checks, FailsToCheck, FailsToExplain};
-ghost use Rattle.judge_engine.specs.Outputs.{Leaves, WritesLine, WritesLines};
+ghost use Rattle.judge_engine.specs.Outputs.{LeavesOutput, WritesLine, WritesLines};
 ghost use Rattle.judge_engine.specs.Watching.{FailsToWatch, Watches};
 
 use crate::basis::Basis;
@@ -16,21 +17,22 @@ use crate::reading::{read_file, watch_lines};
 use std::alloc::Global;
 use std::io::{Read, Write};
 
-/// Reads entries, one a line, judges each as it is read, and writes the verdict as one line that
-/// ends with a line feed, and nothing else: `legal C commits O open` at the end of the input, or
-/// `illegal entry I rule R` at the first bad entry. The answer is whether the history is legal.
+/// Reads entries, one a line, judges each as it is read, and writes the verdict:
+/// `legal C commits O open` at the end of the input, or `illegal entry I rule R` at the first bad
+/// entry. The verdict is one line, ended by a line feed, and nothing else is written. The answer is
+/// whether the history is legal.
 ///
-/// Each line is an entry, written as the array that a history file of the newest version has for
-/// it. Blank lines are passed over, and a last line without its line feed is read as a line. There
-/// may be any number of lines. Nothing is read after the bytes with the first bad entry. A read
-/// that failed is not tried again. A write is tried again only if it was interrupted.
+/// Each line is an entry, written as in a history file of the newest version: as an array. Blank
+/// lines are passed over, and a last line without its line feed is read as a line. There may be any
+/// number of lines. Nothing is read after the bytes with the first bad entry. A read that failed is
+/// not tried again. A write is tried again only if it was interrupted.
 ///
 /// # Errors
 ///
-/// At each of them but `Write` nothing is written.
+/// Nothing is written at any error but `Write`.
 ///
-/// - `Line` for the first line that is refused, if no entry before it is bad: it has more than
-///   1,000 bytes, is no entry, or a caller is above 63.
+/// - `Line` for the first line that is refused, if no entry before it is bad: the line has more
+///   than 1,000 bytes, is no entry, or names a caller above 63.
 /// - `Read` if a read fails.
 /// - `NoMemory` if memory is refused.
 /// - `Write` if a write fails or takes nothing: a proper beginning of the line is written.
@@ -48,7 +50,7 @@ pub fn watch<R: Read, W: Write>(
     requires { HasStripes basis }
     ensures judges { IfOk result (λ legal. WritesLine (Watches basis (R.remaining input.old)) legal
         (W.contents output.old) (W.contents output.new)) }
-    ensures fault { IfErr result (Leaves (Watches basis (R.remaining input.old))
+    ensures fault { IfErr result (LeavesOutput (Watches basis (R.remaining input.old))
         (FailsToWatch basis (R.remaining input.old))
         (W.contents output.old) (W.contents output.new)) }
 {
@@ -64,7 +66,7 @@ pub fn watch<R: Read, W: Write>(
 ///
 /// # Errors
 ///
-/// At each of them but `Write` nothing is written.
+/// Nothing is written at any error but `Write`.
 ///
 /// - `Read` if a read fails.
 /// - `Input` if the file is refused.
@@ -82,7 +84,7 @@ pub fn check<R: Read + Drop, W: Write>(
 ) -> Result<bool, Fault>
     ensures judges { IfOk result (λ legal. WritesLine (Checks by_commits (R.remaining input)) legal
         (W.contents output.old) (W.contents output.new)) }
-    ensures fault { IfErr result (Leaves (Checks by_commits (R.remaining input))
+    ensures fault { IfErr result (LeavesOutput (Checks by_commits (R.remaining input))
         (FailsToCheck (R.remaining input))
         (W.contents output.old) (W.contents output.new)) }
 {
@@ -94,10 +96,10 @@ pub fn check<R: Read + Drop, W: Write>(
 /// Judges a history file as `check` does, and writes the verdict's line. If the history is illegal,
 /// lines that lead to the bad entry follow. The answer is whether the history is legal.
 ///
-/// If the file is refused, one line is written instead: the flaw that `bad_file` finds. The line
-/// says that the file is too long or no JSON. Or it has the JSON path of the first place at fault,
-/// with the value there and the values that are allowed instead, with their range; if no value is
-/// allowed there, it has the path and the words "an element too many".
+/// If the file is refused, one line is written instead: the flaw that `bad_file` finds. Either the
+/// line says that the file is too long or no JSON, or it has the JSON path of the first place at
+/// fault, the value there, and the values that are allowed instead, with their range. If no value
+/// is allowed there, the line has the path and the words "an element too many".
 ///
 /// # Errors
 ///
@@ -108,8 +110,8 @@ pub fn check<R: Read + Drop, W: Write>(
 ///
 /// # Cost
 ///
-/// That of the checker for each entry, a few times, and time and memory in proportion to the file;
-/// for a file that is refused, that of `bad_file`.
+/// A few times that of the checker for each entry, and time and memory in proportion to the file.
+/// For a file that is refused, the cost of `bad_file`.
 pub fn why<R: Read + Drop, W: Write>(
     alloc: Global,
     by_commits: bool,

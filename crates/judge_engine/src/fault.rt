@@ -9,7 +9,7 @@ use piece_files::FileFault;
 use std::alloc::AllocError;
 use std::fmt;
 
-/// Why there is no verdict. It is printed as one line without its line feed.
+/// Why there is no verdict. A fault is printed as one line, without a line feed.
 #[derive(Clone, Copy, Debug, PartialEq, Eq)]
 pub enum Fault {
     /// A history file was refused.

@@ -69,7 +69,7 @@ pub(crate) fn judge_file(alloc: Global, by_commits: bool, bytes: Vec<u8>) -> Res
 ///
 /// # Cost
 ///
-/// That of the checker for each entry, a few times, and time and memory in proportion to the bytes.
+/// A few times that of the checker for each entry, and time and memory in proportion to the bytes.
 pub(crate) fn explain_file(
     alloc: Global,
     by_commits: bool,

@@ -76,7 +76,7 @@ fn is_on(callers: &Callers, entry: Entry, key: u64) -> bool
     }
 }
 
-/// Adds the entries on a key from an index on.
+/// Adds the entries on a key, beginning with the entry at the index `from`.
 fn put_entries_on(
     alloc: Global,
     text: &mut String,
@@ -229,7 +229,8 @@ fn put_shape(
     }
 }
 
-/// Adds why a Busy may not name the caller that it names; nothing for an entry of another kind.
+/// Adds why a Busy may not name the caller that it names. Adds nothing for an entry of another
+/// kind.
 fn put_named(text: &mut String, entry: Entry, holder: Holder) -> Result<(), AllocError> {
     let Entry::Busy(caller, _, named) = entry else {
         return Ok(());
@@ -296,7 +297,8 @@ fn put_reason(
     }
 }
 
-/// The lines that lead to the bad entry of a verdict by locks; none for a verdict of legal.
+/// The lines that lead to the bad entry of a verdict by locks. There are none if the verdict is
+/// legal.
 pub(crate) fn lines_by_locks(
     alloc: Global,
     entries: &[SmallEntry],
@@ -322,8 +324,8 @@ pub(crate) fn lines_by_locks(
     Ok(text)
 }
 
-/// The lines that lead to the bad entry of a verdict by the order of commits; none for a verdict of
-/// legal.
+/// The lines that lead to the bad entry of a verdict by the order of commits. There are none if the
+/// verdict is legal.
 pub(crate) fn lines_by_commits(
     alloc: Global,
     entries: &[SmallEntry],

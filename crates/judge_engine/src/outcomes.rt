@@ -1,11 +1,11 @@
-//! The outcomes of a script file's scripts in a history file. They are apart from the judges, since
-//! no rule of histories is checked here: the history need not be legal. All lines are made before
+//! The outcomes of a script file's scripts in a history file. This module is apart from the judges,
+//! since it checks no rule of histories: the history need not be legal. All lines are made before
 //! the first is written, so memory is taken for both files and for the text.
 ghost use Rattle.std.specs.Prelude.{◌≡◌, ◌↔◌, ◌++◌, ◌<◌, true, Ok, IfOk, IfErr, OnOk, length, string_bytes};
 ghost use Rattle.txn_files.specs.HistoryFile.{history_of};
 ghost use Rattle.txn_files.specs.ScriptFile.{scripts_of};
 ghost use Rattle.judge_engine.specs.Files.{OfFile};
-ghost use Rattle.judge_engine.specs.Outcomes.{FailsForHistory, FailsForScripts, HistoryOf, IsWell, LeavesOutcomes, WritesOutcomes, has_abort, how_many, is_kind, lines_from, of_history, of_scripts, outcome_line, outcomes_message, outcomes_status, outcomes_text};
+ghost use Rattle.judge_engine.specs.Outcomes.{FailsForHistory, FailsForScripts, HistoryOf, IsWell, LeavesOutcomes, WritesOutcomes, has_abort, how_many, is_kind, outcome_lines, of_history, of_scripts, outcome_line, outcomes_message, outcomes_status, outcomes_text};
 
 use crate::fault::Fault;
 use crate::reading::read_file;
@@ -16,7 +16,7 @@ use std::io::{Read, Write};
 use txn_files::{FileFault, read_packed_history, read_scripts};
 use txn_trace::{Action, PackedAction, Script, Scripts, SmallEntry};
 
-/// Why there are no outcomes, and which file is at fault. It is printed as one line without its
+/// Why there are no outcomes, and which file is at fault. A fault is printed as one line, without a
 /// line feed.
 #[derive(Clone, Copy, Debug, PartialEq, Eq)]
 pub enum OutcomesFault {
@@ -150,7 +150,7 @@ fn put_line(
 fn put_lines(text: &mut String, workers: usize, outcomes: &[Outcome]) -> Result<(), AllocError>
     requires { 0 < workers }
     ensures { OnOk result (string_bytes text.new
-        ≡ string_bytes text.old ++ lines_from workers 0 outcomes.now) }
+        ≡ string_bytes text.old ++ outcome_lines workers 0 outcomes.now) }
 {
     for (number, outcome) in outcomes.iter().enumerate() {
         put_line(text, workers, number, *outcome)?;
@@ -199,7 +199,7 @@ fn of_history(fault: FileFault) -> OutcomesFault
     }
 }
 
-/// The scripts of the script file that the remaining bytes of a reader are.
+/// The scripts of the script file that is still to be read from a reader.
 fn scripts_in<R: Read + Drop>(alloc: Global, input: R) -> Result<Scripts, OutcomesFault>
     ensures ok { IfOk result (λ work. OfFile (R.remaining input)
         (λ bytes. scripts_of bytes ≡ Ok work)) }
@@ -216,7 +216,7 @@ fn scripts_in<R: Read + Drop>(alloc: Global, input: R) -> Result<Scripts, Outcom
     }
 }
 
-/// The entries of the history file that the remaining bytes of a reader are.
+/// The entries of the history file that is still to be read from a reader.
 fn entries_in<R: Read + Drop>(alloc: Global, input: R) -> Result<Vec<SmallEntry>, OutcomesFault>
     ensures ok { IfOk result (λ entries. OfFile (R.remaining input)
         (HistoryOf entries.items)) }
@@ -233,18 +233,18 @@ fn entries_in<R: Read + Drop>(alloc: Global, input: R) -> Result<Vec<SmallEntry>
     }
 }
 
-/// Reads a script file and a history file to their ends, and writes what became of each script in
-/// the history, a line a script, as `script 0 worker 0 committed 3 entry 17`,
-/// `script 1 worker 1 aborted entry 20` or `script 2 worker 0 given up`; then a line with the
-/// counts, as `1 committed 1 aborted 1 given up`; and nothing else. The answer is whether each
-/// script that is given up has an abort.
+/// Reads a script file and a history file to their ends. Writes a line for each script, which says
+/// what became of the script in the history, such as `script 0 worker 0 committed 3 entry 17`,
+/// `script 1 worker 1 aborted entry 20` or `script 2 worker 0 given up`. Then writes a line with
+/// the counts, such as `1 committed 1 aborted 1 given up`, and nothing else. The answer is whether
+/// each script that is given up has an abort.
 ///
 /// The history is not judged. The script file is read first. At most 16,777,217 bytes of each file
 /// are read. A read or a write is tried again only if it was interrupted.
 ///
 /// # Errors
 ///
-/// At each of them but `Write` nothing is written.
+/// Nothing is written at any error but `Write`.
 ///
 /// - `ScriptsRead` if a read of the script file fails; `Scripts` if that file is refused.
 /// - `HistoryRead` if a read of the history file fails; `History` if that file is refused.

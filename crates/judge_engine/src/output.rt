@@ -1,10 +1,12 @@
-//! Only this module writes for `check`, `watch` and `why`, as the last step of each: a verdict, a
-//! verdict with lines after it, or the flaw of a refused file. A verdict and its lines become one
-//! text before the first write, so the output is unchanged if memory is refused.
+//! Only this module writes for `check`, `watch` and `why`. Writing is the last step of each
+//! command. The module writes a verdict, a verdict with lines after it, or the flaw of a refused
+//! file. A verdict and its lines become one text before the first write, so the output is unchanged
+//! if memory is refused.
 ghost use Rattle.std.specs.Prelude.{◌≡◌, ◌⊎◌, ◌++◌, IfErr, IfOk, string_bytes};
 ghost use Rattle.std.specs.Io.KnownBytes.{Appends};
 ghost use Rattle.judge_engine.specs.declared.fault.Fault.TheVariants as faults;
-ghost use Rattle.judge_engine.specs.Outputs.{FailsToWrite, says_legal, verdict_line};
+ghost use Rattle.history_check.specs.Verdicts.{says_legal, verdict_line};
+ghost use Rattle.judge_engine.specs.Outputs.{FailsToWrite};
 
 use crate::fault::Fault;
 use bad_file::flaw_in;
@@ -85,8 +87,8 @@ pub(crate) fn write_explained<W: Write>(
 }
 
 /// Writes the flaw of the history file with these bytes, in one line, if the fault is that the file
-/// is refused. The answer is the same fault, or `NoMemory` if memory is refused, or `Write` if the
-/// writer fails or takes nothing.
+/// is refused. The answer is `fault`, or `NoMemory` if memory is refused, or `Write` if the writer
+/// fails or takes nothing.
 pub(crate) fn tell<W: Write>(alloc: Global, fault: Fault, bytes: &[u8], output: &mut W) -> Fault
     ensures { (result ≡ fault) ⊎ ((result ≡ faults.NoMemory) ⊎ (result ≡ faults.Write)) }
 {

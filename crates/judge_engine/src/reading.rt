@@ -1,6 +1,6 @@
 //! Only this module calls a reader; the others pass it on, or see only bytes. A file is read as a
-//! whole, up to one byte more than a file may have: that byte shows that it is too long. Lines are
-//! read in chunks until an entry is bad, a line is refused, or the input ends.
+//! whole, up to one byte more than a file may have: that byte shows that the file is too long.
+//! Lines are read in chunks until an entry is bad, a line is refused, or the input ends.
 ghost use Rattle.std.specs.Prelude.{◌≡◌, ◌<◌, [], length, take, IfOk, IfErr, IfSome};
 ghost use Rattle.judge_engine.specs.declared.basis.Basis.{Basis as TheBasis};
 ghost use Rattle.judge_engine.specs.Faults.{IsReadFault};

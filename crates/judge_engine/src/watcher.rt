@@ -52,9 +52,9 @@ fn read_line(
     }
 }
 
-/// Reads lines that arrive in parts of any length: keeps the judge of the entries so far, the part
-/// of the present line that was read, and the first line that was refused, after which nothing more
-/// is taken in.
+/// Reads lines that arrive in parts of any length. A watcher keeps the judge of the entries so far,
+/// the part of the present line that was read, and the first line that was refused. After a refused
+/// line nothing more is taken in.
 #[derive(Drop)]
 pub(crate) struct Watcher {
     judge: Judge,
@@ -99,8 +99,8 @@ impl Watcher {
         Ok(())
     }
 
-    /// Reads the present line; `rest` is the rest of it. The line is copied only if an earlier part
-    /// of it was kept, and it is not too long.
+    /// Reads the present line; `rest` is the rest of it. If an earlier part of the line was kept,
+    /// the whole line is copied, unless it is too long.
     fn read_rest(&mut self, rest: &[u8]) -> Result<Option<FileFault>, Fault>
         ensures ok { IfOk result (λ fault. (basis : Basis) (h : List Entry) →
             IsFedBy basis h self.old.judge →

@@ -1,5 +1,5 @@
--- The outcome of each command: its engine ran on the open source, the engine failed, or the source
--- was not opened.
+-- The outcome of each command: its engine ran on the source, its engine failed, or the source was
+-- not opened.
 use Rattle.std.proofs.Common.{◌≡◌, ◌⊎◌, inl, inr, ℕ, Bool, List, Option, Some, None, Ok, Err, refl, sym, subst, ◌∙◌, codes}
 use Rattle.std.specs.Result.{IsErrAnd}
 use Rattle.std.specs.Io.KnownBytes.{Keeps}
@@ -11,12 +11,12 @@ use Rattle.judge_engine.specs.declared.outcomes.OutcomesFault.{OutcomesFault}
 use Rattle.judge_engine.specs.declared.outcomes.OutcomesFault.TheVariants as both
 use Rattle.judge_engine.specs.Files.{Checks, FailsToCheck, FailsToExplain}
 use Rattle.judge_engine.specs.Outcomes.{LeavesOutcomes, WritesOutcomes}
-use Rattle.judge_engine.specs.Outputs.{Leaves, WritesLine, WritesLines}
+use Rattle.judge_engine.specs.Outputs.{LeavesOutput, WritesLine, WritesLines}
 use Rattle.judge_engine.specs.Watching.{FailsToWatch, Watches}
 use Rattle.judge_line.specs.declared.failure.Failure.{Failure}
 use Rattle.judge_line.specs.declared.failure.Failure.TheVariants.{Fault, Outcomes}
 use Rattle.judge_line.specs.Words as asked
-use Rattle.judge_line.specs.Runs.{ByFault, Does, Ends, Files, LeavesBoth, Outcome}
+use Rattle.judge_line.specs.Runs.{ByFault, RunsCall, EndsWith, Files, LeavesBoth, RunResult}
 use Rattle.judge_line.proofs.Sources.{Holds, of_file, of_all, writes_line, writes_lines, leaves, fails_to_check, fails_to_explain, fails_to_watch, writes_outcomes, leaves_outcomes}
 
 pub keeps_same : (known : Option (List ℕ)) → Keeps known known
@@ -24,87 +24,87 @@ keeps_same None = tt
 keeps_same (Some xs) = refl
 
 -- The engine has failed.
-failed : (IsDone : Bool → Type 0) (P : EngineFault → Type 0) (outcome : Outcome) (fault : EngineFault) → P fault → IsErrAnd outcome (λ e. e ≡ Fault fault) → Ends IsDone P outcome
+failed : (IsDone : Bool → Type 0) (P : EngineFault → Type 0) (outcome : RunResult) (fault : EngineFault) → P fault → IsErrAnd outcome (λ e. e ≡ Fault fault) → EndsWith IsDone P outcome
 failed IsDone P (Ok well) fault holds err = absurd err
 failed IsDone P (Err e) fault holds err = subst (ByFault P) (sym err) holds
 
 -- A source that is not opened: memory was refused, or a read failed.
-not_opened : (IsDone : Bool → Type 0) (P : EngineFault → Type 0) (outcome : Outcome) (failure : Failure) → P faults.NoMemory → P faults.Read → (failure ≡ Fault faults.NoMemory) ⊎ (failure ≡ Fault faults.Read)
-    → IsErrAnd outcome (λ e. e ≡ failure) → Ends IsDone P outcome
+not_opened : (IsDone : Bool → Type 0) (P : EngineFault → Type 0) (outcome : RunResult) (failure : Failure) → P faults.NoMemory → P faults.Read → (failure ≡ Fault faults.NoMemory) ⊎ (failure ≡ Fault faults.Read)
+    → IsErrAnd outcome (λ e. e ≡ failure) → EndsWith IsDone P outcome
 not_opened IsDone P (Ok well) failure memory read which err = absurd err
 not_opened IsDone P (Err e) failure memory read (inl is) err = subst (ByFault P) (sym (err ∙ is)) memory
 not_opened IsDone P (Err e) failure memory read (inr is) err = subst (ByFault P) (sym (err ∙ is)) read
 
 -- `check`.
 pub check_done : (by_commits : Bool) (name : Text) (files : Files) (bytes old new : Option (List ℕ)) (well : Bool) → Holds (files name) bytes → WritesLine (Checks by_commits bytes) well old new
-    → Does (asked.Check by_commits name) files old new (Ok well)
+    → RunsCall (asked.Check by_commits name) files old new (Ok well)
 check_done by_commits name files bytes old new well same = writes_line _ _ well old new (λ v. of_file (files name) bytes _ same)
 
-pub check_failed : (by_commits : Bool) (name : Text) (files : Files) (bytes old new : Option (List ℕ)) (outcome : Outcome) (fault : EngineFault) → Holds (files name) bytes
-    → Leaves (Checks by_commits bytes) (FailsToCheck bytes) old new fault → IsErrAnd outcome (λ e. e ≡ Fault fault) → Does (asked.Check by_commits name) files old new outcome
+pub check_failed : (by_commits : Bool) (name : Text) (files : Files) (bytes old new : Option (List ℕ)) (outcome : RunResult) (fault : EngineFault) → Holds (files name) bytes
+    → LeavesOutput (Checks by_commits bytes) (FailsToCheck bytes) old new fault → IsErrAnd outcome (λ e. e ≡ Fault fault) → RunsCall (asked.Check by_commits name) files old new outcome
 check_failed by_commits name files bytes old new outcome fault same left =
-    failed (λ well. WritesLine (Checks by_commits (files name)) well old new) (Leaves (Checks by_commits (files name)) (FailsToCheck (files name)) old new) outcome fault
+    failed (λ well. WritesLine (Checks by_commits (files name)) well old new) (LeavesOutput (Checks by_commits (files name)) (FailsToCheck (files name)) old new) outcome fault
     (leaves (Checks by_commits bytes) _ (FailsToCheck bytes) _ old new fault (λ v. of_file (files name) bytes _ same) (λ f. fails_to_check (files name) bytes f same) left)
 
-pub check_not_opened : (by_commits : Bool) (name : Text) (files : Files) (old : Option (List ℕ)) (outcome : Outcome) (failure : Failure) → (failure ≡ Fault faults.NoMemory) ⊎ (failure ≡ Fault faults.Read)
-    → IsErrAnd outcome (λ e. e ≡ failure) → Does (asked.Check by_commits name) files old old outcome
+pub check_not_opened : (by_commits : Bool) (name : Text) (files : Files) (old : Option (List ℕ)) (outcome : RunResult) (failure : Failure) → (failure ≡ Fault faults.NoMemory) ⊎ (failure ≡ Fault faults.Read)
+    → IsErrAnd outcome (λ e. e ≡ failure) → RunsCall (asked.Check by_commits name) files old old outcome
 check_not_opened by_commits name files old outcome failure =
-    not_opened (λ well. WritesLine (Checks by_commits (files name)) well old old) (Leaves (Checks by_commits (files name)) (FailsToCheck (files name)) old old) outcome failure (keeps_same old) (keeps_same old)
+    not_opened (λ well. WritesLine (Checks by_commits (files name)) well old old) (LeavesOutput (Checks by_commits (files name)) (FailsToCheck (files name)) old old) outcome failure (keeps_same old) (keeps_same old)
 
 -- `why`.
 pub why_done : (by_commits : Bool) (name : Text) (files : Files) (bytes old new : Option (List ℕ)) (well : Bool) → Holds (files name) bytes → WritesLines (Checks by_commits bytes) well old new
-    → Does (asked.Why by_commits name) files old new (Ok well)
+    → RunsCall (asked.Why by_commits name) files old new (Ok well)
 why_done by_commits name files bytes old new well same = writes_lines _ _ well old new (λ v. of_file (files name) bytes _ same)
 
-pub why_failed : (by_commits : Bool) (name : Text) (files : Files) (bytes old new : Option (List ℕ)) (outcome : Outcome) (fault : EngineFault) → Holds (files name) bytes → FailsToExplain bytes fault
-    → IsErrAnd outcome (λ e. e ≡ Fault fault) → Does (asked.Why by_commits name) files old new outcome
+pub why_failed : (by_commits : Bool) (name : Text) (files : Files) (bytes old new : Option (List ℕ)) (outcome : RunResult) (fault : EngineFault) → Holds (files name) bytes → FailsToExplain bytes fault
+    → IsErrAnd outcome (λ e. e ≡ Fault fault) → RunsCall (asked.Why by_commits name) files old new outcome
 why_failed by_commits name files bytes old new outcome fault same fails =
     failed (λ well. WritesLines (Checks by_commits (files name)) well old new) (FailsToExplain (files name)) outcome fault (fails_to_explain (files name) bytes fault same fails)
 
-pub why_not_opened : (by_commits : Bool) (name : Text) (files : Files) (old : Option (List ℕ)) (outcome : Outcome) (failure : Failure) → (failure ≡ Fault faults.NoMemory) ⊎ (failure ≡ Fault faults.Read)
-    → IsErrAnd outcome (λ e. e ≡ failure) → Does (asked.Why by_commits name) files old old outcome
+pub why_not_opened : (by_commits : Bool) (name : Text) (files : Files) (old : Option (List ℕ)) (outcome : RunResult) (failure : Failure) → (failure ≡ Fault faults.NoMemory) ⊎ (failure ≡ Fault faults.Read)
+    → IsErrAnd outcome (λ e. e ≡ failure) → RunsCall (asked.Why by_commits name) files old old outcome
 why_not_opened by_commits name files old outcome failure =
     not_opened (λ well. WritesLines (Checks by_commits (files name)) well old old) (FailsToExplain (files name)) outcome failure tt tt
 
 -- `watch`.
 pub watch_done : (basis : Basis) (files : Files) (bytes old new : Option (List ℕ)) (well : Bool) → Holds (files (codes "-")) bytes → WritesLine (Watches basis bytes) well old new
-    → Does (asked.Watch basis) files old new (Ok well)
+    → RunsCall (asked.Watch basis) files old new (Ok well)
 watch_done basis files bytes old new well same = writes_line _ _ well old new (λ v. of_all (files (codes "-")) bytes _ same)
 
-pub watch_failed : (basis : Basis) (files : Files) (bytes old new : Option (List ℕ)) (outcome : Outcome) (fault : EngineFault) → Holds (files (codes "-")) bytes
-    → Leaves (Watches basis bytes) (FailsToWatch basis bytes) old new fault → IsErrAnd outcome (λ e. e ≡ Fault fault) → Does (asked.Watch basis) files old new outcome
+pub watch_failed : (basis : Basis) (files : Files) (bytes old new : Option (List ℕ)) (outcome : RunResult) (fault : EngineFault) → Holds (files (codes "-")) bytes
+    → LeavesOutput (Watches basis bytes) (FailsToWatch basis bytes) old new fault → IsErrAnd outcome (λ e. e ≡ Fault fault) → RunsCall (asked.Watch basis) files old new outcome
 watch_failed basis files bytes old new outcome fault same left =
     let known = files (codes "-") in
-    failed (λ well. WritesLine (Watches basis known) well old new) (Leaves (Watches basis known) (FailsToWatch basis known) old new) outcome fault
+    failed (λ well. WritesLine (Watches basis known) well old new) (LeavesOutput (Watches basis known) (FailsToWatch basis known) old new) outcome fault
     (leaves (Watches basis bytes) _ (FailsToWatch basis bytes) _ old new fault (λ v. of_all known bytes _ same) (λ f. fails_to_watch basis known bytes f same) left)
 
-pub watch_not_opened : (basis : Basis) (files : Files) (old : Option (List ℕ)) (outcome : Outcome) (failure : Failure) → (failure ≡ Fault faults.NoMemory) ⊎ (failure ≡ Fault faults.Read)
-    → IsErrAnd outcome (λ e. e ≡ failure) → Does (asked.Watch basis) files old old outcome
+pub watch_not_opened : (basis : Basis) (files : Files) (old : Option (List ℕ)) (outcome : RunResult) (failure : Failure) → (failure ≡ Fault faults.NoMemory) ⊎ (failure ≡ Fault faults.Read)
+    → IsErrAnd outcome (λ e. e ≡ failure) → RunsCall (asked.Watch basis) files old old outcome
 watch_not_opened basis files old outcome failure =
     let known = files (codes "-") in
-    not_opened (λ well. WritesLine (Watches basis known) well old old) (Leaves (Watches basis known) (FailsToWatch basis known) old old) outcome failure (keeps_same old) (keeps_same old)
+    not_opened (λ well. WritesLine (Watches basis known) well old old) (LeavesOutput (Watches basis known) (FailsToWatch basis known) old old) outcome failure (keeps_same old) (keeps_same old)
 
 -- `outcomes`.
 pub outcomes_done : (scripts history : Text) (files : Files) (left right old new : Option (List ℕ)) (well : Bool) → Holds (files scripts) left → Holds (files history) right → WritesOutcomes left right old new well
-    → Does (asked.Outcomes scripts history) files old new (Ok well)
+    → RunsCall (asked.Outcomes scripts history) files old new (Ok well)
 outcomes_done scripts history files left right old new well one two = writes_outcomes (files scripts) (files history) left right old new well one two
 
-pub outcomes_failed : (scripts history : Text) (files : Files) (left right old new : Option (List ℕ)) (outcome : Outcome) (fault : OutcomesFault) → Holds (files scripts) left → Holds (files history) right
-    → LeavesOutcomes left right old new fault → IsErrAnd outcome (λ e. e ≡ Outcomes fault) → Does (asked.Outcomes scripts history) files old new outcome
+pub outcomes_failed : (scripts history : Text) (files : Files) (left right old new : Option (List ℕ)) (outcome : RunResult) (fault : OutcomesFault) → Holds (files scripts) left → Holds (files history) right
+    → LeavesOutcomes left right old new fault → IsErrAnd outcome (λ e. e ≡ Outcomes fault) → RunsCall (asked.Outcomes scripts history) files old new outcome
 outcomes_failed scripts history files left right old new (Ok well) fault one two kept err = absurd err
 outcomes_failed scripts history files left right old new (Err e) fault one two kept err =
     subst (LeavesBoth (files scripts) (files history) old new) (sym err) (leaves_outcomes (files scripts) (files history) left right old new fault one two kept)
 
-pub scripts_not_opened : (scripts history : Text) (files : Files) (old : Option (List ℕ)) (outcome : Outcome) (failure : Failure) → (failure ≡ Fault faults.NoMemory) ⊎ (failure ≡ Outcomes both.ScriptsRead)
-    → IsErrAnd outcome (λ e. e ≡ failure) → Does (asked.Outcomes scripts history) files old old outcome
+pub scripts_not_opened : (scripts history : Text) (files : Files) (old : Option (List ℕ)) (outcome : RunResult) (failure : Failure) → (failure ≡ Fault faults.NoMemory) ⊎ (failure ≡ Outcomes both.ScriptsRead)
+    → IsErrAnd outcome (λ e. e ≡ failure) → RunsCall (asked.Outcomes scripts history) files old old outcome
 scripts_not_opened scripts history files old (Ok well) failure which err = absurd err
 scripts_not_opened scripts history files old (Err e) failure (inl is) err =
     subst (LeavesBoth (files scripts) (files history) old old) (sym (err ∙ is)) (refl, keeps_same old)
 scripts_not_opened scripts history files old (Err e) failure (inr is) err =
     subst (LeavesBoth (files scripts) (files history) old old) (sym (err ∙ is)) (keeps_same old)
 
-pub history_not_opened : (scripts history : Text) (files : Files) (old : Option (List ℕ)) (outcome : Outcome) (failure : Failure) → (failure ≡ Fault faults.NoMemory) ⊎ (failure ≡ Outcomes both.HistoryRead)
-    → IsErrAnd outcome (λ e. e ≡ failure) → Does (asked.Outcomes scripts history) files old old outcome
+pub history_not_opened : (scripts history : Text) (files : Files) (old : Option (List ℕ)) (outcome : RunResult) (failure : Failure) → (failure ≡ Fault faults.NoMemory) ⊎ (failure ≡ Outcomes both.HistoryRead)
+    → IsErrAnd outcome (λ e. e ≡ failure) → RunsCall (asked.Outcomes scripts history) files old old outcome
 history_not_opened scripts history files old (Ok well) failure which err = absurd err
 history_not_opened scripts history files old (Err e) failure (inl is) err =
     subst (LeavesBoth (files scripts) (files history) old old) (sym (err ∙ is)) (refl, keeps_same old)

@@ -8,8 +8,8 @@ use Rattle.clap.specs.Words.{Text}
 use Rattle.judge_engine.specs.declared.fault.Fault.TheVariants as faults
 use Rattle.judge_line.specs.declared.failure.Failure.{Failure}
 use Rattle.judge_line.specs.declared.failure.Failure.TheVariants.{Usage, Fault}
-use Rattle.judge_line.specs.Words.{Asked, Asks}
-use Rattle.judge_line.specs.Runs.{Does, DoesNothing, Files, Outcome, Runs, memory_or}
+use Rattle.judge_line.specs.Words.{Asked, Spells}
+use Rattle.judge_line.specs.Runs.{RunsCall, DoesNothing, Files, RunResult, Runs, memory_or}
 use Rattle.judge_line.proofs.Doing.{keeps_same}
 
 -- `memory_or` is `NoMemory` or the other failure.
@@ -17,7 +17,8 @@ pub memory_or_is : (kind : ErrorKind) (other : Failure) → (memory_or kind othe
 memory_or_is OutOfMemory other = inl refl
 memory_or_is kind other = inr refl
 
--- If the words have a property, and some words are known, the known words have the property.
+-- If `spoken` has words, they are equal to `words`. So if `P` holds of `words`, it holds of the
+-- words in `spoken`.
 of_known : (spoken : Option (List Text)) (words : List Text) (P : List Text → Type 0) → IfSome spoken (λ known. words ≡ known) → P words → IfSome spoken P
 of_known None words P same holds = tt
 of_known (Some known) words P same holds = subst P same holds
@@ -31,17 +32,17 @@ no_words None files known kind is = inr (by_kind (memory_or_is kind Usage))
 no_words (Some words) files known kind is =
     subst (λ k. Runs (Some words) files known known (Err (memory_or k Usage))) (sym is) (inr (keeps_same known, refl))
 
-pub no_call : (spoken : Option (List Text)) (words : List Text) (files : Files) (known : Option (List ℕ)) (outcome : Outcome) (failure : Failure) → IfSome spoken (λ known. words ≡ known)
-    → (failure ≡ Fault faults.NoMemory) ⊎ ((failure ≡ Usage) × Asks words None) → IsErrAnd outcome (λ e. e ≡ failure) → Runs spoken files known known outcome
+pub no_call : (spoken : Option (List Text)) (words : List Text) (files : Files) (known : Option (List ℕ)) (outcome : RunResult) (failure : Failure) → IfSome spoken (λ known. words ≡ known)
+    → (failure ≡ Fault faults.NoMemory) ⊎ ((failure ≡ Usage) × Spells words None) → IsErrAnd outcome (λ e. e ≡ failure) → Runs spoken files known known outcome
 no_call spoken words files known (Ok well) failure same which err = absurd err
 no_call spoken words files known (Err e) failure same (inl memory) err = rw (err, memory) (inr (keeps_same known, refl))
 no_call spoken words files known (Err e) failure same (inr (usage, none)) err =
-    rw (err, usage) (inr (keeps_same known, of_known spoken words (λ given. Asks given None) same none))
+    rw (err, usage) (inr (keeps_same known, of_known spoken words (λ given. Spells given None) same none))
 
-pub runs_call : (spoken : Option (List Text)) (words : List Text) (files : Files) (what : Asked) (old new : Option (List ℕ)) (outcome : Outcome) → IfSome spoken (λ known. words ≡ known)
-    → Asks words (Some what) → Does what files old new outcome → Runs spoken files old new outcome
+pub runs_call : (spoken : Option (List Text)) (words : List Text) (files : Files) (what : Asked) (old new : Option (List ℕ)) (outcome : RunResult) → IfSome spoken (λ known. words ≡ known)
+    → Spells words (Some what) → RunsCall what files old new outcome → Runs spoken files old new outcome
 runs_call spoken words files what old new outcome same asks does = inl (record {
   what = what;
-  asks = of_known spoken words (λ given. Asks given (Some what)) same asks;
+  asks = of_known spoken words (λ given. Spells given (Some what)) same asks;
   does = does;
 })

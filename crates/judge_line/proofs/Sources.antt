@@ -1,5 +1,5 @@
--- A statement about the bytes of a source also holds of the bytes that the file with the source's
--- name is known to have.
+-- If the bytes of a file are known, the source with the file's name has these bytes. So a statement
+-- about the bytes of the source also holds of the known bytes.
 use Rattle.std.proofs.Common.{◌≡◌, ℕ, Bool, List, Option, Some, None, take, subst}
 use Rattle.std.specs.Prelude.{IfSome}
 use Rattle.history_check.specs.declared.verdict.Verdict.{Verdict}
@@ -9,11 +9,11 @@ use Rattle.judge_engine.specs.declared.fault.Fault.TheVariants.{Input, Line, NoM
 use Rattle.judge_engine.specs.declared.outcomes.OutcomesFault.{OutcomesFault}
 use Rattle.judge_engine.specs.declared.outcomes.OutcomesFault.TheVariants as both
 use Rattle.judge_engine.specs.Files.{FailsToCheck, FailsToExplain, OfFile, max_read}
-use Rattle.judge_engine.specs.Outcomes.{IsReport, LeavesOutcomes, WritesOutcomes, Tells}
-use Rattle.judge_engine.specs.Outputs.{Leaves, WritesLine, WritesLines}
+use Rattle.judge_engine.specs.Outcomes.{IsOutcomesText, LeavesOutcomes, WritesOutcomes, TellsOutcomes}
+use Rattle.judge_engine.specs.Outputs.{LeavesOutput, WritesLine, WritesLines}
 use Rattle.judge_engine.specs.Watching.{FailsToWatch, OfAll}
 
--- The source has the bytes that are known.
+-- If bytes are known, the source has these bytes.
 abbrev pub Holds : Option (List ℕ) → Option (List ℕ) → Type 0
 Holds known bytes = IfSome known (λ xs. bytes ≡ Some xs)
 
@@ -34,7 +34,7 @@ writes_line P Q well old new follows (v, right, says, grows) = (v, follows v rig
 pub writes_lines : (P Q : Verdict → Type 0) (well : Bool) (old new : Option (List ℕ)) → ((v : Verdict) → P v → Q v) → WritesLines P well old new → WritesLines Q well old new
 writes_lines P Q well old new follows (v, lines, right, says, grows) = (v, lines, follows v right, says, grows)
 
-pub leaves : (P Q : Verdict → Type 0) (F G : Fault → Type 0) (old new : Option (List ℕ)) (fault : Fault) → ((v : Verdict) → P v → Q v) → ((f : Fault) → F f → G f) → Leaves P F old new fault → Leaves Q G old new fault
+pub leaves : (P Q : Verdict → Type 0) (F G : Fault → Type 0) (old new : Option (List ℕ)) (fault : Fault) → ((v : Verdict) → P v → Q v) → ((f : Fault) → F f → G f) → LeavesOutput P F old new fault → LeavesOutput Q G old new fault
 leaves P Q F G old new Write follows fails (v, right) = (v, follows v right)
 leaves P Q F G old new (Input fault) follows fails h = (h.0, fails _ h.1)
 leaves P Q F G old new (Line number fault) follows fails h = (h.0, fails _ h.1)
@@ -63,9 +63,9 @@ fails_to_watch basis known bytes Read same h = h
 fails_to_watch basis known bytes Write same h = h
 
 -- A report on the two sources of `outcomes` is also a report on the two files.
-tells : (s h left right : Option (List ℕ)) (text : List ℕ) (well : Bool) → Holds s left → Holds h right → Tells left right text well → Tells s h text well
+tells : (s h left right : Option (List ℕ)) (text : List ℕ) (well : Bool) → Holds s left → Holds h right → TellsOutcomes left right text well → TellsOutcomes s h text well
 tells s h left right text well one two (read, is, more) =
-    (read, read_same s left (λ all. read ≡ take max_read all) one is, of_file h right (λ right_read. IsReport read right_read text well) two more)
+    (read, read_same s left (λ all. read ≡ take max_read all) one is, of_file h right (λ right_read. IsOutcomesText read right_read text well) two more)
 
 pub writes_outcomes : (s h left right old new : Option (List ℕ)) (well : Bool) → Holds s left → Holds h right → WritesOutcomes left right old new well → WritesOutcomes s h old new well
 writes_outcomes s h left right old new well one two (text, told, grows) = (text, tells s h left right text well one two told, grows)

@@ -7,7 +7,7 @@ use Rattle.std.proofs.lemmas.Bool.{and_parts, and_from, false_from_ne_true, le-l
 use Rattle.program_host.specs.Words.{is_numeral}
 use Rattle.program_host.proofs.Numerals.{numeral_to, numeral_from}
 use Rattle.txn_words.specs.Sizes.{max_stripes}
-use Rattle.judge_line.specs.Words.{stripes_of}
+use Rattle.judge_line.specs.Words.{stripes_in_word}
 
 abbrev pub in_range : ℕ → Option ℕ
 in_range n = if nat_le 1 n && nat_le n max_stripes then Some n else None
@@ -20,8 +20,9 @@ below n fits =
 pub fits : (n : ℕ) → 1 ≤ n → n ≤ max_stripes → Some n ≡ in_range n
 fits n low high = sym (ap (λ (b : Bool). if b then Some n else None) (and_from _ _ (le-leb 1 n low) (le-leb n max_stripes high)))
 
--- The word asks for the number that it is parsed as, if that number is in range, and else for none.
-pub parsed : {E : Type 0} (word : List ℕ) (r : Result ℕ E) → ParsesUnsigned 64 10 word r → option_and_then in_range (result_ok r) ≡ stripes_of word
+-- If the word is parsed as a number in range, it asks for that number of locks. Otherwise it asks
+-- for none.
+pub parsed : {E : Type 0} (word : List ℕ) (r : Result ℕ E) → ParsesUnsigned 64 10 word r → option_and_then in_range (result_ok r) ≡ stripes_in_word word
 parsed word (Ok n) parses =
     let ds = without_leading_plus word in
     let stripes = digits_value 10 ds in

@@ -10,18 +10,18 @@ use Rattle.judge_engine.specs.declared.fault.Fault.{Fault}
 use Rattle.judge_engine.specs.declared.fault.Fault.TheVariants as faults
 use Rattle.judge_engine.specs.Files.{Checks, FailsToCheck, FailsToExplain}
 use Rattle.judge_engine.specs.Outcomes.{LeavesOutcomes, WritesOutcomes}
-use Rattle.judge_engine.specs.Outputs.{Leaves, WritesLine, WritesLines}
+use Rattle.judge_engine.specs.Outputs.{LeavesOutput, WritesLine, WritesLines}
 use Rattle.judge_engine.specs.Watching.{FailsToWatch, Watches}
 use Rattle.judge_line.specs.declared.failure.TheConstants.{USAGE}
 use Rattle.judge_line.specs.declared.failure.Failure.{Failure}
 use Rattle.judge_line.specs.declared.failure.Failure.TheVariants as failures
 use Rattle.judge_line.specs.declared.program.TheConstants.{VERSION}
 use Rattle.judge_line.specs.Failures.{message_of, status_of}
-use Rattle.judge_line.specs.Words.{Asked, Asks, Check, Why, Watch, Outcomes, Help, Version}
+use Rattle.judge_line.specs.Words.{Asked, Spells, Check, Why, Watch, Outcomes, Help, Version}
 
 -- The outcome of a run: whether all is well, or a failure.
-abbrev pub Outcome : Type 0
-Outcome = Result Bool Failure
+abbrev pub RunResult : Type 0
+RunResult = Result Bool Failure
 
 -- For each name, the bytes of the file with this name, if they are known. The file `-` is standard
 -- input.
@@ -33,12 +33,12 @@ abbrev pub ByFault : (Fault → Type 0) → Failure → Type 0
 ByFault P (failures.Fault fault) = P fault
 ByFault P failure = ⊥
 
-abbrev pub Ends : (Bool → Type 0) → (Fault → Type 0) → Outcome → Type 0
-Ends IsDone HasFailed outcome = MatchResult outcome IsDone (ByFault HasFailed)
+abbrev pub EndsWith : (Bool → Type 0) → (Fault → Type 0) → RunResult → Type 0
+EndsWith IsDone HasFailed outcome = MatchResult outcome IsDone (ByFault HasFailed)
 
 -- A text and a line feed are written, and all is well.
-abbrev pub Shows : Text → Option (List ℕ) → Option (List ℕ) → Bool → Type 0
-Shows text old new well = (well ≡ true) × Appends old new (text ++ 10 ∷ [])
+abbrev pub Prints : Text → Option (List ℕ) → Option (List ℕ) → Bool → Type 0
+Prints text old new well = (well ≡ true) × Appends old new (text ++ 10 ∷ [])
 
 -- The output if `outcomes` fails: as `LeavesOutcomes` says of its fault, or unchanged if memory was
 -- refused before the engine was called.
@@ -51,39 +51,42 @@ LeavesBoth scripts history old new (failures.Fault fault) =
 LeavesBoth scripts history old new failures.Usage = ⊥
 
 -- The output and the outcome of a call with these files.
-abbrev pub Does : Asked → Files → Option (List ℕ) → Option (List ℕ) → Outcome → Type 0
-Does (Check by_commits file) files old new = Ends
+abbrev pub RunsCall : Asked → Files → Option (List ℕ) → Option (List ℕ) → RunResult → Type 0
+RunsCall (Check by_commits file) files old new = EndsWith
     (λ well. WritesLine (Checks by_commits (files file)) well old new)
-    (Leaves (Checks by_commits (files file)) (FailsToCheck (files file)) old new)
-Does (Why by_commits file) files old new = Ends
+    (LeavesOutput (Checks by_commits (files file)) (FailsToCheck (files file)) old new)
+RunsCall (Why by_commits file) files old new = EndsWith
     (λ well. WritesLines (Checks by_commits (files file)) well old new)
     (FailsToExplain (files file))
-Does (Watch basis) files old new = Ends
+RunsCall (Watch basis) files old new = EndsWith
     (λ well. WritesLine (Watches basis (files (codes "-"))) well old new)
-    (Leaves (Watches basis (files (codes "-"))) (FailsToWatch basis (files (codes "-"))) old new)
-Does (Outcomes scripts history) files old new = λ outcome. MatchResult outcome
+    (LeavesOutput (Watches basis (files (codes "-")))
+    (FailsToWatch basis (files (codes "-"))) old new)
+RunsCall (Outcomes scripts history) files old new = λ outcome. MatchResult outcome
     (WritesOutcomes (files scripts) (files history) old new)
     (LeavesBoth (files scripts) (files history) old new)
-Does Help files old new = Ends (Shows USAGE.now old new) (λ fault. fault ≡ faults.Write)
-Does Version files old new = Ends (Shows VERSION.now old new) (λ fault. fault ≡ faults.Write)
+RunsCall Help files old new = EndsWith (Prints USAGE.now old new) (λ fault. fault ≡ faults.Write)
+RunsCall Version files old new = EndsWith (Prints VERSION.now old new)
+    (λ fault. fault ≡ faults.Write)
 
 -- Nothing was done: memory was refused, or the words, if they are known, give no call. Nothing was
 -- written.
 abbrev pub DoesNothing : Option (List Text) → Option (List ℕ) → Option (List ℕ) → Failure → Type 0
 DoesNothing spoken old new failures.Usage =
-    Keeps old new × IfSome spoken (λ words. Asks words None)
+    Keeps old new × IfSome spoken (λ words. Spells words None)
 DoesNothing spoken old new (failures.Fault fault) = Keeps old new × (fault ≡ faults.NoMemory)
 DoesNothing spoken old new (failures.Outcomes fault) = ⊥
 
--- The call that the words ask for, if they are known, was done.
+-- The call `what` was done. If the words are known, they ask for this call.
 pub record DoesAsked (spoken : Option (List Text)) (files : Files) (old new : Option (List ℕ))
-    (outcome : Outcome) : Type 0 where
+    (outcome : RunResult) : Type 0 where
   pub what : Asked
-  pub asks : IfSome spoken (λ words. Asks words (Some what))
-  pub does : Does what files old new outcome
+  pub asks : IfSome spoken (λ words. Spells words (Some what))
+  pub does : RunsCall what files old new outcome
 
 -- The output and the outcome of a run.
-abbrev pub Runs : Option (List Text) → Files → Option (List ℕ) → Option (List ℕ) → Outcome → Type 0
+abbrev pub Runs : Option (List Text) → Files → Option (List ℕ) → Option (List ℕ) → RunResult
+    → Type 0
 Runs spoken files old new outcome =
     DoesAsked spoken files old new outcome ⊎ IsErrAnd outcome (DoesNothing spoken old new)
 
@@ -93,14 +96,14 @@ memory_or OutOfMemory other = failures.Fault faults.NoMemory
 memory_or kind other = other
 
 -- The exit status.
-abbrev pub status_after : Outcome → ℕ
+abbrev pub status_after : RunResult → ℕ
 status_after (Ok true) = 0
 status_after (Ok false) = 1
 status_after (Err failure) = status_of failure
 
 -- The text on standard error. After a failure it is the message, if all of the message was taken.
 -- If there was no failure, nothing is written.
-abbrev pub Tells : Option (List ℕ) → Option (List ℕ) → Bool → Outcome → Type 0
-Tells old new is_told (Ok well) = Keeps old new × (is_told ≡ true)
-Tells old new is_told (Err failure) =
+abbrev pub TellsError : Option (List ℕ) → Option (List ℕ) → Bool → RunResult → Type 0
+TellsError old new is_told (Ok well) = Keeps old new × (is_told ≡ true)
+TellsError old new is_told (Err failure) =
     is_told ≡ true → Appends old new (message_of failure ++ 10 ∷ [])

@@ -39,13 +39,13 @@ asked_of calls.Help = Help
 asked_of calls.Version = Version
 
 -- If the call judges entries by locks, there is at least one lock.
-abbrev pub IsReady : Asked → Type 0
-IsReady (Watch basis) = HasStripes basis
-IsReady asked = Unit {0}
+abbrev pub HasStripesIf : Asked → Type 0
+HasStripesIf (Watch basis) = HasStripes basis
+HasStripesIf asked = Unit {0}
 
 -- The command line: `check [--serializable] FILE`, `outcomes SCRIPTS HISTORY`,
--- `watch [--serializable] [--stripes N]` and `why [--serializable] FILE`, each as one of `clap`'s
--- applications, whose own rules say how words are read.
+-- `watch [--serializable] [--stripes N]` and `why [--serializable] FILE`. Each command is an
+-- application of `clap`, and the definitions of `clap` say how its words are read.
 abbrev pub serializable_word : Rule
 serializable_word = record (new_rule (codes "serializable")) {
   long = Some (codes "serializable");
@@ -91,8 +91,8 @@ is_set (Some word) = bytes_eq word (codes "true")
 
 -- The number from 1 to `max_stripes` that a word writes: one or more decimal digits, with or
 -- without a plus before them.
-abbrev pub stripes_of : Text → Option ℕ
-stripes_of word =
+abbrev pub stripes_in_word : Text → Option ℕ
+stripes_in_word word =
     let digits = without_leading_plus word in
     let stripes = digits_value 10 digits in
     if is_numeral digits && (nat_le 1 stripes && nat_le stripes max_stripes)
@@ -104,7 +104,7 @@ abbrev pub basis_for : Bool → Option Text → Option Basis
 basis_for true None = Some Commits
 basis_for true (Some word) = None
 basis_for false None = Some (Locks max_stripes Begun)
-basis_for false (Some word) = option_map (λ stripes. Locks stripes Begun) (stripes_of word)
+basis_for false (Some word) = option_map (λ stripes. Locks stripes Begun) (stripes_in_word word)
 
 -- Standard input cannot be both files.
 abbrev pub outcomes_for : Text → Text → Option Asked
@@ -134,17 +134,17 @@ answer_to DisplayHelp = Some Help
 answer_to DisplayVersion = Some Version
 answer_to kind = None
 
--- The kind of error is not refused memory, and words that `clap` answers with it ask for this call,
--- or for none.
-abbrev pub IsAnswered : ErrorKind → Option Asked → Type 0
-IsAnswered kind what = (kind ≡ OutOfMemory → ⊥) × (what ≡ answer_to kind)
+-- The error is not that memory was refused. Words that `clap` answers with an error of this kind
+-- ask for this call, or for none.
+abbrev pub IsCallOf : ErrorKind → Option Asked → Type 0
+IsCallOf kind what = (kind ≡ OutOfMemory → ⊥) × (what ≡ answer_to kind)
 
 -- If there are kinds of error that the words may give, the call is the answer to one of them. If
 -- there are none, it is the call of the command that was found.
-abbrev pub AsksBy : Kinds → Option (Text × List Row) → Option Asked → Type 0
-AsksBy [] found what = what ≡ option_and_then (λ command. asked_in command.0 command.1) found
-AsksBy kinds found what = (kind : ErrorKind) × IsAmong kind kinds × (what ≡ answer_to kind)
+abbrev pub SpellsBy : Kinds → Option (Text × List Row) → Option Asked → Type 0
+SpellsBy [] found what = what ≡ option_and_then (λ command. asked_in command.0 command.1) found
+SpellsBy kinds found what = (kind : ErrorKind) × IsAmong kind kinds × (what ≡ answer_to kind)
 
 -- The words ask for this call, or for none. The first word is the program's name.
-abbrev pub Asks : List Text → Option Asked → Type 0
-Asks words what = AsksBy (fault_of command_line words) (subcommand_of command_line words) what
+abbrev pub Spells : List Text → Option Asked → Type 0
+Spells words what = SpellsBy (fault_of command_line words) (subcommand_of command_line words) what

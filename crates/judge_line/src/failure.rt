@@ -33,15 +33,16 @@ From 3 on one line on standard error says which.
 
 Example: judge check examples/checked.json";
 
-/// Why a call has no verdict, and no outcomes.
+/// Why a call has no verdict or no outcomes.
 #[derive(Clone, Copy, Debug, PartialEq, Eq)]
 pub enum Failure {
     /// The words are no call of the program.
     Usage,
-    /// There is no verdict, for a fault of the input, of memory or of an output. Or memory was
-    /// refused before an engine was called, or the usage or the version was not written.
+    /// There is no verdict because of a fault of the input, of memory or of an output. This is also
+    /// the failure if memory was refused before an engine was called, or if the usage or the
+    /// version was not written.
     Fault(Fault),
-    /// There are no outcomes, for a fault of one of the files, of memory or of an output.
+    /// There are no outcomes because of a fault of one of the files, of memory or of an output.
     Outcomes(OutcomesFault),
 }
 

@@ -7,9 +7,9 @@ ghost use Rattle.judge_engine.specs.declared.fault.Fault.TheVariants as faults;
 ghost use Rattle.judge_engine.specs.Bases.{HasStripes};
 ghost use Rattle.judge_line.specs.declared.failure.Failure.{Failure};
 ghost use Rattle.judge_line.specs.declared.failure.Failure.TheVariants as failures;
-ghost use Rattle.judge_line.specs.Runs.{Does, Ends, Runs, Shows, Tells, memory_or, status_after};
+ghost use Rattle.judge_line.specs.Runs.{RunsCall, EndsWith, Runs, Prints, TellsError, memory_or, status_after};
 ghost use Rattle.judge_line.specs.Words as asked;
-ghost use Rattle.judge_line.specs.Words.{IsReady, asked_of};
+ghost use Rattle.judge_line.specs.Words.{HasStripesIf, asked_of};
 
 use crate::failure::{Failure, USAGE};
 use crate::words::{Call, STANDARD, call_in};
@@ -34,7 +34,7 @@ pub struct Ending {
 
 /// Writes a line. Answers `true` (all is well) if the write succeeds.
 fn show<W: Write>(output: &mut W, text: &str) -> Result<bool, Failure>
-    ensures { Ends (Shows text.now (W.contents output.old) (W.contents output.new))
+    ensures { EndsWith (Prints text.now (W.contents output.old) (W.contents output.new))
         (λ fault. fault ≡ faults.Write) result }
 {
     match output.writeln(text) {
@@ -75,7 +75,7 @@ fn check_file<S: System, W: Write>(
     name: &str,
     output: &mut W,
 ) -> Result<bool, Failure>
-    ensures { Does (asked.Check by_commits name.now) (S.bytes system.now)
+    ensures { RunsCall (asked.Check by_commits name.now) (S.bytes system.now)
         (W.contents output.old) (W.contents output.new) result }
 {
     let source = open(system, name, Failure::Fault(Fault::Read))?;
@@ -90,7 +90,7 @@ fn explain_file<S: System, W: Write>(
     name: &str,
     output: &mut W,
 ) -> Result<bool, Failure>
-    ensures { Does (asked.Why by_commits name.now) (S.bytes system.now)
+    ensures { RunsCall (asked.Why by_commits name.now) (S.bytes system.now)
         (W.contents output.old) (W.contents output.new) result }
 {
     let source = open(system, name, Failure::Fault(Fault::Read))?;
@@ -105,7 +105,7 @@ fn watch_standard<S: System, W: Write>(
     output: &mut W,
 ) -> Result<bool, Failure>
     requires { HasStripes basis }
-    ensures { Does (asked.Watch basis) (S.bytes system.now)
+    ensures { RunsCall (asked.Watch basis) (S.bytes system.now)
         (W.contents output.old) (W.contents output.new) result }
 {
     let mut source = open(system, STANDARD, Failure::Fault(Fault::Read))?;
@@ -120,7 +120,7 @@ fn outcomes_in<S: System, W: Write>(
     history: &str,
     output: &mut W,
 ) -> Result<bool, Failure>
-    ensures { Does (asked.Outcomes scripts.now history.now) (S.bytes system.now)
+    ensures { RunsCall (asked.Outcomes scripts.now history.now) (S.bytes system.now)
         (W.contents output.old) (W.contents output.new) result }
 {
     let no_scripts = Failure::Outcomes(OutcomesFault::ScriptsRead);
@@ -138,8 +138,8 @@ fn answer<S: System, W: Write>(
     call: Call<'_>,
     output: &mut W,
 ) -> Result<bool, Failure>
-    requires { IsReady (asked_of call) }
-    ensures { Does (asked_of call.entry) (S.bytes system.now)
+    requires { HasStripesIf (asked_of call) }
+    ensures { RunsCall (asked_of call.entry) (S.bytes system.now)
         (W.contents output.old) (W.contents output.new) result }
 {
     match call {
@@ -182,9 +182,10 @@ fn status_of(outcome: &Result<bool, Failure>) -> u8
     }
 }
 
-/// Does all that the program does: reads the words of the call, does what they ask for, which
-/// writes to `output`, and writes the line of a failure, or the usage, to `errors`. If that write
-/// fails, `is_told` is `false`, and the exit status stays the same.
+/// Does all that the program does: reads the words of the call, and does what they ask for. The
+/// answer is written to `output`. The line of a failure, or the usage for words that are no call,
+/// is written to `errors`; if that write fails, `is_told` is `false`, and the exit status stays the
+/// same.
 ///
 /// # Cost
 ///
@@ -199,7 +200,7 @@ pub fn run<S: System, W: Write, E: Write>(
         × Runs (S.spoken system.now) (S.bytes system.now)
         (W.contents output.old) (W.contents output.new) outcome
         × (result.status ≡ status_after outcome)
-        × Tells (E.contents errors.old) (E.contents errors.new) result.is_told outcome }
+        × TellsError (E.contents errors.old) (E.contents errors.new) result.is_told outcome }
 {
     let outcome = run_words(alloc, system, output);
     let is_told = match &outcome {

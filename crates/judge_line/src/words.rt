@@ -1,5 +1,5 @@
 //! The command line of `judge`, by the rules of `clap`: the call that the words ask for, if they
-//! ask for one. Numbers are tested here, so an engine can run each call (`IsReady`): `watch`
+//! ask for one. Numbers are tested here, so an engine can run each call (`HasStripesIf`): `watch`
 //! has 1 to 4,096 locks. Each command is made and added separately, which keeps the proof of
 //! `command` short.
 ghost use Rattle.std.specs.Prelude.{◌≡◌, ◌⊎◌, false, Some, None, IfOk, IfErr, IfSome, codes, map, option_map};
@@ -8,10 +8,10 @@ ghost use Rattle.clap.specs.Words.{first_of, found_of, rows_of, rule_of};
 ghost use Rattle.judge_engine.specs.declared.fault.Fault.TheVariants as faults;
 ghost use Rattle.judge_engine.specs.Bases.{HasStripes};
 ghost use Rattle.judge_line.specs.declared.failure.Failure.TheVariants as failures;
-ghost use Rattle.program_host.specs.Words.{Has, file_word};
-ghost use Rattle.judge_line.specs.Words.{Asks, IsAnswered, IsReady, asked_in, asked_of, basis_for};
+ghost use Rattle.program_host.specs.Words.{IsApp, file_word};
+ghost use Rattle.judge_line.specs.Words.{Spells, IsCallOf, HasStripesIf, asked_in, asked_of, basis_for};
 ghost use Rattle.judge_line.specs.Words.{command_line, flagged, is_set, outcomes_for, over_both};
-ghost use Rattle.judge_line.specs.Words.{over_history, serializable_word, stripes_of, stripes_word};
+ghost use Rattle.judge_line.specs.Words.{over_history, serializable_word, stripes_in_word, stripes_word};
 ghost use Rattle.judge_line.specs.Words.{watching};
 
 use crate::failure::Failure;
@@ -44,7 +44,7 @@ pub enum Call<'a> {
     Version,
     /// To judge the entries that standard input has.
     Watch {
-        /// By which rules.
+        /// The rules to judge by.
         basis: Basis,
     },
     /// To judge the history of a file, and to say what leads to its bad entry.
@@ -92,21 +92,21 @@ fn file_name<'a>(alloc: Global, name: &'a str) -> Arg<'a>
 
 /// A command of this name that may judge by the order of commits.
 fn flagged_command<'a>(alloc: Global, name: &'a str) -> Result<Command<'a>, AllocError>
-    ensures { IfOk result (λ command. Has command (flagged name.entry.now)) }
+    ensures { IfOk result (λ command. IsApp command (flagged name.entry.now)) }
 {
     Command::new(alloc, name).arg(serializable_flag(alloc))
 }
 
 /// A command of this name over a history file: `check` or `why`.
 fn command_on_history<'a>(alloc: Global, name: &'a str) -> Result<Command<'a>, AllocError>
-    ensures { IfOk result (λ command. Has command (over_history name.entry.now)) }
+    ensures { IfOk result (λ command. IsApp command (over_history name.entry.now)) }
 {
     flagged_command(alloc, name)?.arg(file_name(alloc, "FILE"))
 }
 
 /// The command `outcomes`.
 fn outcomes_command<'a>(alloc: Global) -> Result<Command<'a>, AllocError>
-    ensures { IfOk result (λ command. Has command over_both) }
+    ensures { IfOk result (λ command. IsApp command over_both) }
 {
     let command = Command::new(alloc, "outcomes").arg(file_name(alloc, "SCRIPTS"))?;
     command.arg(file_name(alloc, "HISTORY"))
@@ -114,7 +114,7 @@ fn outcomes_command<'a>(alloc: Global) -> Result<Command<'a>, AllocError>
 
 /// The command `watch`.
 fn watch_command<'a>(alloc: Global) -> Result<Command<'a>, AllocError>
-    ensures { IfOk result (λ command. Has command watching) }
+    ensures { IfOk result (λ command. IsApp command watching) }
 {
     flagged_command(alloc, "watch")?.arg(stripes_option(alloc))
 }
@@ -122,7 +122,7 @@ fn watch_command<'a>(alloc: Global) -> Result<Command<'a>, AllocError>
 /// The command line of the program. Each command is added as soon as it is made, so that little has
 /// to be given back if memory is refused.
 fn command<'a>(alloc: Global) -> Result<Command<'a>, AllocError>
-    ensures { IfOk result (λ command. Has command command_line) }
+    ensures { IfOk result (λ command. IsApp command command_line) }
 {
     Command::new(alloc, "judge")
         .version("1.0.0")
@@ -145,7 +145,7 @@ fn is_by_commits(found: &ArgMatches<'_>) -> bool
 
 /// The number of locks that a word asks for, if it is from 1 to 4,096.
 fn stripes_in(word: &str) -> Option<u64>
-    ensures { result ≡ stripes_of word.now }
+    ensures { result ≡ stripes_in_word word.now }
 {
     let stripes = word.parse::<u64>().ok()?;
     if 1 <= stripes && stripes <= MAX_STRIPES {
@@ -179,7 +179,7 @@ fn basis_in(by_commits: bool, word: Option<&str>) -> Option<Basis>
 /// The call for the outcomes of these files, unless both are standard input.
 fn outcomes_of<'a>(scripts: &'a str, history: &'a str) -> Option<Call<'a>>
     ensures call { option_map asked_of result ≡ outcomes_for scripts.entry.now history.entry.now }
-    ensures stripes { IfSome result (λ call. IsReady (asked_of call)) }
+    ensures stripes { IfSome result (λ call. HasStripesIf (asked_of call)) }
 {
     if scripts == STANDARD && history == STANDARD {
         None
@@ -191,7 +191,7 @@ fn outcomes_of<'a>(scripts: &'a str, history: &'a str) -> Option<Call<'a>>
 /// The call of the command with this name, given the arguments that were found.
 fn call_named<'a>(name: &str, found: &ArgMatches<'a>) -> Option<Call<'a>>
     ensures call { option_map asked_of result ≡ asked_in name.now (rows_of (found_of found.now)) }
-    ensures stripes { IfSome result (λ call. IsReady (asked_of call)) }
+    ensures stripes { IfSome result (λ call. HasStripesIf (asked_of call)) }
 {
     let by_commits = is_by_commits(found);
     match name {
@@ -219,10 +219,10 @@ fn call_named<'a>(name: &str, found: &ArgMatches<'a>) -> Option<Call<'a>>
 /// The call that words ask for if `clap` answers them with an error of this kind. `clap` answers a
 /// call for help or for the version with an error too.
 fn call_for<'a>(kind: ErrorKind) -> Result<Call<'a>, Failure>
-    ensures call { IfOk result (λ call. IsAnswered kind (Some (asked_of call))) }
-    ensures stripes { IfOk result (λ call. IsReady (asked_of call)) }
+    ensures call { IfOk result (λ call. IsCallOf kind (Some (asked_of call))) }
+    ensures stripes { IfOk result (λ call. HasStripesIf (asked_of call)) }
     ensures err { IfErr result (λ failure. (failure ≡ failures.Fault faults.NoMemory)
-        ⊎ ((failure ≡ failures.Usage) × IsAnswered kind None)) }
+        ⊎ ((failure ≡ failures.Usage) × IsCallOf kind None)) }
 {
     match kind {
         ErrorKind::OutOfMemory => Err(Failure::Fault(Fault::NoMemory)),
@@ -244,10 +244,10 @@ fn call_for<'a>(kind: ErrorKind) -> Result<Call<'a>, Failure>
 /// Time and memory in proportion to the words.
 pub fn call_in<'a>(alloc: Global, words: &'a [String]) -> Result<Call<'a>, Failure>
     ensures call { IfOk result (λ call.
-        Asks (map string_bytes words.entry.now) (Some (asked_of call))) }
-    ensures stripes { IfOk result (λ call. IsReady (asked_of call)) }
+        Spells (map string_bytes words.entry.now) (Some (asked_of call))) }
+    ensures stripes { IfOk result (λ call. HasStripesIf (asked_of call)) }
     ensures err { IfErr result (λ failure. (failure ≡ failures.Fault faults.NoMemory)
-        ⊎ ((failure ≡ failures.Usage) × Asks (map string_bytes words.entry.now) None)) }
+        ⊎ ((failure ≡ failures.Usage) × Spells (map string_bytes words.entry.now) None)) }
 {
     let command = command(alloc)?;
     let matches = match command.try_get_matches_from(words) {

@@ -1,4 +1,5 @@
--- A lock puts a stripe in front of its caller's chain, and a release takes the first one off.
+-- A lock puts a stripe in front of its caller's chain, and a release takes the chain's first stripe
+-- off.
 use Prim.Native.Nat.{zero, suc}
 use Rattle.std.proofs.Common.{◌≡◌, ◌≢◌, ℕ, ◌<◌, ◌≤◌, List, [], ◌∷◌, length, get_or, set, replicate, Option, None, Some, true, false, cond, ◌||◌, refl, sym, ◌∙◌, ap, subst, arith, inl, inr, eqb, eq-eqb, ne_eqb, length-set, get_or-set_other, get_or-set_same}
 use Rattle.std.proofs.lemmas.Bool.{cases_eq, cases_lt, or_parts, or_left, eqb-true, eqb-false}
@@ -73,8 +74,8 @@ IsChain-taken holders older caller stripe first chain is free within within_olde
           (λ differs. ap (λ b. b || is_in chain other) (ne_eqb stripe other (λ same. differs (sym same))) ∙ is.held other);
     }
 
--- If a stripe is not the caller's before a write at the stripe, and not after it, the write leaves
--- the caller's chain unchanged.
+-- A write at a stripe leaves the caller's chain unchanged if the caller does not hold the stripe
+-- before the write and does not hold it after the write.
 IsChain-elsewhere : (holders older : Holders) (caller stripe : ℕ) (first next holder : Option ℕ) (chain : List ℕ) → IsChain holders older caller first chain → is_caller caller (get_or holders stripe None) ≡ false → is_caller caller holder ≡ false → stripe < length holders
     → IsChain (set holders stripe holder) (set older stripe next) caller first chain
 IsChain-elsewhere holders older caller stripe first next holder chain is not_before not_after within =
@@ -86,7 +87,7 @@ IsChain-elsewhere holders older caller stripe first next holder chain is not_bef
           (λ differs. is.held other);
     }
 
--- A chain that begins at this stripe is this stripe and a rest.
+-- A chain that begins at this stripe is this stripe, followed by a rest.
 chain_from : (holders older : Holders) (caller stripe : ℕ) (first : Option ℕ) (chain : List ℕ) → IsChain holders older caller first chain → first ≡ Some stripe → (rest : List ℕ) × IsChain holders older caller (Some stripe) (stripe ∷ rest)
 chain_from holders older caller stripe first [] is begins = absurd (none_is_not_some first stripe is.leads begins)
 chain_from holders older caller stripe first (other ∷ rest) is begins =
@@ -124,7 +125,7 @@ none_else-freed holders stripe within none_else other holder =
     (λ same held. absurd (none_is_not_some None holder refl held))
     (λ differs held. none_else other holder held)
 
--- A release by a number from 64 on, which no caller has, changes no holder.
+-- A release for a number from 64 on changes no holder: no caller has such a number.
 not_a_caller : (caller : ℕ) (held : Option ℕ) → ((holder : ℕ) → held ≡ Some holder → holder < 64) → 64 ≤ caller → held ≡ without_caller caller held
 not_a_caller caller None few past = refl
 not_a_caller caller (Some holder) few past =
@@ -226,7 +227,8 @@ fewer_held holders caller stripe within held =
     let one : cond {A = ℕ} (is_caller caller (get_or holders stripe None)) 1 0 ≡ 1 = ap (λ b. cond {A = ℕ} b 1 0) (some_is_caller caller _ held) in
     omega (arith, one, sum_by-set (λ (holder : Option ℕ). cond {A = ℕ} (is_caller caller holder) 1 0) holders stripe None None within)
 
--- If one of the caller's stripes is freed before the release, the release leaves the same holders.
+-- The result of the caller's release does not change if one of the caller's stripes is freed before
+-- the release.
 pub without_caller-set : (holders : Holders) (caller stripe other : ℕ) → get_or holders stripe None ≡ Some caller → without_caller caller (get_or (set holders stripe None) other None) ≡ without_caller caller (get_or holders other None)
 without_caller-set holders caller stripe other held =
     get_or-set_is holders stripe other None (held_below holders stripe caller held) (λ holder. without_caller caller holder ≡ without_caller caller (get_or holders other None))

@@ -1,6 +1,6 @@
-//! The holders of the stripes, for one owner: a byte for each stripe, and the stripes of each
-//! caller in a chain, so that `release_all` takes time only in proportion to the stripes that it
-//! frees. Invariant: each chain has exactly the stripes that its caller holds.
+//! The holders of the stripes, for use by one thread at a time: a byte for each stripe, and the
+//! stripes of each caller in a chain. So `release_all` takes time only in proportion to the stripes
+//! that it frees. Invariant: each chain has exactly the stripes that its caller holds.
 ghost use Rattle.std.specs.Prelude.{◌≡◌, ℕ, ◌<◌, List, Option, None, length, replicate, IfOk};
 ghost use Rattle.key_locks.specs.Chains.{AreChained};
 
@@ -78,9 +78,9 @@ impl KeyLocks {
         self.holders.get(stripe)?.caller()
     }
 
-    /// Makes the caller the holder of the stripe, unless another caller holds it: then nothing
-    /// changes, and the answer names that caller. A stripe that the caller holds is granted again.
-    /// No other stripe changes.
+    /// Makes the caller the holder of the stripe, unless another caller holds it. In that case
+    /// nothing changes, and the answer names that caller. A stripe that the caller holds is granted
+    /// again. No other stripe changes.
     pub fn lock(&mut self, caller: usize, stripe: usize) -> LockAnswer
         requires caller { caller < CALLERS }
         requires stripe { stripe < length self.old }

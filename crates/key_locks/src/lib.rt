@@ -2,7 +2,7 @@
 //! and Koskinen, "Transactional Boosting: A Methodology for Highly-Concurrent Transactional
 //! Objects" (PPoPP 2008), rule 2, commutativity isolation.
 //!
-//! Keys are distributed to a fixed number of stripes. A transaction takes the stripe of each key
+//! Keys are distributed over a fixed number of stripes. A transaction takes the stripe of each key
 //! that it works on, and keeps it to its end. Two operations on one key may not commute, so a
 //! stripe has at most one holder: a caller, whose number is below 64. A caller that finds a stripe
 //! held by another is told by whom, and never waits.
@@ -25,8 +25,9 @@
 //! `StripeRight` is for stripes that callers do not take from a `KeyLocks`. It is the right to a
 //! stripe, as a value; `StripeRight::all` makes one for each stripe.
 //!
-//! Proved: a stripe has at most one holder; a lock is granted exactly if no other caller holds the
-//! stripe, and otherwise names that holder; each call says of every stripe who holds it afterwards.
+//! Proved: a stripe has at most one holder. A lock is granted exactly if no other caller holds the
+//! stripe; otherwise the answer names that holder. The contract of each call says of every stripe
+//! who holds it afterwards.
 #![tactic(auto)]
 
 mod key_locks;

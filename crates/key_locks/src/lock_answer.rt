@@ -1,6 +1,7 @@
 //! The answer of a lock: granted, or the caller that holds the stripe. It is a type and no `bool`,
-//! since a Busy entry names that caller. Neither answer asks the caller to wait: a held stripe is
-//! granted to its holder again, and refused to any other caller at once, with nothing changed.
+//! since the history names that holder, in the entry `Busy`. Neither answer asks the caller to
+//! wait: a held stripe is granted to its holder again, and refused to any other caller at once,
+//! with nothing changed.
 /// The answer to a caller that asks for a stripe.
 #[derive(Clone, Copy, Debug, PartialEq, Eq)]
 pub enum LockAnswer {

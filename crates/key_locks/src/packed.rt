@@ -29,14 +29,14 @@ impl Model for Holder {
 }
 
 impl Holder {
-    /// No caller holds it.
+    /// No caller holds the stripe.
     pub(crate) fn none() -> Holder
         ensures { result ≡ None }
     {
         Holder { caller: u8::MAX }
     }
 
-    /// This caller holds it.
+    /// This caller holds the stripe.
     pub(crate) fn of(caller: usize) -> Holder
         requires { caller < 255 }
         ensures { result ≡ Some caller }
@@ -46,7 +46,7 @@ impl Holder {
         }
     }
 
-    /// The caller that holds it, if one does.
+    /// The caller that holds the stripe, if there is one.
     pub(crate) fn caller(self) -> Option<usize>
         ensures { result ≡ self }
     {

@@ -37,8 +37,8 @@ seen_taken s o i inside ne = ⊎_elim (λ (z : get_or s.words i 0 ≡ 0). absurd
     let one : times i t.1.held ≡ 1 = o.held t.0 t.1 t.2 i ∙ once_yes t.1.number (get_or s.words i 0) t.3 in
     (t.0, t.1, t.2, t.3, o.taken t.0 t.1 t.2 i (omega (arith, one)))) (o.named i inside)
 
--- After a true note is added, each note of a word other than 0 is true: the word names a seat that
--- has taken the stripe.
+-- A note of a word other than 0 is true if the word names a seat that has taken the stripe. If a
+-- true note or a note of the word 0 is added, all notes of words other than 0 are still true.
 added_note : (s : St) → IsOrderly s → (id : ℕ) (v : View) → get_elem? s.views id ≡ some v → (i x : ℕ) → (x ≢ 0 → WasTaken s.views i x)
     → (k word : ℕ) → word ≢ 0 → Contains (v.notes ++ (i, x) ∷ []) (k, word) → WasTaken s.views k word
 added_note s o id v me i x true k word ne has = ⊎_elim (λ (old : Contains v.notes (k, word)). o.noted id v me k word ne old)
@@ -80,7 +80,8 @@ tries n id m i own said e lt s o wide me _ = let v : View = m.0 in let x : ℕ =
     ))
 
 -- An act that takes out the slot of the stripe x, and puts it right behind the slot of the first
--- stripe k. In one step, the slot of k goes home, then the slot of x is taken out, then that of k.
+-- stripe, k. The act has three parts: the slot of k goes home, the slot of x is taken out, and the
+-- slot of k is taken out again.
 front_of : (hs : Slots) (c : List (ℕ × Option ℕ)) (x k : ℕ) (ks : List ℕ) → c ≡ (k, None) ∷ emptied ks → k ≢ x → x < length hs → k < length hs → get_elem? hs x ≡ some (some None)
     → Valid hs c (chain gives (chain (takes x None) (takes k None)))
     × (carried_after c (chain gives (chain (takes x None) (takes k None))) ≡ emptied (k ∷ x ∷ ks))

@@ -19,7 +19,8 @@ abbrev pub IsNamed : List View → ℕ → Type 0
 IsNamed views word =
     (word ≡ 0) ⊎ ((seat : ℕ) × (v : View) × (get_elem? views seat ≡ some v) × (word ≡ v.number + 1))
 
--- The seat that the word names has taken the stripe at some time, when it saw the word 0.
+-- The word names a seat that has taken the stripe at some time: that seat has noted the stripe's
+-- word as 0.
 abbrev pub WasTaken : List View → ℕ → ℕ → Type 0
 WasTaken views stripe word =
     (seat : ℕ) × (v : View) × (get_elem? views seat ≡ some v) × (word ≡ v.number + 1)

@@ -10,8 +10,8 @@ abbrev pub Sat : Type 0
 Sat = Me (Option ℕ) View
 
 -- A step, the seat before it, the word that it found, and the seat after it.
-abbrev pub Told : Type 1
-Told = Step (Option ℕ) → Sat → ℕ → Sat → Type 0
+abbrev pub StepEffect : Type 1
+StepEffect = Step (Option ℕ) → Sat → ℕ → Sat → Type 0
 
 -- The stripe and its word are noted.
 abbrev pub with_note : View → ℕ → ℕ → View
@@ -40,15 +40,15 @@ emptied (stripe ∷ others) = (stripe, None) ∷ emptied others
 
 -- If the word was 0, the seat now holds the stripe and has its slot out, with the right. If not,
 -- the seat notes the word; the word names this seat exactly if the seat held the stripe before.
-abbrev pub took : Told
+abbrev pub took : StepEffect
 took st m found n = (found ≡ 0 → n ≡ (gained m.0 st.word, (st.word, Some st.word) ∷ m.1))
     × (found ≢ 0 → (n ≡ (with_note m.0 st.word found, m.1))
     × (Holds m.0 st.word ↔ (found ≡ m.0.number + 1)))
 
 -- The stripe's slot is the first of the seat's slots.
-abbrev pub brought : Told
+abbrev pub brought : StepEffect
 brought st m found n = n ≡ (m.0, emptied (st.word ∷ removed st.word m.0.held))
 
 -- The seat no longer holds the stripe, and its slot is at home.
-abbrev pub freed : Told
+abbrev pub freed : StepEffect
 freed st m found n = n ≡ (lost m.0 st.word, rest m.1)

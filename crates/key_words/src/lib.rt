@@ -3,16 +3,16 @@
 //!
 //! A thread acts by a seat (`KeySeat`), which has a number. A stripe's word is 0 if the stripe is
 //! free, and `n + 1` if seat `n` holds it. Each stripe has one right, which lies in the stripe's
-//! slot while no seat holds the stripe. A take is one compare-exchange of the word from 0: it
-//! answers the right, or the word that it saw, which tells who held the stripe. A give lays the
+//! slot while no seat holds the stripe. A take is one compare-exchange of the word from 0. It
+//! answers the right or, if the stripe was held, the word, which names the holder. A give lays the
 //! right back and stores 0.
 //!
 //! Proved, by a rule that holds between any two atomic steps of any threads: a stripe is held by at
-//! most one seat (`held_once`), the one that its word names; its slot is at home (with no seat) and
-//! has the right exactly if the word is 0, and so the right goes to one seat at a time; a seat is
-//! named as a holder only after it has taken the stripe, so no take can answer that an untouched
-//! stripe is held. No call waits. Nothing says that a take ever succeeds. Calls take constant time
-//! and no memory unless they say otherwise.
+//! most one seat (`held_once`), the one that its word names. A stripe's slot is at home (with no
+//! seat) and has the right exactly if the word is 0. So the right goes to one seat at a time. A
+//! take names a seat as the holder only after that seat has taken the stripe. So no take answers
+//! that an untouched stripe is held. No call waits. It is not proved that a take ever succeeds.
+//! Calls take constant time and no memory unless they say otherwise.
 #![tactic(auto)]
 
 mod law;

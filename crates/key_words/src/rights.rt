@@ -51,8 +51,8 @@ impl Rights {
         None
     }
 
-    /// Takes the stripe's word, in one try, unless the right is there already. Room for a right is
-    /// made before the word is tried.
+    /// Tries once to take the stripe's word, unless the stripe's right is there already. Room for a
+    /// right is made before the word is tried.
     ///
     /// # Errors
     ///

@@ -1,7 +1,7 @@
-//! The rule of the words, and a type for each of the steps that keep it. They are apart from the
-//! code of `words`, which names the type when it takes the step: `Take`, `Bring` and `Free` on a
-//! word, `AddSeat` for a new seat. No value of these types is made, so the rule costs nothing when
-//! a program runs.
+//! The rule of the words, and a type for each step that keeps the rule: `Take`, `Bring` and `Free`
+//! are steps on a word, and `AddSeat` makes a new seat. The code of `words` takes the steps, and
+//! names the type of each. No value of these types is made, so the rule costs nothing when a
+//! program runs.
 ghost use Rattle.std.specs.Prelude.{[]};
 ghost use Rattle.key_words.specs.Rule.{IsOrderly, view};
 ghost use Rattle.key_words.specs.Steps.{brought, elder, freed, newborn, took};
@@ -30,7 +30,7 @@ impl Play<Slot, View> for Take {
     ghost then = { took };
 }
 
-/// A load, after which the stripe's slot is the first of the seat's.
+/// A load, after which the stripe's slot is the first of the seat's slots.
 pub(crate) struct Bring;
 
 impl Play<Slot, View> for Bring {

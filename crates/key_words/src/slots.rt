@@ -1,6 +1,6 @@
 //! The slots of the stripes before the words are made. Each right is moved into its stripe's slot,
-//! and out again if memory for the words is refused, so that no right is lost. The way back takes
-//! no memory: the emptied list of rights keeps its room.
+//! and out again if memory for the words is refused, so that no right is lost. Moving the rights
+//! out takes no memory: the emptied list of rights keeps its room.
 ghost use Rattle.std.specs.Prelude.{◌≡◌, ◌≤◌, [], IfOk, vec_len, vec_capacity};
 ghost use Rattle.key_locks.specs.Rights.{AreAll};
 ghost use Rattle.key_words.specs.Slots.{AreLaid};

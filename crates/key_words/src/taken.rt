@@ -7,17 +7,17 @@ use key_locks::StripeRight;
 /// The answer to a take of a single stripe.
 #[derive(Debug, Drop)]
 pub enum Taken {
-    /// The stripe was free, and is the seat's now: its right.
+    /// The stripe was free, and the seat holds it now. This is the stripe's right.
     Granted(StripeRight),
-    /// The stripe is held: its word, one more than the number of the seat that held it.
+    /// The stripe is held. This is its word, one more than the number of the seat that held it.
     Held(u64),
 }
 
 /// The answer to a take by a caller that keeps its rights.
 #[derive(Clone, Copy, Debug, PartialEq, Eq)]
 pub enum Tried {
-    /// The stripe is the seat's: the position of its right.
+    /// The seat holds the stripe. This is the position of the stripe's right.
     Mine(usize),
-    /// The stripe is held by another seat: its word, one more than that seat's number.
+    /// Another seat holds the stripe. This is the stripe's word, one more than that seat's number.
     Another(u64),
 }

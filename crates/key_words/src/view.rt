@@ -1,7 +1,6 @@
 //! The view of a seat, which the rule of the words relates to the words. It is a type apart from
-//! the seat, since the rule needs it and no program does. Each atomic step gives the view after it:
-//! the number stays, the count and the notes only grow, and the list of stripes follows the takes
-//! and the gives.
+//! the seat, since the rule needs it and no program does. In an atomic step the number stays, the
+//! count and the notes only grow, and the list of stripes follows the takes and the gives.
 use std::collections::LinkedList;
 
 /// A seat's view. It exists only in proofs, and no value of it is made.

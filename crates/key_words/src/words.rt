@@ -1,6 +1,6 @@
 //! The words of the stripes, each with a slot for its right. Invariant, between any two atomic
-//! steps: a word is 0 exactly if its slot is at home with its right, else it names the one seat
-//! that holds the stripe.
+//! steps: a word is 0 exactly if the stripe's slot is at home with the stripe's right. Any other
+//! word names the one seat that holds the stripe.
 ghost use Rattle.std.specs.Prelude.{◌≡◌, ◌<◌, ◌≤◌, [], replicate, IfErr, IfOk, vec_capacity, vec_len};
 ghost use Rattle.key_locks.specs.Rights.{AreAll};
 ghost use Rattle.key_words.specs.Rule.{Holds, view};
@@ -33,8 +33,8 @@ fn zeros(alloc: Global, count: usize) -> Result<Vec<u64>, AllocError>
 impl KeyWords {
     ghost use Rattle.key_words.specs.Seats.{AreSeats, IsOf, Takes, known, stripes_of};
 
-    /// Makes a word for the stripe of each of these rights, all stripes free, and this number of
-    /// seats, by rising number.
+    /// Makes a word for the stripe of each of these rights, and this number of seats, by rising
+    /// number. All stripes are free.
     ///
     /// # Errors
     ///
@@ -81,8 +81,8 @@ impl KeyWords {
         }
     }
 
-    /// Splits all other seats from the first seat, and answers all of them by rising number, the
-    /// first seat too.
+    /// Splits the other seats off the first seat. Answers all seats, with the first, by rising
+    /// number.
     fn make_seats(
         &self,
         mut first: Seat<Slot, View>,
@@ -106,11 +106,11 @@ impl KeyWords {
         all
     }
 
-    /// Takes a stripe in one try, which never waits: one compare-exchange of the stripe's word. The
-    /// seat notes the word that it saw.
+    /// Tries once to take a stripe, and never waits: the try is one compare-exchange of the
+    /// stripe's word. The seat notes the word that the try saw.
     ///
-    /// The answer is `Granted`, with the stripe's right, exactly if that word was 0; else `Held`,
-    /// with that word.
+    /// The answer is `Granted`, with the stripe's right, exactly if that word was 0. Otherwise it
+    /// is `Held`, with that word.
     pub fn take(&self, seat: &mut KeySeat, stripe: usize) -> Taken
         requires seat { IsOf seat.old self.now }
         requires stripe { stripe < stripes_of self.now }
@@ -129,9 +129,12 @@ impl KeyWords {
         }
     }
 
-    /// Gives a stripe back by its right, and leaves the seat's other stripes unchanged: lays the
-    /// right into its slot and frees the word by one store. First one load, which changes no word
-    /// and no slot, puts the stripe's slot in front of the seat's other slots.
+    /// Gives a stripe back by its right, and leaves the seat's other stripes unchanged. There are
+    /// three steps:
+    /// - A load makes the stripe's slot the first in the seat's order of its slots. It changes
+    ///   neither the word nor the slot.
+    /// - An exchange puts the right into the slot.
+    /// - A store frees the word.
     pub fn give(&self, seat: &mut KeySeat, right: StripeRight)
         requires seat { IsOf seat.old self.now }
         requires held { Holds (known seat.old) right }

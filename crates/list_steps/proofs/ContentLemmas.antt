@@ -46,14 +46,15 @@ pairs_cons : (n : NodeAt) (rest : List NodeAt) → pairs (n ∷ rest) ≡ pair_o
 unfolding pairs
 pairs_cons n rest = refl
 
--- Two lists that begin with the same nodes have the same content if their other nodes have.
+-- If two lists begin with the same nodes, and their other nodes have the same content, the lists
+-- have the same content.
 pairs_same_rest : (front : List NodeAt) (n : NodeAt) (rest other : List NodeAt) → pairs rest ≡ pairs other → pairs (front ++ n ∷ rest) ≡ pairs (front ++ n ∷ other)
 pairs_same_rest front n rest other same =
     pairs-append front (n ∷ rest)
     ∙ ap (λ ps. pairs front ++ ps) (pairs_cons n rest ∙ ap (λ ps. pair_of n ++ ps) same ∙ sym (pairs_cons n other))
     ∙ sym (pairs-append front (n ∷ other))
 
--- A stretch of nodes is replaced by another.
+-- Replacing a stretch of nodes replaces the pairs of the stretch.
 pub replaced : (front was now rest : List NodeAt) → Replaces (pairs (front ++ (was ++ rest))) (pairs (front ++ (now ++ rest))) (pairs was) (pairs now)
 replaced front was now rest = record {
   before = pairs front;
@@ -74,7 +75,7 @@ module _ (nodes : List NodeAt) (place : ℕ) (n : NodeAt) (is : node_of nodes pl
   at : IsAt nodes place n
   at = found_at nodes place n is
 
-  -- A node that is linked adds its pair, if it has one.
+  -- Linking a node adds its pair, if it has one.
   pub pairs_linked : (x : NodeAt) → Replaces (pairs nodes) (pairs (linked_after nodes place x)) [] (pair_of x)
   pairs_linked x = replaces_same _ _ _ _ _ _ _ _
       (ap pairs (append_assoc at.front (n ∷ []) at.rest ∙ sym at.is))
@@ -90,13 +91,13 @@ module _ (nodes : List NodeAt) (place : ℕ) (n : NodeAt) (is : node_of nodes pl
       (replaced at.front (n ∷ []) (change n ∷ []) at.rest)
 
   module _ (regular : n.kind ≡ Regular) (unmarked : n.marked ≡ false) where
-    -- A node that is marked removes its pair.
+    -- Marking the node removes its pair.
     pub pairs_marked : Replaces (pairs nodes) (pairs (marked_at nodes place)) ((n.at.key, n.value) ∷ []) []
     pairs_marked = replaces_same _ _ _ _ _ _ _ _ refl refl
         (pair_regular n regular unmarked) (pair_marked (record n { marked = true }) refl)
         (changed (λ k. record k { marked = true }))
 
-    -- A value that is written replaces the one in the pair.
+    -- Writing a value replaces the value in the pair.
     pub pairs_written : (value : ℕ) → Replaces (pairs nodes) (pairs (written_at nodes place value)) ((n.at.key, n.value) ∷ []) ((n.at.key, value) ∷ [])
     pairs_written value = replaces_same _ _ _ _ _ _ _ _ refl refl
         (pair_regular n regular unmarked) (pair_regular (record n { value = value }) regular unmarked)
@@ -111,7 +112,7 @@ module _ (nodes : List NodeAt) (place : ℕ) (n : NodeAt) (is : node_of nodes pl
         let P : List (ℕ × ℕ) → Type 0 = λ ps. Contains ps (n.at.key, n.value) in
         subst P (sym parts) (Contains-append_right (pairs at.front) ((n.at.key, n.value) ∷ pairs at.rest) (n.at.key, n.value) (0, omega arith, refl))
 
--- A marked node that is unlinked leaves the content unchanged.
+-- Unlinking one marked node leaves the content unchanged.
 pub pairs_unlinked : (nodes : List NodeAt) (place : ℕ) → IsBeforeMarked nodes place → pairs (unlinked_after nodes place) ≡ pairs nodes
 pairs_unlinked nodes place before =
     let found = next_from nodes place before.node before.next in

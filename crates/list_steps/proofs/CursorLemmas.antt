@@ -9,7 +9,7 @@ use Rattle.node_list.specs.Follow.{Follows}
 use Rattle.node_list.specs.Sound.{IsSound}
 use Rattle.list_steps.specs.declared.cursor.Cursor.{Cursor}
 use Rattle.list_steps.specs.declared.cursor.Noted.{Noted}
-use Rattle.list_steps.specs.Found.{behind, fits, is_noted, is_next_noted, noted, node_there, pred_of, at_of, changes_of, with_key, IsBeyond, IsFound, IsPlaced}
+use Rattle.list_steps.specs.Found.{behind, fits, is_noted, is_next_noted, noted, node_there, pred_of, at_of, change_number_of, with_key, IsBeyond, IsFound, IsPlaced}
 use Rattle.list_steps.specs.Seek.{IsBelow, IsNotBelow, IsPred}
 use Rattle.node_list.proofs.OrderLemmas.{some-injective, some-none}
 use Rattle.node_list.proofs.NodesLemmas.{found_linked, linked_found, next_found}
@@ -121,7 +121,7 @@ module _ (l : Listing) (c : Cursor) (sound : IsSound l) (placed : IsPlaced l c) 
     ]
   ]
 
--- The node that has the sort key of a cursor that fits: it is right behind the cursor's first node.
+-- The node `n` has the cursor's sort key, is right behind the cursor's first node, and is unmarked.
 pub record There (l : Listing) (c : Cursor) (n : NodeAt) : Type 0 where
   pub behind_is : behind l c ≡ Some n
   pub is : node_of l.nodes n.place ≡ Some n
@@ -194,14 +194,15 @@ module _ (l : Listing) (c : Cursor) (found : IsFound l c) where
       cur_node : (cur : Noted) → c.cur ≡ Some cur → (k : NodeAt) × (node_of l.nodes cur.place ≡ Some k) × (k.stamp ≡ cur.stamp) × IsNotBelow k (at_of c)
       cur_node cur cur_is = go (behind l c) cur refl (found.cur_noted ∙ cur_is) found.beyond
 
--- The note of the node behind a place is that of the node at the next place.
+-- Let `next` be the place of the node behind `place`. Then the note of the node at `next` is also
+-- the note of the node behind `place`.
 pub noted_next : (nodes : List NodeAt) (place next : ℕ) (k : Noted) → IsSpread nodes → place_of (next_of nodes place) ≡ Some next → noted (node_of nodes next) ≡ Some k → noted (next_of nodes place) ≡ Some k
 noted_next nodes place next k spread is note =
     let found = linked_found nodes next (next_linked nodes place next spread is) in
     ap noted (next_node nodes place next spread is found.0 found.1 ∙ sym found.1) ∙ note
 
 -- A cursor that notes the position of its sort key is as a seek leaves it.
-pub noted_found : (l : Listing) (place : ℕ) (c : Cursor) → IsPred l.nodes place (at_of c) → IsBeyond (next_of l.nodes place) (at_of c) → noted (node_of l.nodes place) ≡ Some c.pred → c.cur ≡ noted (next_of l.nodes place) → changes_of c ≡ l.changes → IsFound l c
+pub noted_found : (l : Listing) (place : ℕ) (c : Cursor) → IsPred l.nodes place (at_of c) → IsBeyond (next_of l.nodes place) (at_of c) → noted (node_of l.nodes place) ≡ Some c.pred → c.cur ≡ noted (next_of l.nodes place) → change_number_of c ≡ l.changes → IsFound l c
 noted_found l place c before beyond pred_is cur_is changes_are = record {
   pred = before.node;
   pred_is = subst At here before.is;
@@ -266,7 +267,7 @@ still_placed old new c placed follows = record {
   ];
   changes_known = omega (arith, placed.changes_known, follows.changes);
   held = λ same below.
-      let at_old : old.changes ≡ changes_of c = omega (arith, placed.changes_known, follows.changes) in
+      let at_old : old.changes ≡ change_number_of c = omega (arith, placed.changes_known, follows.changes) in
       let unchanged : new.changes ≡ old.changes = omega arith in
       fits_same old new c (follows.still unchanged below) ∙ placed.held at_old (omega arith);
 }

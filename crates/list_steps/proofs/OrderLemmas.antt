@@ -9,7 +9,7 @@ use Rattle.split_key.proofs.SortLemmas.{before_apart, before_transitive}
 use Rattle.list_steps.specs.Seek.{IsBelow}
 use Rattle.list_steps.proofs.NodeLemmas.{found_at, next_at}
 
--- A node that is before all that follow it is before each of them.
+-- If a node `k` is before all nodes of a list, then `k` is before the node `n` of this list.
 pub before_later : (k n : NodeAt) (front rest : List NodeAt) → AllByRecursion (IsNodeBefore k) (front ++ n ∷ rest) → IsNodeBefore k n
 before_later k n [] rest before = before.0
 before_later k n (m ∷ front) rest before = before_later k n front rest before.1
@@ -31,7 +31,7 @@ none_before (m ∷ front) n rest sort rising below others =
     let low = before_transitive m.at n.at sort (before_later m n front rest rising.0) below in
     (before_apart m.at sort low, none_before front n rest sort rising.1 below others)
 
--- No node behind one that is above the sort key has the sort key.
+-- If a node is above the sort key, no node behind it has the sort key.
 none_behind : (n : NodeAt) (rest : List NodeAt) (sort : SortKey) → IsBefore sort n.at → AllByRecursion (IsNodeBefore n) rest → NoneHas sort rest
 none_behind n [] sort above before = tt
 none_behind n (m ∷ rest) sort above before =

@@ -1,4 +1,4 @@
--- The rest of a seek at each node.
+-- What is left of a seek that has reached a node.
 use Prim.Native.Nat.{suc}
 use Rattle.std.proofs.Common.{◌≡◌, ℕ, ◌+◌, ◌-◌, ◌<◌, ◌≤◌, inl, inr, List, [], ◌∷◌, ◌++◌, Option, Some, None, Bool, true, false, length, refl, sym, ◌∙◌, ap, subst, arith, if◌then◌else◌, ◌==◌, append_assoc}
 use Rattle.std.proofs.lemmas.Bool.Decides.{eqb_tells}
@@ -31,7 +31,8 @@ pub record IsSeeking (old now : Listing) (from place : ℕ) (after : Option ℕ)
   pub changes : now.changes ≡ changes_after old.changes (length old.nodes - length now.nodes)
   pub follows : Follows old now
 
--- The node at the next place of a seek is the next one.
+-- Let a seek be at `place`, and let `there` be the place of its next node. Then the node at `there`
+-- is the node behind `place`.
 pub seeking_next : {old now : Listing} {from place : ℕ} {after : Option ℕ} {sort : SortKey} → IsSeeking old now from place after sort → (there : ℕ) → after ≡ Some there → (m : NodeAt) → node_of now.nodes there ≡ Some m → next_of now.nodes place ≡ Some m
 seeking_next {now = now} {place = place} seeking there is m found =
     next_node now.nodes place there seeking.sound.spread (seeking.next ∙ is) m found

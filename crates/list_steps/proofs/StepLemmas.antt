@@ -3,7 +3,7 @@ use Rattle.std.proofs.Common.{◌≡◌, ℕ, List, [], ◌∷◌, Option, Some,
 use Rattle.std.specs.Prelude.{IsSomeAnd, IsTrue}
 use Rattle.node_list.specs.declared.node.Kind.{Kind}
 use Rattle.node_list.specs.declared.node.Kind.TheVariants.{Dummy, Regular}
-use Rattle.node_list.specs.Nodes.{NodeAt, Listing, Becomes, Takes, IsRegularAt, is_regular, node_of, place_of, linked_after, marked_at, written_at}
+use Rattle.node_list.specs.Nodes.{NodeAt, Listing, Becomes, UsesSpare, IsRegularAt, is_regular, node_of, place_of, linked_after, marked_at, written_at}
 use Rattle.node_list.specs.Order.{IsVacant}
 use Rattle.node_list.specs.Sound.{IsSound}
 use Rattle.list_steps.specs.declared.cursor.Cursor.{Cursor}
@@ -81,7 +81,7 @@ at_node l c place here P holds =
     subst Q (sym here.there) (subst P (sym at_place) holds)
 
 -- Linking a node has the effect that `Links` states.
-pub links : (old new : Listing) (pred : ℕ) (x : NodeAt) → IsVacant old.nodes pred x.at → Takes old new (linked_after old.nodes pred x) x.place → node_of new.nodes x.place ≡ Some x → Links old new pred x
+pub links : (old new : Listing) (pred : ℕ) (x : NodeAt) → IsVacant old.nodes pred x.at → UsesSpare old new (linked_after old.nodes pred x) x.place → node_of new.nodes x.place ≡ Some x → Links old new pred x
 links old new pred x vacant takes found =
     let Content : List NodeAt → Type 0 = λ ns. Replaces (pairs old.nodes) (pairs ns) [] (pair_of x) in
     record {

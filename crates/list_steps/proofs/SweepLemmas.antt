@@ -18,7 +18,7 @@ use Rattle.list_steps.proofs.NodeLemmas.{IsAt, found_at, next_at, unlinked_at, a
 abbrev pub IsClean : List NodeAt → Type 0
 IsClean nodes = AllByRecursion (λ n. n.marked ≡ false) nodes
 
--- The sweep is at a node, and neither that nor any before it is marked.
+-- The sweep is at a node. Neither this node nor any node before it is marked.
 pub record IsSweeping (nodes : List NodeAt) (place : ℕ) : Type 0 where
   pub node : NodeAt
   pub at : IsAt nodes place node
@@ -113,9 +113,10 @@ early_low bucket at before = elim (lower_from at (dummy_at bucket) before) [
   | inr both ↦ absurd (omega (arith, both.1))
 ]
 
--- Let the split key of a bucket's dummy be at most the answer of `NodeList::marks_begin`. Then each
--- linked dummy up to this dummy precedes all marked nodes. So a sweep may begin at the dummy of the
--- answer's bucket (`bucket_at`), or at the dummy of that bucket's nearest stored ancestor.
+-- Let `split` be the answer of `NodeList::marks_begin`, and let `bucket` have a dummy whose split
+-- key is at most `split`. Then this dummy, if it is linked, precedes all marked nodes, and so does
+-- each linked dummy before it. The function `bucket_at` gives such a bucket for `split`. So a sweep
+-- may begin at the dummy of that bucket, or at the dummy of its nearest stored ancestor.
 pub before_marks : (l : Listing) (place bucket split : ℕ) (node : NodeAt) → IsSound l → node_of l.nodes place ≡ Some node → node.kind ≡ Dummy → IsNotBefore (dummy_at bucket) node.at → reversed bucket ≤ split → AreMarksFrom split l.nodes → IsBeforeMarks l.nodes place
 before_marks l place bucket split node sound is dummy not_behind order from =
     let at = found_at l.nodes place node is in
@@ -136,7 +137,7 @@ module _ (nodes : List NodeAt) (place : ℕ) (sweeping : IsSweeping nodes place)
   first_rest : (o : Option NodeAt) → next_of nodes place ≡ o → first sweeping.at.rest ≡ o
   first_rest o is = sym (next_at nodes place sweeping.node sweeping.at) ∙ is
 
-  -- The sweep moves on behind an unmarked node.
+  -- If the next node is unmarked, the sweep moves on to it.
   pub sweeping_passed : (m : NodeAt) → IsSpread nodes → next_of nodes place ≡ Some m → m.marked ≡ false → IsSweeping nodes m.place
   sweeping_passed m spread is unmarked = record {
     node = m;
@@ -144,7 +145,7 @@ module _ (nodes : List NodeAt) (place : ℕ) (sweeping : IsSweeping nodes place)
     passed = clean-append (sweeping.at.front ++ sweeping.node ∷ []) (m ∷ []) sweeping.passed (unmarked, tt);
   }
 
-  -- It finds the first marked node.
+  -- If the next node is marked, it is the first marked node.
   pub sweeping_found : (m : NodeAt) → next_of nodes place ≡ Some m → m.marked ≡ true → unlinked_after nodes place ≡ without_first_marked nodes
   sweeping_found m is marked =
       unlinked_at nodes place sweeping.node sweeping.at
@@ -159,7 +160,7 @@ module _ (nodes : List NodeAt) (place : ℕ) (sweeping : IsSweeping nodes place)
           sweeping.at.is ∙ ap (λ ns. sweeping.at.front ++ sweeping.node ∷ ns) (first_is sweeping.at.rest m (first_rest (Some m) is))
           ∙ sym (append_assoc sweeping.at.front (sweeping.node ∷ []) (m ∷ without_first sweeping.at.rest))
 
-  -- If it reaches the end, no node is marked.
+  -- If there is no next node, no node is marked.
   pub sweeping_ends : next_of nodes place ≡ None → IsClean nodes
   sweeping_ends is =
       let nothing = first_none sweeping.at.rest (first_rest None is) in

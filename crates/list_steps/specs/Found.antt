@@ -12,8 +12,8 @@ abbrev pub at_of : Cursor → SortKey
 at_of c = c.at
 
 -- The change number at the end of the seek.
-abbrev pub changes_of : Cursor → ℕ
-changes_of c = c.changes
+abbrev pub change_number_of : Cursor → ℕ
+change_number_of c = c.changes
 
 -- The place of the node before the position sought.
 abbrev pub pred_of : Cursor → ℕ
@@ -43,9 +43,9 @@ pub record IsFound (l : Listing) (c : Cursor) : Type 0 where
   pub below : IsBelow pred (at_of c)
   pub cur_noted : noted (behind l c) ≡ c.cur
   pub beyond : IsBeyond (behind l c) (at_of c)
-  pub changes : changes_of c ≡ l.changes
+  pub changes : change_number_of c ≡ l.changes
 
--- There is a node, with this stamp and unmarked.
+-- There is a node, it has this stamp, and it is unmarked.
 abbrev pub is_noted : Option NodeAt → ℕ → Bool
 is_noted None stamp = false
 is_noted (Some n) stamp = n.stamp == stamp && not n.marked
@@ -64,9 +64,9 @@ unfoldable pub fits : Listing → Cursor → Bool
 fits l c = is_noted (node_of l.nodes (pred_of c)) c.pred.stamp && is_next_noted (behind l c) c.cur
 
 -- A cursor that was placed on the list, now or earlier. If the node at a noted place has the noted
--- stamp, it is the noted node; so the first one is below the sort key, and the second is not. The
--- cursor fits as long as the change number is the noted one and below 2^64 - 1. Each step on the
--- list keeps these properties.
+-- stamp, it is the noted node. The first noted node is below the sort key, and the second noted
+-- node is not below the sort key. The cursor fits as long as the change number is the noted one and
+-- below 2^64 - 1. Each step on the list keeps these properties.
 pub record IsPlaced (l : Listing) (c : Cursor) : Type 0 where
   pub pred_known : c.pred.stamp ≤ l.last
   pub pred_apart : (place : ℕ) → out_at l place ≢ Some c.pred.stamp
@@ -76,8 +76,8 @@ pub record IsPlaced (l : Listing) (c : Cursor) : Type 0 where
   pub cur_apart : (cur : Noted) (place : ℕ) → c.cur ≡ Some cur → out_at l place ≢ Some cur.stamp
   pub beyond : (m : NodeAt) (cur : Noted) → c.cur ≡ Some cur → node_of l.nodes cur.place ≡ Some m
       → m.stamp ≡ cur.stamp → IsNotBelow m (at_of c)
-  pub changes_known : min (changes_of c) (2 ^ 64 - 1) ≤ l.changes
-  pub held : l.changes ≡ changes_of c → l.changes < 2 ^ 64 - 1 → fits l c ≡ true
+  pub changes_known : min (change_number_of c) (2 ^ 64 - 1) ≤ l.changes
+  pub held : l.changes ≡ change_number_of c → l.changes < 2 ^ 64 - 1 → fits l c ≡ true
 
 -- The node, if it has the sort key.
 abbrev pub with_key : Option NodeAt → SortKey → Option NodeAt

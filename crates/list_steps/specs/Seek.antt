@@ -40,7 +40,7 @@ pub record IsPred (nodes : List NodeAt) (place : ℕ) (at : SortKey) : Type 0 wh
   pub unmarked : node.marked ≡ false
   pub below : IsBelow node at
 
--- All but the nodes and the change number is unchanged.
+-- Everything but the nodes and the change number is unchanged.
 pub record KeepsRest (old new : Listing) : Type 0 where
   pub head : new.head ≡ old.head
   pub last : new.last ≡ old.last

@@ -3,7 +3,7 @@ use Rattle.std.specs.Prelude.{◌≡◌, ◌≢◌, ℕ, List, [], ◌∷◌, Op
 use Rattle.std.specs.List.{AllByRecursion}
 use Rattle.node_list.specs.declared.node.Kind.TheVariants.{Regular}
 use Rattle.split_key.specs.Sort.{IsBefore}
-use Rattle.node_list.specs.Nodes.{NodeAt, Listing, Becomes, Takes, node_of, linked_after, marked_at, written_at}
+use Rattle.node_list.specs.Nodes.{NodeAt, Listing, Becomes, UsesSpare, node_of, linked_after, marked_at, written_at}
 use Rattle.node_list.specs.Order.{IsVacant}
 use Rattle.list_steps.specs.declared.cursor.Cursor.{Cursor}
 use Rattle.list_steps.specs.declared.sweeps.SweepOutcome.{SweepOutcome}
@@ -21,7 +21,8 @@ pub record IsThere (l : Listing) (c : Cursor) (place : ℕ) : Type 0 where
   pub unmarked : node.marked ≡ false
   pub content : node.kind ≡ Regular → Contains (pairs l.nodes) (node.at.key, node.value)
 
--- No linked node has the sort key sought, which belongs right behind the cursor's first node.
+-- No linked node has the sort key sought. A node with this key belongs right behind the cursor's
+-- first node.
 pub record IsAbsent (l : Listing) (c : Cursor) : Type 0 where
   pub none : node_there l c ≡ None
   pub vacant : IsVacant l.nodes (pred_of c) (at_of c)
@@ -34,11 +35,11 @@ Finds l c (Some place) = IsThere l c place
 
 -- The node is linked behind the one at the place.
 pub record Links (old new : Listing) (pred : ℕ) (node : NodeAt) : Type 0 where
-  pub takes : Takes old new (linked_after old.nodes pred node) node.place
+  pub takes : UsesSpare old new (linked_after old.nodes pred node) node.place
   pub linked : node_of new.nodes node.place ≡ Some node
   pub content : Replaces (pairs old.nodes) (pairs new.nodes) [] (pair_of node)
 
--- The regular node at the place, which had this value, is marked.
+-- The regular node at the place had this value, and is now marked.
 pub record Marks (old new : Listing) (place value : ℕ) : Type 0 where
   pub node : NodeAt
   pub is : node_of old.nodes place ≡ Some node
@@ -47,7 +48,7 @@ pub record Marks (old new : Listing) (place value : ℕ) : Type 0 where
   pub becomes : Becomes old new (marked_at old.nodes place)
   pub content : Replaces (pairs old.nodes) (pairs new.nodes) ((node.at.key, value) ∷ []) []
 
--- The regular node at the place, which had the first value, has the second.
+-- The regular node at the place had the value `was`, and now has the value `now`.
 pub record Swaps (old new : Listing) (place was now : ℕ) : Type 0 where
   pub node : NodeAt
   pub is : node_of old.nodes place ≡ Some node
@@ -57,11 +58,11 @@ pub record Swaps (old new : Listing) (place was now : ℕ) : Type 0 where
   pub content : Replaces (pairs old.nodes) (pairs new.nodes)
       ((node.at.key, was) ∷ []) ((node.at.key, now) ∷ [])
 
--- The node of the sort key sought, which had this value, is marked.
+-- The node of the sort key sought had this value, and is now marked.
 abbrev pub MarksThere : Listing → Listing → Cursor → ℕ → Type 0
 MarksThere old new c value = IsSomeAnd (node_there old c) (λ n. Marks old new n.place value)
 
--- The node of the sort key sought, which had the first value, has the second.
+-- The node of the sort key sought had the value `was`, and now has the value `now`.
 abbrev pub SwapsThere : Listing → Listing → Cursor → ℕ → ℕ → Type 0
 SwapsThere old new c was now = IsSomeAnd (node_there old c) (λ n. Swaps old new n.place was now)
 

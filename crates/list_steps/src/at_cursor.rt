@@ -5,7 +5,7 @@
 ghost use Rattle.std.specs.Prelude.{◌≡◌, ◌<◌, ◌-◌, ◌^◌, is_ok, IsOk, IfOk, IfErr, OnOk, OnErr};
 ghost use Rattle.node_list.specs.Nodes.{IsOut, filled};
 ghost use Rattle.node_list.specs.Follow.{Follows};
-ghost use Rattle.list_steps.specs.Found.{IsKeyThere, IsPlaced, IsRoomFor, at_of, changes_of, fits, pred_of};
+ghost use Rattle.list_steps.specs.Found.{IsKeyThere, IsPlaced, IsRoomFor, at_of, change_number_of, fits, pred_of};
 ghost use Rattle.list_steps.specs.Steps.{Links, MarksThere, SwapsThere};
 
 use crate::cursor::{Again, Cursor};
@@ -27,7 +27,7 @@ pub fn link(list: &mut NodeList, cursor: Cursor, spare: Spare) -> Result<NodeRef
     requires placed { IsPlaced list.old cursor }
     requires room { IsRoomFor list.old cursor }
     ensures again { is_ok result ≡ fits list.old cursor }
-    ensures unchanged_since { list.old.changes ≡ changes_of cursor
+    ensures unchanged_since { list.old.changes ≡ change_number_of cursor
         → list.old.changes < 2 ^ 64 - 1 → IsOk result }
     ensures ok { OnOk result (Links list.old list.new (pred_of cursor) (filled spare)) }
     ensures place { IfOk result (λ node. node ≡ spare.place) }
@@ -54,7 +54,7 @@ pub fn mark(list: &mut NodeList, cursor: Cursor) -> Result<u64, Again>
     requires placed { IsPlaced list.old cursor }
     requires there { IsKeyThere list.old cursor }
     ensures again { is_ok result ≡ fits list.old cursor }
-    ensures unchanged_since { list.old.changes ≡ changes_of cursor
+    ensures unchanged_since { list.old.changes ≡ change_number_of cursor
         → list.old.changes < 2 ^ 64 - 1 → IsOk result }
     ensures ok { IfOk result (MarksThere list.old list.new cursor) }
     ensures unchanged { OnErr result (list.new ≡ list.old) }
@@ -78,7 +78,7 @@ pub fn swap(list: &mut NodeList, cursor: Cursor, value: u64) -> Result<u64, Agai
     requires placed { IsPlaced list.old cursor }
     requires there { IsKeyThere list.old cursor }
     ensures again { is_ok result ≡ fits list.old cursor }
-    ensures unchanged_since { list.old.changes ≡ changes_of cursor
+    ensures unchanged_since { list.old.changes ≡ change_number_of cursor
         → list.old.changes < 2 ^ 64 - 1 → IsOk result }
     ensures ok { IfOk result (λ was. SwapsThere list.old list.new cursor was value) }
     ensures unchanged { OnErr result (list.new ≡ list.old) }

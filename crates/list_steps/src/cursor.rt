@@ -1,6 +1,6 @@
-//! Cursors: two neighbours by place and stamp, the sort key sought, and the test whether a cursor
-//! still fits. A stamp is never used again, so a new node at an old place is not mistaken for the
-//! old node.
+//! Cursors, and the test whether a cursor still fits. A cursor notes the sort key sought and two
+//! neighbours, each by its place and stamp. A stamp is never used again, so a new node at an old
+//! place is not mistaken for the old node.
 ghost use Rattle.std.specs.Prelude.{◌≡◌, Some, true, ◌==◌, ◌&&◌, not};
 ghost use Rattle.node_list.specs.Nodes.{IsLinked, next_of, node_of, place_of};
 ghost use Rattle.node_list.specs.Sound.{IsSound};
@@ -20,8 +20,8 @@ pub struct Noted {
 
 /// The position of a sort key in a list, as a seek found it.
 ///
-/// It is plain data: the list may change while a cursor is kept, and `look` tests whether it still
-/// fits.
+/// It is plain data: the list may change while a cursor is kept, and `look` tests whether the
+/// cursor still fits.
 #[derive(Clone, Copy, Debug, PartialEq, Eq)]
 pub struct Cursor {
     pub(crate) pred: Noted,
@@ -99,8 +99,8 @@ impl Cursor {
         }
     }
 
-    /// If the cursor fits and no node has the sort key sought, the node behind which a node with
-    /// this sort key belongs.
+    /// The cursor's first node. If the cursor fits and no node has the sort key sought, a node with
+    /// this sort key belongs right behind the first node.
     pub fn pred(&self) -> NodeRef
         ensures { result ≡ pred_of self.now }
     {

@@ -2,9 +2,9 @@
 //!
 //! This is the list of Shalev and Shavit, "Split-Ordered Lists: Lock-Free Extensible Hash Tables"
 //! (Journal of the ACM 53(3), 2006), with the marked nodes of Harris, "A Pragmatic Implementation
-//! of Non-Blocking Linked-Lists" (DISC 2001), divided into steps that each have the list to
-//! themselves: one step seeks a position, and a later one acts there. The later step finds out by
-//! itself whether other callers changed the position in between.
+//! of Non-Blocking Linked-Lists" (DISC 2001). An operation on the list is divided into steps, and
+//! each step has the list to itself: one step seeks a position, and a later one acts there. The
+//! later step finds out by itself whether other callers changed the position in between.
 //!
 //! ```text
 //! dummy 0 -> key 4 -> key 2 -> end      a cursor of key 2's sort key: pred is key 4, cur is key 2
@@ -27,9 +27,8 @@
 //!
 //! Calls take constant time and no memory, except that a seek visits each node from its start to
 //! the position once, and a sweep walks to the first marked node: `sweep` from the first node of
-//! the list, `sweep_from` from any node that precedes all marked ones. Every dummy that is not
-//! behind the position that `NodeList::marks_begin` answers is such a node (the lemma
-//! `before_marks`).
+//! the list, `sweep_from` from any node that precedes all marked ones. Every dummy whose split key
+//! is at most the answer of `NodeList::marks_begin` is such a node (the lemma `before_marks`).
 #![tactic(auto)]
 
 mod at_cursor;

@@ -5,7 +5,7 @@ ghost use Rattle.std.specs.Prelude.{◌≡◌, ◌<◌, ◌-◌, ◌^◌, is_ok,
 ghost use Rattle.node_list.specs.Nodes.{IsLinked, IsOut, IsRegularAt, filled, place_of};
 ghost use Rattle.node_list.specs.Order.{IsVacant};
 ghost use Rattle.node_list.specs.Follow.{Follows};
-ghost use Rattle.list_steps.specs.Found.{IsPlaced, fits, node_there, pred_of, changes_of};
+ghost use Rattle.list_steps.specs.Found.{IsPlaced, fits, node_there, pred_of, change_number_of};
 ghost use Rattle.list_steps.specs.Steps.{Finds, Links, Marks, Swaps};
 
 use crate::cursor::{Again, Cursor};
@@ -37,7 +37,7 @@ fn node_there(list: &NodeList, cursor: &Cursor) -> Option<NodeRef>
 pub fn look(list: &NodeList, cursor: &Cursor) -> Result<Option<NodeRef>, Again>
     requires { IsPlaced list.now cursor.now }
     ensures again { is_ok result ≡ fits list.now cursor.now }
-    ensures unchanged_since { list.now.changes ≡ changes_of cursor.now
+    ensures unchanged_since { list.now.changes ≡ change_number_of cursor.now
         → list.now.changes < 2 ^ 64 - 1 → IsOk result }
     ensures ok { IfOk result (Finds list.now cursor.now) }
 {
@@ -78,7 +78,7 @@ pub fn mark_at(list: &mut NodeList, node: NodeRef) -> u64
     value
 }
 
-/// Writes the value of an unmarked regular node, and answers the one that it had.
+/// Writes a value into an unmarked regular node, and answers the value that it had.
 ///
 /// In the content the pair keeps its position and gets the new value.
 pub fn swap_at(list: &mut NodeList, node: NodeRef, value: u64) -> u64

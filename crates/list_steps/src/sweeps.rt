@@ -26,7 +26,7 @@ fn before_first_marked(list: &NodeList, start: NodeRef) -> NodeRef
     ensures marked { IsBeforeMarked list.now.nodes result }
     ensures first { unlinked_after list.now.nodes result ≡ without_first_marked list.now.nodes }
 {
-    // The list's invariants hold.
+    // By the contract of this call the list is sound. The proof needs this fact, not the answer.
     let _changes = list.changes();
     let mut place = start;
     'walk: while let Some(next) = list.node(place).next() {
@@ -58,8 +58,7 @@ pub fn sweep(list: &mut NodeList) -> SweepOutcome
     sweep_from(list, head)
 }
 
-/// A `sweep` that begins at a node that precedes all marked ones, so that the walk need not begin
-/// at the first node.
+/// A `sweep` whose walk begins at `start`, a node that precedes all marked nodes.
 ///
 /// # Cost
 ///

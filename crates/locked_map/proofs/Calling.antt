@@ -1,4 +1,4 @@
--- The caller after a call, from the end that its holds have brought.
+-- The caller after a call, by the end that the last hold has given.
 use Rattle.std.proofs.Common.{◌≡◌, ℕ, Bool, true, false, List, [], Option, None, inl, inr}
 use Rattle.std.proofs.Common.{refl, sym}
 use Rattle.std.proofs.lemmas.Bool.{not-false}
@@ -16,13 +16,13 @@ use Rattle.locked_map.specs.Calls.{Ended, Failed, IsDone, IsHeld, Passed, Ran, W
 use Rattle.core_tokens.specs.Ready.{IsUnready, Lacks, refused_at, refused_by}
 use Rattle.core_tokens.specs.Claims.{Readies, claims_at}
 use Rattle.core_tokens.specs.Holds.{HasRun, is_out}
-use Rattle.core_tokens.specs.Sides.{Follows}
+use Rattle.core_tokens.specs.Sides.{MovesSide}
 use Rattle.undo_log.specs.Sides.{IsSameSide}
 use Rattle.core_tokens.specs.Suits.{may_refuse}
 use Rattle.core_tokens.specs.Tokens.{Token, IsSameCaller, IsSameSeen}
 
 -- If `a` and `b` are equal side values, an end that takes `b` to `c` also takes `a` to `c`.
-follows_on : {S : Type 0} (words : S → List ℕ) (outcome : End) (a b c : Leveled S) → IsSameSide a b → Follows words outcome b c → Follows words outcome a c
+follows_on : {S : Type 0} (words : S → List ℕ) (outcome : End) (a b c : Leveled S) → IsSameSide a b → MovesSide words outcome b c → MovesSide words outcome a c
 follows_on words (ends.Answered (answers.Began t)) a b c same on = record { value = cc; levels = cc; changes = cc; kept = cc }
 follows_on words outcome a b c same on = record { value = cc; levels = cc; changes = cc; kept = cc }
 
@@ -36,10 +36,10 @@ module _ {S : Type 0} (words : S → List ℕ) (k r h l : Token S) (call : Call)
   went_on : (outcome : End) → IsHeld r call outcome h → l.claims ≡ claims_at outcome h.claims → WentOn k call outcome l
   went_on outcome held claims = record { ready = r; same = same; readied = readied; last = h; held = held; seen = followed.seen; claims = cc }
 
-  side_is : (outcome : End) → Follows words outcome h.side l.side → Follows words outcome k.side l.side
+  side_is : (outcome : End) → MovesSide words outcome h.side l.side → MovesSide words outcome k.side l.side
   side_is outcome follows = follows_on words outcome k.side r.side l.side side (rw held_side at follows)
 
-  pub ended_of : (outcome : End) → h.broken ≡ is_out outcome → HasRun r.seen h.seen r.number call outcome → IsHeld r call outcome h → Follows words outcome h.side l.side → l.claims ≡ claims_at outcome h.claims → Ended words k call outcome l
+  pub ended_of : (outcome : End) → h.broken ≡ is_out outcome → HasRun r.seen h.seen r.number call outcome → IsHeld r call outcome h → MovesSide words outcome h.side l.side → l.claims ≡ claims_at outcome h.claims → Ended words k call outcome l
   ended_of (ends.Refused OutOfStep) broken run held follows claims = inr (
     free,
     record {

@@ -17,7 +17,7 @@ abbrev pub IsAllHere : {S : Type 0} → ℕ → List (Token S) → Type 0
 IsAllHere count ks =
     (length ks ≡ count) × ((c : ℕ) → c < count → IsTrue (list_any (λ k. k.number == c) ks))
 
--- The callers that a map which was not closed returns.
+-- The callers that are returned if a map was not closed.
 abbrev pub back_of : {L S J : Type 0} → Unclosed L S J → List (Token S)
 back_of (Missing map callers) = callers.items
 back_of (Differs core callers) = callers.items

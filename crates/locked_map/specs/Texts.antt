@@ -1,4 +1,4 @@
--- The text of the reason why a map was not closed, by whether a caller is missing.
+-- The text of the reason why a map was not closed: a caller is missing, or the history differs.
 use Rattle.std.specs.Prelude.{ℕ, Bool, true, false, List, codes}
 use Rattle.locked_map.specs.declared.unclosed.Unclosed.{Unclosed}
 use Rattle.locked_map.specs.declared.unclosed.Unclosed.TheVariants.{Missing, Differs}

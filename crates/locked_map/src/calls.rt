@@ -1,22 +1,22 @@
 //! The shared calls of a caller of a shared map.
 //!
-//! Each but `side` takes the turns of its call, each turn under one hold of the lock, and adds to
-//! the token's `seen` exactly the entries that its contract states. Before such a call takes the
-//! lock, the token tests the call: `refused_by` is the token's refusal, in the order that each call
+//! Each call but `side` is a series of turns, each under one hold of the lock, and adds to the
+//! token's `seen` exactly the entries that its contract states. Before such a call takes the lock,
+//! the token tests the call: `refused_by` is the token's refusal, in the order that each call
 //! lists. A call that the token refuses leaves the token unchanged. If the core's answer is
-//! impossible by the token's state, the call ends with `OutOfStep`: the token is broken, what the
-//! call has done stays, `seen` keeps the entries that the call had added, and `close` compares them
-//! with the history. Each of these calls has the clauses
-//! - `ok`: the entries that it has added, if it did what it was asked to do (`save` also has the
-//!   clause `level`, about its answer; `help` has `helped` and `bad_key`, about its holds and its
-//!   refusal);
-//! - `side`: the call's effect on the side value in that case;
-//! - `claims`: the rights to stripes that the token has then, and the words that it has tried: an
-//!   operation tries the word of its key's stripe, unless it has the right, and gets the right if
-//!   the word is free; the end of the transaction gives all rights back;
-//! - `leaves`: that the token let the call pass, or the reason why the call was not done and the
-//!   state after it; and that once the token is broken, every call is refused with `OutOfStep` and
-//!   changes nothing (`Leaves` in `specs/Calls.antt`).
+//! impossible in the token's state, the call ends with `OutOfStep`. The token is then broken, and
+//! what the call has done stays. `seen` keeps the entries that the call has added, and `close`
+//! compares them with the history. Each of these calls has the clauses
+//! - `ok`: the entries that the call has added, if it did what it was asked to do. `save` also has
+//!   the clause `level`, about its answer; `help` has `helped` and `bad_key`, about its holds and
+//!   its refusal.
+//! - `side`: in that case, the call's effect on the side value.
+//! - `claims`: in that case, the rights to stripes that the token then has, and the word that it
+//!   has tried. An operation tries the word of its key's stripe, unless the token has the right,
+//!   and gets the right if the word is free. The end of the transaction gives all rights back.
+//! - `leaves`: the token after the call, also if the call was not done (`EndsCall` in
+//!   `specs/Calls.antt`). Once the token is broken, every call is refused with `OutOfStep` and
+//!   changes nothing.
 ghost use Rattle.std.specs.Prelude.{◌≡◌, ◌↔◌, ℕ, ◌+◌, [], ◌∷◌, ◌++◌, length, None, Some, true};
 ghost use Rattle.std.specs.Prelude.{false, Err, IfOk, IfErr, OnOk};
 ghost use Rattle.txn_words.specs.declared.entry.Entry.TheVariants as entries;
@@ -27,7 +27,7 @@ ghost use Rattle.core_tokens.specs.Claims.{Readies, given_back};
 ghost use Rattle.core_tokens.specs.Noted.{last_txn};
 ghost use Rattle.core_tokens.specs.Ready.{refused_side};
 ghost use Rattle.core_tokens.specs.Tokens.{IsSameButSide};
-ghost use Rattle.locked_map.specs.Calls.{Leaves, WentOn};
+ghost use Rattle.locked_map.specs.Calls.{EndsCall, WentOn};
 ghost use Rattle.undo_log.specs.Sides.{HasLevel, IsBackAt, IsSameSide, IsSettled};
 
 use crate::receipt::Receipt;
@@ -41,27 +41,28 @@ use txn_trace::{Answer, Op, Refusal, Reply};
 use undo_log::{Side, SideJob};
 
 impl<L: Ledger> SharedMap<L> {
-    /// Begins a transaction, and answers its number. The present side value is its level 0: a later
-    /// abort takes back nothing that was changed before.
+    /// Begins a transaction, and answers its number. The present side value becomes level 0 of the
+    /// transaction: a later abort takes back nothing that was changed before.
     ///
     /// # Errors
     ///
-    /// `Refused`, and the transaction, if there is one, is unchanged:
+    /// `Refused`. In all cases but the last, the transaction, if there is one, is unchanged:
     /// - `OutOfStep` if the token is broken.
     /// - `Leaving` if the caller takes changes back, `AlreadyOpen` if it has a transaction.
-    /// - Then `NoMemory` if memory is refused, and `OutOfStep`, which breaks the token and keeps
-    ///   what the call did.
+    /// - Then `NoMemory` if memory is refused.
+    /// - `OutOfStep` if the core's answer is impossible in the token's state. The token is then
+    ///   broken, and what the call did stays.
     ///
     /// # Cost
     ///
-    /// One hold of the lock, of amortized constant time, and a step for each side job, which is
-    /// dropped; may take memory.
+    /// One hold of the lock, of amortized constant time, and a step to drop each side job; may take
+    /// memory.
     pub fn begin<S: Side, R: Wait>(&self, rt: &R, me: &mut Caller<L, S>) -> Result<u64, Stop>
         ensures ok { IfOk result (λ txn. me.new.seen
             ≡ me.old.seen ++ entries.Began me.old.number txn ∷ []) }
         ensures side { OnOk result (IsSettled S.words_of me.old.side me.new.side) }
         ensures claims { OnOk result (me.new.claims ≡ me.old.claims) }
-        ensures leaves { Leaves S.words_of me.old Call.Begin result me.new }
+        ensures leaves { EndsCall S.words_of me.old Call.Begin result me.new }
     {
         match self.call(rt, me, Call::Begin)? {
             End::Answered(Answer::Began(txn)) => Ok(txn),
@@ -73,14 +74,16 @@ impl<L: Ledger> SharedMap<L> {
     ///
     /// # Errors
     ///
-    /// - `Refused`, and the transaction is unchanged, but may hold the key's stripe:
+    /// - `Refused`. In all cases but the last, the transaction is unchanged, except that it may now
+    ///   hold the key's stripe:
     ///   - `OutOfStep` if the token is broken.
     ///   - `NotOpen`, `Leaving`, `OperationUnfinished` and `BadKey` (a key of 2^63 or more, if the
     ///     limits have half keys), the first that applies.
-    ///   - Then `NoMemory` if memory is refused for one more right (then no word was tried) or for
-    ///     the operation; `StampsUsedUp` if no stamp is left; `StaleWord` if by the core's record
-    ///     the word of the key's stripe names no caller that may hold it; and `OutOfStep`, which
-    ///     breaks the token and keeps what the call did.
+    ///   - Then `NoMemory` if memory is refused for one more right (in this case no word was tried)
+    ///     or for the operation; `StampsUsedUp` if no stamp is left; `StaleWord` if by the core's
+    ///     record the word of the key's stripe names no caller that may hold it.
+    ///   - `OutOfStep` if the core's answer is impossible in the token's state. The token is then
+    ///     broken, and what the call did stays.
     /// - `Busy` if the word of the key's stripe names another caller: the transaction is aborted,
     ///   with all its changes taken back and all its rights given back, and the side value has the
     ///   words that it had when the transaction began.
@@ -105,7 +108,7 @@ impl<L: Ledger> SharedMap<L> {
         ensures side { OnOk result (IsSameSide me.old.side me.new.side) }
         ensures claims { OnOk result (Readies me.old.claims (Call.Op (Op.Put key value))
             me.new.claims) }
-        ensures leaves { Leaves S.words_of me.old (Call.Op (Op.Put key value)) result me.new }
+        ensures leaves { EndsCall S.words_of me.old (Call.Op (Op.Put key value)) result me.new }
     {
         self.operate(rt, me, Op::Put(key, value))
     }
@@ -114,14 +117,16 @@ impl<L: Ledger> SharedMap<L> {
     ///
     /// # Errors
     ///
-    /// - `Refused`, and the transaction is unchanged, but may hold the key's stripe:
+    /// - `Refused`. In all cases but the last, the transaction is unchanged, except that it may now
+    ///   hold the key's stripe:
     ///   - `OutOfStep` if the token is broken.
     ///   - `NotOpen`, `Leaving`, `OperationUnfinished` and `BadKey` (a key of 2^63 or more, if the
     ///     limits have half keys), the first that applies.
-    ///   - Then `NoMemory` if memory is refused for one more right (then no word was tried) or for
-    ///     the operation; `StampsUsedUp` if no stamp is left; `StaleWord` if by the core's record
-    ///     the word of the key's stripe names no caller that may hold it; and `OutOfStep`, which
-    ///     breaks the token and keeps what the call did.
+    ///   - Then `NoMemory` if memory is refused for one more right (in this case no word was tried)
+    ///     or for the operation; `StampsUsedUp` if no stamp is left; `StaleWord` if by the core's
+    ///     record the word of the key's stripe names no caller that may hold it.
+    ///   - `OutOfStep` if the core's answer is impossible in the token's state. The token is then
+    ///     broken, and what the call did stays.
     /// - `Busy` if the word of the key's stripe names another caller: the transaction is aborted,
     ///   with all its changes taken back and all its rights given back, and the side value has the
     ///   words that it had when the transaction began.
@@ -143,7 +148,7 @@ impl<L: Ledger> SharedMap<L> {
             ++ entries.Asked me.old.number (Op.Take key) ∷ entries.Did me.old.number reply ∷ []) }
         ensures side { OnOk result (IsSameSide me.old.side me.new.side) }
         ensures claims { OnOk result (Readies me.old.claims (Call.Op (Op.Take key)) me.new.claims) }
-        ensures leaves { Leaves S.words_of me.old (Call.Op (Op.Take key)) result me.new }
+        ensures leaves { EndsCall S.words_of me.old (Call.Op (Op.Take key)) result me.new }
     {
         self.operate(rt, me, Op::Take(key))
     }
@@ -153,14 +158,16 @@ impl<L: Ledger> SharedMap<L> {
     ///
     /// # Errors
     ///
-    /// - `Refused`, and the transaction is unchanged, but may hold the key's stripe:
+    /// - `Refused`. In all cases but the last, the transaction is unchanged, except that it may now
+    ///   hold the key's stripe:
     ///   - `OutOfStep` if the token is broken.
     ///   - `NotOpen`, `Leaving`, `OperationUnfinished` and `BadKey` (a key of 2^63 or more, if the
     ///     limits have half keys), the first that applies.
-    ///   - Then `NoMemory` if memory is refused for one more right (then no word was tried) or for
-    ///     the operation; `StampsUsedUp` if no stamp is left; `StaleWord` if by the core's record
-    ///     the word of the key's stripe names no caller that may hold it; and `OutOfStep`, which
-    ///     breaks the token and keeps what the call did.
+    ///   - Then `NoMemory` if memory is refused for one more right (in this case no word was tried)
+    ///     or for the operation; `StampsUsedUp` if no stamp is left; `StaleWord` if by the core's
+    ///     record the word of the key's stripe names no caller that may hold it.
+    ///   - `OutOfStep` if the core's answer is impossible in the token's state. The token is then
+    ///     broken, and what the call did stays.
     /// - `Busy` if the word of the key's stripe names another caller: the transaction is aborted,
     ///   with all its changes taken back and all its rights given back, and the side value has the
     ///   words that it had when the transaction began.
@@ -186,7 +193,7 @@ impl<L: Ledger> SharedMap<L> {
         ensures side { OnOk result (IsSameSide me.old.side me.new.side) }
         ensures claims { OnOk result (Readies me.old.claims
             (Call.Op (Op.PutIf key expected value)) me.new.claims) }
-        ensures leaves { Leaves S.words_of me.old (Call.Op (Op.PutIf key expected value))
+        ensures leaves { EndsCall S.words_of me.old (Call.Op (Op.PutIf key expected value))
             result me.new }
     {
         self.operate(rt, me, Op::PutIf(key, expected, value))
@@ -196,14 +203,16 @@ impl<L: Ledger> SharedMap<L> {
     ///
     /// # Errors
     ///
-    /// - `Refused`, and the transaction is unchanged, but may hold the key's stripe:
+    /// - `Refused`. In all cases but the last, the transaction is unchanged, except that it may now
+    ///   hold the key's stripe:
     ///   - `OutOfStep` if the token is broken.
     ///   - `NotOpen`, `Leaving`, `OperationUnfinished` and `BadKey` (a key of 2^63 or more, if the
     ///     limits have half keys), the first that applies.
-    ///   - Then `NoMemory` if memory is refused for one more right (then no word was tried) or for
-    ///     the operation; `StaleWord` if by the core's record the word of the key's stripe names no
-    ///     caller that may hold it; and `OutOfStep`, which breaks the token and keeps what the
-    ///     call did.
+    ///   - Then `NoMemory` if memory is refused for one more right (in this case no word was tried)
+    ///     or for the operation; `StaleWord` if by the core's record the word of the key's stripe
+    ///     names no caller that may hold it.
+    ///   - `OutOfStep` if the core's answer is impossible in the token's state. The token is then
+    ///     broken, and what the call did stays.
     /// - `Busy` if the word of the key's stripe names another caller: the transaction is aborted,
     ///   with all its changes taken back and all its rights given back, and the side value has the
     ///   words that it had when the transaction began.
@@ -225,21 +234,22 @@ impl<L: Ledger> SharedMap<L> {
             ++ entries.Asked me.old.number (Op.Get key) ∷ entries.Did me.old.number reply ∷ []) }
         ensures side { OnOk result (IsSameSide me.old.side me.new.side) }
         ensures claims { OnOk result (Readies me.old.claims (Call.Op (Op.Get key)) me.new.claims) }
-        ensures leaves { Leaves S.words_of me.old (Call.Op (Op.Get key)) result me.new }
+        ensures leaves { EndsCall S.words_of me.old (Call.Op (Op.Get key)) result me.new }
     {
         self.operate(rt, me, Op::Get(key))
     }
 
     /// Sets a savepoint, and answers its number, which is the number of savepoints that the
-    /// transaction now has. The present side value is one more level.
+    /// transaction now has. The present side value becomes one more level.
     ///
     /// # Errors
     ///
-    /// `Refused`, and the transaction is unchanged:
+    /// `Refused`. In all cases but the last, the transaction is unchanged:
     /// - `OutOfStep` if the token is broken.
     /// - `NotOpen`, `Leaving` and `OperationUnfinished`, the first that applies.
-    /// - Then `NoMemory` if memory is refused, and `OutOfStep`, which breaks the token and keeps
-    ///   what the call did.
+    /// - Then `NoMemory` if memory is refused.
+    /// - `OutOfStep` if the core's answer is impossible in the token's state. The token is then
+    ///   broken, and what the call did stays.
     ///
     /// # Cost
     ///
@@ -250,7 +260,7 @@ impl<L: Ledger> SharedMap<L> {
             → length s.kept ≡ level + 1) }
         ensures side { OnOk result (HasLevel S.words_of me.old.side me.new.side) }
         ensures claims { OnOk result (me.new.claims ≡ me.old.claims) }
-        ensures leaves { Leaves S.words_of me.old Call.Save result me.new }
+        ensures leaves { EndsCall S.words_of me.old Call.Save result me.new }
     {
         match self.call(rt, me, Call::Save)? {
             End::Answered(Answer::Saved(_)) => Ok(me.levels()),
@@ -259,16 +269,18 @@ impl<L: Ledger> SharedMap<L> {
     }
 
     /// Goes back to a level, 0 or the number of a savepoint: takes back all later changes, and
-    /// drops the savepoints above it. The side value has the words that it had there.
+    /// drops the savepoints above it. The side value gets back the words that it had at the level.
     ///
     /// # Errors
     ///
-    /// `Refused`, and the transaction is unchanged:
+    /// `Refused`. In all cases but the last, the transaction is unchanged:
     /// - `OutOfStep` if the token is broken.
     /// - `NotOpen`, `Leaving`, `OperationUnfinished` and `NoSuchLevel`, the first that applies.
-    /// - Then `NoMemory` if memory is refused, before anything is taken back, and `OutOfStep`,
-    ///   which breaks the token and keeps what the call did. `OutOfStep` is also the answer if the
-    ///   side value has no such level, because a save was made by `hold`.
+    /// - Then `OutOfStep` if the side value has no such level, because a save was made by `hold`.
+    ///   The token is then broken.
+    /// - `NoMemory` if memory is refused, before anything is taken back.
+    /// - `OutOfStep` if the core's answer is impossible in the token's state. The token is then
+    ///   broken, and what the call did stays.
     ///
     /// # Cost
     ///
@@ -286,7 +298,7 @@ impl<L: Ledger> SharedMap<L> {
             ++ entries.Returned me.old.number level ∷ []))) }
         ensures side { OnOk result (IsBackAt S.words_of level me.old.side me.new.side) }
         ensures claims { OnOk result (me.new.claims ≡ me.old.claims) }
-        ensures leaves { Leaves S.words_of me.old (Call.Back level) result me.new }
+        ensures leaves { EndsCall S.words_of me.old (Call.Back level) result me.new }
     {
         match self.call(rt, me, Call::Back(level))? {
             End::Answered(Answer::Returned(_)) => Ok(()),
@@ -299,10 +311,11 @@ impl<L: Ledger> SharedMap<L> {
     ///
     /// # Errors
     ///
-    /// `Refused`, and the transaction is unchanged:
+    /// `Refused`. In all cases but the last, the transaction is unchanged:
     /// - `OutOfStep` if the token is broken.
     /// - `NotOpen`, `Leaving` and `OperationUnfinished`, the first that applies.
-    /// - Then `OutOfStep`, which breaks the token and keeps what the call did.
+    /// - Then `OutOfStep` if the core's answer is impossible in the token's state. The token is
+    ///   broken from then on, and what the call did stays.
     ///
     /// # Cost
     ///
@@ -313,7 +326,7 @@ impl<L: Ledger> SharedMap<L> {
             ≡ me.old.seen ++ entries.Committed me.old.number receipt.place ∷ [])) }
         ensures side { OnOk result (IsSettled S.words_of me.old.side me.new.side) }
         ensures claims { OnOk result (me.new.claims ≡ given_back me.old.claims) }
-        ensures leaves { Leaves S.words_of me.old Call.Commit result me.new }
+        ensures leaves { EndsCall S.words_of me.old Call.Commit result me.new }
     {
         let txn = me.txn();
         match self.call(rt, me, Call::Commit)? {
@@ -328,10 +341,11 @@ impl<L: Ledger> SharedMap<L> {
     ///
     /// # Errors
     ///
-    /// `Refused`, and the transaction is unchanged:
+    /// `Refused`. In all cases but the last, the transaction is unchanged:
     /// - `OutOfStep` if the token is broken.
     /// - `NotOpen` and `Leaving`, the first that applies.
-    /// - Then `OutOfStep`, which breaks the token and keeps what the call did.
+    /// - Then `OutOfStep` if the core's answer is impossible in the token's state. The token is
+    ///   broken from then on, and what the call did stays.
     ///
     /// # Cost
     ///
@@ -344,7 +358,7 @@ impl<L: Ledger> SharedMap<L> {
             ++ entries.Aborted me.old.number ∷ []))) }
         ensures side { OnOk result (IsBackAt S.words_of 0 me.old.side me.new.side) }
         ensures claims { OnOk result (me.new.claims ≡ given_back me.old.claims) }
-        ensures leaves { Leaves S.words_of me.old Call.Abort result me.new }
+        ensures leaves { EndsCall S.words_of me.old Call.Abort result me.new }
     {
         match self.call(rt, me, Call::Abort)? {
             End::Answered(Answer::Aborted) => Ok(()),
@@ -361,8 +375,9 @@ impl<L: Ledger> SharedMap<L> {
     /// before the refusal stay initialised:
     /// - `OutOfStep` if the token is broken.
     /// - `BadKey` for a key of 2^63 or more, if the limits have half keys.
-    /// - Then `NoMemory` if memory is refused, `StampsUsedUp` if no stamp is left, and `OutOfStep`,
-    ///   which breaks the token and keeps what the call did.
+    /// - Then `NoMemory` if memory is refused, and `StampsUsedUp` if no stamp is left.
+    /// - `OutOfStep` if the core's answer is impossible in the token's state. The token is then
+    ///   broken.
     ///
     /// # Cost
     ///
@@ -382,9 +397,9 @@ impl<L: Ledger> SharedMap<L> {
         ensures bad_key { me.old.broken ≡ false → (result ≡ Err (Stop.Refused Refusal.BadKey))
             ↔ (is_bad_key me.old.limits.half key ≡ true) }
         ensures claims { OnOk result (me.new.claims ≡ me.old.claims) }
-        ensures leaves { Leaves S.words_of me.old (Call.Help key) result me.new }
+        ensures leaves { EndsCall S.words_of me.old (Call.Help key) result me.new }
     {
-        // The entries of a token that is not broken have rows.
+        // By the contract of `seen` the entries of a token that is not broken have rows.
         let _seen = me.seen();
         match self.call(rt, me, Call::Help(key))? {
             End::Helped => Ok(()),
@@ -441,7 +456,7 @@ impl<L: Ledger> SharedMap<L> {
             ++ entries.Asked me.old.number op ∷ entries.Did me.old.number reply ∷ []) }
         ensures side { OnOk result (IsSameSide me.old.side me.new.side) }
         ensures claims { OnOk result (Readies me.old.claims (Call.Op op) me.new.claims) }
-        ensures leaves { Leaves S.words_of me.old (Call.Op op) result me.new }
+        ensures leaves { EndsCall S.words_of me.old (Call.Op op) result me.new }
     {
         match self.call(rt, me, Call::Op(op))? {
             End::Answered(Answer::Done(reply)) => Ok(reply),

@@ -20,20 +20,20 @@ use txn_trace::{Limits, SmallEntry};
 use undo_log::Side;
 
 impl<L: Ledger> SharedMap<L> {
-    /// Takes the core out, once the callers of all numbers are back, and compares its history with
-    /// the entries that they saw.
+    /// Takes the core out, if one caller of each number is passed in, and compares the core's
+    /// history with the entries that the callers saw.
     ///
-    /// With `Ok` the core has the map's limits, and its history is legal by the rule that a Busy
-    /// may name any other caller that has begun a transaction; each caller's own entries in it are
-    /// exactly those that the caller saw, and there are no others. With each answer the callers are
-    /// returned unchanged, in their order.
+    /// With `Ok` the core has the map's limits. Its history is legal by the rule that a Busy may
+    /// name any other caller that has begun a transaction. Each caller's own entries in the history
+    /// are exactly those that the caller saw, and there are no others. `Ok` and both errors return
+    /// the callers unchanged, in their order.
     ///
     /// # Errors
     ///
     /// - `Missing` exactly if a number is missing or was passed in twice.
-    /// - Then `Differs` exactly if the core has other limits, or some caller's entries in the
-    ///   history are not those that it saw. Even then the history has as many entries as all
-    ///   callers saw.
+    /// - Otherwise `Differs` exactly if the core has other limits, or some caller's entries in the
+    ///   history are not those that the caller saw. Even then the history has as many entries as
+    ///   all callers saw.
     ///
     /// # Cost
     ///
@@ -70,9 +70,9 @@ impl<L: Ledger> SharedMap<L> {
         has_all(callers, u64::from(self.limits().callers()))
     }
 
-    /// Takes the core out, and says whether it has the map's limits and each caller's entries in
-    /// its history are those that the caller saw. The callers are all there, so the history has as
-    /// many entries as they saw.
+    /// Takes the core out, and says whether it is as expected: it has the map's limits, and each
+    /// caller's entries in its history are those that the caller saw. The callers are all there, so
+    /// the history has as many entries as they saw.
     fn into_core<S: Side>(self, callers: &mut [Caller<L, S>]) -> (Core, bool)
         requires parts { length callers.old ≡ L.parts }
         ensures callers { callers.new ≡ callers.old }
@@ -110,7 +110,8 @@ fn has<L: Ledger, S: Side>(callers: &[Caller<L, S>], number: u64) -> bool
     callers.iter().any(|k| k.number() == number)
 }
 
-/// Whether a core has these limits, and each caller's entries in its history are those that it saw.
+/// Whether a core has these limits, and each caller's entries in its history are those that the
+/// caller saw.
 fn is_seen<L: Ledger, S: Side>(core: &Core, limits: Limits, callers: &[Caller<L, S>]) -> bool
     ensures { IsTrue result ↔ ((core.now.limits ≡ limits)
         × All (λ k. IsOwn core.now.history k) callers.now) }
@@ -118,7 +119,7 @@ fn is_seen<L: Ledger, S: Side>(core: &Core, limits: Limits, callers: &[Caller<L,
     core.limits() == limits && is_all_own(core, callers)
 }
 
-/// Whether each caller's entries in the history are those that it saw.
+/// Whether each caller's entries in the history are those that the caller saw.
 fn is_all_own<L: Ledger, S: Side>(core: &Core, callers: &[Caller<L, S>]) -> bool
     ensures { IsTrue result ↔ All (λ k. IsOwn core.now.history k) callers.now }
 {

@@ -6,13 +6,14 @@
 //!   `abort` and `help`; `run`, which makes any of these from a value of `Call`; and `side`.
 //! - Each *hold* of a token, one turn of a call, is one hold of the lock. So other callers take
 //!   their steps between any two turns, also while changes are taken back. The words of stripes are
-//!   tried, and rights given back, outside the lock.
-//! - Between two holds only the invariants of the core's type are known, and what a token knows by
-//!   `core_tokens`. If these exclude the core's answer, the call ends with `OutOfStep`, and so does
-//!   every later call of the token.
+//!   tried, and rights given back, outside the lock. Only a map that was made with written room has
+//!   further holds, without a turn, in which its history gets more room.
+//! - Between two holds, only the invariants of the core's type and the token's own entries are
+//!   known. If these exclude the core's answer, the call ends with `OutOfStep`, and so does every
+//!   later call of the token.
 //! - `SharedMap::close` takes all tokens back and compares the history with them. If it answers
 //!   `Ok`, the history is legal, each caller's own entries in it are its `seen`, and there are no
-//!   others, since a ledger counts the entries. The lock's value, `Booked`, holds the ledger's
+//!   others, since a ledger counts the entries. The `Booked` under the lock holds the ledger's
 //!   book, and each token holds a share of the ledger.
 //! - `laws::helped`, of `core_tokens`: if core and token are in step, a `help` that ends well has
 //!   initialised its key's bucket.
@@ -32,20 +33,22 @@
 //! }
 //! ```
 //!
-//! If a call answers `Busy`, another caller held the key's stripe when its word was tried; the
-//! transaction is aborted, and may be begun again. The module `transfers` of the crate `examples`
-//! has an example with threads. Calls take constant time and no memory unless they say otherwise.
+//! If a call answers `Busy`, another caller held the key's stripe when the stripe's word was tried.
+//! The transaction is aborted, and the caller may try again with a new one. The module `transfers`
+//! of the crate `examples` has an example with threads. Calls take constant time and no memory
+//! unless they say otherwise.
 #![tactic(auto)]
 
 mod calls;
 mod close;
 mod closed;
+mod growth;
 mod receipt;
 mod shared_map;
 mod unclosed;
 
 pub use closed::Closed;
-pub use core_tokens::{Booked, Caller, NoJob, NoSide, Pass, Room, laws};
+pub use core_tokens::{Booked, Caller, CallerRoom, NoJob, NoSide, Pass, Room, laws};
 pub use map_answers::Stop;
 pub use receipt::Receipt;
 pub use shared_map::{OnRelease, SharedMap};

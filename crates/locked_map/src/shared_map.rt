@@ -1,15 +1,16 @@
-//! The shared map: the core under its lock, and a drive's turns, each under one hold of it. Between
-//! two holds only the invariants of the core's type are known; the clauses of a call are about its
-//! holds (`WentOn`).
+//! The shared map: the core under its lock, and a drive's turns, each under one hold of the lock.
+//! Between two holds only the invariants of the core's type are known. The clauses of a call are
+//! about its holds that take a turn (`WentOn`). How the history grows is in `growth.rt`.
 ghost use Rattle.std.specs.Prelude.{◌≡◌, true, IfOk, IfErr};
 ghost use Rattle.txn_words.specs.Shape.{seat_after};
 ghost use Rattle.txn_drive.specs.Drives.{first_phase};
 ghost use Rattle.core_tokens.specs.Holds.{FitsIf, HasRun, is_out};
 ghost use Rattle.core_tokens.specs.Tokens.{AreTickets, HasTried, IsSameCaller, IsSameClaims};
-ghost use Rattle.locked_map.specs.Calls.{Ended, IsDone, IsHeld, Leaves, Ran};
+ghost use Rattle.locked_map.specs.Calls.{Ended, EndsCall, IsDone, IsHeld, Ran};
 ghost use Rattle.txn_words.specs.declared.holder.Holder.TheVariants.{Begun};
 ghost use Rattle.txn_trace.specs.Legal.{IsLegal};
 
+use crate::growth::{Due, Locked};
 use boost_core::{Call, Drive, End};
 use core_tokens::{Booked, Caller, Pass, Room};
 use map_answers::Stop;
@@ -22,15 +23,17 @@ use undo_log::Side;
 /// A map that callers in several threads share: a core under a lock, and the words of its stripes,
 /// which are outside the lock.
 ///
-/// A contract sees its limits. The lock is taken for one turn of a call at a time, of one step or
-/// two, so that other callers take their steps between any two turns.
+/// A contract sees the map's limits. The lock is taken for one turn of a call at a time, of one
+/// step or two, so that other callers take their steps between any two turns. A map whose room was
+/// written also has holds without a turn, by which its history grows (`with_room`).
 #[derive(Drop)]
 pub struct SharedMap<L: Ledger> {
-    booked: Mutex<Booked<L>>,
+    locked: Mutex<Locked<L>>,
     limits: Limits,
+    alloc: Global,
 }
 
-/// An observer that is told of each hold of the lock when it is over.
+/// An observer that is told of the end of each hold of the lock.
 pub trait OnRelease {
     /// A hold is over: the thread that calls this has given the lock back. The cost is the
     /// observer's.
@@ -45,9 +48,9 @@ impl OnRelease for Unheard {
 }
 
 impl<L: Ledger> SharedMap<L> {
-    /// A new map, and a pass for each caller's number, rising. The callers of all passes share the
-    /// words of its stripes, none of which is taken. The blank ledger must be named `L` and have
-    /// one part for each caller.
+    /// A new map, and a pass for each caller's number, in rising order. The callers of all passes
+    /// share the words of the map's stripes, and all these words are free. The blank ledger must be
+    /// named `L` and have one part for each caller.
     ///
     /// # Errors
     ///
@@ -71,8 +74,14 @@ impl<L: Ledger> SharedMap<L> {
         SharedMap::with_room(alloc, blank, limits, Room::default())
     }
 
-    /// Makes what `new` makes, and takes this room at once. If the memory for the room is refused,
-    /// none of it is taken: history, table and logs grow as they are used.
+    /// Makes what `new` makes, and takes this room at once. If memory for the room is refused, no
+    /// room is taken, and history, table, logs and seats grow as they are used.
+    ///
+    /// If the room is written, the history takes no memory under the lock. A thread whose hold
+    /// finds little room left takes and writes memory for twice as many entries outside the lock,
+    /// and hands it over in a hold without a turn. A thread that meanwhile finds too little room
+    /// for its turn gives the lock back, lets other threads run and tries again. Once memory is
+    /// refused, the history grows under the lock.
     ///
     /// # Errors
     ///
@@ -80,7 +89,9 @@ impl<L: Ledger> SharedMap<L> {
     ///
     /// # Cost
     ///
-    /// That of `new`, and what `Core::with_room` says of the room.
+    /// That of `new`, and what `Core::with_room` says of the room. If the room is written, each
+    /// later growth of the history takes memory outside the lock, and copies the history under the
+    /// lock.
     pub fn with_room(
         alloc: Global,
         blank: Blank,
@@ -95,8 +106,13 @@ impl<L: Ledger> SharedMap<L> {
         ensures err { IfErr result (λ refusal. refusal ≡ Refusal.NoMemory) }
     {
         let (booked, passes) = Booked::with_room(alloc, blank, limits, room)?;
-        let booked = Mutex::new(booked);
-        Ok((SharedMap { booked, limits }, passes))
+        let locked = Mutex::new(Locked::new(booked, room.is_written));
+        let map = SharedMap {
+            locked,
+            limits,
+            alloc,
+        };
+        Ok((map, passes))
     }
 
     /// The map's limits.
@@ -113,9 +129,9 @@ impl<L: Ledger> SharedMap<L> {
         ensures words { result.core.words ≡ true }
         ensures legal { IsLegal Begun result.core.limits.stripes result.core.history }
     {
-        let SharedMap { booked, limits: _ } = self;
-        let booked = booked.into_inner();
-        // The history is legal.
+        let SharedMap { locked, .. } = self;
+        let booked = locked.into_inner().into_booked();
+        // By the contract of `trace` the history is legal.
         let _legal = booked.core.trace();
         booked
     }
@@ -140,18 +156,22 @@ impl<L: Ledger> SharedMap<L> {
         ensures held { IsHeld me.old call result me.new }
     {
         let mut drive = Drive::new(me.number(), call, me.limits());
+        let mut due = Due::Nothing;
         for _ in rt.forever() {
-            let end = me.hold(&mut *self.booked.lock(rt), &mut drive);
+            let end = (*self.locked.lock(rt)).hold(me, &mut drive, &mut due);
             hears.on_release();
             if let Some(end) = end {
                 return end;
+            }
+            if !matches!(due, Due::Nothing) {
+                due.settle(self.alloc);
             }
         }
         unreachable!()
     }
 
-    /// Makes the call that `call` names, as the method of that name does, and tells `hears` of each
-    /// hold of the lock when it is over. Answers the end of the call.
+    /// Makes the call that `call` names, as the method of that name does, and tells `hears` of the
+    /// end of each hold of the lock. Answers the end of the call.
     ///
     /// # Errors
     ///
@@ -186,7 +206,7 @@ impl<L: Ledger> SharedMap<L> {
     ) -> Result<End, Stop>
         ensures done { IfOk result IsDone }
         ensures ok { IfOk result (λ outcome. Ran S.words_of me.old call outcome me.new) }
-        ensures leaves { Leaves S.words_of me.old call result me.new }
+        ensures leaves { EndsCall S.words_of me.old call result me.new }
     {
         match self.run(rt, me, call, &Unheard) {
             End::Busy(holder) => Err(Stop::Busy { holder }),

@@ -15,14 +15,14 @@ use undo_log::Side;
 /// The reason why a map was not closed.
 #[derive(Drop)]
 pub enum Unclosed<L: Ledger, S: Side> {
-    /// A caller's number is missing or was passed in twice (refusal 17). The map is unchanged.
+    /// A caller's number is missing or was passed in twice. The map is unchanged.
     Missing(SharedMap<L>, Vec<Caller<L, S>>),
     /// The core has other limits, or the entries of some caller in the history are not those that
     /// it saw.
     Differs(Core, Vec<Caller<L, S>>),
 }
 
-/// Shows only which of the two it is, not the values that are returned.
+/// Shows only the name of the reason, not the values that are returned.
 impl<L: Ledger, S: Side> fmt::Debug for Unclosed<L, S> {
     fn fmt<W: fmt::Write>(&self, f: &mut fmt::Formatter<W>) -> fmt::Result {
         match self {
@@ -49,7 +49,7 @@ impl<L: Ledger, S: Side> fmt::Display for Unclosed<L, S> {
 
 impl<L: Ledger, S: Side> Error for Unclosed<L, S> {}
 
-/// The text of the reason, by whether a caller is missing.
+/// The text of the reason: that a caller is missing, or that the history differs.
 fn text(is_missing: bool) -> &'static str
     ensures { result.now ≡ text_of is_missing }
 {

@@ -17,10 +17,10 @@ pub enum Stop {
     /// Another caller held the stripe of the key, or one of the stripes that the call takes. This
     /// transaction cannot go on; each map says who takes it back.
     Busy {
-        /// The caller that held it.
+        /// The caller that held the stripe.
         holder: u64,
     },
-    /// The call was refused. Each map says how it leaves the transaction.
+    /// The call was refused. Each map says what becomes of the transaction.
     Refused(Refusal),
 }
 

@@ -2,6 +2,6 @@
 //! so that a caller reads `Swapped(false)` and not `false`. It is apart from `Stop`, since a swap
 //! that finds another value is no stop: it changes nothing, and the transaction goes on.
 
-/// Whether a key had the expected value, or was absent as expected, so that the new value was put.
+/// Whether the new value was put: the key had the expected value, or was absent as expected.
 #[derive(Clone, Copy, Debug, PartialEq, Eq)]
 pub struct Swapped(pub bool);

@@ -8,7 +8,7 @@ use Rattle.std.proofs.lemmas.List.FromFn.{get_or-map-range_with_len}
 use Rattle.std.proofs.Math.ListN as lists
 use Rattle.node_list.specs.Nodes.{NodeAt, Listing}
 use Rattle.node_list.specs.Sound.{IsSound}
-use Rattle.list_steps.specs.Found.{changes_of}
+use Rattle.list_steps.specs.Found.{change_number_of}
 use Rattle.bucket_table.specs.declared.answer.InitLink.{InitLink}
 use Rattle.bucket_table.specs.declared.answer.InitLink.TheVariants.{Again, Present, Linked}
 use Rattle.bucket_table.specs.declared.answer.InitRefusal.{InitRefusal}
@@ -17,7 +17,7 @@ use Rattle.txn_words.specs.declared.refusal.Refusal.{Refusal}
 use Rattle.txn_words.specs.declared.refusal.Refusal.TheVariants as refusals
 use Rattle.bucket_table.specs.declared.helper.Helper.{Helper}
 use Rattle.bucket_table.specs.declared.helper.Helper.TheVariants.{Idle, Seeking, Holding}
-use Rattle.bucket_table.specs.Directory.{Directory, IsInOrder, limit_of, helper_of}
+use Rattle.bucket_table.specs.Directory.{Directory, IsReadyHelper, limit_of, helper_of}
 use Rattle.bucket_table.specs.Directory as directories
 use Rattle.bucket_table.specs.Answers as buckets
 use Rattle.bucket_table.specs.Segments as segments
@@ -34,21 +34,21 @@ stored_at entries bucket = lists.get_or-map is_some entries bucket None
 pub lacks_segment : (entries : List (Option ℕ)) (bucket : ℕ) → segments.LacksSegment entries bucket → LacksSegment (map is_some entries) bucket
 lacks_segment entries bucket lacks other same = stored_at entries other ∙ lacks other same
 
--- The answer to a seek.
+-- A table answers a seek as its buckets do.
 pub seek_answers : (d : Directory) (helper bucket : ℕ) → answer_for (buckets.seek_answer d.size (directories.is_stored d) (help_at d helper) bucket) ≡ seek_answer d.size (map is_some d.entries) (slice_get (map help_of d.helpers) helper) bucket
 seek_answers d helper bucket = λ i. answer_for (buckets.seek_answer d.size (λ b. sym (stored_at d.entries b) i) (sym (slice_get-map help_of d.helpers helper) i) bucket)
 
--- The answer to a store.
+-- A table answers a store as its buckets do.
 pub store_answers : (d : Directory) (helper : ℕ) → store_answer (help_at d helper) ≡ store_answer (slice_get (map help_of d.helpers) helper)
 store_answers d helper = ap store_answer (sym (slice_get-map help_of d.helpers helper))
 
 pub linked_at : (nodes : List NodeAt) (limit bucket : ℕ) → bucket < limit → slice_index_or (map (has_dummy nodes) (range_with_len 0 limit)) bucket false ≡ has_dummy nodes bucket
 linked_at nodes limit bucket within = get_or-map-range_with_len (has_dummy nodes) 0 limit bucket bucket false within (omega arith)
 
-pub within_limit : (d : Directory) (helper bucket : ℕ) (had : Helper) → directories.IsSound d → helper_of d helper ≡ Some had → (IsInOrder d had → bucket < d.size) → bucket < limit_of d
-within_limit d helper bucket had sound is below = let order = helper_found (IsInOrder d) d.helpers helper had sound.helpers is in let small : bucket < d.size = below order in omega (arith, small, sound.most)
+pub within_limit : (d : Directory) (helper bucket : ℕ) (had : Helper) → directories.IsSound d → helper_of d helper ≡ Some had → (IsReadyHelper d had → bucket < d.size) → bucket < limit_of d
+within_limit d helper bucket had sound is below = let order = helper_found (IsReadyHelper d) d.helpers helper had sound.helpers is in let small : bucket < d.size = below order in omega (arith, small, sound.most)
 
--- The answer to a link.
+-- A table answers a link as its buckets do.
 pub link_answers : (l : Listing) (d : Directory) (helper : ℕ) → directories.IsSound d → answer_for (buckets.link_answer_at d l helper) ≡ link_answer (helper_fits (table_of l d) helper) (linked_of (table_of l d)) l.last (slice_get (map help_of d.helpers) helper)
 link_answers l d helper sound =
     go (helper_of d helper) refl ∙ ap (link_answer (helper_fits (table_of l d) helper) (linked_of (table_of l d)) l.last) (sym (slice_get-map help_of d.helpers helper))
@@ -59,7 +59,7 @@ link_answers l d helper sound =
     go (Some (Holding bucket dummy)) is = refl
     go (Some (Seeking bucket cursor)) is =
         let within : bucket < limit_of d = within_limit d helper bucket (Seeking bucket cursor) sound is (λ order. order.within) in
-        ap (λ (there : Bool). answer_for (buckets.link_answer (cursor_fits l (helper_of d helper)) (λ b. there) l.last (Some (Sought bucket (changes_of cursor))))) (sym (linked_at l.nodes (limit_of d) bucket within))
+        ap (λ (there : Bool). answer_for (buckets.link_answer (cursor_fits l (helper_of d helper)) (λ b. there) l.last (Some (Sought bucket (change_number_of cursor))))) (sym (linked_at l.nodes (limit_of d) bucket within))
 
 -- A helper's cursor fits while the change number is the one that it noted, and below 2^64 - 1.
 pub helper_still_fits : (l : Listing) (d : Directory) (helper bucket : ℕ) → IsHome d l → slice_get (map help_of d.helpers) helper ≡ Some (Sought bucket l.changes) → l.changes < 2 ^ 64 - 1 → helper_fits (table_of l d) helper ≡ true
@@ -70,8 +70,8 @@ helper_still_fits l d helper bucket home had below = go (helper_of d helper) ref
     go (Some Idle) is sought = let clash : Some Nothing ≡ Some (Sought bucket l.changes) = sym (ap (option_map help_of) is) ∙ sought in absurd (cc)
     go (Some (Holding other dummy)) is sought = let clash : Some (Dummy other) ≡ Some (Sought bucket l.changes) = sym (ap (option_map help_of) is) ∙ sought in absurd (cc)
     go (Some (Seeking other cursor)) is sought =
-        let both : Some (Sought other (changes_of cursor)) ≡ Some (Sought bucket l.changes) = sym (ap (option_map help_of) is) ∙ sought in
-        let same : l.changes ≡ changes_of cursor = cc in
+        let both : Some (Sought other (change_number_of cursor)) ≡ Some (Sought bucket l.changes) = sym (ap (option_map help_of) is) ∙ sought in
+        let same : l.changes ≡ change_number_of cursor = cc in
         let placed = helper_found (IsHelperHome l) d.helpers helper (Seeking other cursor) home.helpers is in
         ap (cursor_fits l) is ∙ placed.0.held same below
 

@@ -15,7 +15,7 @@ use Rattle.bucket_table.specs.Dummies.{has_dummy}
 use Rattle.txn_words.proofs.Order.{Rises}
 use Rattle.txn_words.specs.Map.{get}
 use Rattle.map_ops.specs.TableAt.{map_of, table_of}
-use Rattle.map_ops.specs.Steps.{HasNode, HasRoom, Sets}
+use Rattle.map_ops.specs.Steps.{HasNode, HasGap, Sets}
 use Rattle.map_ops.specs.Nodes.{LinksNode, MarksNode, WritesNode}
 use Rattle.map_ops.specs.Sound.{Belong}
 use Rattle.map_ops.proofs.ContentLemmas.{rises-pairs, map_of-linked, map_of-written, map_of-unlinked}
@@ -26,7 +26,7 @@ module _ (old new : Listing) (key : ℕ) (sound : IsSound old) (after : IsSound 
   old_rises : Rises (pairs old.nodes)
   old_rises = rises-pairs old.nodes sound.rising belong.keyed
 
-  -- The node at the place is the key's.
+  -- The node at the place is the key's node.
   own_node : (place : ℕ) (n : NodeAt) (has : HasNode old key place) → node_of old.nodes place ≡ Some n → n ≡ has.node
   own_node place n has is = some-injective (sym is ∙ ap (node_of old.nodes) has.place_is ∙ has.its.is)
 
@@ -83,9 +83,9 @@ module _ (old new : Listing) (key : ℕ) (sound : IsSound old) (after : IsSound 
         last = swaps.becomes.last;
       }
 
-  -- If a node is linked where the key has room (`HasRoom`), it is linked behind a linked node
-  -- (`LinksNode`).
-  pub links_node : (pred : ℕ) (x node : NodeAt) → HasRoom old key pred → x ≡ node → Links old new pred x → LinksNode old new node
+  -- The step links a node behind the place `pred`. If the key has a gap there (`HasGap`), a node of
+  -- the old list is at `pred`, so `LinksNode` holds.
+  pub links_node : (pred : ℕ) (x node : NodeAt) → HasGap old key pred → x ≡ node → Links old new pred x → LinksNode old new node
   links_node pred x node room is links = record {
     before = pred;
     linked = found_linked old.nodes pred room.vacant.node room.vacant.is;
@@ -97,7 +97,7 @@ module _ (old new : Listing) (key : ℕ) (sound : IsSound old) (after : IsSound 
     links_belong pred links = subst Belong (sym links.takes.nodes) (belong_linked old.nodes pred x key belong kind place)
 
     -- A key whose node is linked is there, with the node's value.
-    pub links_sets : (pred : ℕ) → HasRoom old key pred → Links old new pred x → (buckets : Directory) → Sets (table_of old buckets) (table_of new buckets) key (Some x.value)
+    pub links_sets : (pred : ℕ) → HasGap old key pred → Links old new pred x → (buckets : Directory) → Sets (table_of old buckets) (table_of new buckets) key (Some x.value)
     links_sets pred room links buckets =
         let replaces : Replaces (pairs old.nodes) (pairs new.nodes) [] ((key, x.value) ∷ []) =
         subst (λ now. Replaces (pairs old.nodes) (pairs new.nodes) [] now) (pair_regular x kind unmarked ∙ ap (λ (at : SortKey). (at.key, x.value) ∷ []) place) links.content in
@@ -108,7 +108,7 @@ module _ (old new : Listing) (key : ℕ) (sound : IsSound old) (after : IsSound 
           last = links.takes.last;
         }
 
--- A spare that is given back after the write changes no node.
+-- Giving a spare back after the write changes no node.
 pub written_then_back : (old mid new : Listing) (key value : ℕ) → WritesNode old mid key value → new.nodes ≡ mid.nodes → new.changes ≡ mid.changes → WritesNode old new key value
 written_then_back old mid new key value writes same kept = record {
   node = writes.node;

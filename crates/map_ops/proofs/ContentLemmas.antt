@@ -54,19 +54,19 @@ map_of_is : (m : Map) (ps : List (ℕ × ℕ)) → Rises ps → ps ≡ ordered m
 map_of_is m ps rises is = same_map (map_of ps) m (λ q. get-map_of ps q rises ∙ ap (value_at q) is ∙ value_at-ordered m q)
 
 module _ (old new : List (ℕ × ℕ)) (k : ℕ) (old_rises : Rises old) (new_rises : Rises new) where
-  -- A pair with a new key is added.
+  -- If a pair with a new key is added, the map has the pair too.
   pub map_of-linked : (v : ℕ) → Replaces old new [] ((k, v) ∷ []) → map_of new ≡ insert (map_of old) k v
   map_of-linked v r =
       map_of_is (insert (map_of old) k v) new new_rises (r.new_is ∙ ordered-linked (map_of old) k v r.before r.after
       (sym r.old_is ∙ ordered-map_of old old_rises) (subst IsSortedBySplit r.new_is (sorted-rises new new_rises)))
 
-  -- A pair gets another value.
+  -- If a pair gets another value, its key has this value in the map.
   pub map_of-written : (v w : ℕ) → Replaces old new ((k, v) ∷ []) ((k, w) ∷ []) → map_of new ≡ insert (map_of old) k w
   map_of-written v w r =
       map_of_is (insert (map_of old) k w) new new_rises (r.new_is ∙ ordered-written (map_of old) k v w r.before r.after
       (sym r.old_is ∙ ordered-map_of old old_rises))
 
-  -- A pair is taken out.
+  -- If a pair is taken out, its key is removed from the map.
   pub map_of-unlinked : (v : ℕ) → Replaces old new ((k, v) ∷ []) [] → map_of new ≡ remove (map_of old) k
   map_of-unlinked v r =
       map_of_is (remove (map_of old) k) new new_rises (r.new_is ∙ ordered-unlinked (map_of old) k v r.before r.after
@@ -135,8 +135,8 @@ value_at-there key (m ∷ rest) place n rising keyed is kind at unmarked = elim 
       ∙ value_at-there key rest place n rising.1 keyed.1 later kind at unmarked
 ]
 
--- A list of nodes has as many pairs as live nodes, and the map of pairs that rise has as many keys
--- as there are pairs.
+-- A list of nodes has as many pairs as live nodes. If pairs rise, their map has as many keys as
+-- there are pairs.
 length_pair : (kind : Kind) (marked : Bool) (key value : ℕ) (ps : List (ℕ × ℕ)) (count : ℕ) → length ps ≡ count → length (pair_if kind marked key value ++ ps) ≡ (if is_regular kind && not marked then 1 else 0) + count
 length_pair Dummy marked key value ps count is = omega (arith, is)
 length_pair Regular true key value ps count is = omega (arith, is)

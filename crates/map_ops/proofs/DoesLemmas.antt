@@ -1,4 +1,4 @@
--- The effect of the steps at a key on the table.
+-- The effects of operations and jobs on the table, from the effects of their steps.
 use Rattle.std.proofs.Common.{◌≡◌, ℕ, List, Option, Some, None, Bool, true, false, cond, refl, sym, ◌∙◌, ap, subst}
 use Rattle.node_list.specs.Nodes.{NodeAt, Listing, SpareAt}
 use Rattle.node_list.specs.Sound.{IsSound}
@@ -126,7 +126,7 @@ does_get list buckets k reply is = record {
   last = refl;
 }
 
--- A key is sought.
+-- If the seek of a key has found a cursor that fits, `Places` holds.
 pub places : (old new : Listing) (buckets : Directory) (key from : ℕ) (bound : SortKey) (c : Cursor) → IsSound old → new.nodes ≡ sought old.nodes from bound → KeepsRest old new → pairs new.nodes ≡ pairs old.nodes
     → IsFound new c → IsPlaced new c → fits new c ≡ true → at_of c ≡ regular_at key → Places (table_of old buckets) (table_of new buckets) key c
 places old new buckets key from bound c sound nodes_is kept same found placed fitting place = record {

@@ -27,7 +27,7 @@ same_nodes old new d same kept = record {
   changes = kept;
 }
 
--- A cursor that was placed on the list at the key's position was placed on the table for the key.
+-- If a cursor was placed on the list at the key's position, it was placed on the table for the key.
 pub placed_on : (l : Listing) (d : Directory) (cursor : Cursor) (key : ℕ) → cursors.IsPlaced l cursor → cursors.at_of cursor ≡ regular_at key → IsPlaced (table_of l d) cursor key
 placed_on l d cursor key placed is = record { list = placed; at_is = is; held = placed.held }
 

@@ -29,7 +29,7 @@ other_owned old new spare place keeps other owned = keeps spare.place other ∙ 
 pub fresh_apart : (old new : TableAt) (spare other : SpareAt) → GivesSpare old new spare → Owns old other → other.place ≢ spare.place
 fresh_apart old new spare other gives owned same = let gone : out_at old.list other.place ≡ None = ap (out_at old.list) same ∙ gives.fresh in let both : Some other.stamp ≡ None = sym owned ∙ gone in cc
 
--- A key that is set has its value.
+-- After a key is set to a value, the key has this value.
 pub get-set_at-here : (m : Map) (k : ℕ) (value : Option ℕ) → get (set_at m k value) k ≡ value
 get-set_at-here m k value = get-set_at m k value k ∙ ap (λ b. cond b value (get m k)) (eq-eqb k k refl)
 
@@ -38,7 +38,7 @@ pub shows_before : (old new : TableAt) (job : MapJob) → TakesBack old new job 
 shows_before old new job back =
     ap (λ m. get m (key_of_job job)) back.content_is ∙ get-set_at-here (content old) (key_of_job job) (value_before job)
 
--- Some buckets, for statements that hold for any buckets.
+-- A directory without buckets. Statements that hold for any buckets are used with this directory.
 abbrev pub no_buckets : Directory
 no_buckets = record { size = 0; entries = []; helpers = [] }
 
@@ -63,7 +63,7 @@ job_is_due m (PutIf k expected v) spare job is = go (option_eq nat_eq (get m k) 
     go true same = put_is_due m k v job (get m k) same
     go false same = absurd (some-none (sym same))
 
--- To write or remove a key and then set the key to its old value restores the map.
+-- Writing or removing a key and then setting it to its old value restores the map.
 set_at-insert : (m : Map) (k v : ℕ) (before : Option ℕ) → get m k ≡ before → set_at (insert m k v) k before ≡ m
 set_at-insert m k v before is = same_map _ m (λ q. get-set_at (insert m k v) k before q ∙ elim (cases_eq q k) [
   | inl same ↦ ap (λ b. cond b before (get (insert m k v) q)) (eq-eqb q k same) ∙ sym is ∙ ap (get m) (sym same)
@@ -76,8 +76,7 @@ set_at-remove m k before is = same_map _ m (λ q. get-set_at (remove m k) k befo
   | inr other ↦ ap (λ b. cond b before (get (remove m k) q)) (ne_eqb q k other) ∙ get-remove m k q ∙ ap (λ b. cond b None (get m q)) (ne_eqb q k other)
 ])
 
--- To take back the change of a put, or of any operation with a job, restores the map before the
--- operation.
+-- Taking back the change of a put, or of any operation with a job, restores the map.
 put_set_at : (m : Map) (k v : ℕ) (job : MapJob) (o : Option ℕ) → get m k ≡ o → unput k o ≡ Some job → set_at (insert m k v) (key_of_job job) (value_before job) ≡ m
 put_set_at m k v job None was same = subst (λ j. set_at (insert m k v) (key_of_job j) (value_before j) ≡ m) (some-injective same) (set_at-insert m k v None was)
 put_set_at m k v job (Some old) was same = subst (λ j. set_at (insert m k v) (key_of_job j) (value_before j) ≡ m) (some-injective same) (set_at-insert m k v (Some old) was)

@@ -9,19 +9,19 @@ use Rattle.list_steps.specs.declared.sweeps.SweepOutcome.{SweepOutcome}
 use Rattle.list_steps.specs.declared.sweeps.SweepOutcome.TheVariants.{Swept, Clean}
 use Rattle.list_steps.specs.Steps as steps
 use Rattle.map_ops.specs.Sound.{Belong}
-use Rattle.map_ops.specs.TableAt.{table_of, Keeps}
+use Rattle.map_ops.specs.TableAt.{table_of, KeepsTable}
 use Rattle.map_ops.proofs.BelongLemmas.{belong_swept, has_dummy-swept, linked_same}
 use Rattle.map_ops.proofs.KeepLemmas.{same_buckets}
 
 -- A sweep keeps the pairs, the buckets, the linked dummies and the last stamp.
-pub sweep_keeps : (old new : Listing) (d : Directory) (outcome : SweepOutcome) → IsSound old → steps.Sweeps old new outcome → pairs new.nodes ≡ pairs old.nodes → Keeps (table_of old d) (table_of new d)
+pub sweep_keeps : (old new : Listing) (d : Directory) (outcome : SweepOutcome) → IsSound old → steps.Sweeps old new outcome → pairs new.nodes ≡ pairs old.nodes → KeepsTable (table_of old d) (table_of new d)
 sweep_keeps old new d Swept sound becomes same = record {
   regular = same;
   buckets = same_buckets old new d;
   linked = linked_same old new d (λ b. ap (λ (nodes : List NodeAt). has_dummy nodes b) becomes.nodes ∙ has_dummy-swept old.nodes b sound.plain);
   last = becomes.last;
 }
-sweep_keeps old new d Clean sound is same = subst (λ (l : Listing). Keeps (table_of old d) (table_of l d)) (sym is) (record { regular = refl; buckets = same_buckets old old d; linked = refl; last = refl })
+sweep_keeps old new d Clean sound is same = subst (λ (l : Listing). KeepsTable (table_of old d) (table_of l d)) (sym is) (record { regular = refl; buckets = same_buckets old old d; linked = refl; last = refl })
 
 pub sweep_belong : (old new : Listing) (outcome : SweepOutcome) → steps.Sweeps old new outcome → Belong old.nodes → Belong new.nodes
 sweep_belong old new Swept becomes belong = subst Belong (sym becomes.nodes) (belong_swept old.nodes belong)

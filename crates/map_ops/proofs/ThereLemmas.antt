@@ -23,7 +23,7 @@ use Rattle.txn_words.specs.Map.{get}
 use Rattle.txn_words.proofs.Order.{Rises}
 use Rattle.map_ops.specs.TableAt.{map_of}
 use Rattle.map_ops.specs.Sound.{Belong, IsEvenDummy}
-use Rattle.map_ops.specs.Steps.{HasNode, HasRoom, Stands, place_in}
+use Rattle.map_ops.specs.Steps.{HasNode, HasGap, Stands, place_in}
 use Rattle.map_ops.proofs.ContentLemmas.{rises-pairs, get-map_of, value_at-absent, value_at-there}
 
 -- A node at a key's position is regular.
@@ -58,8 +58,8 @@ module _ (l : Listing) (c : Cursor) (key : ℕ) (sound : IsSound l) (belong : Be
   get-absent absent =
       get-map_of (pairs l.nodes) key rises ∙ value_at-absent key l.nodes belong.keyed (subst (λ (s : SortKey). AllByRecursion (λ (n : NodeAt). n.at ≢ s) l.nodes) same absent.others)
 
-  -- A look at the cursor finds the place of the key's node, or that this node belongs right behind
-  -- the cursor's first node.
+  -- If a look at the cursor finds a place, the key's node is linked there. If it finds none, the
+  -- key's node belongs right behind the cursor's first node.
   pub stands : (found : Option ℕ) → Finds l c found → Stands l key (pred_of c) found
   stands None absent = record { vacant = subst (IsVacant l.nodes (pred_of c)) same absent.vacant; none = get-absent absent }
   stands (Some place) at =
@@ -84,7 +84,7 @@ occupied l key pred (Some place) has some = has
 
 -- If the key has no value, the key's node belongs right behind the node at the place that
 -- `place_in` answers.
-pub vacant : (l : Listing) (key pred : ℕ) (there : Option ℕ) → Stands l key pred there → get (map_of (pairs l.nodes)) key ≡ None → HasRoom l key (place_in pred there)
+pub vacant : (l : Listing) (key pred : ℕ) (there : Option ℕ) → Stands l key pred there → get (map_of (pairs l.nodes)) key ≡ None → HasGap l key (place_in pred there)
 vacant l key pred None room none = room
 vacant l key pred (Some place) has none = absurd (some-none (sym has.value ∙ none))
 

@@ -25,7 +25,7 @@ abbrev pub LacksSegment : List Bool → ℕ → Type 0
 LacksSegment stored bucket =
     (other : ℕ) → other / 64 ≡ bucket / 64 → is_stored stored other ≡ false
 
--- The refusal of a step that stands for a refusal of a call on buckets.
+-- Converts the refusal of a call on buckets to the refusal of a step with the same name.
 abbrev pub refusal_for : InitRefusal → Refusal
 refusal_for NoSuchBucket = refusals.NoSuchBucket
 refusal_for ParentMissing = refusals.ParentMissing
@@ -34,7 +34,7 @@ refusal_for HelperOutOfOrder = refusals.HelperOutOfOrder
 refusal_for NoMemory = refusals.NoMemory
 refusal_for StampsUsedUp = refusals.StampsUsedUp
 
--- The answer of a step that stands for an answer of a call on buckets.
+-- Converts the answer of a call on buckets to the answer of a step.
 abbrev pub answer_for : {A : Type 0} → Result A InitRefusal → Result A Refusal
 answer_for (Ok done) = Ok done
 answer_for (Err refusal) = Err (refusal_for refusal)

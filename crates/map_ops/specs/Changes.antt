@@ -10,7 +10,7 @@ use Rattle.map_ops.specs.declared.act.Undo.{Undo}
 use Rattle.map_ops.specs.declared.act.Undo.TheVariants.{Undone, Again as UndoAgain}
 use Rattle.map_ops.specs.declared.job.MapJob.{MapJob}
 use Rattle.map_ops.specs.declared.job.MapJob.TheVariants.{Unput, Restore, Relink}
-use Rattle.map_ops.specs.TableAt.{TableAt, Cursor, SpareAt, SweepOutcome, content, table_changes, last_of, linked_of, nodes_of, nodes_sought, spare_out, Owns, KeepsOthers, KeepsSpares, KeepsBuckets, KeepsNodes, Keeps, Follows, IsPlaced, IsStart, SweepsNodes, cursor_changes, fits}
+use Rattle.map_ops.specs.TableAt.{TableAt, Cursor, SpareAt, SweepOutcome, content, table_changes, last_of, linked_of, nodes_of, nodes_sought, spare_out, Owns, KeepsOthers, KeepsSpares, KeepsBuckets, KeepsNodes, KeepsTable, Follows, IsPlaced, IsStart, SweepsNodes, cursor_changes, fits}
 use Rattle.map_ops.specs.Jobs.{PendingAt, takes_node, key_of_job, value_before, spare_of_job, job_of, IsDue}
 use Rattle.map_ops.specs.Nodes.{IsUnlinking, JobWrites, OpWrites, WritesNothing}
 
@@ -54,9 +54,9 @@ IsRefused t op refusals.StampsUsedUp = (takes_node op ≡ true) × (last_of t �
 IsRefused t op refusals.NoMemory = (takes_node op ≡ true) × (last_of t < 2 ^ 64 - 2)
 IsRefused t op refusal = ⊥
 
--- A key was sought: marked nodes may be unlinked, and the cursor fits.
+-- A key was sought: marked nodes may have been unlinked, and the cursor fits.
 pub record Places (old new : TableAt) (key : ℕ) (cursor : Cursor) : Type 0 where
-  pub keeps : Keeps old new
+  pub keeps : KeepsTable old new
   pub spares : KeepsSpares old new
   pub placed : IsPlaced new cursor key
   pub fits : fits new cursor ≡ true
@@ -90,8 +90,8 @@ pub record Does (old new : TableAt) (pending : PendingAt) (reply : Option ℕ)
   pub linked : linked_of new ≡ linked_of old
   pub last : last_of new ≡ last_of old
 
--- An act at a cursor: if the cursor fits the operation is done; if not, nothing has changed and the
--- operation is returned.
+-- An act at a cursor. If the cursor fits, the operation is done. If not, nothing has changed, and
+-- the operation is returned.
 abbrev pub Acts : TableAt → TableAt → PendingAt → Cursor → Act → Type 0
 Acts old new pending cursor (Acted reply job) = (fits old cursor ≡ true)
     × Does old new pending reply job
@@ -104,8 +104,8 @@ ActWrites old new pending (Acted reply job) =
     OpWrites old.list new.list pending.op pending.spare (get (content old) (key_of pending.op))
 ActWrites old new pending (ActAgain back) = WritesNothing old.list new.list
 
--- The change is taken back: the job's key has the value before the change, or none, and every other
--- key is unchanged.
+-- The change is taken back: the job's key now has the value that it had before the change, or none.
+-- Every other key is unchanged.
 pub record TakesBack (old new : TableAt) (job : MapJob) : Type 0 where
   pub content_is : content new ≡ set_at (content old) (key_of_job job) (value_before job)
   pub spares : Spends old new (spare_of_job job)
@@ -113,8 +113,8 @@ pub record TakesBack (old new : TableAt) (job : MapJob) : Type 0 where
   pub linked : linked_of new ≡ linked_of old
   pub last : last_of new ≡ last_of old
 
--- An undo at a cursor: if the cursor fits the change is taken back; if not, nothing has changed and
--- the job is returned.
+-- An undo at a cursor. If the cursor fits, the change is taken back. If not, nothing has changed,
+-- and the job is returned.
 abbrev pub Undoes : TableAt → TableAt → MapJob → Cursor → Undo → Type 0
 Undoes old new job cursor Undone = (fits old cursor ≡ true) × TakesBack old new job
 Undoes old new job cursor (UndoAgain back) = (fits old cursor ≡ false) × (back ≡ job) × (new ≡ old)
@@ -175,9 +175,9 @@ ShowsAfter job t = IsDue (content t) job × OwnsIf t (spare_of_job job)
 abbrev pub ShowsBefore : MapJob → TableAt → Type 0
 ShowsBefore job t = get (content t) (key_of_job job) ≡ value_before job
 
--- The changes by the run of a job: its key is sought, its change is taken back there, and nothing
--- older is disturbed.
-pub record Runs (old new : TableAt) (job : MapJob) : Type 0 where
+-- The changes by the run of a job: its key is sought, and its change is taken back there. The new
+-- table follows the old one (`Follows`).
+pub record RunsJob (old new : TableAt) (job : MapJob) : Type 0 where
   pub back : TakesBack old new job
   pub writes : SeeksAndUndoes old new job
   pub follows : Follows old new

@@ -19,14 +19,14 @@ pub record HasNode (l : Listing) (key place : ℕ) : Type 0 where
   pub value : get (map_of (pairs l.nodes)) key ≡ Some node.value
 
 -- The key has no value, and the key's node belongs right behind the node at the place.
-pub record HasRoom (l : Listing) (key pred : ℕ) : Type 0 where
+pub record HasGap (l : Listing) (key pred : ℕ) : Type 0 where
   pub vacant : IsVacant l.nodes pred (regular_at key)
   pub none : get (map_of (pairs l.nodes)) key ≡ None
 
 -- If there is a second place, the key's node is linked at it. If not, the key's node belongs right
 -- behind the node at the first place.
 abbrev pub Stands : Listing → ℕ → ℕ → Option ℕ → Type 0
-Stands l key pred None = HasRoom l key pred
+Stands l key pred None = HasGap l key pred
 Stands l key pred (Some place) = HasNode l key place
 
 -- The second place of `Stands` if there is one, else the first.

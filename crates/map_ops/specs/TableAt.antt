@@ -76,7 +76,7 @@ linked_of t = map (has_dummy t.list.nodes) (range_with_len 0 (limit_of t.buckets
 abbrev pub helps_of : TableAt → List Help
 helps_of t = map help_of t.buckets.helpers
 
--- The buckets are unchanged, and so is everything that is read of them.
+-- The buckets are unchanged, and so is everything that is read from them.
 pub record KeepsBuckets (old new : TableAt) : Type 0 where
   pub all : new.buckets ≡ old.buckets
   pub size : size_of new ≡ size_of old
@@ -133,7 +133,7 @@ KeepsSpares old new = (place : ℕ) → spare_out new place ≡ spare_out old pl
 
 -- The change number when the cursor was placed.
 abbrev pub cursor_changes : Cursor → ℕ
-cursor_changes cursor = cursors.changes_of cursor
+cursor_changes cursor = cursors.change_number_of cursor
 
 -- Whether the cursor fits: its two nodes are still neighbours, and unmarked.
 abbrev pub fits : TableAt → Cursor → Bool
@@ -206,7 +206,7 @@ pub record IsNew (t : TableAt) (largest helpers : ℕ) : Type 0 where
   pub none_out : (place : ℕ) → spare_out t place ≡ None
 
 -- The pairs, the buckets, the linked dummies and the last stamp are unchanged.
-pub record Keeps (old new : TableAt) : Type 0 where
+pub record KeepsTable (old new : TableAt) : Type 0 where
   pub regular : regular new ≡ regular old
   pub buckets : KeepsBuckets old new
   pub linked : linked_of new ≡ linked_of old

@@ -1,6 +1,7 @@
 //! The effect of an operation or an inverse on the list of a table. Only `seek_key` reads the
-//! buckets, and no function here changes them. So each contract except that of `seek_key` holds of
-//! the tables with this list and any buckets, and its proof need not mention buckets.
+//! buckets, and no function here changes them. So each contract except that of `seek_key` is about
+//! all tables with this list, whatever their buckets, and the proofs of these contracts need not
+//! mention buckets.
 ghost use Rattle.std.specs.Prelude.{◌≡◌, ◌≤◌, Option, Some, None, is_ok, nat_eq, IfOk, IfErr, OnErr};
 ghost use Rattle.std.specs.Option.{option_eq};
 ghost use Rattle.node_list.specs.Follow.{Follows};
@@ -18,7 +19,7 @@ ghost use Rattle.map_ops.specs.Jobs.{IsDue, key_of_job, spare_of_job, unput};
 ghost use Rattle.map_ops.specs.Plans.{pending_of};
 ghost use Rattle.map_ops.specs.Changes.{Does, GivesBack, IsRefused, OwnsIf, Places, Prepares, SeeksNear, Spends, TakesBack};
 ghost use Rattle.map_ops.specs.Nodes.{JobWrites, LinksNode, MarksNode, OpWrites, PutWrites, TakeWrites, WritesNode, node_for};
-ghost use Rattle.map_ops.specs.Steps.{GivesOne, HasNode, HasRoom, IsLacking, Sets, Stands, place_in};
+ghost use Rattle.map_ops.specs.Steps.{GivesOne, HasNode, HasGap, IsLacking, Sets, Stands, place_in};
 ghost use Rattle.map_ops.specs.Sound.{Belong};
 
 use crate::job::MapJob;
@@ -110,7 +111,7 @@ pub(crate) fn find(list: &NodeList, cursor: &Cursor, key: Key) -> Result<Option<
 fn link_key(list: &mut NodeList, pred: NodeRef, key: Key, value: u64, spare: Unfilled)
     requires sound { IsSound list.old }
     requires belong { Belong list.old.nodes }
-    requires room { HasRoom list.old key pred }
+    requires room { HasGap list.old key pred }
     requires owned { IsOut list.old spare }
     ensures sets { (buckets : Directory)
         → Sets (table_of list.old buckets) (table_of list.new buckets) key (Some value) }
@@ -125,7 +126,7 @@ fn link_key(list: &mut NodeList, pred: NodeRef, key: Key, value: u64, spare: Unf
     let _ = link_at(list, pred, node);
 }
 
-/// Writes the value of a key that is there, and answers the one that it had.
+/// Writes a new value for a key that is there, and answers the old value.
 fn swap_key(list: &mut NodeList, node: NodeRef, key: Key, value: u64) -> u64
     requires sound { IsSound list.old }
     requires belong { Belong list.old.nodes }

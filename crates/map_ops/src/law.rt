@@ -24,9 +24,9 @@ pub fn there_and_back()
         → Applies old new op reply None → content new ≡ content old }
 {}
 
-/// Two jobs of different keys may be taken back in either order. If their spares are at different
-/// places, the second may still be taken back after the first (clause `due`). Both orders leave the
-/// same content, and so the same list of pairs, and the same spares out.
+/// Two jobs of different keys are taken back, one after the other. Both orders leave the same
+/// content, the same list of pairs and the same spares that are out. Clause `due` says that the
+/// second job may still be taken back after the first, if their spares are at different places.
 ///
 /// The contract is the law, a consequence of the contract of `Table::take_back`; the function does
 /// nothing.

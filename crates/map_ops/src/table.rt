@@ -49,7 +49,7 @@ impl Model for Table {
 }
 
 impl Table {
-    ghost use Rattle.map_ops.specs.TableAt.{HasParents, HasSoundList, Dummy, IsClean, IsNew, IsPlaced, IsSplitOrdered, Follows, Keeps, KeepsList, KeepsSpares, NamesDummies, Sought, content, regular, helps_of, largest_of, linked_of, size_of, stored_of, table_changes};
+    ghost use Rattle.map_ops.specs.TableAt.{HasParents, HasSoundList, Dummy, IsClean, IsNew, IsPlaced, IsSplitOrdered, Follows, KeepsTable, KeepsList, KeepsSpares, NamesDummies, Sought, content, regular, helps_of, largest_of, linked_of, size_of, stored_of, table_changes};
     ghost use Rattle.map_ops.specs.Jobs.{IsDue, key_of_job, spare_of_job};
     ghost use Rattle.map_ops.specs.Changes.{ActWrites, Acts, Applies, GivesBack, IsRefused, OwnsIf, Places, Prepares, SeeksAndUndoes, SeeksNear, Sweeps, TakesBack, UndoWrites, Undoes};
     ghost use Rattle.map_ops.specs.Buckets.{Doubles, LinkChanges, SeekChanges, StoreChanges, double_answer, link_answer_of, seek_answer, store_answer, LacksSegment};
@@ -74,10 +74,12 @@ impl Table {
     }
 
     /// A table as `new` makes it, with memory for this number of nodes taken at once, so that the
-    /// list need not grow before it has more nodes. Each linked node counts, also a marked one and
-    /// a dummy, and so does each spare that is out. If `is_written`, the memory for the nodes is
-    /// also written at once, so that no later node is the first to touch a page of it; and memory
-    /// for the entries of as many buckets, at most `max`, is taken too.
+    /// list need not grow before it has more nodes. Marked nodes, dummies and spares that are out
+    /// count as nodes too.
+    ///
+    /// If `is_written`, the memory for the nodes is also written at once, so that no later node is
+    /// the first to touch a page of it. Memory for the entries of the first `nodes` buckets, at
+    /// most `max`, is then taken too.
     ///
     /// # Errors
     ///
@@ -86,7 +88,8 @@ impl Table {
     /// # Cost
     ///
     /// That of `new`, and 40 bytes of memory for each node. If `is_written`, also time in
-    /// proportion to that memory, and 4 bytes for each bucket's entry, in whole segments.
+    /// proportion to that memory, and 4 bytes of memory for the entry of each of these buckets, in
+    /// whole segments.
     pub fn with_capacity(
         alloc: Global,
         max: u32,
@@ -193,9 +196,10 @@ impl Table {
         seek_key(&mut self.list, &self.buckets, job.key())
     }
 
-    /// Takes a change back at a cursor that was placed for its key: the key has the value before
-    /// the change, or none, and every other key is unchanged, whatever was changed there since. One
-    /// node is marked, written or linked, and none is unlinked.
+    /// Takes a change back at a cursor that was placed for its key. The key then has the value that
+    /// it had before the change, or no value if it had none. Every other key keeps the value that
+    /// it has now, even if it got that value after the change. One node is marked, written or
+    /// linked, and none is unlinked.
     ///
     /// The answer is `Again` exactly if the cursor no longer fits. Then nothing has changed, and
     /// the job is returned.
@@ -354,7 +358,7 @@ impl Table {
     pub fn sweep(&mut self) -> SweepOutcome
         ensures clean { (result ≡ SweepOutcome.Clean) ↔ IsClean self.old }
         ensures sweeps { Sweeps self.old self.new result }
-        ensures keeps { Keeps self.old self.new }
+        ensures keeps { KeepsTable self.old self.new }
         ensures spares { KeepsSpares self.old self.new }
         ensures changes { result ≡ SweepOutcome.Clean
             → table_changes self.new ≡ table_changes self.old }
@@ -426,8 +430,8 @@ impl Table {
         answer_for(self.buckets.init_link(&mut self.list, helper))
     }
 
-    /// Stores a helper's dummy as its bucket's, which is initialised from then on, and leaves the
-    /// helper idle.
+    /// Stores a helper's dummy as the dummy of the helper's bucket. From then on the bucket is
+    /// initialised, and the helper is idle.
     ///
     /// # Errors
     ///

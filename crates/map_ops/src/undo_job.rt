@@ -1,12 +1,13 @@
-//! Makes the jobs of the table the jobs of an undo log: the log's world is the table. The crate
-//! `undo_log` knows no table, and only this module uses it, so all others are free of logs. To run
-//! a job costs a seek and one change at the position of its key, and takes no memory.
+//! Implements `UndoJob`, the trait of the jobs of an undo log, for the jobs of the table. The log's
+//! world is the table. The crate `undo_log` knows no table, and only this module uses it, so no
+//! other module knows of logs. Running a job costs a seek and one change at the position of its
+//! key, and takes no memory.
 use crate::job::MapJob;
 use crate::table::Table;
 use undo_log::UndoJob;
 
 impl UndoJob for MapJob {
-    ghost use Rattle.map_ops.specs.Changes.{Runs, ShowsAfter, ShowsBefore};
+    ghost use Rattle.map_ops.specs.Changes.{RunsJob, ShowsAfter, ShowsBefore};
 
     type World = Table;
 
@@ -14,7 +15,7 @@ impl UndoJob for MapJob {
 
     ghost shows_before = { ShowsBefore };
 
-    ghost takes_back = { λ job old new. Runs old new job };
+    ghost takes_back = { λ job old new. RunsJob old new job };
 
     fn run(self, world: Table) -> Table {
         let mut table = world;

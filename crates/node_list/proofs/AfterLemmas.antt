@@ -24,7 +24,7 @@ now_linked (n ∷ rest) pred x is = elim (eqb_tells n.place pred) [
   | inr apart ↦ rw apart.0 (inr (now_linked rest pred x (elim is [ inl first ↦ absurd (apart.1 first) | inr later ↦ later ])))
 ]
 
--- A node that is linked is found, if its place was free.
+-- If a node is linked and its place was free before, the node is found at its place.
 pub now_found : (nodes : List NodeAt) (pred : ℕ) (x : NodeAt) → AbsentFrom x.place nodes → IsLinked nodes pred → node_of (linked_after nodes pred x) x.place ≡ Some x
 unfolding node_of linked_after IsLinked
 now_found [] pred x absent is = absurd is
@@ -93,7 +93,8 @@ absent_unlinked (n ∷ (m ∷ rest)) pred place apart is = elim (eqb_tells n.pla
       rw later.0 (absent_linked (m ∷ rest) n.place place apart.0 (linked_more (m ∷ rest) place there.1), absent_unlinked (m ∷ rest) pred place apart.1 is_later)
 ]
 
--- A node that is found after a change was there before, unless it is the one that was linked.
+-- After a change, each node that is found was there before the change, or is the node that was
+-- linked.
 pub found_linked_after : (nodes : List NodeAt) (pred place : ℕ) (x n : NodeAt) → node_of (linked_after nodes pred x) place ≡ Some n → (node_of nodes place ≡ Some n) ⊎ ((x ≡ n) × (x.place ≡ place))
 unfolding node_of linked_after
 found_linked_after [] pred place x n is = inl is

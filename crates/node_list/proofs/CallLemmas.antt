@@ -4,11 +4,11 @@ use Rattle.slab.specs.Slab.{Slab, get, slab_len, Updates, with_value}
 use Rattle.node_list.specs.declared.node.Node.{Node}
 use Rattle.node_list.specs.declared.node.Kind.TheVariants.{Dummy, Regular}
 use Rattle.node_list.specs.Slots.{SlotAt, Linked, Out}
-use Rattle.node_list.specs.Nodes.{NodeAt, SpareAt, IsOut, filled, out_at, node_of, place_of, IsLinked, IsRegularAt, IsBeforeMarked, is_regular, is_live, is_marked, live_count, marked_count, linked_after, unlinked_after, changed_at, marked_at, written_at, one_more, GivesOut, TakesBack, Becomes, Takes}
+use Rattle.node_list.specs.Nodes.{NodeAt, SpareAt, IsOut, filled, out_at, node_of, place_of, IsLinked, IsRegularAt, IsBeforeMarked, is_regular, is_live, is_marked, live_count, marked_count, linked_after, unlinked_after, changed_at, marked_at, written_at, one_more, GivesOut, ReturnsSpare, Becomes, UsesSpare}
 use Rattle.node_list.specs.Order.{IsRising}
-use Rattle.node_list.specs.Seen.{seen}
+use Rattle.node_list.specs.Seen.{node_seen}
 use Rattle.node_list.specs.Follow.{IsSameNode, Follows}
-use Rattle.node_list.specs.Layout.{stored, nodes_in, listing_of, IsKept}
+use Rattle.node_list.specs.Layout.{stored_node, nodes_in, listing_of, IsKept}
 use Rattle.node_list.proofs.OrderLemmas.{some-injective}
 use Rattle.node_list.proofs.NodesLemmas.{found_linked, next_linked, next_found, linked_more}
 use Rattle.node_list.proofs.AfterLemmas.{now_found}
@@ -19,7 +19,7 @@ use Rattle.node_list.proofs.SpareSteps.{spare_laid_out, spare_stamps, spare_out,
 use Rattle.node_list.proofs.SlabSteps.{link_absent, link_laid_out, link_stamps, link_gone, link_others, mid_spare, change_laid_out, change_stamps, change_out, unlink_laid_out, unlink_stamps, unlink_out}
 use Rattle.node_list.proofs.FollowLemmas.{sound, gives_out_follows, takes_back_follows, links_follow, changes_follow, unlinks_follow}
 
--- The counted nodes are no more than the slots in use.
+-- There are at most as many counted nodes as slots in use.
 pub counted_fit : (slab : Slab SlotAt) (head last count marked : ℕ) → IsKept slab head last count marked → count + marked ≤ slab_len slab
 counted_fit slab head last count marked is =
     let fits = nodes_fit slab head (nodes_in slab head) is.laid_out in
@@ -56,12 +56,12 @@ module _ (old : Slab SlotAt) (head changes last count marked : ℕ) (is : IsKept
       )
 
   -- A spare is given back to the list.
-  pub taken_back : (new : Slab SlotAt) (place stamp : ℕ) → out_at (listing_of old head changes last) place ≡ Some stamp → Updates old new place None → IsKept new head last count marked × TakesBack (listing_of old head changes last) (listing_of new head changes last) place × Follows (listing_of old head changes last) (listing_of new head changes last)
+  pub taken_back : (new : Slab SlotAt) (place stamp : ℕ) → out_at (listing_of old head changes last) place ≡ Some stamp → Updates old new place None → IsKept new head last count marked × ReturnsSpare (listing_of old head changes last) (listing_of new head changes last) place × Follows (listing_of old head changes last) (listing_of new head changes last)
   taken_back new place stamp is_out freed =
       let nodes = nodes_in old head in
       let laid = back_laid_out old new head place stamp nodes is_out freed is.laid_out in
       let stamps = back_stamps old new head place stamp nodes is_out freed last is.stamps in
-      let back : TakesBack (listing_of old head changes last) (listing_of new head changes last) place = record {
+      let back : ReturnsSpare (listing_of old head changes last) (listing_of new head changes last) place = record {
         nodes = nodes_in_is new head nodes laid;
         head = refl;
         changes = refl;
@@ -78,22 +78,22 @@ module _ (old : Slab SlotAt) (head changes last count marked : ℕ) (is : IsKept
   -- A node is changed.
   module _ (new : Slab SlotAt) (place : ℕ) (change : NodeAt → NodeAt) (node written : Node)
       (same : (n : NodeAt) → IsSameNode n (change n))
-      (stores : (n : NodeAt) (next : Option ℕ) → node ≡ stored n next → written ≡ stored (change n) next)
+      (stores : (n : NodeAt) (next : Option ℕ) → node ≡ stored_node n next → written ≡ stored_node (change n) next)
       (stamp : written.stamp ≡ node.stamp)
       (linked : IsLinked (nodes_in old head) place)
       (is_node : get old place ≡ Some (Linked node))
       (new_is : new ≡ with_value old place (Linked written))
       (plain : (n : NodeAt) → node_of (nodes_in old head) place ≡ Some n → (n.kind ≡ Dummy → n.marked ≡ false) → (change n).kind ≡ Dummy → (change n).marked ≡ false) where
-    found : node_of (nodes_in old head) place ≡ Some (seen place node)
+    found : node_of (nodes_in old head) place ≡ Some (node_seen place node)
     found = node_found (get old) (nodes_in old head) place node is.laid_out.chain linked is_node
 
-    live_now : live_count (changed_at (nodes_in old head) place change) + gain is_live (seen place node) ≡ live_count (nodes_in old head) + gain is_live (change (seen place node))
-    live_now = count-changed is_live (nodes_in old head) place change (seen place node) found
+    live_now : live_count (changed_at (nodes_in old head) place change) + gain is_live (node_seen place node) ≡ live_count (nodes_in old head) + gain is_live (change (node_seen place node))
+    live_now = count-changed is_live (nodes_in old head) place change (node_seen place node) found
 
-    marked_now : marked_count (changed_at (nodes_in old head) place change) + gain is_marked (seen place node) ≡ marked_count (nodes_in old head) + gain is_marked (change (seen place node))
-    marked_now = count-changed is_marked (nodes_in old head) place change (seen place node) found
+    marked_now : marked_count (changed_at (nodes_in old head) place change) + gain is_marked (node_seen place node) ≡ marked_count (nodes_in old head) + gain is_marked (change (node_seen place node))
+    marked_now = count-changed is_marked (nodes_in old head) place change (node_seen place node) found
 
-    pub changed : (live marks : ℕ) → live + gain is_live (seen place node) ≡ count + gain is_live (change (seen place node)) → marks + gain is_marked (seen place node) ≡ marked + gain is_marked (change (seen place node)) → IsKept new head last live marks × Becomes (listing_of old head changes last) (listing_of new head (one_more changes) last) (changed_at (nodes_in old head) place change) × (changes < 2 ^ 64 → Follows (listing_of old head changes last) (listing_of new head (one_more changes) last))
+    pub changed : (live marks : ℕ) → live + gain is_live (node_seen place node) ≡ count + gain is_live (change (node_seen place node)) → marks + gain is_marked (node_seen place node) ≡ marked + gain is_marked (change (node_seen place node)) → IsKept new head last live marks × Becomes (listing_of old head changes last) (listing_of new head (one_more changes) last) (changed_at (nodes_in old head) place change) × (changes < 2 ^ 64 → Follows (listing_of old head changes last) (listing_of new head (one_more changes) last))
     changed live marks live_is marks_are =
         let nodes = nodes_in old head in
         let laid = change_laid_out old new head last place nodes change node written is.laid_out is.stamps same stores stamp is_node new_is plain in
@@ -129,9 +129,9 @@ module _ (old : Slab SlotAt) (head changes last count marked : ℕ) (is : IsKept
       let same = some-injective (sym there ∙ regular.is) in
       (ap (λ (v : NodeAt). v.kind) same ∙ regular.regular, ap (λ (v : NodeAt). v.marked) same ∙ regular.unmarked)
 
-  -- If the list has an unmarked regular node at a place, the node in the slot is the one that the
-  -- list has there, and the node in the slot is unmarked.
-  pub regular_found : (place : ℕ) (node : Node) → IsRegularAt (nodes_in old head) place → get old place ≡ Some (Linked node) → (node_of (nodes_in old head) place ≡ Some (seen place node)) × (node.marked ≡ false)
+  -- If the list has an unmarked regular node at a place, this node is the one in the slot there,
+  -- and the node in the slot is unmarked.
+  pub regular_found : (place : ℕ) (node : Node) → IsRegularAt (nodes_in old head) place → get old place ≡ Some (Linked node) → (node_of (nodes_in old head) place ≡ Some (node_seen place node)) × (node.marked ≡ false)
   regular_found place node regular is_node =
       let linked = found_linked (nodes_in old head) place regular.node regular.is in
       (node_found (get old) (nodes_in old head) place node is.laid_out.chain linked is_node, (regular_seen place node regular is_node).1)
@@ -154,9 +154,9 @@ module _ (old : Slab SlotAt) (head changes last count marked : ℕ) (is : IsKept
   node_marked new place node regular is_node new_is =
       let linked = found_linked (nodes_in old head) place regular.node regular.is in
       let seen_is = regular_seen place node regular is_node in
-      let one = live-regular (seen place node) seen_is.0 seen_is.1 in
-      let none = live-marked (record (seen place node) { marked = true }) refl in
-      let unmarked : gain is_marked (seen place node) ≡ 0 = ap (λ (b : Bool). cond {A = ℕ} b 1 0) seen_is.1 in
+      let one = live-regular (node_seen place node) seen_is.0 seen_is.1 in
+      let none = live-marked (record (node_seen place node) { marked = true }) refl in
+      let unmarked : gain is_marked (node_seen place node) ≡ 0 = ap (λ (b : Bool). cond {A = ℕ} b 1 0) seen_is.1 in
       let some = counts_one place regular in
       changed new place (λ n. record n { marked = true }) node (record node { marked = true })
       (λ n. record { place = refl; at = refl; kind = refl; stamp = refl })
@@ -178,7 +178,7 @@ module _ (old : Slab SlotAt) (head changes last count marked : ℕ) (is : IsKept
       let place_is = next_is (get old) (nodes_in old head) pred before is.laid_out.chain linked is_before ∙ next in
       linked_node (get old) (nodes_in old head) place is.laid_out.chain (linked_more _ _ (next_linked (nodes_in old head) pred place place_is).1)
 
-  -- The marked node behind `pred` has the sort key of the node in its slot, which is at `place`.
+  -- The marked node behind `pred` has the sort key of the node in the slot at `place`.
   pub behind_at : (pred place : ℕ) (before node : Node) (behind : IsBeforeMarked (nodes_in old head) pred) → get old pred ≡ Some (Linked before) → before.next ≡ Some place → get old place ≡ Some (Linked node) → behind.node.at ≡ node.at
   behind_at pred place before node behind is_before next is_node =
       let nodes = nodes_in old head in
@@ -230,16 +230,16 @@ module _ (old : Slab SlotAt) (head changes last count marked : ℕ) (is : IsKept
     -- After the slot of the node in front has changed, the spare's slot still has the spare's
     -- stamp.
     pub filling_slot : get mid s.place ≡ Some (Out s.stamp)
-    filling_slot = mid_spare old mid (with_value mid s.place (Linked (stored (filled s) before.next))) head last pred (nodes_in old head) (filled s) before is.laid_out is.stamps is_before is_out mid_is refl
+    filling_slot = mid_spare old mid (with_value mid s.place (Linked (stored_node (filled s) before.next))) head last pred (nodes_in old head) (filled s) before is.laid_out is.stamps is_before is_out mid_is refl
 
-    pub filled_in : (gained : ℕ) → gained ≡ cond (is_regular s.kind) 1 0 → new ≡ with_value mid s.place (Linked (stored (filled s) next)) → IsLinked (nodes_in old head) pred → IsRising (linked_after (nodes_in old head) pred (filled s)) → IsKept new head last (count + gained) marked × Takes (listing_of old head changes last) (listing_of new head (one_more changes) last) (linked_after (nodes_in old head) pred (filled s)) s.place × (node_of (nodes_in new head) s.place ≡ Some (filled s)) × (changes < 2 ^ 64 → Follows (listing_of old head changes last) (listing_of new head (one_more changes) last))
+    pub filled_in : (gained : ℕ) → gained ≡ cond (is_regular s.kind) 1 0 → new ≡ with_value mid s.place (Linked (stored_node (filled s) next)) → IsLinked (nodes_in old head) pred → IsRising (linked_after (nodes_in old head) pred (filled s)) → IsKept new head last (count + gained) marked × UsesSpare (listing_of old head changes last) (listing_of new head (one_more changes) last) (linked_after (nodes_in old head) pred (filled s)) s.place × (node_of (nodes_in new head) s.place ≡ Some (filled s)) × (changes < 2 ^ 64 → Follows (listing_of old head changes last) (listing_of new head (one_more changes) last))
     filled_in gained gained_is new_was linked rising =
         let nodes = nodes_in old head in
         let x : NodeAt = filled s in
-        let new_is : new ≡ with_value mid s.place (Linked (stored (filled s) before.next)) = new_was ∙ ap (λ (k : Option ℕ). with_value mid s.place (Linked (stored (filled s) k))) next_was in
+        let new_is : new ≡ with_value mid s.place (Linked (stored_node (filled s) before.next)) = new_was ∙ ap (λ (k : Option ℕ). with_value mid s.place (Linked (stored_node (filled s) k))) next_was in
         let laid = link_laid_out old mid new head last pred nodes x before is.laid_out is.stamps is_before is_out mid_is new_is refl rising in
         let stamps = link_stamps old mid new head last pred nodes x before is.laid_out is.stamps is_before is_out mid_is new_is in
-        let takes : Takes (listing_of old head changes last) (listing_of new head (one_more changes) last) (linked_after (nodes_in old head) pred (filled s)) s.place = record {
+        let takes : UsesSpare (listing_of old head changes last) (listing_of new head (one_more changes) last) (linked_after (nodes_in old head) pred (filled s)) s.place = record {
           nodes = nodes_in_is new head (linked_after nodes pred x) laid;
           head = refl;
           changes = refl;

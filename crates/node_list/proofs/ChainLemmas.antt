@@ -11,8 +11,8 @@ use Rattle.node_list.specs.declared.node.Node.{Node}
 use Rattle.node_list.specs.Slots.{SlotAt, Linked, Out, node_in}
 use Rattle.node_list.specs.Nodes.{NodeAt, IsLinked, node_of, next_of, first, place_of}
 use Rattle.node_list.specs.Order.{IsNodeBefore, IsRising, AbsentFrom, IsSpread}
-use Rattle.node_list.specs.Seen.{seen}
-use Rattle.node_list.specs.Layout.{stored, walk, first_place, IsChain, nodes_in, StartsAt, IsLaidOut}
+use Rattle.node_list.specs.Seen.{node_seen}
+use Rattle.node_list.specs.Layout.{stored_node, walk, first_place, IsChain, nodes_in, StartsWithHead, IsLaidOut}
 use Rattle.node_list.proofs.OrderLemmas.{some-injective, some-none, before-irreflexive, before-same, each_map}
 
 pub linked-injective : {x y : Node} → Some (Linked x) ≡ Some (Linked y) → x ≡ y
@@ -44,13 +44,13 @@ walk_is (suc fuel) at (n ∷ rest) chain room =
     rw chain.0 (ap (λ ns. n ∷ ns) (walk_is fuel at rest chain.1 (omega arith)))
 
 -- If a node in a slot belongs before all nodes of a chain, no node of the chain is at its place.
-absent_after : (at : ℕ → Option SlotAt) (n : NodeAt) (next : Option ℕ) (nodes : List NodeAt) → at n.place ≡ Some (Linked (stored n next)) → IsChain at nodes → AllByRecursion (IsNodeBefore n) nodes → AbsentFrom n.place nodes
+absent_after : (at : ℕ → Option SlotAt) (n : NodeAt) (next : Option ℕ) (nodes : List NodeAt) → at n.place ≡ Some (Linked (stored_node n next)) → IsChain at nodes → AllByRecursion (IsNodeBefore n) nodes → AbsentFrom n.place nodes
 unfolding IsChain
 absent_after at n next [] is chain before = tt
 absent_after at n next (m ∷ rest) is chain before = (
   (λ same.
-      let here : at n.place ≡ Some (Linked (stored m (first_place rest))) = rw (← same) chain.0 in
-      let equal : stored m (first_place rest) ≡ stored n next = linked-injective (sym here ∙ is) in
+      let here : at n.place ≡ Some (Linked (stored_node m (first_place rest))) = rw (← same) chain.0 in
+      let equal : stored_node m (first_place rest) ≡ stored_node n next = linked-injective (sym here ∙ is) in
       before-irreflexive n (before-same n m n n refl (ap (λ (v : Node). v.at) equal) before.0)),
   absent_after at n next rest is chain.1 before.1,
 )
@@ -108,7 +108,7 @@ pub place_of_first : (nodes : List NodeAt) → place_of (first nodes) ≡ first_
 place_of_first [] = refl
 place_of_first (n ∷ rest) = refl
 
-start_place : (nodes : List NodeAt) (head : ℕ) → StartsAt nodes head → first_place nodes ≡ Some head
+start_place : (nodes : List NodeAt) (head : ℕ) → StartsWithHead nodes head → first_place nodes ≡ Some head
 start_place nodes head starts = sym (place_of_first nodes) ∙ ap place_of starts.is ∙ ap Some starts.place
 
 -- The nodes of a slab are the ones that are laid out in it.
@@ -138,7 +138,7 @@ absent_free at (n ∷ rest) place chain free = ((λ same. free _ (rw same at cha
 pub linked_node : (at : ℕ → Option SlotAt) (nodes : List NodeAt) (place : ℕ) → IsChain at nodes → IsLinked nodes place → (node : Node) × (at place ≡ Some (Linked node))
 unfolding IsChain IsLinked
 linked_node at [] place chain is = absurd is
-linked_node at (n ∷ rest) place chain (inl here) = (stored n (first_place rest), rw (← here) chain.0)
+linked_node at (n ∷ rest) place chain (inl here) = (stored_node n (first_place rest), rw (← here) chain.0)
 linked_node at (n ∷ rest) place chain (inr later) = linked_node at rest place chain.1 later
 
 -- A place with no node in its slot is not linked.
@@ -146,23 +146,23 @@ pub not_linked : (at : ℕ → Option SlotAt) (nodes : List NodeAt) (place : ℕ
 not_linked at nodes place chain free linked = let there = linked_node at nodes place chain linked in free there.0 there.1
 
 -- The node at a place is the one in its slot.
-pub node_found : (at : ℕ → Option SlotAt) (nodes : List NodeAt) (place : ℕ) (node : Node) → IsChain at nodes → IsLinked nodes place → at place ≡ Some (Linked node) → node_of nodes place ≡ Some (seen place node)
+pub node_found : (at : ℕ → Option SlotAt) (nodes : List NodeAt) (place : ℕ) (node : Node) → IsChain at nodes → IsLinked nodes place → at place ≡ Some (Linked node) → node_of nodes place ≡ Some (node_seen place node)
 unfolding IsChain IsLinked node_of
 node_found at [] place node chain is is_node = absurd is
 node_found at (n ∷ rest) place node chain is is_node = elim (eqb_tells n.place place) [
   | inl here ↦
-      let node_is : node ≡ stored n (first_place rest) = linked-injective (sym is_node ∙ rw here.1 at chain.0) in
-      rw here.0 (ap₂ (λ p v. Some (seen p v)) here.1 (sym node_is))
+      let node_is : node ≡ stored_node n (first_place rest) = linked-injective (sym is_node ∙ rw here.1 at chain.0) in
+      rw here.0 (ap₂ (λ p v. Some (node_seen p v)) here.1 (sym node_is))
   | inr apart ↦ rw apart.0 (node_found at rest place node chain.1 (elim is [ inl here ↦ absurd (apart.1 here) | inr later ↦ later ]) is_node)
 ]
 
--- The next node after a linked node is at the next place that the linked node's slot has.
+-- The slot of a linked node has the place of the next node, if there is a next node.
 pub next_is : (at : ℕ → Option SlotAt) (nodes : List NodeAt) (pred : ℕ) (before : Node) → IsChain at nodes → IsLinked nodes pred → at pred ≡ Some (Linked before) → place_of (next_of nodes pred) ≡ before.next
 unfolding IsChain IsLinked next_of
 next_is at [] pred before chain is is_before = absurd is
 next_is at (n ∷ rest) pred before chain is is_before = elim (eqb_tells n.place pred) [
   | inl here ↦
-      let node_is : before ≡ stored n (first_place rest) = linked-injective (sym is_before ∙ rw here.1 at chain.0) in
+      let node_is : before ≡ stored_node n (first_place rest) = linked-injective (sym is_before ∙ rw here.1 at chain.0) in
       rw here.0 (place_of_first rest ∙ sym (ap (λ (b : Node). b.next) node_is))
   | inr apart ↦ rw apart.0 (next_is at rest pred before chain.1 (elim is [ inl here ↦ absurd (apart.1 here) | inr later ↦ later ]) is_before)
 ]

@@ -7,7 +7,7 @@ use Rattle.node_list.specs.Slots.{SlotAt, Linked}
 use Rattle.node_list.specs.Nodes.{NodeAt, linked_after, unlinked_after, changed_at, first, place_of}
 use Rattle.node_list.specs.Order.{AbsentFrom, IsSpread}
 use Rattle.node_list.specs.Follow.{IsSameNode}
-use Rattle.node_list.specs.Layout.{stored, first_place, IsChain, StartsAt}
+use Rattle.node_list.specs.Layout.{stored_node, first_place, IsChain, StartsWithHead}
 use Rattle.node_list.proofs.OrderLemmas.{some-injective, some-none, each_map, each_both}
 use Rattle.node_list.proofs.ChainLemmas.{linked-injective, place_of_first, chain_kept, chain_absent, next_is}
 
@@ -45,15 +45,16 @@ first_place-changed (n ∷ rest) place change same = elim (eqb_tells n.place pla
 ]
 
 -- Each change keeps the dummy of bucket 0 first.
-pub starts_linked : (nodes : List NodeAt) (head pred : ℕ) (x : NodeAt) → StartsAt nodes head → StartsAt (linked_after nodes pred x) head
+pub starts_linked : (nodes : List NodeAt) (head pred : ℕ) (x : NodeAt) → StartsWithHead nodes head
+    → StartsWithHead (linked_after nodes pred x) head
 starts_linked nodes head pred x starts =
     record { node = starts.node; is = first_linked nodes pred x ∙ starts.is; place = starts.place; at = starts.at; kind = starts.kind }
 
-pub starts_unlinked : (nodes : List NodeAt) (head pred : ℕ) → StartsAt nodes head → StartsAt (unlinked_after nodes pred) head
+pub starts_unlinked : (nodes : List NodeAt) (head pred : ℕ) → StartsWithHead nodes head → StartsWithHead (unlinked_after nodes pred) head
 starts_unlinked nodes head pred starts =
     record { node = starts.node; is = first_unlinked nodes pred ∙ starts.is; place = starts.place; at = starts.at; kind = starts.kind }
 
-pub starts_changed : (nodes : List NodeAt) (head place : ℕ) (change : NodeAt → NodeAt) → ((n : NodeAt) → IsSameNode n (change n)) → StartsAt nodes head → StartsAt (changed_at nodes place change) head
+pub starts_changed : (nodes : List NodeAt) (head place : ℕ) (change : NodeAt → NodeAt) → ((n : NodeAt) → IsSameNode n (change n)) → StartsWithHead nodes head → StartsWithHead (changed_at nodes place change) head
 unfolding changed_at
 starts_changed [] head place change same starts = starts
 starts_changed (n ∷ rest) head place change same starts = elim (eqb_tells n.place place) [
@@ -72,12 +73,12 @@ starts_changed (n ∷ rest) head place change same starts = elim (eqb_tells n.pl
 
 -- A node is linked behind another. The slot of the other node gets the new node's place as its next
 -- place, and the new node's slot gets the next place that the other node had.
-pub chain_linked : (at new : ℕ → Option SlotAt) (nodes : List NodeAt) (pred : ℕ) (x : NodeAt) (before : Node) → IsChain at nodes → IsSpread nodes → AbsentFrom x.place nodes → at pred ≡ Some (Linked before) → new pred ≡ Some (Linked (record before { next = Some x.place })) → new x.place ≡ Some (Linked (stored x before.next)) → ((other : ℕ) → other ≢ pred → other ≢ x.place → new other ≡ at other) → IsChain new (linked_after nodes pred x)
+pub chain_linked : (at new : ℕ → Option SlotAt) (nodes : List NodeAt) (pred : ℕ) (x : NodeAt) (before : Node) → IsChain at nodes → IsSpread nodes → AbsentFrom x.place nodes → at pred ≡ Some (Linked before) → new pred ≡ Some (Linked (record before { next = Some x.place })) → new x.place ≡ Some (Linked (stored_node x before.next)) → ((other : ℕ) → other ≢ pred → other ≢ x.place → new other ≡ at other) → IsChain new (linked_after nodes pred x)
 unfolding IsChain IsSpread linked_after
 chain_linked at new [] pred x before chain apart absent is written x_is others = tt
 chain_linked at new (n ∷ rest) pred x before chain apart absent is written x_is others = elim (eqb_tells n.place pred) [
   | inl here ↦
-      let node_is : before ≡ stored n (first_place rest) = linked-injective (sym is ∙ rw here.1 at chain.0) in
+      let node_is : before ≡ stored_node n (first_place rest) = linked-injective (sym is ∙ rw here.1 at chain.0) in
       let apart_here : AbsentFrom pred rest = rw here.1 at apart.0 in
       let both = each_both (λ m. m.place ≢ pred) (λ m. m.place ≢ x.place) rest apart_here absent.1 in
       let same : AllByRecursion (λ m. new m.place ≡ at m.place) rest =
@@ -93,7 +94,7 @@ chain_linked at new (n ∷ rest) pred x before chain apart absent is written x_i
       )
 ]
 
-renamed : (before behind : Node) (n m : NodeAt) (next after : Option ℕ) → before ≡ stored n next → behind ≡ stored m after → record before { next = behind.next } ≡ stored n after
+renamed : (before behind : Node) (n m : NodeAt) (next after : Option ℕ) → before ≡ stored_node n next → behind ≡ stored_node m after → record before { next = behind.next } ≡ stored_node n after
 renamed before behind n m next after first second = ap₂ (λ (b c : Node). record b { next = c.next }) first second
 
 -- The node behind another is unlinked. The slot of the other node gets the next place that the
@@ -103,19 +104,19 @@ unfolding IsChain IsSpread unlinked_after
 chain_unlinked at new [] pred place before behind chain apart is next_is is_behind written others = tt
 chain_unlinked at new (n ∷ []) pred place before behind chain apart is next_is is_behind written others = elim (eqb_tells n.place pred) [
   | inl here ↦
-      let node_is : before ≡ stored n None = linked-injective (sym is ∙ rw here.1 at chain.0) in
+      let node_is : before ≡ stored_node n None = linked-injective (sym is ∙ rw here.1 at chain.0) in
       let none_is : before.next ≡ None = ap (λ (b : Node). b.next) node_is in
       absurd (some-none (sym next_is ∙ none_is))
   | inr later ↦ rw later.0 (others n.place later.1 ∙ chain.0, tt)
 ]
 chain_unlinked at new (n ∷ (m ∷ rest)) pred place before behind chain apart is next_is is_behind written others = elim (eqb_tells n.place pred) [
   | inl here ↦
-      let node_is : before ≡ stored n (Some m.place) = linked-injective (sym is ∙ rw here.1 at chain.0) in
+      let node_is : before ≡ stored_node n (Some m.place) = linked-injective (sym is ∙ rw here.1 at chain.0) in
       let place_is : place ≡ m.place = some-injective (sym next_is ∙ ap (λ (b : Node). b.next) node_is) in
-      let behind_is : behind ≡ stored m (first_place rest) = linked-injective (sym is_behind ∙ ap at place_is ∙ chain.1.0) in
+      let behind_is : behind ≡ stored_node m (first_place rest) = linked-injective (sym is_behind ∙ ap at place_is ∙ chain.1.0) in
       let apart_here : AbsentFrom pred rest = subst (λ (p : ℕ). AbsentFrom p rest) here.1 apart.0.1 in
       let written_n : new n.place ≡ Some (Linked (record before { next = behind.next })) = rw here.1 written in
-      let node_now : record before { next = behind.next } ≡ stored n (first_place rest) = renamed before behind n m (Some m.place) (first_place rest) node_is behind_is in
+      let node_now : record before { next = behind.next } ≡ stored_node n (first_place rest) = renamed before behind n m (Some m.place) (first_place rest) node_is behind_is in
       rw here.0 (
         written_n ∙ ap (λ v. Some (Linked v)) node_now,
         chain_absent at new pred rest chain.1.1 apart_here others,
@@ -128,12 +129,12 @@ chain_unlinked at new (n ∷ (m ∷ rest)) pred place before behind chain apart 
 ]
 
 -- A node is changed in its slot.
-pub chain_changed : (at new : ℕ → Option SlotAt) (nodes : List NodeAt) (place : ℕ) (change : NodeAt → NodeAt) (node written : Node) → IsChain at nodes → IsSpread nodes → ((n : NodeAt) → IsSameNode n (change n)) → ((n : NodeAt) (next : Option ℕ) → node ≡ stored n next → written ≡ stored (change n) next) → at place ≡ Some (Linked node) → new place ≡ Some (Linked written) → ((other : ℕ) → other ≢ place → new other ≡ at other) → IsChain new (changed_at nodes place change)
+pub chain_changed : (at new : ℕ → Option SlotAt) (nodes : List NodeAt) (place : ℕ) (change : NodeAt → NodeAt) (node written : Node) → IsChain at nodes → IsSpread nodes → ((n : NodeAt) → IsSameNode n (change n)) → ((n : NodeAt) (next : Option ℕ) → node ≡ stored_node n next → written ≡ stored_node (change n) next) → at place ≡ Some (Linked node) → new place ≡ Some (Linked written) → ((other : ℕ) → other ≢ place → new other ≡ at other) → IsChain new (changed_at nodes place change)
 unfolding IsChain IsSpread changed_at
 chain_changed at new [] place change node written chain apart same stores is is_written others = tt
 chain_changed at new (n ∷ rest) place change node written chain apart same stores is is_written others = elim (eqb_tells n.place place) [
   | inl here ↦
-      let node_is : node ≡ stored n (first_place rest) = linked-injective (sym is ∙ rw here.1 at chain.0) in
+      let node_is : node ≡ stored_node n (first_place rest) = linked-injective (sym is ∙ rw here.1 at chain.0) in
       let apart_here : AbsentFrom place rest = rw here.1 at apart.0 in
       let there : new (change n).place ≡ Some (Linked written) = ap new (sym (same n).place ∙ here.1) ∙ is_written in
       rw here.0 (

@@ -37,7 +37,7 @@ count-unlinked test (n ∷ (k ∷ rest)) pred m is = elim (eqb_tells n.place pre
       rw apart.0 (omega (arith, later))
 ]
 
--- The list without the node behind another is one node shorter.
+-- Unlinking the node behind another makes the list one node shorter.
 pub length-unlinked : (nodes : List NodeAt) (pred : ℕ) (m : NodeAt) → next_of nodes pred ≡ Some m → length (unlinked_after nodes pred) + 1 ≡ length nodes
 unfolding next_of unlinked_after
 length-unlinked [] pred m is = absurd (some-none (sym is))
@@ -66,7 +66,7 @@ count-changed test (m ∷ rest) place change n is = elim (eqb_tells m.place plac
       rw apart.0 (omega (arith, later))
 ]
 
--- A marked node counts nothing.
+-- A marked node adds nothing to the count of live nodes.
 pub live-marked : (n : NodeAt) → n.marked ≡ true → gain is_live n ≡ 0
 live-marked n marked = go n.kind
   where
@@ -74,11 +74,11 @@ live-marked n marked = go n.kind
     go Dummy = refl
     go Regular = rw marked refl
 
--- An unmarked regular node counts one.
+-- An unmarked regular node adds one to the count of live nodes.
 pub live-regular : (n : NodeAt) → n.kind ≡ Regular → n.marked ≡ false → gain is_live n ≡ 1
 live-regular n regular unmarked = rw (regular, unmarked) refl
 
--- A new node counts one if it is regular.
+-- A new node adds one to the count of live nodes if it is regular, and nothing if it is a dummy.
 pub live-fresh : (k : Kind) → cond {A = ℕ} (is_regular k) 1 0 ≡ cond {A = ℕ} (is_regular k && not false) 1 0
 live-fresh Dummy = refl
 live-fresh Regular = refl

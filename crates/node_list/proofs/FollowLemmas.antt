@@ -5,7 +5,7 @@ use Rattle.slab.specs.Slab.{Slab, get}
 use Rattle.node_list.specs.declared.node.Node.{Node}
 use Rattle.node_list.specs.declared.node.Kind.TheVariants.{Dummy}
 use Rattle.node_list.specs.Slots.{SlotAt, Linked, Out}
-use Rattle.node_list.specs.Nodes.{NodeAt, Listing, node_of, out_at, linked_after, unlinked_after, changed_at, GivesOut, TakesBack, Becomes, Takes, IsBeforeMarked}
+use Rattle.node_list.specs.Nodes.{NodeAt, Listing, node_of, out_at, linked_after, unlinked_after, changed_at, GivesOut, ReturnsSpare, Becomes, UsesSpare, IsBeforeMarked}
 use Rattle.node_list.specs.Order.{AbsentFrom, IsSpread}
 use Rattle.node_list.specs.Follow.{IsSameNode, Follows}
 use Rattle.node_list.specs.Sound.{AllPlain, IsStamped, IsSound}
@@ -28,7 +28,7 @@ follows_self l = record {
   dummies = λ place n is dummy. (n, is, same_node n);
 }
 
--- To follow is transitive.
+-- `Follows` is transitive.
 pub follows_twice : (a b c : Listing) → Follows a b → Follows b c → Follows a c
 follows_twice a b c first second = record {
   sound = λ is. second.sound (first.sound is);
@@ -77,7 +77,7 @@ gives_out_follows old new place stamp above now_sound given = record {
   dummies = λ at n is dummy. (n, rw given.nodes is, same_node n);
 }
 
-pub takes_back_follows : (old new : Listing) (place : ℕ) → IsSound new → TakesBack old new place → Follows old new
+pub takes_back_follows : (old new : Listing) (place : ℕ) → IsSound new → ReturnsSpare old new place → Follows old new
 takes_back_follows old new place now_sound back = record {
   sound = λ was. now_sound;
   last = omega (arith, back.last);
@@ -91,7 +91,7 @@ takes_back_follows old new place now_sound back = record {
   dummies = λ at n is dummy. (n, rw back.nodes is, same_node n);
 }
 
-pub links_follow : (old new : Listing) (pred : ℕ) (x : NodeAt) → old.changes < 2 ^ 64 → AbsentFrom x.place old.nodes → out_at old x.place ≡ Some x.stamp → IsSound new → Takes old new (linked_after old.nodes pred x) x.place → Follows old new
+pub links_follow : (old new : Listing) (pred : ℕ) (x : NodeAt) → old.changes < 2 ^ 64 → AbsentFrom x.place old.nodes → out_at old x.place ≡ Some x.stamp → IsSound new → UsesSpare old new (linked_after old.nodes pred x) x.place → Follows old new
 links_follow old new pred x fits absent was_out now_sound takes = record {
   sound = λ was. now_sound;
   last = omega (arith, takes.last);

@@ -1,5 +1,4 @@
--- Conditions under which the fields of a list keep their invariant (`IsKept`), also when the slab
--- only gets more room.
+-- Conditions under which the fields of a list keep their invariant (`IsKept`).
 use Rattle.std.proofs.Common.{◌≡◌, ℕ, ◌-◌, ◌^◌, ◌<◌, List, Some, None, Result, Ok, Err, refl, sym, ap}
 use Rattle.std.specs.Result.{result_ok}
 use Rattle.slab.specs.Slab.{Slab}

@@ -50,7 +50,7 @@ unfolding IsLinked
 linked_more [] place is = is
 linked_more (n ∷ rest) place is = inr is
 
--- A node with a next one is linked, and so is the next one.
+-- If the node at a place has a next node, both nodes are linked.
 pub next_linked : (nodes : List NodeAt) (pred place : ℕ) → place_of (next_of nodes pred) ≡ Some place → IsLinked nodes pred × IsLinked (without_first nodes) place
 unfolding IsLinked next_of
 next_linked [] pred place is = absurd (some-none (sym is))

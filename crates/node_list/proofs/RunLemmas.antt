@@ -5,7 +5,7 @@ use Rattle.std.proofs.lemmas.Bool.{cases_lt}
 use Rattle.std.proofs.lemmas.List.{get_or-set_same}
 use Rattle.node_list.specs.Tally.{run_sum}
 
--- No count of a run is above its sum.
+-- No count of a run is above the run's sum.
 pub count_in_run : (counts : List ℕ) (from width place : ℕ) → from ≤ place → place < from + width → get_or counts place 0 ≤ run_sum counts from width
 unfolding run_sum
 count_in_run counts from zero place after before = absurd (omega (arith, after, before))

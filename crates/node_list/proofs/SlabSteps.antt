@@ -1,4 +1,4 @@
--- The effect of a link, a change and an unlink in a slab on the list in it.
+-- The effect of a link, a change and an unlink in a slab on the list that the slab holds.
 use Rattle.std.proofs.Common.{◌≡◌, ◌≢◌, ℕ, inl, inr, List, Option, Some, None, false, map, refl, sym, ◌∙◌, ap, get_or}
 use Rattle.std.proofs.lemmas.Bool.{cases_eq}
 use Rattle.slab.specs.Slab.{Slab, get, Updates, with_value}
@@ -9,7 +9,7 @@ use Rattle.node_list.specs.Slots.{SlotAt, Linked, Out}
 use Rattle.node_list.specs.Nodes.{NodeAt, IsLinked, linked_after, unlinked_after, changed_at, node_of, next_of, place_of}
 use Rattle.node_list.specs.Order.{IsRising, IsSpread}
 use Rattle.node_list.specs.Follow.{IsSameNode}
-use Rattle.node_list.specs.Layout.{stored, IsLaidOut, HasStamps, out_stamp}
+use Rattle.node_list.specs.Layout.{stored_node, IsLaidOut, HasStamps, out_stamp}
 use Rattle.node_list.proofs.OrderLemmas.{some-none, each_linked, each_unlinked, each_changed, rising_unlinked, rising_changed}
 use Rattle.node_list.proofs.AfterLemmas.{absent_unlinked, still_linked, now_linked, changed_linked, others_linked}
 use Rattle.node_list.proofs.ChainLemmas.{out-not-linked, spread, next_is, chain_absent, absent_free}
@@ -27,7 +27,7 @@ module _ (old mid new : Slab SlotAt) (head last pred : ℕ) (nodes : List NodeAt
     (is_before : get old pred ≡ Some (Linked before))
     (is_out : get_or (map out_stamp old.slots) x.place None ≡ Some x.stamp)
     (mid_is : mid ≡ with_value old pred (Linked (record before { next = Some x.place })))
-    (new_is : new ≡ with_value mid x.place (Linked (stored x before.next))) where
+    (new_is : new ≡ with_value mid x.place (Linked (stored_node x before.next))) where
   pub spare_slot : get old x.place ≡ Some (Out x.stamp)
   spare_slot = slot_out (get old x.place) x.stamp (sym (out_in old x.place) ∙ is_out)
 
@@ -40,7 +40,7 @@ module _ (old mid new : Slab SlotAt) (head last pred : ℕ) (nodes : List NodeAt
   pub mid_spare : get mid x.place ≡ Some (Out x.stamp)
   mid_spare = joined.others x.place x_apart ∙ spare_slot
 
-  filled_in : Updates mid new x.place (Some (Linked (stored x before.next)))
+  filled_in : Updates mid new x.place (Some (Linked (stored_node x before.next)))
   filled_in = write_updates mid new x.place (Out x.stamp) _ mid_spare new_is
 
   others_kept : (other : ℕ) → other ≢ pred → other ≢ x.place → get new other ≡ get old other
@@ -88,7 +88,7 @@ module _ (old mid new : Slab SlotAt) (head last pred : ℕ) (nodes : List NodeAt
 module _ (old new : Slab SlotAt) (head last place : ℕ) (nodes : List NodeAt) (change : NodeAt → NodeAt) (node written : Node)
     (laid : IsLaidOut old head nodes) (stamps : HasStamps old last)
     (same : (n : NodeAt) → IsSameNode n (change n))
-    (stores : (n : NodeAt) (next : Option ℕ) → node ≡ stored n next → written ≡ stored (change n) next)
+    (stores : (n : NodeAt) (next : Option ℕ) → node ≡ stored_node n next → written ≡ stored_node (change n) next)
     (stamp : written.stamp ≡ node.stamp)
     (is_node : get old place ≡ Some (Linked node))
     (new_is : new ≡ with_value old place (Linked written)) where

@@ -1,4 +1,4 @@
--- A new list, and the effect on a list of a spare that is given out or given back.
+-- A new list, and a list after a spare is given out or given back.
 use Rattle.std.proofs.Common.{◌≡◌, ◌≢◌, ℕ, ◌+◌, inl, inr, List, [], ◌∷◌, Option, Some, None, map, refl, sym, ◌∙◌, ap, arith, get_or}
 use Rattle.std.proofs.Math.ListN.{get_or-map}
 use Rattle.std.proofs.lemmas.Bool.{cases_eq}
@@ -6,7 +6,7 @@ use Rattle.slab.specs.Slab.{Slab, get, Updates}
 use Rattle.node_list.specs.Slots.{SlotAt, Linked, Out}
 use Rattle.node_list.specs.Nodes.{NodeAt, first_dummy, IsLinked}
 use Rattle.node_list.specs.Order.{IsRising}
-use Rattle.node_list.specs.Layout.{stored, IsChain, IsLaidOut, HasStamps, out_stamp}
+use Rattle.node_list.specs.Layout.{stored_node, IsChain, IsLaidOut, HasStamps, out_stamp}
 use Rattle.node_list.proofs.OrderLemmas.{some-injective, some-none}
 use Rattle.node_list.proofs.ChainLemmas.{out-not-linked, chain_absent, absent_free}
 use Rattle.node_list.proofs.StampLemmas.{stamps_set, stamps_freed}
@@ -15,14 +15,14 @@ use Rattle.node_list.proofs.StampLemmas.{stamps_set, stamps_freed}
 pub out_in : (slab : Slab SlotAt) (place : ℕ) → get_or (map out_stamp slab.slots) place None ≡ out_stamp (get slab place)
 out_in slab place = get_or-map out_stamp slab.slots place None
 
--- The slot of a spare that is out.
+-- If `out_stamp` of a slot is a stamp, the slot is kept for a spare with this stamp.
 pub slot_out : (slot : Option SlotAt) (stamp : ℕ) → out_stamp slot ≡ Some stamp → slot ≡ Some (Out stamp)
 slot_out None stamp is = absurd (some-none (sym is))
 slot_out (Some (Linked n)) stamp is = absurd (some-none (sym is))
 slot_out (Some (Out t)) stamp is = ap (λ n. Some (Out n)) (some-injective is)
 
 -- A new list.
-module _ (old new : Slab SlotAt) (head stamp : ℕ) (empty : old.slots ≡ []) (updates : Updates old new head (Some (Linked (stored (first_dummy head stamp) None)))) where
+module _ (old new : Slab SlotAt) (head stamp : ℕ) (empty : old.slots ≡ []) (updates : Updates old new head (Some (Linked (stored_node (first_dummy head stamp) None)))) where
   nothing_at : (place : ℕ) → get old place ≡ None
   nothing_at place = ap (λ (slots : List (Option SlotAt)). get_or slots place None) empty
 

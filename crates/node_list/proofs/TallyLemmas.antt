@@ -1,4 +1,4 @@
--- The marked nodes of a list, and the counts of them.
+-- The marked nodes of a list, and their counts.
 use Rattle.std.proofs.Common.{◌≡◌, ◌≢◌, ℕ, ◌+◌, ◌*◌, ◌^◌, ◌<◌, inl, inr, List, [], ◌∷◌, Option, Some, None, Bool, true, false, refl, sym, ◌∙◌, ap, arith, cond, ◌&&◌, ◌==◌, IfSome, IsSomeAnd, if◌then◌else◌}
 use Rattle.std.proofs.lemmas.Bool.{cases_lt}
 use Rattle.std.proofs.lemmas.Bool.Decides.{eqb_tells}
@@ -22,7 +22,7 @@ one_here split = elim (eqb_tells (region_of split) (region_of split)) [
   | inr apart ↦ absurd (apart.1 refl)
 ]
 
--- The list of one dummy has no marked node to count.
+-- If all counts are 0, they are right for a list of one unmarked node.
 pub tallied_new : (t : TallyAt) (nodes : List NodeAt) (n : NodeAt) → ((region : ℕ) → count_in t region ≡ 0) → n.marked ≡ false → nodes ≡ n ∷ [] → IsTallied t nodes
 unfolding count_where
 tallied_new t nodes n none unmarked is region = rw is (omega (arith, none region, unmarked_gain region n unmarked))
@@ -127,7 +127,8 @@ marks_near t nodes split is rising first =
     let end : split + 2 ^ 52 ≡ (first.region + 1) * 2 ^ 52 = omega (arith, first.is) in
     rw end (first_near first.region nodes rising (λ none. first.some (is first.region ∙ none)))
 
--- If a statement implies another and holds of an option's number, the other holds of it too.
+-- If a statement implies another and holds of an option's number, the other holds of the number
+-- too.
 pub if_some : (P Q : ℕ → Type 0) (o : Option ℕ) → ((x : ℕ) → P x → Q x) → IfSome o P → IfSome o Q
 if_some P Q None each is = tt
 if_some P Q (Some x) each is = each x is

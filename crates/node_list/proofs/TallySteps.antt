@@ -10,7 +10,7 @@ use Rattle.node_list.proofs.RunLemmas.{count_in_run, run_of_zeros, run_elsewhere
 pub region_within : (split : ℕ) → split < 2 ^ 64 → region_of split < 64 * 64
 region_within split fits = omega arith
 
--- Each count in a list of zeros is 0, also past the end of the list.
+-- Each count in a list of zeros is 0, even past the end of the list.
 pub zero_at : (many place : ℕ) → get_or {A = ℕ} (replicate many 0) place 0 ≡ 0
 zero_at many place = elim (cases_lt place many) [
   | inl less ↦ get_or-replicate many place 0 0 less
@@ -47,14 +47,15 @@ module _ (total : ℕ) (groups regions : List ℕ) (is : IsSummed total groups r
     pub group_there : region / 64 < length groups
     group_there = omega (arith, is.groups_in, small)
 
-    -- A region counts no more than its group, and the group no more than the total.
+    -- The count of a region is at most that of its group, and the count of a group is at most the
+    -- total.
     pub region_fits : get_or regions region 0 ≤ get_or groups (region / 64) 0
     region_fits = omega (arith, is.by_group (region / 64) (omega (arith, small)), count_in_run regions (region / 64 * 64) 64 region (omega arith) (omega arith))
 
     pub group_fits : get_or groups (region / 64) 0 ≤ total
     group_fits = omega (arith, is.in_all, count_in_run groups 0 64 (region / 64) (omega arith) (omega (arith, small)))
 
-    -- A region, its group and the total change by the same amount.
+    -- If a region, its group and the total change by the same amount, the sums are still right.
     pub summed : (in_region in_group in_total less more : ℕ) → in_region + less ≡ get_or regions region 0 + more → in_group + less ≡ get_or groups (region / 64) 0 + more → in_total + less ≡ total + more → IsSummed in_total (set groups (region / 64) in_group) (set regions region in_region)
     summed in_region in_group in_total less more region_is group_is total_is = record {
       groups_in = length-set groups (region / 64) in_group ∙ is.groups_in;
@@ -75,8 +76,8 @@ module _ (total : ℕ) (groups regions : List ℕ) (is : IsSummed total groups r
               get_or-set_other groups (region / 64) group in_group 0 apart.1 ∙ is.by_group group within ∙ sym same
         ]
 
-  -- If the total is not 0, some group has a count that is not 0, and so has some region of this
-  -- group.
+  -- If the total is not 0, the sum of the groups is not 0. The first group whose count is not 0 has
+  -- a region whose count is not 0.
   pub some_group : total ≢ 0 → run_sum groups 0 64 ≢ 0
   some_group some none = some (is.in_all ∙ none)
 

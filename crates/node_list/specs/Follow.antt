@@ -11,7 +11,7 @@ pub record IsSameNode (n m : NodeAt) : Type 0 where
   pub kind : n.kind ≡ m.kind
   pub stamp : n.stamp ≡ m.stamp
 
--- The node was linked at this place before, or its stamp was out at the place, or is new.
+-- The node was linked at this place before, or its stamp was out at the place, or its stamp is new.
 abbrev pub WasThere : Listing → ℕ → NodeAt → Type 0
 WasThere old place n =
     ((m : NodeAt) × (node_of old.nodes place ≡ Some m) × IsSameNode m n)
@@ -21,9 +21,9 @@ WasThere old place n =
 abbrev pub IsStillThere : Listing → ℕ → NodeAt → Type 0
 IsStillThere new place n = (m : NodeAt) × (node_of new.nodes place ≡ Some m) × IsSameNode n m
 
--- A list at two times: the invariants of lists still hold, no stamp is used again, a linked dummy
--- stays linked, the change number never falls, and while it is unchanged and below 2^64 - 1 the
--- nodes are unchanged too.
+-- A list at two times. The invariants of lists still hold, no stamp is used again, a linked dummy
+-- stays linked, and the change number does not fall. If the change number is unchanged and below
+-- 2^64 - 1, the nodes are unchanged too.
 pub record Follows (old new : Listing) : Type 0 where
   pub sound : IsSound old → IsSound new
   pub last : old.last ≤ new.last

@@ -8,13 +8,13 @@ use Rattle.node_list.specs.declared.node.Kind.TheVariants.{Dummy}
 use Rattle.node_list.specs.Slots.{SlotAt, Linked, Out}
 use Rattle.node_list.specs.Nodes.{NodeAt, Listing, IsLinked, first, live_count, marked_count}
 use Rattle.node_list.specs.Order.{IsRising}
-use Rattle.node_list.specs.Seen.{seen}
+use Rattle.node_list.specs.Seen.{node_seen}
 use Rattle.node_list.specs.Sound.{AllPlain}
 use Rattle.node_list.specs.Tally.{TallyAt, IsTallied}
 
 -- A node as it is stored, with the place of the next one.
-abbrev pub stored : NodeAt → Option ℕ → Node
-stored n next = record {
+abbrev pub stored_node : NodeAt → Option ℕ → Node
+stored_node n next = record {
   at = n.at;
   kind = n.kind;
   value = n.value;
@@ -24,14 +24,14 @@ stored n next = record {
   next = next;
 }
 
--- The linked node in a slot, followed by the nodes that `rest` gives from the place of the next
--- node on. If the slot has no linked node, the list is empty.
+-- The linked node in a slot, followed by the nodes that `rest` gives for the place of the next
+-- node. If the slot has no linked node, the list is empty.
 abbrev pub step : ℕ → Option SlotAt → (Option ℕ → List NodeAt) → List NodeAt
 step place None rest = []
 step place (Some (Out stamp)) rest = []
-step place (Some (Linked n)) rest = seen place n ∷ rest n.next
+step place (Some (Linked n)) rest = node_seen place n ∷ rest n.next
 
--- The linked nodes from a place on, at most as many as the first number.
+-- The linked nodes from a place on. The first argument is the greatest number of nodes to be taken.
 unfoldable pub walk : ℕ → (ℕ → Option SlotAt) → Option ℕ → List NodeAt
 walk zero at from = []
 walk (suc fuel) at None = []
@@ -45,7 +45,8 @@ first_place (n ∷ rest) = Some n.place
 -- The slots have these nodes, each with the next one's place.
 unfoldable pub IsChain : (ℕ → Option SlotAt) → List NodeAt → Type 0
 IsChain at [] = Unit {0}
-IsChain at (n ∷ rest) = (at n.place ≡ Some (Linked (stored n (first_place rest)))) × IsChain at rest
+IsChain at (n ∷ rest) = (at n.place ≡ Some (Linked (stored_node n (first_place rest))))
+    × IsChain at rest
 
 -- The stamp of the slot's node or spare.
 abbrev pub slot_stamp : SlotAt → ℕ
@@ -73,7 +74,7 @@ listing_of slab head changes last = record {
 }
 
 -- The first of these nodes is the dummy of bucket 0, at this place.
-pub record StartsAt (nodes : List NodeAt) (head : ℕ) : Type 0 where
+pub record StartsWithHead (nodes : List NodeAt) (head : ℕ) : Type 0 where
   pub node : NodeAt
   pub is : first nodes ≡ Some node
   pub place : node.place ≡ head
@@ -83,7 +84,7 @@ pub record StartsAt (nodes : List NodeAt) (head : ℕ) : Type 0 where
 -- The slots hold these linked nodes, in the order of the list.
 pub record IsLaidOut (slab : Slab SlotAt) (head : ℕ) (nodes : List NodeAt) : Type 0 where
   pub chain : IsChain (get slab) nodes
-  pub starts : StartsAt nodes head
+  pub starts : StartsWithHead nodes head
   pub rising : IsRising nodes
   pub plain : AllPlain nodes
   pub all : (place : ℕ) (node : Node) → get slab place ≡ Some (Linked node) → IsLinked nodes place
@@ -95,7 +96,7 @@ pub record HasStamps (slab : Slab SlotAt) (last : ℕ) : Type 0 where
       → slot_stamp s ≡ slot_stamp t → p ≡ q
 
 -- The slab and these numbers meet the invariant of the fields of a list. Of the counts of marked
--- nodes only the total is looked at, not the counts of the regions.
+-- nodes, only the total is among these numbers.
 pub record IsKept (slab : Slab SlotAt) (head last count marked : ℕ) : Type 0 where
   pub laid_out : IsLaidOut slab head (nodes_in slab head)
   pub stamps : HasStamps slab last

@@ -188,7 +188,7 @@ pub record Becomes (old new : Listing) (after : List NodeAt) : Type 0 where
   pub out : (place : ℕ) → out_at new place ≡ out_at old place
 
 -- One change was made: the nodes are now `after`, and the spare at the place is no longer out.
-pub record Takes (old new : Listing) (after : List NodeAt) (place : ℕ) : Type 0 where
+pub record UsesSpare (old new : Listing) (after : List NodeAt) (place : ℕ) : Type 0 where
   pub nodes : new.nodes ≡ after
   pub head : new.head ≡ old.head
   pub changes : new.changes ≡ one_more old.changes
@@ -207,7 +207,7 @@ pub record GivesOut (old new : Listing) (place stamp : ℕ) : Type 0 where
   pub others : (other : ℕ) → other ≢ place → out_at new other ≡ out_at old other
 
 -- The spare at the place is no longer out, and all else is unchanged.
-pub record TakesBack (old new : Listing) (place : ℕ) : Type 0 where
+pub record ReturnsSpare (old new : Listing) (place : ℕ) : Type 0 where
   pub nodes : new.nodes ≡ old.nodes
   pub head : new.head ≡ old.head
   pub changes : new.changes ≡ old.changes

@@ -4,8 +4,8 @@ use Rattle.node_list.specs.declared.node.Node.{Node}
 use Rattle.node_list.specs.Nodes.{NodeAt}
 
 -- The node that is stored at a place, as contracts see it.
-abbrev pub seen : ℕ → Node → NodeAt
-seen place n = record {
+abbrev pub node_seen : ℕ → Node → NodeAt
+node_seen place n = record {
   place = place;
   at = n.at;
   kind = n.kind;

@@ -11,10 +11,11 @@
 //! Calls take constant time and no memory unless they say otherwise: a few look-ups in the slab,
 //! whatever the length of the list.
 //!
-//! A sweep has to find the first marked node, and the list may be long before it. So the split keys
-//! are divided into 4,096 regions of equal size, and the marked nodes are counted in each region,
-//! in each group of 64 regions and in all (`Tally`). `NodeList::marks_begin` looks only at these
-//! counts. A mark adds one to them and an unlink takes one away, so they are right after each call.
+//! A sweep has to find the first marked node, and there may be many unmarked nodes in front of it.
+//! So the split keys are divided into 4,096 regions of equal size, and the marked nodes are counted
+//! in each region, in each group of 64 regions and in all (`Tally`). `NodeList::marks_begin` looks
+//! only at these counts. A mark adds one to them and an unlink takes one away, so they are right
+//! after each call.
 #![tactic(auto)]
 
 mod list;

@@ -1,13 +1,13 @@
-//! The list: a slab of nodes that are chained by their places, and the counts of them. `slots.rt`
-//! changes single slots; a method here makes a whole change of the list, and keeps the invariant:
-//! the nodes are in strict order of their sort keys, and each counter has the number of the nodes
-//! that it counts.
+//! The list: a slab of nodes that are chained by their places, and the counts of these nodes.
+//! `slots.rt` changes single slots; a method here makes a whole change of the list, and keeps the
+//! invariant: the nodes are in strict order of their sort keys, and each counter has the number of
+//! the nodes that it counts.
 ghost use Rattle.std.specs.Prelude.{◌≡◌, ℕ, ◌+◌, ◌-◌, ◌<◌, ◌^◌, ◌↔◌, Some, None, Err, [], ◌∷◌, IfOk, OnErr, IfSome, IfNone, IsSomeAnd, false};
 ghost use Rattle.std.specs.List.{AllByRecursion};
 ghost use Rattle.node_list.specs.Follow.{Follows};
-ghost use Rattle.node_list.specs.Nodes.{out_at, IsOut, filled, first_dummy, IsLinked, IsRegularAt, IsBeforeMarked, node_of, next_of, place_of, live_count, marked_count, one_more, linked_after, unlinked_after, marked_at, written_at, GivesOut, Becomes, Takes, TakesBack};
+ghost use Rattle.node_list.specs.Nodes.{out_at, IsOut, filled, first_dummy, IsLinked, IsRegularAt, IsBeforeMarked, node_of, next_of, place_of, live_count, marked_count, one_more, linked_after, unlinked_after, marked_at, written_at, GivesOut, Becomes, UsesSpare, ReturnsSpare};
 ghost use Rattle.node_list.specs.Order.{IsVacant};
-ghost use Rattle.node_list.specs.Seen.{seen};
+ghost use Rattle.node_list.specs.Seen.{node_seen};
 ghost use Rattle.node_list.specs.Sound.{IsSound};
 ghost use Rattle.node_list.specs.Tally.{AreMarksFrom, first_marked};
 
@@ -162,7 +162,7 @@ impl NodeList {
     /// Takes back a spare that was not linked, and frees its place. Its stamp is never given again.
     pub fn give_back(&mut self, spare: Spare)
         requires { IsOut self.old spare }
-        ensures back { TakesBack self.old self.new spare.place }
+        ensures back { ReturnsSpare self.old self.new spare.place }
         ensures follows { Follows self.old self.new }
     {
         let _ = self.slab.try_remove(spare.node().place());
@@ -173,7 +173,7 @@ impl NodeList {
     pub fn link_after(&mut self, pred: NodeRef, spare: Spare)
         requires vacant { IsVacant self.old.nodes pred spare.at }
         requires out { IsOut self.old spare }
-        ensures linked { Takes self.old self.new
+        ensures linked { UsesSpare self.old self.new
             (linked_after self.old.nodes pred (filled spare)) spare.place }
         ensures node { node_of self.new.nodes spare.place ≡ Some (filled spare) }
         ensures follows { Follows self.old self.new }
@@ -231,10 +231,10 @@ impl NodeList {
         advance(&mut self.changes);
     }
 
-    /// A linked node.
+    /// The node that is linked at a place.
     pub fn node(&self, node: NodeRef) -> &Node
         requires { IsLinked self.now.nodes node }
-        ensures node { node_of self.now.nodes node ≡ Some (seen node result.now) }
+        ensures node { node_of self.now.nodes node ≡ Some (node_seen node result.now) }
         ensures next { place_of (next_of self.now.nodes node) ≡ result.now.next }
         ensures sound { IsSound self.now }
     {
@@ -244,7 +244,8 @@ impl NodeList {
     /// The node that is linked at a place now, if one is.
     pub fn linked_node(&self, node: NodeRef) -> Option<&Node>
         ensures absent { IfNone result (node_of self.now.nodes node ≡ None) }
-        ensures node { IfSome result (λ n. node_of self.now.nodes node ≡ Some (seen node n.now)) }
+        ensures node { IfSome result (λ n. node_of self.now.nodes node
+            ≡ Some (node_seen node n.now)) }
         ensures next { IfSome result (λ n. place_of (next_of self.now.nodes node) ≡ n.now.next) }
         ensures sound { IsSound self.now }
     {

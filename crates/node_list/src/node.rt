@@ -32,8 +32,9 @@ impl Kind {
 }
 
 /// The place of a node. It names the node until the node is unlinked. Later another node may be at
-/// the place; the stamp tells whether it is still the same node. A place is below 2^32 - 1, so that
-/// it takes half a word of each node, and one number of 32 bits is left to stand for none.
+/// the place; the stamp tells whether it is still the same node. A place is below 2^32 - 1, so it
+/// takes half a word of each node. No node has the place 2^32 - 1: `PackedRef` uses this number to
+/// say that there is no node.
 #[derive(Clone, Copy, Debug, PartialEq, Eq)]
 pub struct NodeRef {
     place: u32,
@@ -74,7 +75,7 @@ impl NodeRef {
 }
 
 /// A node. Either it is linked, or its place is kept for a spare (`is_linked`). It takes four
-/// words: the first two have the sort key, the kind, the mark, whether it is linked, and the place
+/// words: the first two have the sort key, the kind, the mark, the flag `is_linked` and the place
 /// of the next node.
 #[derive(Clone, Copy, Debug)]
 pub struct Node {
@@ -86,7 +87,7 @@ pub struct Node {
     pub marked: bool,
     /// Whether the node is linked; if not, its place is kept for a spare.
     pub(crate) is_linked: bool,
-    /// The node behind it.
+    /// The next node.
     pub(crate) next: PackedRef,
     /// The value of a regular node.
     pub value: u64,
@@ -120,7 +121,7 @@ impl Node {
         }
     }
 
-    /// The node behind it, if there is one.
+    /// The next node, if there is one.
     pub fn next(&self) -> Option<NodeRef>
         ensures { result ≡ self.now.next }
     {

@@ -1,7 +1,7 @@
 //! The place of a node, or none, in half the memory of an option: each node has such a reference,
-//! and a list of buckets keeps thousands. A contract sees the reference as the option, so no
-//! definition tells the two apart. Every number of 32 bits is a place or stands for none, so the
-//! type needs no invariant.
+//! and a list of buckets keeps thousands. A contract sees a `PackedRef` as an option, so the same
+//! definitions serve for both types. Every number of 32 bits is a place or stands for none, so the
+//! type `PackedRef` needs no invariant.
 ghost use Rattle.std.specs.Prelude.{◌≡◌, Some, None};
 
 use crate::node::NodeRef;

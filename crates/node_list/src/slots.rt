@@ -32,7 +32,7 @@ impl Model for Slot {
 }
 
 impl Slot {
-    /// A linked node.
+    /// A slot that has this linked node.
     pub fn of_linked(node: Node) -> Self
         requires { node.is_linked ≡ true }
         ensures { result ≡ Linked node }
@@ -40,7 +40,7 @@ impl Slot {
         Slot { node }
     }
 
-    /// A place that is kept for a spare with the stamp of this node.
+    /// A slot whose place is kept for a spare with the stamp of this node.
     pub fn out(node: &Node) -> Self
         ensures { result ≡ Out node.now.stamp }
     {

@@ -3,7 +3,7 @@
 //! Only a list gives spares, no spare can be copied, and a spare is used up when it is linked or
 //! given back.
 ghost use Rattle.std.specs.Prelude.{◌≡◌};
-ghost use Rattle.node_list.specs.Layout.{stored};
+ghost use Rattle.node_list.specs.Layout.{stored_node};
 ghost use Rattle.node_list.specs.Nodes.{filled, first_dummy};
 ghost use Rattle.node_list.specs.Text.{fault_text};
 
@@ -18,9 +18,9 @@ use std::mem::size_of;
 /// A place that a list keeps for a node, a stamp that was never used before, and the contents that
 /// the node will have.
 ///
-/// The spare belongs to the list as long as its place and its stamp are out, until
-/// `NodeList::link_after` or `NodeList::give_back` takes it. If a spare is dropped instead, its
-/// place stays in use.
+/// The list keeps the place for the spare until `NodeList::link_after` or `NodeList::give_back`
+/// takes the spare. Until then the spare belongs to the list, and contracts say that the spare is
+/// out (`IsOut`). If a spare is dropped instead, its place stays in use.
 #[derive(Debug, Drop)]
 pub struct Spare {
     // The sort key, the kind and the place take two words together.
@@ -65,7 +65,7 @@ impl Model for Unfilled {
     ghost view = { λ s. unfilled s.place s.stamp };
 }
 
-/// The reason why a list gives no spare. Each is printed as a sentence.
+/// The reason why a list gives no spare. Each reason is printed as a sentence.
 #[derive(Clone, Copy, Debug, PartialEq, Eq)]
 pub enum SpareFault {
     /// The last stamp that was given is 2^64 - 2: the stamps are used up.
@@ -111,7 +111,7 @@ impl Spare {
 
     /// The node that the spare becomes, with `next` behind it.
     pub(crate) fn into_node(self, next: PackedRef) -> Node
-        ensures { result ≡ stored (filled self) next }
+        ensures { result ≡ stored_node (filled self) next }
     {
         Node {
             at: self.at,

@@ -33,7 +33,7 @@ impl Model for Tally {
     ghost invariant = { λ t. IsSummed t.total t.groups.items t.regions.items };
 }
 
-/// This number of zeros. Allocates.
+/// A new vector of this number of zeros.
 fn zeros(alloc: Global, count: usize) -> Result<Vec<u64>, AllocError>
     ensures { IfOk result (λ counts. counts.items ≡ replicate count 0) }
 {
@@ -79,7 +79,7 @@ impl Tally {
         })
     }
 
-    /// Counts one more in the region of a split key.
+    /// Adds one to the total and to the count of a split key's region.
     pub fn add(&mut self, split: u64)
         requires { self.old.total < 2 ^ 64 - 1 }
         ensures total { self.new.total ≡ self.old.total + 1 }
@@ -92,7 +92,7 @@ impl Tally {
         self.total += 1;
     }
 
-    /// Counts one less in the region of a split key.
+    /// Takes one away from the total and from the count of a split key's region.
     pub fn take_away(&mut self, split: u64)
         requires { count_in self.old (region_of split) ≢ 0 }
         ensures total { self.new.total + 1 ≡ self.old.total }

@@ -8,7 +8,7 @@ use Rattle.txn_words.specs.Map.{Map}
 use Rattle.txn_trace.specs.Now.{now}
 use Rattle.txn_words.specs.Sizes.{Sizes}
 use Rattle.boost_core.specs.State.{State, holder_by}
-use Rattle.owned_map.specs.Within.{Stands, IsAt, CanAbort, IsBeside, GoesOn, HasDone, IsTakenBack, IsCommitted, IsRun, IsSameMap, IsGrown}
+use Rattle.owned_map.specs.Within.{IsBasedOn, IsAt, CanAbort, OnlyWorked, GoesOn, HasDone, IsTakenBack, IsCommitted, IsRun, IsSameMap, IsGrown}
 use Rattle.owned_map.specs.Keeps.{Keeps}
 use Rattle.owned_map.proofs.Only as only
 use Rattle.owned_map.specs.declared.transaction.Transaction.{Transaction}
@@ -33,9 +33,9 @@ grew c old new is = record {
   where
     standing : (base : Map) (q : _) → IsAt c base q old → IsAt c base q new
     standing base q stands =
-        subst (λ h. Stands (holder_by new.words) new.limits c base q h) (sym is.history)
-        (subst (λ (l : Sizes). Stands (holder_by new.words) l c base q old.history) (sym is.limits)
-        (subst (λ (w : Bool). Stands (holder_by w) old.limits c base q old.history) (sym is.words) stands))
+        subst (λ h. IsBasedOn (holder_by new.words) new.limits c base q h) (sym is.history)
+        (subst (λ (l : Sizes). IsBasedOn (holder_by new.words) l c base q old.history) (sym is.limits)
+        (subst (λ (w : Bool). IsBasedOn (holder_by w) old.limits c base q old.history) (sym is.words) stands))
 
     moved : (base : Map) → CanAbort c base old → CanAbort c base new
     moved base (inl stands) = inl (standing base _ stands)
@@ -71,7 +71,7 @@ pub grew_done : (op : Op) (x : Option ℕ) (old between new : State) → HasDone
 grew_done op x old between new done is = record { replied = done.replied; changed = ap now is.history ∙ done.changed }
 
 -- A transaction that began, went on and was committed is a run (`IsRun`).
-pub run : (c place : ℕ) (old begun done new : State) → now begun.history ≡ now old.history → IsBeside c old begun → GoesOn c begun done → IsCommitted c place done new → IsRun c old begun done new
+pub run : (c place : ℕ) (old begun done new : State) → now begun.history ≡ now old.history → OnlyWorked c old begun → GoesOn c begun done → IsCommitted c place done new → IsRun c old begun done new
 run c place old begun done new same beside goes_on committed = record {
   began = same;
   ended = committed.same;
@@ -80,7 +80,7 @@ run c place old begun done new same beside goes_on committed = record {
 }
 
 -- If a transaction began, went on and was taken back, the map is unchanged (`IsSameMap`).
-pub undone : (c : ℕ) (old begun done new : State) → CanAbort c (now old.history) begun → IsBeside c old begun → GoesOn c begun done → IsTakenBack c done new → IsSameMap c old new
+pub undone : (c : ℕ) (old begun done new : State) → CanAbort c (now old.history) begun → OnlyWorked c old begun → GoesOn c begun done → IsTakenBack c done new → IsSameMap c old new
 undone c old begun done new can beside goes_on back = record {
   same = (back.back (now old.history) (goes_on.back (now old.history) can)).0;
   beside = only.after c old begun new beside (only.after c begun done new goes_on.beside back.beside);

@@ -1,5 +1,4 @@
--- The first transaction of a new history, in which only caller 0 does anything: the answers that
--- its steps can have.
+-- The answers to the steps of a new history's first transaction. Only caller 0 takes these steps.
 use Rattle.std.proofs.Common.{◌≡◌, ◌≢◌, ℕ, ◌<◌, ◌==◌, zero, suc, Bool, true, false, cond, List, [], ◌∷◌, ◌++◌, length, take, drop, slice_index_or, Option, Some, None, refl, sym, ap, subst, ◌∙◌, arith}
 use Rattle.std.specs.Prelude.{nat_le, not, ◌&&◌, ◌||◌, unwrap_or}
 use Rattle.std.specs.Option.{option_eq}
@@ -34,12 +33,13 @@ use Rattle.txn_trace.proofs.Holders.{is_locked-busy}
 use Rattle.txn_trace.proofs.Held.{holder_running}
 use Rattle.txn_words.proofs.Order.{split_cmp_tied, value_at, value_at-ordered}
 use Rattle.boost_core.specs.State.{State, holder_by, seat_in}
+use Rattle.boost_core.specs.Helps.{MayEndHelp as IsLack}
 use Rattle.boost_core.specs.Refusals.{refusal_of, MayLack, has_stamp_for}
-use Rattle.boost_core.specs.Machine.{IsAllowed, Move, Event}
+use Rattle.boost_core.specs.Machine.{IsAllowed, Move, Happens}
 use Rattle.boost_core.specs.Plain.{Operates}
-use Rattle.owned_map.specs.Within.{IsAt, IsBeside, IsGrown}
+use Rattle.owned_map.specs.Within.{IsAt, OnlyWorked, IsGrown}
 use Rattle.owned_map.specs.Taken.{HasTakenKeys}
-use Rattle.owned_map.specs.Trimmed.{IsFilling, IsLack}
+use Rattle.owned_map.specs.Trimmed.{IsFilling}
 use Rattle.owned_map.proofs.Histories.{seat_there}
 use Rattle.owned_map.proofs.Only as only
 use Rattle.owned_map.proofs.Steps.{begins, does, based, phase_in}
@@ -54,7 +54,7 @@ caller_there here callers stripes buckets are same = subst (λ c. 0 < c) same (s
 within_of : (s : State) → 0 < s.limits.callers → nat_le s.limits.callers 0 ≡ false
 within_of s there = lt-leb s.limits.callers 0 there
 
--- If the phase of caller 0 is open, `IsAt` holds of it.
+-- If the phase of caller 0 is `Opened`, `IsAt` holds of this caller.
 at_open : (s : State) → IsLegal (holder_by s.words) s.limits.stripes s.history → nat_le s.limits.callers 0 ≡ false → (seat_in s.history 0).phase ≡ Opened → IsAt 0 (based 0 s) Opened s
 at_open s legal within opened =
     let seat = seat_there 0 s.history legal.shape in
@@ -70,7 +70,7 @@ at_open s legal within opened =
 opened_at : (s : State) (base : Map) → IsAt 0 base Opened s → (seat_in s.history 0).phase ≡ Opened
 opened_at s base stands = ap (λ (seat : Seat). seat.phase) (phase_in 0 base Opened s stands) ∙ stands.phase_is
 
-others : (old new : State) → ((d : ℕ) → d ≢ 0 → own d old.history ≡ []) → IsBeside 0 old new → (d : ℕ) → d ≢ 0 → own d new.history ≡ []
+others : (old new : State) → ((d : ℕ) → d ≢ 0 → own d old.history ≡ []) → OnlyWorked 0 old new → (d : ℕ) → d ≢ 0 → own d new.history ≡ []
 others old new none beside d apart = beside.only d apart ∙ none d apart
 
 -- When caller 0 has begun a transaction in a new core, `IsFilling` holds.
@@ -117,7 +117,7 @@ ready_for s rest within opened =
     (cond (is_waiting q) (Some refusals.OperationUnfinished) rest)))) opened
     ∙ ap (λ b. cond b (Some refusals.NoSuchCaller) rest) within
 
--- A put of a key that the limits take is refused only if memory or stamps are missing.
+-- If the limits take the key of a put, the put is refused only if memory or stamps are missing.
 pub put_lacks : (old new : State) (k v : ℕ) (refusal : Refusal) → IsFilling old → is_bad_key old.limits.half k ≡ false
     → Operates old 0 (Put k v) (answers.Refused refusal) new → IsLack refusal
 put_lacks old new k v refusal filling taken event = lacks_ask old (Put k v) refusal (lacked old (Ask 0 (Put k v)) refusal free event.move.allowed)

@@ -23,7 +23,7 @@ use Rattle.txn_trace.proofs.Pushes.{own-push_out}
 use Rattle.txn_trace.proofs.Next.{Next}
 use Rattle.txn_trace.proofs.Entries as laws
 use Rattle.boost_core.proofs.Due.{set_at-after}
-use Rattle.owned_map.specs.Within.{taken_back, Stands}
+use Rattle.owned_map.specs.Within.{taken_back, IsBasedOn}
 
 -- If every entry has the right shape, every caller has a seat.
 seated_on : (c : ℕ) (g rest : List Entry) → is_some (seat_after (own c g)) ≡ true → IsShaped (g ++ rest)
@@ -47,7 +47,7 @@ seat_there c h shaped = the_seat (seat_after (own c h)) (seated_on c [] h refl s
     the_seat None there = absurd (false≢true there)
     the_seat (Some seat) there = (seat, refl)
 
--- The change that an operation notes takes back what it did.
+-- If the change that an operation notes is taken back, the map is the one before the operation.
 noted : (op : Op) (x : Option ℕ) (jobs : List (ℕ × Option ℕ)) (m : Map) → x ≡ reply_of m op
     → taken_back (cond (changes op x) ((key_of op, x) ∷ jobs) jobs) (after m op) ≡ taken_back jobs m
 noted op x jobs m right = subst (λ y. taken_back (cond (changes op y) ((key_of op, y) ∷ jobs) jobs) (after m op) ≡ taken_back jobs m) (sym right) (at (changes op (reply_of m op)) refl)
@@ -58,9 +58,9 @@ noted op x jobs m right = subst (λ y. taken_back (cond (changes op y) ((key_of 
         ∙ ap (taken_back jobs) (after_unchanged m op (sym (changes-reply m op) ∙ is))
 
 module _ {rule : Holder} (limits : Sizes) (c : ℕ) (base : Map) (h : List Entry) where
-  -- `Stands` after one more entry of the caller, by the law of this entry.
+  -- `IsBasedOn` holds after one more entry of the caller, by the law of this entry.
   pub stands_after : (e : Entry) → caller_of e ≡ c → nat_le limits.callers c ≡ false → (seat : Seat) (log : List (ℕ × Option ℕ)) (committed current : Map) (holder : ℕ → Option ℕ)
-      → Next rule limits.stripes h e seat log committed current holder → taken_back log current ≡ base → Stands rule limits c base seat.phase (h ++ e ∷ [])
+      → Next rule limits.stripes h e seat log committed current holder → taken_back log current ≡ base → IsBasedOn rule limits c base seat.phase (h ++ e ∷ [])
   stands_after e mine within seat log committed current holder next back = record {
     within = within;
     legal = next.legal;
@@ -70,38 +70,38 @@ module _ {rule : Holder} (limits : Sizes) (c : ℕ) (base : Map) (h : List Entry
     back = subst (λ d. taken_back (log_of d (h ++ e ∷ [])) (now (h ++ e ∷ [])) ≡ base) mine (ap (λ l. taken_back l (now (h ++ e ∷ []))) next.log_is ∙ ap (taken_back log) next.now_is ∙ back);
   }
 
-  pub asked_now : (op : Op) → Stands rule limits c base Opened h → is_locked rule limits.stripes h (entry.Asked c op) ≡ true
-      → Stands rule limits c base (Waiting op) (h ++ entry.Asked c op ∷ []) × (now (h ++ entry.Asked c op ∷ []) ≡ now h)
+  pub asked_now : (op : Op) → IsBasedOn rule limits c base Opened h → is_locked rule limits.stripes h (entry.Asked c op) ≡ true
+      → IsBasedOn rule limits c base (Waiting op) (h ++ entry.Asked c op ∷ []) × (now (h ++ entry.Asked c op ∷ []) ≡ now h)
   asked_now op stands locked =
       let next = laws.asked limits.stripes h stands.legal c op stands.seat stands.seat_is stands.phase_is locked in
       (stands_after (entry.Asked c op) refl stands.within _ _ _ _ _ next stands.back, next.now_is)
 
-  pub busy_now : (op : Op) (x : ℕ) → Stands rule limits c base Opened h → is_locked rule limits.stripes h (entry.Busy c op x) ≡ true
-      → Stands rule limits c base LeavingToEnd (h ++ entry.Busy c op x ∷ []) × (now (h ++ entry.Busy c op x ∷ []) ≡ now h)
+  pub busy_now : (op : Op) (x : ℕ) → IsBasedOn rule limits c base Opened h → is_locked rule limits.stripes h (entry.Busy c op x) ≡ true
+      → IsBasedOn rule limits c base LeavingToEnd (h ++ entry.Busy c op x ∷ []) × (now (h ++ entry.Busy c op x ∷ []) ≡ now h)
   busy_now op x stands locked =
       let next = laws.busy limits.stripes h stands.legal c op x stands.seat stands.seat_is stands.phase_is locked in
       (stands_after (entry.Busy c op x) refl stands.within _ _ _ _ _ next stands.back, next.now_is)
 
-  -- An operation and its reply: the map becomes what the operation makes of it, and the changes
-  -- are taken back to the same map as before.
-  pub did_now : (op : Op) (x : Option ℕ) → Stands rule limits c base (Waiting op) h → x ≡ reply_of (now h) op
-      → Stands rule limits c base Opened (h ++ entry.Did c x ∷ []) × (now (h ++ entry.Did c x ∷ []) ≡ after (now h) op)
+  -- After a Did with the right reply, the map is the one that the operation makes of it. The
+  -- transaction is open and can still be taken back to `base`.
+  pub did_now : (op : Op) (x : Option ℕ) → IsBasedOn rule limits c base (Waiting op) h → x ≡ reply_of (now h) op
+      → IsBasedOn rule limits c base Opened (h ++ entry.Did c x ∷ []) × (now (h ++ entry.Did c x ∷ []) ≡ after (now h) op)
   did_now op x stands right =
       let next = laws.did limits.stripes h stands.legal c op x stands.seat stands.seat_is stands.phase_is right in
       (stands_after (entry.Did c x) refl stands.within _ _ _ _ _ next (noted op x (log_of c h) (now h) right ∙ stands.back), next.now_is)
 
-  pub left_now : Stands rule limits c base Opened h → Stands rule limits c base LeavingToEnd (h ++ entry.Leave c None ∷ [])
+  pub left_now : IsBasedOn rule limits c base Opened h → IsBasedOn rule limits c base LeavingToEnd (h ++ entry.Leave c None ∷ [])
   left_now stands =
       stands_after (entry.Leave c None) refl stands.within _ _ _ _ _ (laws.left_to_end limits.stripes h stands.legal c stands.seat stands.seat_is stands.phase_is) stands.back
 
-  pub undone_now : (stands : Stands rule limits c base LeavingToEnd h) → 0 < stands.seat.standing → Stands rule limits c base LeavingToEnd (h ++ entry.Undone c ∷ [])
+  pub undone_now : (stands : IsBasedOn rule limits c base LeavingToEnd h) → 0 < stands.seat.standing → IsBasedOn rule limits c base LeavingToEnd (h ++ entry.Undone c ∷ [])
   undone_now stands some =
       let newest = laws.newest h c stands.seat stands.seat_is some in
       let next = laws.undone_to_end limits.stripes h stands.legal c stands.seat stands.seat_is stands.phase_is some newest.0 newest.1 newest.2 in
-      subst (λ q. Stands rule limits c base q (h ++ entry.Undone c ∷ [])) stands.phase_is
+      subst (λ q. IsBasedOn rule limits c base q (h ++ entry.Undone c ∷ [])) stands.phase_is
       (stands_after (entry.Undone c) refl stands.within _ _ _ _ _ next (ap (λ l. taken_back l (now h)) (sym newest.2) ∙ stands.back))
 
-  pub aborted_now : (stands : Stands rule limits c base LeavingToEnd h) → stands.seat.standing ≡ 0
+  pub aborted_now : (stands : IsBasedOn rule limits c base LeavingToEnd h) → stands.seat.standing ≡ 0
       → (now (h ++ entry.Aborted c ∷ []) ≡ base) × (seat_after (own c (h ++ entry.Aborted c ∷ [])) ≡ Some closed_seat)
   aborted_now stands none =
       let next = laws.aborted limits.stripes h stands.legal c stands.seat stands.seat_is stands.phase_is none in
@@ -111,14 +111,14 @@ module _ {rule : Holder} (limits : Sizes) (c : ℕ) (base : Map) (h : List Entry
       no_jobs [] is = refl
       no_jobs (job ∷ jobs) is = absurd (omega arith)
 
-  pub committed_now : (p : ℕ) → Stands rule limits c base Opened h → p ≡ how_many is_commit h + 1
+  pub committed_now : (p : ℕ) → IsBasedOn rule limits c base Opened h → p ≡ how_many is_commit h + 1
       → (now (h ++ entry.Committed c p ∷ []) ≡ now h) × (seat_after (own c (h ++ entry.Committed c p ∷ [])) ≡ Some closed_seat)
   committed_now p stands numbered =
       let next = laws.committed limits.stripes h stands.legal c p stands.seat stands.seat_is stands.phase_is numbered in
       (next.now_is, next.seat_is)
 
 pub began_now : {rule : Holder} (limits : Sizes) (c t : ℕ) (h : List Entry) → nat_le limits.callers c ≡ false → IsLegal rule limits.stripes h → (seat : Seat) → seat_after (own c h) ≡ Some seat → seat.phase ≡ Closed
-    → t ≡ how_many is_began h + 1 → Stands rule limits c (now h) Opened (h ++ entry.Began c t ∷ []) × (now (h ++ entry.Began c t ∷ []) ≡ now h)
+    → t ≡ how_many is_began h + 1 → IsBasedOn rule limits c (now h) Opened (h ++ entry.Began c t ∷ []) × (now (h ++ entry.Began c t ∷ []) ≡ now h)
 began_now limits c t h within legal seat seat_is closed numbered =
     let next = laws.began limits.stripes h legal c t seat seat_is closed numbered in
     (stands_after limits c (now h) h (entry.Began c t) refl within _ _ _ _ _ next refl, next.now_is)

@@ -27,36 +27,36 @@ use Rattle.boost_core.specs.State.{State, holder_by, seat_in}
 use Rattle.boost_core.specs.Refusals.{is_closed, is_leaving, is_waiting, has_job}
 use Rattle.boost_core.specs.Machine.{Move, Moves}
 use Rattle.boost_core.specs.Plain.{Returns, undoing, undone}
-use Rattle.owned_map.specs.Within.{taken_back, Stands, IsAt, CanAbort, GoesOn}
+use Rattle.owned_map.specs.Within.{taken_back, IsBasedOn, IsAt, CanAbort, GoesOn}
 use Rattle.owned_map.proofs.Histories.{stands_after}
 use Rattle.owned_map.proofs.Steps.{to_state, unmoved, phase_in, leaves_on, ready, unready, based}
 use Rattle.owned_map.proofs.Only as only
 use Rattle.boost_core.proofs.Refused.{first_none}
 
 module _ {rule : Holder} (limits : Sizes) (c : ℕ) (base : Map) (h : List Entry) where
-  saved_now : Stands rule limits c base Opened h → Stands rule limits c base Opened (h ++ entry.Saved c ∷ []) × (now (h ++ entry.Saved c ∷ []) ≡ now h)
+  saved_now : IsBasedOn rule limits c base Opened h → IsBasedOn rule limits c base Opened (h ++ entry.Saved c ∷ []) × (now (h ++ entry.Saved c ∷ []) ≡ now h)
   saved_now stands =
       let next = laws.saved limits.stripes h stands.legal c stands.seat stands.seat_is stands.phase_is in (
-        subst (λ q. Stands rule limits c base q (h ++ entry.Saved c ∷ [])) stands.phase_is
+        subst (λ q. IsBasedOn rule limits c base q (h ++ entry.Saved c ∷ [])) stands.phase_is
             (stands_after limits c base h (entry.Saved c) refl stands.within _ _ _ _ _ next stands.back),
         next.now_is,
       )
 
-  pub left_to_now : (n : ℕ) (stands : Stands rule limits c base Opened h) → n < length stands.seat.kept → Stands rule limits c base (LeavingTo n) (h ++ entry.Leave c (Some n) ∷ [])
+  pub left_to_now : (n : ℕ) (stands : IsBasedOn rule limits c base Opened h) → n < length stands.seat.kept → IsBasedOn rule limits c base (LeavingTo n) (h ++ entry.Leave c (Some n) ∷ [])
   left_to_now n stands within =
       stands_after limits c base h (entry.Leave c (Some n)) refl stands.within _ _ _ _ _ (laws.left_to limits.stripes h stands.legal c n stands.seat stands.seat_is stands.phase_is within) stands.back
 
-  pub undone_to_now : (n : ℕ) (stands : Stands rule limits c base (LeavingTo n) h) → slice_index stands.seat.kept n < stands.seat.standing → Stands rule limits c base (LeavingTo n) (h ++ entry.Undone c ∷ [])
+  pub undone_to_now : (n : ℕ) (stands : IsBasedOn rule limits c base (LeavingTo n) h) → slice_index stands.seat.kept n < stands.seat.standing → IsBasedOn rule limits c base (LeavingTo n) (h ++ entry.Undone c ∷ [])
   undone_to_now n stands more =
       let newest = laws.newest h c stands.seat stands.seat_is (some_of (slice_index stands.seat.kept n) stands.seat.standing more) in
       let next = laws.undone_to limits.stripes h stands.legal c n stands.seat stands.seat_is stands.phase_is more newest.0 newest.1 newest.2 in
-      subst (λ q. Stands rule limits c base q (h ++ entry.Undone c ∷ [])) stands.phase_is
+      subst (λ q. IsBasedOn rule limits c base q (h ++ entry.Undone c ∷ [])) stands.phase_is
       (stands_after limits c base h (entry.Undone c) refl stands.within _ _ _ _ _ next (ap (λ l. taken_back l (now h)) (sym newest.2) ∙ stands.back))
     where
       some_of : (m k : ℕ) → m < k → 0 < k
       some_of m k less = omega arith
 
-  pub returned_now : (n : ℕ) (stands : Stands rule limits c base (LeavingTo n) h) → slice_index stands.seat.kept n ≡ stands.seat.standing → Stands rule limits c base Opened (h ++ entry.Returned c n ∷ [])
+  pub returned_now : (n : ℕ) (stands : IsBasedOn rule limits c base (LeavingTo n) h) → slice_index stands.seat.kept n ≡ stands.seat.standing → IsBasedOn rule limits c base Opened (h ++ entry.Returned c n ∷ [])
   returned_now n stands reached =
       stands_after limits c base h (entry.Returned c n) refl stands.within _ _ _ _ _ (laws.returned limits.stripes h stands.legal c n stands.seat stands.seat_is stands.phase_is reached) stands.back
 
@@ -96,7 +96,8 @@ backwards old new c base n (suc changes) steps others stands moves =
     let (between, there, (s1, seek, (s2, act, rest))) = backwards old new c base n changes (Seek c ∷ Act c ∷ steps) (answers.Placed ∷ answers.Undone ∷ others) stands moves in
     (s2, one_back between s1 s2 c base n there seek.move act.move, rest)
 
--- If a Returned has the right shape, exactly the changes of its level stand.
+-- If a Returned has the right shape, it names the level that the caller goes back to, and as many
+-- changes stand as when the level was set.
 pub reached_at : (c n m : ℕ) (h : List Entry) (seat : Seat) → seat_after (own c h) ≡ Some seat → seat.phase ≡ LeavingTo n → IsShaped (h ++ entry.Returned c m ∷ []) → (n ≡ m) × (slice_index seat.kept n ≡ seat.standing)
 reached_at c n m h seat seat_is leaving shaped =
     let e : Entry = entry.Returned c m in
@@ -123,7 +124,7 @@ past s c rest free =
     let leaving = first_none (is_leaving q) refusals.Leaving waits closed.1 in
     (first_none (is_waiting q) refusals.OperationUnfinished rest leaving.1).1
 
--- After a return to a level, the transaction is open and can be taken back to the same map.
+-- After a return to a level, the transaction is open and can still be taken back to `base`.
 returns : (old new : State) (c : ℕ) (base : Map) (n m : ℕ) → IsShaped new.history → IsAt c base Opened old → Returns old c n (answers.Returned m) new → IsAt c base Opened new
 returns old new c base n m shaped stands (same, left, leave, (changes, moves)) =
     let level = first_none (nat_le (length (seat_in old.history c).kept) n) refusals.NoSuchLevel None
@@ -134,7 +135,7 @@ returns old new c base n m shaped stands (same, left, leave, (changes, moves)) =
     let whole : IsShaped (between.history ++ entry.Returned c m ∷ []) = subst IsShaped (ap (λ (s : State). s.history) (last ∙ act.move.state)) shaped in
     let at = reached_at c n m between.history there.seat there.seat_is there.phase_is whole in
     let back = returned_now between.limits c base between.history n there at.1 in
-    to_state c base Opened _ new (last ∙ act.move.state) (subst (λ k. Stands (holder_by between.words) between.limits c base Opened (between.history ++ entry.Returned c k ∷ [])) at.0 back)
+    to_state c base Opened _ new (last ∙ act.move.state) (subst (λ k. IsBasedOn (holder_by between.words) between.limits c base Opened (between.history ++ entry.Returned c k ∷ [])) at.0 back)
 
 pub returned : (old new : State) (c n m : ℕ) → IsShaped new.history → Returns old c n (answers.Returned m) new → GoesOn c old new
 returned old new c n m shaped (same, left, leave, ends) = record {

@@ -1,4 +1,5 @@
--- A caller's steps and plain calls add only entries of this caller, and only a commit commits.
+-- A caller's steps and plain calls add only entries of this caller. Only a commit adds a Committed
+-- entry.
 use Rattle.std.proofs.Common.{◌≡◌, ◌≢◌, ℕ, zero, suc, true, false, Bool, List, [], ◌∷◌, ◌++◌, Some, refl, sym, ap, ◌∙◌}
 use Rattle.std.specs.List.{AllByRecursion}
 use Rattle.std.proofs.lemmas.Bool.{ne_eqb, false≢true}
@@ -21,9 +22,9 @@ use Rattle.boost_core.specs.Refusals.{owner_of}
 use Rattle.boost_core.specs.Answers.{is_at_end}
 use Rattle.boost_core.specs.Machine.{Move, Moves}
 use Rattle.boost_core.specs.Plain.{Operates, Returns, Aborts, Ends, Leaves, undoing, undone}
-use Rattle.owned_map.specs.Within.{OnlyDid, IsBeside, commits_of, is_grown, IsGrown}
+use Rattle.owned_map.specs.Within.{OnlyDid, OnlyWorked, commit_entries, is_grown, IsGrown}
 
--- Whether a step is no commit.
+-- Whether a step is not a commit.
 abbrev pub is_quiet : Step → Bool
 is_quiet (Commit c) = false
 is_quiet step = true
@@ -50,8 +51,8 @@ entries_apart c d h (Commit e) (answers.Committed p) by apart = apart_from c d h
 entries_apart c d h (Abort e) answers.Leaving by apart = apart_from c d h _ (cc by) apart
 entries_apart c d h step answer by apart = ap (own d) (append-nil h)
 
--- A step that is no commit adds no Committed entry.
-none_committed : (step : Step) (answer : Answer) → is_quiet step ≡ true → commits_of (entries_of step answer) ≡ []
+-- A step other than a commit adds no Committed entry.
+none_committed : (step : Step) (answer : Answer) → is_quiet step ≡ true → commit_entries (entries_of step answer) ≡ []
 none_committed (Commit e) (answers.Committed p) quiet = absurd (false≢true quiet)
 none_committed (Begin e) (answers.Began t) quiet = refl
 none_committed (Ask e op) answers.Asked quiet = refl
@@ -65,36 +66,36 @@ none_committed (Back e n) answers.Leaving quiet = refl
 none_committed (Abort e) answers.Leaving quiet = refl
 none_committed step answer quiet = refl
 
-commits_after : (h : List Entry) (step : Step) (answer : Answer) → is_quiet step ≡ true → commits_of (h ++ entries_of step answer) ≡ commits_of h
+commits_after : (h : List Entry) (step : Step) (answer : Answer) → is_quiet step ≡ true → commit_entries (h ++ entries_of step answer) ≡ commit_entries h
 commits_after h step answer quiet =
-    filter-append is_commit h (entries_of step answer) ∙ ap (λ es. commits_of h ++ es) (none_committed step answer quiet) ∙ append-nil (commits_of h)
+    filter-append is_commit h (entries_of step answer) ∙ ap (λ es. commit_entries h ++ es) (none_committed step answer quiet) ∙ append-nil (commit_entries h)
 
-pub same : (c : ℕ) (old new : State) → new.history ≡ old.history → IsBeside c old new
-same c old new is = record { only = λ d apart. ap (own d) is; commits = ap commits_of is }
+pub same : (c : ℕ) (old new : State) → new.history ≡ old.history → OnlyWorked c old new
+same c old new is = record { only = λ d apart. ap (own d) is; commits = ap commit_entries is }
 
--- `IsBeside` holds of two changes, one after the other, if it holds of each.
-pub after : (c : ℕ) (old between new : State) → IsBeside c old between → IsBeside c between new → IsBeside c old new
+-- `OnlyWorked` holds of two changes in a row if it holds of each.
+pub after : (c : ℕ) (old between new : State) → OnlyWorked c old between → OnlyWorked c between new → OnlyWorked c old new
 after c old between new first second = record {
   only = λ d apart. second.only d apart ∙ first.only d apart;
   commits = second.commits ∙ first.commits;
 }
 
-pub moved : (c : ℕ) (old new : State) (step : Step) (answer : Answer) → IsBy c step → Move old step answer new → IsBeside c old new
+pub moved : (c : ℕ) (old new : State) (step : Step) (answer : Answer) → IsBy c step → Move old step answer new → OnlyWorked c old new
 moved c old new step (answers.Refused refusal) by move = same c old new (ap (λ (s : State). s.history) move.state)
 moved c old new step answer by move = record {
   only = λ d apart. ap (λ (s : State). own d s.history) move.state ∙ entries_apart c d old.history step answer by.whose apart;
-  commits = ap (λ (s : State). commits_of s.history) move.state ∙ commits_after old.history step answer by.quiet;
+  commits = ap (λ (s : State). commit_entries s.history) move.state ∙ commits_after old.history step answer by.quiet;
 }
 
--- A commit adds its Committed entry, and no other caller did anything.
+-- A commit adds its Committed entry and no entry of another caller.
 pub committed : (c p : ℕ) (old new : State) → Move old (Commit c) (answers.Committed p) new
-    → OnlyDid c old new × (commits_of new.history ≡ commits_of old.history ++ Committed c p ∷ [])
+    → OnlyDid c old new × (commit_entries new.history ≡ commit_entries old.history ++ Committed c p ∷ [])
 committed c p old new move = (
   λ d apart. ap (λ (s : State). own d s.history) move.state ∙ entries_apart c d old.history (Commit c) (answers.Committed p) refl apart,
-  ap (λ (s : State). commits_of s.history) move.state ∙ filter-append is_commit old.history (Committed c p ∷ []),
+  ap (λ (s : State). commit_entries s.history) move.state ∙ filter-append is_commit old.history (Committed c p ∷ []),
 )
 
-all_moved : (c : ℕ) (old new : State) (steps : List Step) (given : List Answer) → AllByRecursion (IsBy c) steps → Moves old steps given new → IsBeside c old new
+all_moved : (c : ℕ) (old new : State) (steps : List Step) (given : List Answer) → AllByRecursion (IsBy c) steps → Moves old steps given new → OnlyWorked c old new
 all_moved c old new [] [] by is = same c old new (ap (λ (s : State). s.history) is)
 all_moved c old new (step ∷ steps) (answer ∷ given) by (between, event, rest) =
     after c old between new (moved c old between step answer by.0 event.move) (all_moved c between new steps given by.1 rest)
@@ -115,26 +116,26 @@ undoing_by c zero steps by = by
 undoing_by c (suc changes) steps by = undoing_by c changes (Seek c ∷ Act c ∷ steps) (seek_by c, (act_by c, by))
 
 -- The plain calls add only entries of their caller, and commit nothing.
-pub operated : (c : ℕ) (old new : State) (op : Op) (answer : Answer) → Operates old c op answer new → IsBeside c old new
+pub operated : (c : ℕ) (old new : State) (op : Op) (answer : Answer) → Operates old c op answer new → OnlyWorked c old new
 operated c old new op (answers.Done reply) moves = all_moved c old new (Ask c op ∷ Seek c ∷ Act c ∷ []) (answers.Asked ∷ answers.Placed ∷ answers.Done reply ∷ []) (ask_by c op, (seek_by c, (act_by c, tt))) moves
 operated c old new op answers.Asked none = absurd none
 operated c old new op answer event = moved c old new (Ask c op) answer (ask_by c op) event.move
 
-left : (c : ℕ) (old new : State) (b : Bool) → Leaves b old c new → IsBeside c old new
+left : (c : ℕ) (old new : State) (b : Bool) → Leaves b old c new → OnlyWorked c old new
 left c old new true is = same c old new (ap (λ (s : State). s.history) is)
 left c old new false event = moved c old new (Abort c) answers.Leaving (record { whose = refl; quiet = refl }) event.move
 
-ended : (c : ℕ) (old new : State) (answer : Answer) → Ends old c answer new → IsBeside c old new
+ended : (c : ℕ) (old new : State) (answer : Answer) → Ends old c answer new → OnlyWorked c old new
 ended c old new answer (changes, moves) =
     all_moved c old new (undoing changes c (Act c ∷ [])) (undone changes (answer ∷ [])) (undoing_by c changes (Act c ∷ []) (act_by c, tt)) moves
 
-pub aborted : (c : ℕ) (old new : State) (answer : Answer) → Aborts old c answer new → IsBeside c old new
+pub aborted : (c : ℕ) (old new : State) (answer : Answer) → Aborts old c answer new → OnlyWorked c old new
 aborted c old new answers.Aborted (between, leaves, ends) =
     after c old between new (left c old between (is_at_end (seat_in old.history c).phase) leaves) (ended c between new answers.Aborted ends)
 aborted c old new answers.Leaving none = absurd none
 aborted c old new answer refused = moved c old new (Abort c) answer (record { whose = refl; quiet = refl }) refused.1.move
 
-pub returned : (c n : ℕ) (old new : State) (answer : Answer) → Returns old c n answer new → IsBeside c old new
+pub returned : (c n : ℕ) (old new : State) (answer : Answer) → Returns old c n answer new → OnlyWorked c old new
 returned c n old new (answers.Returned m) (reached, between, event, ends) =
     after c old between new (moved c old between (Back c n) answers.Leaving (record { whose = refl; quiet = refl }) event.move) (ended c between new (answers.Returned m) ends)
 returned c n old new answers.Leaving none = absurd none

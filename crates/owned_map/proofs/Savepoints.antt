@@ -1,4 +1,5 @@
--- The maps at the levels of a transaction: which entries keep them, and that a return restores one.
+-- The maps at the levels of a transaction. Operations and saves keep them, and a return to a level
+-- restores the map of this level.
 use Rattle.std.proofs.Common.{◌≡◌, ℕ, ◌+◌, ◌-◌, ◌<◌, ◌≤◌, zero, suc, Bool, true, false, cond, List, [], ◌∷◌, ◌++◌, length, take, get_or, slice_index, Option, Some, None, refl, sym, ap, subst, ◌∙◌, arith}
 use Rattle.std.specs.Prelude.{nat_le, nat_lt, ◌||◌, unwrap_or}
 use Rattle.std.proofs.lemmas.Bool.{and_parts, ltb-true, leb-false}
@@ -31,12 +32,12 @@ use Rattle.boost_core.specs.State.{State, holder_by, seat_in}
 use Rattle.boost_core.specs.Refusals.{has_job, has_stamp_for}
 use Rattle.boost_core.specs.Machine.{Move, Moves}
 use Rattle.boost_core.specs.Plain.{Operates, Returns, undoing, undone}
-use Rattle.owned_map.specs.Within.{taken_back, map_at, levels_of, KeepsLevels, KeepsSavepoints, IsSaved, IsBackAt, Stands, IsAt, IsGrown}
+use Rattle.owned_map.specs.Within.{taken_back, map_at, level_count, KeepsLevels, KeepsSavepoints, IsSaved, IsBackAt, IsBasedOn, IsAt, IsGrown}
 use Rattle.owned_map.proofs.Steps.{to_state, unmoved, phase_in, ready, based, replied, waits}
 use Rattle.owned_map.proofs.Levels.{past, left_to_now, undone_to_now, reached_at}
 use Rattle.boost_core.proofs.Refused.{first_none}
 
--- The map at a level, by the seat, the log and the map now.
+-- The map at a level, computed from the seat, the log and the present map.
 abbrev level_map : ℕ → Seat → List (ℕ × Option ℕ) → Map → Map
 level_map n seat log m = taken_back (take (seat.standing - slice_index seat.kept n) log) m
 
@@ -44,15 +45,17 @@ level_map n seat log m = taken_back (take (seat.standing - slice_index seat.kept
 abbrev SameLevels : ℕ → ℕ → List Entry → List Entry → Type 0
 SameLevels levels c g h = (n : ℕ) → n < levels → map_at c n h ≡ map_at c n g
 
--- The maps and the number of a caller's levels, by the seat that `Stands` names.
-module _ {rule : Holder} {limits : Sizes} {c : ℕ} {base : Map} {q : Phase} (h : List Entry) (stands : Stands rule limits c base q h) where
+-- The maps at a caller's levels and the number of its levels, computed from the seat that `IsBasedOn`
+-- names.
+module _ {rule : Holder} {limits : Sizes} {c : ℕ} {base : Map} {q : Phase} (h : List Entry)
+    (stands : IsBasedOn rule limits c base q h) where
   the_seat : seat_in h c ≡ stands.seat
   the_seat = ap (λ (o : Option Seat). unwrap_or o closed_seat) stands.seat_is
 
   pub map_is : (n : ℕ) → map_at c n h ≡ level_map n stands.seat (log_of c h) (now h)
   map_is n = ap (λ (s : Seat). level_map n s (log_of c h) (now h)) the_seat
 
-  pub levels_are : levels_of c h ≡ length stands.seat.kept
+  pub levels_are : level_count c h ≡ length stands.seat.kept
   levels_are = ap (λ (s : Seat). length s.kept) the_seat
 
   leveled : Leveled stands.seat
@@ -72,11 +75,11 @@ module _ {rule : Holder} {stripes c : ℕ} (h : List Entry) (e : Entry) (mine : 
       ∙ ap (λ l. level_map n seat l (now (h ++ e ∷ []))) log_next
       ∙ ap (λ m. level_map n seat log m) next.now_is
 
-  levels_next : levels_of c (h ++ e ∷ []) ≡ length seat.kept
+  levels_next : level_count c (h ++ e ∷ []) ≡ length seat.kept
   levels_next = ap (λ (s : Seat). length s.kept) seat_next
 
--- The map at a level stays the same when a change is noted, and when the newest change is taken
--- back.
+-- The map at a level stays the same when a change is noted. It also stays the same when the newest
+-- change is taken back, if this change is newer than the level.
 noted_level : (n : ℕ) (op : Op) (x : Option ℕ) (standing : ℕ) (kept : List ℕ) (log : List (ℕ × Option ℕ)) (m : Map) → get_or kept n 0 ≤ standing → x ≡ reply_of m op
     → taken_back (take (cond (changes op x) (standing + 1) standing - get_or kept n 0) (cond (changes op x) ((key_of op, x) ∷ log) log)) (after m op)
     ≡ taken_back (take (standing - get_or kept n 0) log) m
@@ -104,22 +107,23 @@ undone_level standing kept log jobs job m more is =
     sym (ap (λ k. taken_back (take k log) m) one_more ∙ ap (λ l. taken_back (take (suc (standing - 1 - kept)) l) m) is)
 
 module _ {rule : Holder} (limits : Sizes) (c : ℕ) (base : Map) (h : List Entry) where
-  asked_levels : (op : Op) → Stands rule limits c base Opened h → is_locked rule limits.stripes h (entry.Asked c op) ≡ true → (n : ℕ) → map_at c n (h ++ entry.Asked c op ∷ []) ≡ map_at c n h
+  asked_levels : (op : Op) → IsBasedOn rule limits c base Opened h → is_locked rule limits.stripes h (entry.Asked c op) ≡ true → (n : ℕ) → map_at c n (h ++ entry.Asked c op ∷ []) ≡ map_at c n h
   asked_levels op stands locked n =
       map_next h (entry.Asked c op) refl (laws.asked limits.stripes h stands.legal c op stands.seat stands.seat_is stands.phase_is locked) n ∙ sym (map_is h stands n)
 
-  asked_number : (op : Op) → Stands rule limits c base Opened h → is_locked rule limits.stripes h (entry.Asked c op) ≡ true → levels_of c (h ++ entry.Asked c op ∷ []) ≡ levels_of c h
+  asked_number : (op : Op) → IsBasedOn rule limits c base Opened h → is_locked rule limits.stripes h (entry.Asked c op) ≡ true → level_count c (h ++ entry.Asked c op ∷ []) ≡ level_count c h
   asked_number op stands locked =
       levels_next h (entry.Asked c op) refl (laws.asked limits.stripes h stands.legal c op stands.seat stands.seat_is stands.phase_is locked) ∙ sym (levels_are h stands)
 
-  busy_levels : (op : Op) (x : ℕ) → Stands rule limits c base Opened h → is_locked rule limits.stripes h (entry.Busy c op x) ≡ true
-      → (levels_of c (h ++ entry.Busy c op x ∷ []) ≡ levels_of c h) × ((n : ℕ) → map_at c n (h ++ entry.Busy c op x ∷ []) ≡ map_at c n h)
+  busy_levels : (op : Op) (x : ℕ) → IsBasedOn rule limits c base Opened h → is_locked rule limits.stripes h (entry.Busy c op x) ≡ true
+      → (level_count c (h ++ entry.Busy c op x ∷ []) ≡ level_count c h) × ((n : ℕ)
+      → map_at c n (h ++ entry.Busy c op x ∷ []) ≡ map_at c n h)
   busy_levels op x stands locked =
       let next = laws.busy limits.stripes h stands.legal c op x stands.seat stands.seat_is stands.phase_is locked in
       (levels_next h (entry.Busy c op x) refl next ∙ sym (levels_are h stands), λ n. map_next h (entry.Busy c op x) refl next n ∙ sym (map_is h stands n))
 
-  did_levels : (op : Op) (x : Option ℕ) → Stands rule limits c base (Waiting op) h → x ≡ reply_of (now h) op
-      → (levels_of c (h ++ entry.Did c x ∷ []) ≡ levels_of c h) × SameLevels (levels_of c h) c h (h ++ entry.Did c x ∷ [])
+  did_levels : (op : Op) (x : Option ℕ) → IsBasedOn rule limits c base (Waiting op) h → x ≡ reply_of (now h) op
+      → (level_count c (h ++ entry.Did c x ∷ []) ≡ level_count c h) × SameLevels (level_count c h) c h (h ++ entry.Did c x ∷ [])
   did_levels op x stands right =
       let next = laws.did limits.stripes h stands.legal c op x stands.seat stands.seat_is stands.phase_is right in
       let within : (n : ℕ) → n < length stands.seat.kept → get_or stands.seat.kept n 0 ≤ stands.seat.standing =
@@ -131,8 +135,8 @@ module _ {rule : Holder} (limits : Sizes) (c : ℕ) (base : Map) (h : List Entry
             ∙ sym (map_is h stands n),
       )
 
-  saved_levels : (stands : Stands rule limits c base Opened h)
-      → (levels_of c (h ++ entry.Saved c ∷ []) ≡ levels_of c h + 1) × (map_at c (levels_of c h) (h ++ entry.Saved c ∷ []) ≡ now h) × SameLevels (levels_of c h) c h (h ++ entry.Saved c ∷ [])
+  saved_levels : (stands : IsBasedOn rule limits c base Opened h)
+      → (level_count c (h ++ entry.Saved c ∷ []) ≡ level_count c h + 1) × (map_at c (level_count c h) (h ++ entry.Saved c ∷ []) ≡ now h) × SameLevels (level_count c h) c h (h ++ entry.Saved c ∷ [])
   saved_levels stands =
       let next = laws.saved limits.stripes h stands.legal c stands.seat stands.seat_is stands.phase_is in
       let kept : List ℕ = stands.seat.kept in
@@ -148,14 +152,14 @@ module _ {rule : Holder} (limits : Sizes) (c : ℕ) (base : Map) (h : List Entry
             ∙ sym (map_is h stands n),
       )
 
-  left_levels : (m : ℕ) (stands : Stands rule limits c base Opened h) → m < length stands.seat.kept
-      → (levels_of c (h ++ entry.Leave c (Some m) ∷ []) ≡ levels_of c h) × ((n : ℕ) → map_at c n (h ++ entry.Leave c (Some m) ∷ []) ≡ map_at c n h)
+  left_levels : (m : ℕ) (stands : IsBasedOn rule limits c base Opened h) → m < length stands.seat.kept
+      → (level_count c (h ++ entry.Leave c (Some m) ∷ []) ≡ level_count c h) × ((n : ℕ) → map_at c n (h ++ entry.Leave c (Some m) ∷ []) ≡ map_at c n h)
   left_levels m stands within =
       let next = laws.left_to limits.stripes h stands.legal c m stands.seat stands.seat_is stands.phase_is within in
       (levels_next h (entry.Leave c (Some m)) refl next ∙ sym (levels_are h stands), λ n. map_next h (entry.Leave c (Some m)) refl next n ∙ sym (map_is h stands n))
 
-  undone_levels : (m : ℕ) (stands : Stands rule limits c base (LeavingTo m) h) → slice_index stands.seat.kept m < stands.seat.standing
-      → (levels_of c (h ++ entry.Undone c ∷ []) ≡ levels_of c h) × SameLevels (m + 1) c h (h ++ entry.Undone c ∷ [])
+  undone_levels : (m : ℕ) (stands : IsBasedOn rule limits c base (LeavingTo m) h) → slice_index stands.seat.kept m < stands.seat.standing
+      → (level_count c (h ++ entry.Undone c ∷ []) ≡ level_count c h) × SameLevels (m + 1) c h (h ++ entry.Undone c ∷ [])
   undone_levels m stands more =
       let above : get_or stands.seat.kept m 0 < stands.seat.standing = more in
       let some : 0 < stands.seat.standing = omega (arith, above) in
@@ -171,8 +175,8 @@ module _ {rule : Holder} (limits : Sizes) (c : ℕ) (base : Map) (h : List Entry
             ∙ sym (map_is h stands n),
       )
 
-  returned_levels : (m : ℕ) (stands : Stands rule limits c base (LeavingTo m) h) → slice_index stands.seat.kept m ≡ stands.seat.standing
-      → (now (h ++ entry.Returned c m ∷ []) ≡ map_at c m h) × (levels_of c (h ++ entry.Returned c m ∷ []) ≡ m + 1) × SameLevels (m + 1) c h (h ++ entry.Returned c m ∷ [])
+  returned_levels : (m : ℕ) (stands : IsBasedOn rule limits c base (LeavingTo m) h) → slice_index stands.seat.kept m ≡ stands.seat.standing
+      → (now (h ++ entry.Returned c m ∷ []) ≡ map_at c m h) × (level_count c (h ++ entry.Returned c m ∷ []) ≡ m + 1) × SameLevels (m + 1) c h (h ++ entry.Returned c m ∷ [])
   returned_levels m stands reached =
       let next = laws.returned limits.stripes h stands.legal c m stands.seat stands.seat_is stands.phase_is reached in
       let there : m < length stands.seat.kept = (subst (λ q. IsLevelIn q stands.seat.standing stands.seat.kept) stands.phase_is (leveled h stands).within).0 in
@@ -192,11 +196,11 @@ abbrev history_of : State → List Entry
 history_of s = s.history
 
 keeps_same : (c : ℕ) (old new : State) → new.history ≡ old.history → KeepsSavepoints c old new
-keeps_same c old new is = record { levels = ap (levels_of c) is; maps = λ n less. ap (map_at c n) is }
+keeps_same c old new is = record { levels = ap (level_count c) is; maps = λ n less. ap (map_at c n) is }
 
 pub keeps_grown : (c : ℕ) (old between new : State) → KeepsSavepoints c old between → IsGrown between new → KeepsSavepoints c old new
 keeps_grown c old between new keeps grown = record {
-  levels = ap (levels_of c) grown.history ∙ keeps.levels;
+  levels = ap (level_count c) grown.history ∙ keeps.levels;
   maps = λ n less. ap (map_at c n) grown.history ∙ keeps.maps n less;
 }
 
@@ -206,8 +210,8 @@ keeps_on c old between new first second = record {
   maps = λ n less. second.maps n (subst (λ k. n < k) (sym first.levels) less) ∙ first.maps n less;
 }
 
-keeps_by : (c : ℕ) (old new : State) (g : List Entry) → new.history ≡ g → levels_of c g ≡ levels_of c old.history → SameLevels (levels_of c old.history) c old.history g → KeepsSavepoints c old new
-keeps_by c old new g is levels maps = record { levels = ap (levels_of c) is ∙ levels; maps = λ n less. ap (map_at c n) is ∙ maps n less }
+keeps_by : (c : ℕ) (old new : State) (g : List Entry) → new.history ≡ g → level_count c g ≡ level_count c old.history → SameLevels (level_count c old.history) c old.history g → KeepsSavepoints c old new
+keeps_by c old new g is levels maps = record { levels = ap (level_count c) is ∙ levels; maps = λ n less. ap (map_at c n) is ∙ maps n less }
 
 -- An operation keeps the savepoints.
 kept_done : (old new : State) (c : ℕ) (op : Op) (x : Option ℕ) → IsLegal (holder_by old.words) old.limits.stripes old.history → Operates old c op (answers.Done x) new → KeepsSavepoints c old new
@@ -240,14 +244,14 @@ pub is_saved : (old new : State) (c n : ℕ) → IsLegal (holder_by old.words) o
 is_saved old new c n legal move =
     let stands = ready old c _ legal move.allowed.0 in
     let is = saved_levels old.limits c (based c old) old.history stands in
-    let here : n ≡ levels_of c old.history = move.allowed.1 in record {
+    let here : n ≡ level_count c old.history = move.allowed.1 in record {
       number = here;
-      levels = ap (λ (s : State). levels_of c s.history) move.state ∙ is.0 ∙ ap (λ k. k + 1) (sym here);
+      levels = ap (λ (s : State). level_count c s.history) move.state ∙ is.0 ∙ ap (λ k. k + 1) (sym here);
       map = ap (λ (s : State). map_at c n s.history) move.state ∙ ap (λ k. map_at c k (old.history ++ entry.Saved c ∷ [])) here ∙ is.1;
       maps = λ k less. ap (λ (s : State). map_at c k s.history) move.state ∙ is.2 k (subst (λ j. k < j) here less);
     }
 
--- A caller is going back to a level: this level and all below it still have the same maps.
+-- A caller is going back to a level. This level and all levels below it have kept their maps.
 record IsOnWay (c n : ℕ) (base : Map) (old new : State) : Type 0 where
   pub stands : IsAt c base (LeavingTo n) new
   pub maps : KeepsLevels (n + 1) c old new
@@ -278,8 +282,8 @@ pub is_back : (old new : State) (c n m : ℕ) → IsLegal (holder_by old.words) 
 is_back old new c n m legal shaped (same, left, leave, (changes, moves)) =
     let base : Map = based c old in
     let stands = ready old c _ legal leave.move.allowed.0 in
-    let level = first_none (nat_le (levels_of c old.history) n) refusals.NoSuchLevel None
-    (past old c (cond (nat_le (levels_of c old.history) n) (Some refusals.NoSuchLevel) None) leave.move.allowed.0) in
+    let level = first_none (nat_le (level_count c old.history) n) refusals.NoSuchLevel None
+    (past old c (cond (nat_le (level_count c old.history) n) (Some refusals.NoSuchLevel) None) leave.move.allowed.0) in
     let within : n < length stands.seat.kept = leb-false (length stands.seat.kept) n (subst (λ (seat : Seat). nat_le (length seat.kept) n ≡ false) (phase_in c base Opened old stands) level.0) in
     let gone = to_state c base (LeavingTo n) _ left leave.move.state (left_to_now old.limits c base old.history n stands within) in
     let lefts = left_levels old.limits c base old.history n stands within in
@@ -292,6 +296,6 @@ is_back old new c n m legal shaped (same, left, leave, (changes, moves)) =
     ap history_of last ∙ ap history_of act.move.state ∙ ap (λ k. between.history ++ entry.Returned c k ∷ []) (sym at.0) in
     let top : n < n + 1 = omega arith in record {
       map = ap now ends ∙ backs.0 ∙ there.maps n top;
-      levels = ap (levels_of c) ends ∙ backs.1;
+      levels = ap (level_count c) ends ∙ backs.1;
       maps = λ k less. ap (map_at c k) ends ∙ backs.2 k less ∙ there.maps k less;
     }

@@ -22,9 +22,9 @@ use Rattle.txn_trace.specs.Legal.{IsLegal}
 use Rattle.boost_core.specs.State.{State, holder_by, seat_in}
 use Rattle.boost_core.specs.Refusals.{refusal_of, is_closed, is_leaving, is_waiting, has_job, has_stamp_for}
 use Rattle.boost_core.specs.Answers.{IsReply, is_at_end}
-use Rattle.boost_core.specs.Machine.{Move, Event, Moves}
+use Rattle.boost_core.specs.Machine.{Move, Happens, Moves}
 use Rattle.boost_core.specs.Plain.{Operates, Aborts, Ends, Leaves, undoing, undone}
-use Rattle.owned_map.specs.Within.{taken_back, Stands, IsAt, CanAbort, IsIdle, GoesOn, HasDone, IsTakenBack, IsCommitted}
+use Rattle.owned_map.specs.Within.{taken_back, IsBasedOn, IsAt, CanAbort, IsIdle, GoesOn, HasDone, IsTakenBack, IsCommitted}
 use Rattle.owned_map.proofs.Histories.{seat_there, began_now, asked_now, busy_now, did_now, left_now, undone_now, aborted_now, committed_now}
 use Rattle.owned_map.proofs.Only as only
 use Rattle.boost_core.proofs.Refused.{closed_is, first_none}
@@ -36,9 +36,10 @@ to_state c base q s t same = subst (IsAt c base q) (sym same)
 abbrev now_of : State → Map
 now_of s = now s.history
 
--- `IsAt` of a state gives `Stands` of its history with no entry added.
-pub unmoved : (c : ℕ) (base : Map) (q : Phase) (s : State) → IsAt c base q s → Stands (holder_by s.words) s.limits c base q (s.history ++ [])
-unmoved c base q s stands = subst (Stands (holder_by s.words) s.limits c base q) (sym (append-nil s.history)) stands
+-- `IsAt` of a state gives `IsBasedOn` of its history with no entry added.
+pub unmoved : (c : ℕ) (base : Map) (q : Phase) (s : State) → IsAt c base q s
+    → IsBasedOn (holder_by s.words) s.limits c base q (s.history ++ [])
+unmoved c base q s stands = subst (IsBasedOn (holder_by s.words) s.limits c base q) (sym (append-nil s.history)) stands
 
 -- The seat that the core's definitions name (`seat_in`) is the seat of `IsAt`.
 pub phase_in : (c : ℕ) (base : Map) (q : Phase) (s : State) → (stands : IsAt c base q s) → seat_in s.history c ≡ stands.seat
@@ -73,12 +74,13 @@ no_other_begin old new c (answers.Refused refusal) not_begun not_refused move = 
 no_other_begin old new c (answers.Began t) not_begun not_refused move = not_begun t refl
 no_other_begin old new c _ not_begun not_refused move = absurd move.allowed.1
 
--- An operation was asked for and its key sought: the operation waits, and the map is unchanged.
+-- An operation was asked for and its position was sought. The operation waits, and the map is
+-- unchanged.
 pub record Waits (old between : State) (c : ℕ) (base : Map) (op : Op) : Type 0 where
   pub stands : IsAt c base (Waiting op) between
   pub same : now between.history ≡ now old.history
 
-pub waits : (old between next : State) (c : ℕ) (base : Map) (op : Op) → IsAt c base Opened old → Event old (Ask c op) answers.Asked between → Event between (Seek c) answers.Placed next → Waits old next c base op
+pub waits : (old between next : State) (c : ℕ) (base : Map) (op : Op) → IsAt c base Opened old → Happens old (Ask c op) answers.Asked between → Happens between (Seek c) answers.Placed next → Waits old next c base op
 waits old between next c base op stands ask seek =
     let locked = (and_parts (has_stamp_for old op) _ ask.move.allowed.1).1 in
     let asked = asked_now old.limits c base old.history op stands locked in
@@ -93,7 +95,7 @@ pub replied : (s : State) (c : ℕ) (base : Map) (op : Op) (x : Option ℕ) → 
 replied s c base op x stands reply =
     subst (λ q. IsReply q (now s.history) x) (ap (λ (seat : Seat). seat.phase) (phase_in c base (Waiting op) s stands) ∙ stands.phase_is) reply
 
--- An operation that is done has the map's reply and effect, and the transaction is still open.
+-- If an operation is done, `HasDone` holds of it, and the transaction is still open.
 pub does : (old new : State) (c : ℕ) (base : Map) (op : Op) (x : Option ℕ) → IsAt c base Opened old → Operates old c op (answers.Done x) new
     → IsAt c base Opened new × HasDone op x old new
 does old new c base op x stands (s1, ask, (s2, seek, (s3, did, last))) =
@@ -221,7 +223,7 @@ one_back old between new c base stands seek act =
     to_state c base LeavingToEnd _ new act.state (undone_now between.limits c base between.history sought (ltb-true 0 sought.seat.standing some))
 
 -- Once the moves of `undoing` have taken `changes` changes back, the caller is still leaving to the
--- end, and the moves of `steps` are left.
+-- end, and the moves of `steps` remain.
 backwards : (old new : State) (c : ℕ) (base : Map) (changes : ℕ) (steps : List Step) (others : List Answer) → IsAt c base LeavingToEnd old → Moves old (undoing changes c steps) (undone changes others) new
     → (between : State) × IsAt c base LeavingToEnd between × Moves between steps others new
 backwards old new c base zero steps others stands moves = (old, stands, moves)
@@ -242,10 +244,11 @@ ends old new c base stands (changes, moves) =
     no_more zero is = refl
     no_more (suc n) is = absurd (false≢true (sym (ap not (lt-ltb 0 (suc n) (omega arith))) ∙ is))
 
--- A caller that can abort does so, and the map is the one before its transaction.
+-- After a caller that can abort has aborted, the map is the one before its transaction, and the
+-- caller has no transaction.
 aborts_all : (old new : State) (c : ℕ) (base : Map) → CanAbort c base old → Aborts old c answers.Aborted new → (now new.history ≡ base) × IsIdle c new
 aborts_all old new c base (inl stands) (left, leaves, ended) =
-    let leave : Event old (Abort c) answers.Leaving left = subst (λ b. Leaves b old c left) (phase_of old c base Opened stands is_at_end) leaves in
+    let leave : Happens old (Abort c) answers.Leaving left = subst (λ b. Leaves b old c left) (phase_of old c base Opened stands is_at_end) leaves in
     ends left new c base (to_state c base LeavingToEnd _ left leave.move.state (left_now old.limits c base old.history stands)) ended
 aborts_all old new c base (inr stands) (left, leaves, ended) =
     let same : left ≡ old = subst (λ b. Leaves b old c left) (phase_of old c base LeavingToEnd stands is_at_end) leaves in

@@ -14,7 +14,7 @@ use Rattle.txn_words.specs.declared.entry.Entry.TheVariants as entry
 use Rattle.txn_words.specs.Entries.{entries_of}
 use Rattle.txn_trace.specs.History.{Line, txn_after, lines_from, is_of, of, commits, open_txns}
 use Rattle.txn_words.specs.Kinds.{caller_of}
-use Rattle.txn_trace.specs.Alone.{Run, alone, last_map, map_after}
+use Rattle.txn_trace.specs.Alone.{AloneRun, alone, last_map, map_after}
 use Rattle.txn_words.specs.Map.{Map, empty, get, key_of}
 use Rattle.txn_trace.specs.Now.{now, first_differing}
 use Rattle.txn_trace.specs.Serial.{serial}
@@ -95,8 +95,8 @@ returned old new c n (answers.Returned m) (reached, between, event, ends) well =
 returned old new c n answers.Leaving none well = absurd none
 returned old new c n answer event well = moved old new (Back c n) answer event.move well
 
--- `keys_of`: whether a key is not refused. If a history asks only for such keys, so do the entries
--- of each of its transactions.
+-- `keys_of` is true of the keys that are not refused. If a history asks only for such keys, so do
+-- the entries of each of its transactions.
 abbrev keys_of : Bool → ℕ → Bool
 keys_of half k = not (is_bad_key half k)
 
@@ -121,7 +121,7 @@ of_asked keys t before (e ∷ h) all =
     at line rest true first others = (first, others)
     at line rest false first others = others
 
-left_alone : (keys : ℕ → Bool) (m : Map) (o p : Option Run) → RunsAlike keys m m o p → (k : ℕ) → keys k ≡ false → get (last_map m o) k ≡ get m k
+left_alone : (keys : ℕ → Bool) (m : Map) (o p : Option AloneRun) → RunsAlike keys m m o p → (k : ℕ) → keys k ≡ false → get (last_map m o) k ≡ get m k
 left_alone keys m None p alike k out = refl
 left_alone keys m (Some r) None alike k out = absurd alike
 left_alone keys m (Some r) (Some s) alike k out = alike.last.left k out

@@ -1,4 +1,5 @@
--- The map after the first transaction of a new history has the pairs that it puts.
+-- The map after the first transaction of a new history has exactly the pairs that this transaction
+-- puts.
 use Rattle.std.proofs.Common.{◌≡◌, ◌≢◌, ℕ, ◌+◌, ◌<◌, ◌≤◌, ◌==◌, ◌&&◌, zero, suc, Bool, true, false, cond, T, List, [], ◌∷◌, ◌++◌, length, take, drop, slice_index_or, Option, Some, None, refl, sym, ap, subst, ◌∙◌, arith}
 use Rattle.std.specs.Prelude.{unwrap_or, Result, Ok, Err, OnOk}
 use Rattle.std.specs.List.{flat_map, sum_by, range_with_len, filter}
@@ -39,7 +40,7 @@ use Rattle.owned_map.proofs.Steps.{done}
 abbrev history_of : State → List Entry
 history_of s = s.history
 
--- The first transaction begins.
+-- The begin of the first transaction adds its Began entry, with transaction number 1.
 pub begun_first : (old new : State) (t : ℕ) → old.history ≡ [] → Move old (Begin 0) (answers.Began t) new → new.history ≡ Began 0 1 ∷ []
 begun_first old new t none move =
     ap history_of move.state ∙ ap (λ h. h ++ Began 0 t ∷ []) none
@@ -73,7 +74,7 @@ filled pairs h is =
     ap (λ g. g ++ Committed 0 (how_many is_commit g + 1) ∷ []) is
     ∙ ap (λ n. (Began 0 1 ∷ flat_map put_new pairs) ++ Committed 0 (n + 1) ∷ []) (none_committed pairs)
 
--- Since the keys of the pairs rise, no pair before the pair of a key has this key.
+-- Since the keys of the pairs rise, no earlier pair has the key of a given pair.
 below_at : (k j v : ℕ) (front back : List (ℕ × ℕ)) → T (below_all split_cmp j (front ++ (k, v) ∷ back)) → k ≢ j
 below_at k j v [] back below = λ same. subst (λ o. T (is_lt o)) (ap (split_cmp j) same ∙ tied_itself split_cmp_total j) (pair_parts (is_lt (split_cmp j k)) (below_all split_cmp j back) below).0
 below_at k j v (pair ∷ front) back below = below_at k j v front back (pair_parts (is_lt (split_cmp j pair.0)) (below_all split_cmp j (front ++ (k, v) ∷ back)) below).1
@@ -105,7 +106,8 @@ one_more q k v (pair ∷ front) none = elim (cases_eq k pair.0) [
     some_none : {A : Type 0} {x : A} → Some x ≡ None → ⊥
     some_none is = cc is
 
--- The first transaction has put these pairs: its history so far, and the values of the map.
+-- The first transaction has put exactly these pairs so far. They determine its history and the
+-- values of the map.
 pub record HasPut (pairs : List (ℕ × ℕ)) (h : List Entry) : Type 0 where
   pub history : h ≡ Began 0 1 ∷ flat_map put_new pairs
   pub values : (q : ℕ) → get (now h) q ≡ value_at q pairs
@@ -121,7 +123,7 @@ put_one k v front h g before fresh noted put = record {
       ∙ sym (one_more q k v front (sym (before.values k) ∙ fresh));
 }
 
--- The pairs that were listed rise.
+-- The keys of the listed pairs rise.
 pub sorted_listed : (m : Map) (pairs front back : List (ℕ × ℕ)) → pairs ≡ ordered m → front ++ back ≡ pairs → IsSortedBySplit (front ++ back)
 sorted_listed m pairs front back is parts = subst IsSortedBySplit (sym (parts ∙ is)) (sorted-ordered m)
 
@@ -144,11 +146,11 @@ put_at pairs h g i less put fresh noted is =
     subst (λ es. HasPut es g) (sym (ap (λ n. take n pairs) (plus_one i) ∙ take-suc pairs i (0, 0) less))
     (put_one pair.0 pair.1 (take i pairs) h g put fresh noted is)
 
--- When no pair is left, all pairs were put.
+-- When no pair is left, all pairs have been put.
 pub put_all : (pairs : List (ℕ × ℕ)) (h : List Entry) (i : ℕ) → length pairs ≤ i → HasPut (take i pairs) h → HasPut pairs h
 put_all pairs h i all put = subst (λ es. HasPut es h) (take_all i pairs all) put
 
--- When all pairs of a listed map were put, the new map is the listed one.
+-- When all pairs of a listed map have been put, the new map is the listed one.
 pub same_listed : (pairs : List (ℕ × ℕ)) (h : List Entry) → HasPut pairs h → (m : Map) → pairs ≡ ordered m → now h ≡ m
 same_listed pairs h put m is = same_map (now h) m (λ q. put.values q ∙ ap (value_at q) is ∙ value_at-ordered m q)
 
@@ -207,7 +209,7 @@ some_open s owes =
     let (c, within, some) = some_owes (λ d. owed_by (seat_after (own d s.history))) s.limits.callers 0 owes in
     (c, omega (arith, within), open_by (seat_after (own c s.history)) some)
 
--- If one property holds when a call answers `Ok`, so does each property that follows from it.
+-- If a property holds on `Ok`, so does each property that follows from it.
 pub on_ok : {T E P Q : Type 0} (result : Result T E) → (P → Q) → OnOk result P → OnOk result Q
 on_ok (Ok value) follows holds = follows holds
 on_ok (Err e) follows holds = tt

@@ -9,9 +9,9 @@ use Rattle.txn_trace.specs.Now.{now}
 use Rattle.map_answers.specs.declared.stop.Stop.{Stop}
 use Rattle.map_answers.specs.declared.stop.Stop.TheVariants as stops
 use Rattle.boost_core.specs.State.{State}
-use Rattle.boost_core.specs.Machine.{Event}
+use Rattle.boost_core.specs.Machine.{Happens}
 use Rattle.boost_core.specs.Plain.{Operates, Aborts}
-use Rattle.owned_map.specs.Within.{IsBeside, IsGrown}
+use Rattle.owned_map.specs.Within.{OnlyWorked, IsGrown}
 
 -- The core's answer for which a call returns this stop.
 abbrev pub answer_of : Stop → Answer
@@ -20,7 +20,7 @@ answer_of (stops.Refused refusal) = answers.Refused refusal
 
 -- The core's answer to a step was this stop.
 abbrev pub IsStopped : State → Step → Stop → State → Type 0
-IsStopped old step stop new = Event old step (answer_of stop) new
+IsStopped old step stop new = Happens old step (answer_of stop) new
 
 -- A caller's operation was done once, with this reply, and then the table may have grown.
 abbrev pub HasOperated : ℕ → Op → Option ℕ → State → State → Type 0
@@ -30,9 +30,9 @@ HasOperated c op reply old new =
 -- A caller began a transaction. The map is unchanged.
 pub record HasBegun (c : ℕ) (old new : State) : Type 0 where
   pub txn : ℕ
-  pub event : Event old (Begin c) (answers.Began txn) new
+  pub event : Happens old (Begin c) (answers.Began txn) new
   pub same : now new.history ≡ now old.history
-  pub beside : IsBeside c old new
+  pub beside : OnlyWorked c old new
 
 -- The core was told to abort a caller's transaction, and nothing else was done. It aborted the
 -- transaction, or refused.

@@ -1,4 +1,5 @@
--- The relation that each call of a transaction keeps, and so each work made of such calls.
+-- The relation between a transaction before and after each of its calls. A work that is made of
+-- such calls keeps it too.
 use Rattle.std.specs.Prelude.{◌≡◌}
 use Rattle.owned_map.specs.declared.transaction.Transaction.{Transaction}
 use Rattle.owned_map.specs.Within.{GoesOn}

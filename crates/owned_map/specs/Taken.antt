@@ -1,4 +1,4 @@
--- The keys that the limits of a map take.
+-- The keys that a map's limits take, and the keys that they refuse.
 use Rattle.std.specs.Prelude.{ℕ, ◌≡◌, Bool, true, not, ◌&&◌, List, [], ◌∷◌, None}
 use Rattle.txn_words.specs.declared.entry.Entry.{Entry}
 use Rattle.txn_words.specs.declared.entry.Entry.TheVariants.{Asked}

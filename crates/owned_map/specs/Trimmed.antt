@@ -49,9 +49,3 @@ IsNotTrimmed state AlreadyOpen =
 IsNotTrimmed state NoMemory = Unit {0}
 IsNotTrimmed state StampsUsedUp = Unit {0}
 IsNotTrimmed state refusal = ⊥
-
--- Memory or stamps are missing.
-abbrev pub IsLack : Refusal → Type 0
-IsLack NoMemory = Unit {0}
-IsLack StampsUsedUp = Unit {0}
-IsLack refusal = ⊥

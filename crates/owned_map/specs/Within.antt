@@ -26,7 +26,7 @@ taken_back [] m = m
 taken_back (job ∷ jobs) m = taken_back jobs (set_at m job.0 job.1)
 
 -- A caller is in this phase, and if its standing changes are taken back, the map is `base`.
-pub record Stands (rule : Holder) (limits : Sizes) (c : ℕ) (base : Map) (phase : Phase)
+pub record IsBasedOn (rule : Holder) (limits : Sizes) (c : ℕ) (base : Map) (phase : Phase)
     (h : List Entry) : Type 0 where
   pub within : nat_le limits.callers c ≡ false
   pub legal : IsLegal rule limits.stripes h
@@ -37,7 +37,7 @@ pub record Stands (rule : Holder) (limits : Sizes) (c : ℕ) (base : Map) (phase
 
 abbrev pub IsAt : ℕ → Map → Phase → State → Type 0
 IsAt c base phase state =
-    Stands (holder_by state.words) state.limits c base phase state.history
+    IsBasedOn (holder_by state.words) state.limits c base phase state.history
 
 -- A caller has a transaction that began on this map and can be aborted, or is being aborted.
 abbrev pub CanAbort : ℕ → Map → State → Type 0
@@ -51,8 +51,8 @@ map_at c level h =
     (now h)
 
 -- The number of levels of a caller.
-abbrev pub levels_of : ℕ → List Entry → ℕ
-levels_of c h = length (seat_in h c).kept
+abbrev pub level_count : ℕ → List Entry → ℕ
+level_count c h = length (seat_in h c).kept
 
 -- A caller's levels below this number have the same maps as before.
 abbrev pub KeepsLevels : ℕ → ℕ → State → State → Type 0
@@ -61,20 +61,20 @@ KeepsLevels levels c old new =
 
 -- A caller has the same levels as before, each with the same map.
 pub record KeepsSavepoints (c : ℕ) (old new : State) : Type 0 where
-  pub levels : levels_of c new.history ≡ levels_of c old.history
-  pub maps : KeepsLevels (levels_of c old.history) c old new
+  pub levels : level_count c new.history ≡ level_count c old.history
+  pub maps : KeepsLevels (level_count c old.history) c old new
 
 -- A caller set a savepoint of this number at the present map, above those that it had.
 pub record IsSaved (c level : ℕ) (old new : State) : Type 0 where
-  pub number : level ≡ levels_of c old.history
-  pub levels : levels_of c new.history ≡ level + 1
+  pub number : level ≡ level_count c old.history
+  pub levels : level_count c new.history ≡ level + 1
   pub map : map_at c level new.history ≡ now old.history
   pub maps : KeepsLevels level c old new
 
 -- A caller went back to a level: the map is the one of that level, which is now the highest.
 pub record IsBackAt (c level : ℕ) (old new : State) : Type 0 where
   pub map : now new.history ≡ map_at c level old.history
-  pub levels : levels_of c new.history ≡ level + 1
+  pub levels : level_count c new.history ≡ level + 1
   pub maps : KeepsLevels (level + 1) c old new
 
 -- A caller has no transaction.
@@ -86,19 +86,19 @@ abbrev pub OnlyDid : ℕ → State → State → Type 0
 OnlyDid c old new = (d : ℕ) → d ≢ c → own d new.history ≡ own d old.history
 
 -- The Committed entries of a history, in order.
-abbrev pub commits_of : List Entry → List Entry
-commits_of h = filter is_commit h
+abbrev pub commit_entries : List Entry → List Entry
+commit_entries h = filter is_commit h
 
 -- No other caller did anything, and nothing was committed.
-pub record IsBeside (c : ℕ) (old new : State) : Type 0 where
+pub record OnlyWorked (c : ℕ) (old new : State) : Type 0 where
   pub only : OnlyDid c old new
-  pub commits : commits_of new.history ≡ commits_of old.history
+  pub commits : commit_entries new.history ≡ commit_entries old.history
 
--- A caller went on in its transaction: it can still be taken back to the same map. No other caller
--- did anything, and nothing was committed.
+-- A caller went on in its transaction, and the transaction can still be taken back to the same map.
+-- No other caller did anything, and nothing was committed.
 pub record GoesOn (c : ℕ) (old new : State) : Type 0 where
   pub back : (base : Map) → CanAbort c base old → CanAbort c base new
-  pub beside : IsBeside c old new
+  pub beside : OnlyWorked c old new
 
 -- An operation was done: its reply is the one that the old map gives, and the new map is the one
 -- that the operation makes of it.
@@ -110,7 +110,7 @@ pub record HasDone (op : Op) (reply : Option ℕ) (old new : State) : Type 0 whe
 -- anything, and nothing was committed.
 pub record IsTakenBack (c : ℕ) (old new : State) : Type 0 where
   pub back : (base : Map) → CanAbort c base old → (now new.history ≡ base) × IsIdle c new
-  pub beside : IsBeside c old new
+  pub beside : OnlyWorked c old new
 
 -- A caller's transaction was committed with this commit number: the map is unchanged, no other
 -- caller did anything, and no other commit was made.
@@ -118,23 +118,23 @@ pub record IsCommitted (c place : ℕ) (old new : State) : Type 0 where
   pub same : now new.history ≡ now old.history
   pub idle : IsIdle c new
   pub only : OnlyDid c old new
-  pub commits : commits_of new.history ≡ commits_of old.history ++ Committed c place ∷ []
+  pub commits : commit_entries new.history ≡ commit_entries old.history ++ Committed c place ∷ []
 
 -- The map is unchanged, nothing was committed, and no other caller did anything.
 pub record IsSameMap (c : ℕ) (old new : State) : Type 0 where
   pub same : now new.history ≡ now old.history
-  pub beside : IsBeside c old new
+  pub beside : OnlyWorked c old new
 
 -- A caller began a transaction on the map of `old`, which led to `begun`; its work led to `done`;
--- and it committed. There is one Committed entry more, the caller's, and the map is the one that
--- the work made.
+-- and then the transaction was committed. There is one more Committed entry, the caller's, and the
+-- map is the one that the work made.
 pub record IsRun (c : ℕ) (old begun done new : State) : Type 0 where
   pub began : now begun.history ≡ now old.history
   pub ended : now new.history ≡ now done.history
   pub place : ℕ
-  pub commits : commits_of new.history ≡ commits_of old.history ++ Committed c place ∷ []
+  pub commits : commit_entries new.history ≡ commit_entries old.history ++ Committed c place ∷ []
 
--- A step of a helper or of the table.
+-- Whether a step is one of a helper or of the table.
 abbrev pub is_grown : Step → Bool
 is_grown (InitSeek h b) = true
 is_grown (InitLink h) = true

@@ -1,9 +1,10 @@
-//! A transactional map with one owner: transactions as values, and work that is run in one.
+//! A transactional map with one owner: transactions as values, and work that is run in a
+//! transaction.
 //!
 //! `OwnedMap` holds a core of `boost_core`. The owner makes every call, for the caller that it
 //! names by a number below the limits' `callers`. The calls are made one after another, so no other
-//! call interrupts a transaction that `transact` runs. No call leaves a transaction open, but the
-//! contracts do not exclude that another caller's transaction is open meanwhile.
+//! call interrupts a transaction that `transact` runs. No call leaves a transaction open. The
+//! contracts still allow that another caller has an open transaction while `transact` runs.
 //!
 //! ```text
 //! let kept: Result<u64, Stop> = map.transact(0, |t: &mut Transaction<'_>| {
@@ -21,9 +22,9 @@
 //!
 //! - An operation of a transaction has the map's reply and its effect on the map (`HasDone`), or is
 //!   stopped and leaves the map unchanged.
-//! - If `transact` answers `Ok`, one run of the work was committed: there is one Committed entry
-//!   more, the caller's (`IsRun`). If it answers `Err`, the map is unchanged and nothing was
-//!   committed (`IsSameMap`). Either way no other caller's entries change.
+//! - If `transact` answers `Ok`, one run of the work was committed: there is one more Committed
+//!   entry, which is the caller's (`IsRun`). If it answers `Err`, the map is unchanged and nothing
+//!   was committed (`IsSameMap`). Either way no other caller's entries change.
 //! - A transaction that is dropped is aborted: at every `?` and every early return its changes are
 //!   taken back and its stripes given back (`IsTakenBack`). `commit` and `abort` take it by value,
 //!   so it cannot be used afterwards.

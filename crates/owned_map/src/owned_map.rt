@@ -8,12 +8,12 @@ ghost use Rattle.txn_words.specs.Map.{count_of};
 ghost use Rattle.txn_trace.specs.Now.{now};
 ghost use Rattle.txn_words.specs.declared.answer.Answer.TheVariants as answers;
 ghost use Rattle.txn_words.specs.declared.step.Step.TheVariants as steps;
-ghost use Rattle.boost_core.specs.Machine.{Event, Move};
+ghost use Rattle.boost_core.specs.Machine.{Happens, Move};
 ghost use Rattle.boost_core.specs.State.{start};
 ghost use Rattle.boost_core.specs.Plain.{Operates, Returns};
 ghost use Rattle.owned_map.specs.Effects.{HasAborted, HasBegun, HasOperated, IsNotCommitted, IsStopped};
 ghost use Rattle.owned_map.specs.Taken.{asks_well};
-ghost use Rattle.owned_map.specs.Within.{CanAbort, GoesOn, HasDone, IsBackAt, IsBeside, IsCommitted, IsGrown, IsRun, IsSameMap, IsSaved, IsTakenBack, KeepsSavepoints, OnlyDid, is_grown};
+ghost use Rattle.owned_map.specs.Within.{CanAbort, GoesOn, HasDone, IsBackAt, OnlyWorked, IsCommitted, IsGrown, IsRun, IsSameMap, IsSaved, IsTakenBack, KeepsSavepoints, OnlyDid, is_grown};
 
 use crate::transaction::Transaction;
 use boost_core::Core;
@@ -101,7 +101,7 @@ impl OwnedMap {
     fn begin(&mut self, caller: u64) -> Result<(), Stop>
         ensures ok { OnOk result (CanAbort caller (now self.old.core.history) self.new.core) }
         ensures same { now self.new.core.history ≡ now self.old.core.history }
-        ensures beside { IsBeside caller self.old.core self.new.core }
+        ensures beside { OnlyWorked caller self.old.core self.new.core }
         ensures began { OnOk result (HasBegun caller self.old.core self.new.core) }
         ensures stopped { IfErr result (λ stop. IsStopped self.old.core (steps.Begin caller) stop
             self.new.core) }
@@ -160,7 +160,7 @@ impl OwnedMap {
         ensures goes_on { GoesOn caller self.old.core self.new.core }
         ensures ok { IfOk result (λ level. IsSaved caller level self.old.core self.new.core) }
         ensures same { now self.new.core.history ≡ now self.old.core.history }
-        ensures did { IfOk result (λ level. Event self.old.core (steps.Save caller)
+        ensures did { IfOk result (λ level. Happens self.old.core (steps.Save caller)
             (answers.Saved level) self.new.core) }
         ensures stopped { IfErr result (λ stop. IsStopped self.old.core (steps.Save caller) stop
             self.new.core) }
@@ -200,7 +200,7 @@ impl OwnedMap {
     pub(crate) fn commit(&mut self, caller: u64) -> Result<u64, Stop>
         ensures ok { IfOk result (λ place. IsCommitted caller place self.old.core self.new.core) }
         ensures err { OnErr result (GoesOn caller self.old.core self.new.core) }
-        ensures did { IfOk result (λ place. Event self.old.core (steps.Commit caller)
+        ensures did { IfOk result (λ place. Happens self.old.core (steps.Commit caller)
             (answers.Committed place) self.new.core) }
         ensures stopped { IfErr result (λ stop. IsStopped self.old.core (steps.Commit caller) stop
             self.new.core) }
@@ -231,8 +231,8 @@ impl OwnedMap {
         most.min(few.max(keys / KEYS_A_BUCKET))
     }
 
-    /// Grows the table by a bucket if it has too few: doubles it if all are initialised, and
-    /// initialises the next one.
+    /// Grows the table by a bucket if too few buckets are initialised: doubles the table if all its
+    /// buckets are initialised, and initialises the next one.
     pub(crate) fn grow(&mut self, caller: u64)
         ensures { IsGrown self.old.core self.new.core }
     {
@@ -264,7 +264,7 @@ impl OwnedMap {
     #[tactic(auto, using(crate::proofs::Taken::moved))]
     pub(crate) fn take_step(&mut self, step: Step) -> Answer
         ensures moves { Move self.old.core step result self.new.core }
-        ensures event { Event self.old.core step result self.new.core }
+        ensures event { Happens self.old.core step result self.new.core }
         ensures words { self.new.core.words ≡ self.old.core.words }
     {
         self.core.step(step)
@@ -296,7 +296,7 @@ impl OwnedMap {
         ensures ok { IfOk result (λ value. (t : _) × (u : _) × F.post work t (Ok value) u
             × IsRun caller self.old.core t.now.map.now.core u.now.map.now.core self.new.core
             × (t.now.caller ≡ caller) × HasBegun caller self.old.core t.now.map.now.core
-            × (place : ℕ) × Event u.now.map.now.core (steps.Commit caller)
+            × (place : ℕ) × Happens u.now.map.now.core (steps.Commit caller)
             (answers.Committed place) self.new.core) }
         ensures err { OnErr result (IsSameMap caller self.old.core self.new.core) }
         ensures cause { IfErr result (λ error.

@@ -1,14 +1,14 @@
 //! A transaction as a value: its operations, and its end.
 //!
-//! It borrows the map, so no other call can be made on the map while it is open. Each operation
-//! promises `Keeps`, and so does a work of several operations.
+//! A transaction borrows the map, so no other call can be made on the map while it is open. Each
+//! operation promises `Keeps`, and so does a work of several operations.
 ghost use Rattle.std.specs.Prelude.{◌≡◌, ◌==◌, ℕ, Option, nat_eq, is_some, IfErr, IfOk, OnErr, OnOk};
 ghost use Rattle.std.specs.Option.{option_eq};
 ghost use Rattle.txn_words.specs.declared.answer.Answer.TheVariants as answers;
 ghost use Rattle.txn_words.specs.declared.step.Step.TheVariants as steps;
 ghost use Rattle.txn_words.specs.Map.{after, count_of, get as value_at};
 ghost use Rattle.txn_trace.specs.Now.{now};
-ghost use Rattle.boost_core.specs.Machine.{Event};
+ghost use Rattle.boost_core.specs.Machine.{Happens};
 ghost use Rattle.boost_core.specs.Plain.{Returns};
 ghost use Rattle.owned_map.specs.Effects.{HasAborted, HasOperated, IsNotCommitted, IsStopped};
 ghost use Rattle.owned_map.specs.Within.{HasDone, IsBackAt, IsCommitted, IsSaved, IsTakenBack, KeepsSavepoints};
@@ -215,7 +215,7 @@ impl Transaction<'_> {
         self.map.buckets()
     }
 
-    /// Sets a savepoint at the present map, and answers its level, from 1.
+    /// Sets a savepoint at the present map, and answers its level, counted from 1.
     ///
     /// # Errors
     ///
@@ -230,7 +230,7 @@ impl Transaction<'_> {
         ensures ok { IfOk result (λ level. IsSaved self.old.caller level
             self.old.map.now.core self.new.map.now.core) }
         ensures same { now self.new.map.now.core.history ≡ now self.old.map.now.core.history }
-        ensures did { IfOk result (λ level. Event self.old.map.now.core
+        ensures did { IfOk result (λ level. Happens self.old.map.now.core
             (steps.Save self.old.caller) (answers.Saved level) self.new.map.now.core) }
         ensures stopped { IfErr result (λ stop. IsStopped self.old.map.now.core
             (steps.Save self.old.caller) stop self.new.map.now.core) }
@@ -245,8 +245,8 @@ impl Transaction<'_> {
     ///
     /// # Errors
     ///
-    /// The map is unchanged: `Refused` with `NoSuchLevel`, `NoMemory`, or with `Leaving` after a
-    /// `Busy`.
+    /// `Refused` with `NoSuchLevel`, with `NoMemory`, or with `Leaving` after a `Busy`. The map is
+    /// unchanged.
     ///
     /// # Cost
     ///
@@ -287,7 +287,7 @@ impl Transaction<'_> {
         self.map.operate(caller, op)
     }
 
-    /// Commits, and answers the commit number, from 1.
+    /// Commits, and answers the commit number, counted from 1.
     ///
     /// # Errors
     ///
@@ -302,7 +302,7 @@ impl Transaction<'_> {
             self.entry.map.now.core self.exit.0.now.core) }
         ensures err { OnErr result (IsTakenBack self.entry.caller
             self.entry.map.now.core self.exit.0.now.core) }
-        ensures did { IfOk result (λ place. Event self.entry.map.now.core
+        ensures did { IfOk result (λ place. Happens self.entry.map.now.core
             (steps.Commit self.entry.caller) (answers.Committed place) self.exit.0.now.core) }
         ensures stopped { IfErr result (λ stop. IsNotCommitted self.entry.caller
             self.entry.map.now.core stop self.exit.0.now.core) }
@@ -317,8 +317,8 @@ impl Transaction<'_> {
         }
     }
 
-    /// Aborts, as dropping it does: takes back every change, newest first, and gives all stripes
-    /// back.
+    /// Aborts the transaction, as a drop does: takes back every change, newest first, and gives all
+    /// stripes back.
     ///
     /// # Cost
     ///

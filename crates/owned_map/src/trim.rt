@@ -11,7 +11,8 @@ ghost use Rattle.txn_words.specs.Ordered.{ordered};
 ghost use Rattle.txn_words.specs.Shape.{how_many};
 ghost use Rattle.txn_words.specs.Sizes.{is_bad_key};
 ghost use Rattle.owned_map.specs.Taken.{HasTakenKeys};
-ghost use Rattle.owned_map.specs.Trimmed.{IsFilling, IsLack, IsNotTrimmed, IsTrimmed, filling, put_new as putting};
+ghost use Rattle.boost_core.specs.Helps.{MayEndHelp as IsLack};
+ghost use Rattle.owned_map.specs.Trimmed.{IsFilling, IsNotTrimmed, IsTrimmed, filling, put_new as putting};
 
 use crate::owned_map::OwnedMap;
 use boost_core::Core;
@@ -22,9 +23,9 @@ use txn_trace::{Answer, Op, Refusal, Step};
 impl OwnedMap {
     /// Cuts the history off: hands out the core so far, whose history is legal, and goes on with a
     /// new core of the same limits and the same map. The new history begins with one committed
-    /// transaction, in which caller 0 puts the pairs of the map, in the order of the list. So it is
-    /// legal by itself, and the map after its first transaction is the one that the old history
-    /// leaves. Transactions and commits are again numbered from 1.
+    /// transaction, in which caller 0 puts the pairs of the map, in the order of the list. So the
+    /// new history is legal by itself, and the map after its first transaction is the one that the
+    /// old history leaves. Transactions and commits are again numbered from 1.
     ///
     /// # Errors
     ///

@@ -2,10 +2,10 @@
 //! that C sees.
 //!
 //! `Box::into_raw` and `Box::from_raw` state in separation logic what changes hands: the block of
-//! memory, with its value, and the right to free it. A caller of them needs a proof by hand. An
-//! `OwnedPointer` has the address, and owns the block and the right to free it. So its two
-//! functions are plain calls with plain contracts, and the proof by hand is made once, for every
-//! type.
+//! memory, with its value, and the right to free it. Code that calls these functions needs a proof
+//! by hand. An `OwnedPointer` has the address, and owns the block and the right to free it. So its
+//! two functions are plain calls with plain contracts, and the proof by hand is made once, for
+//! every type.
 //!
 //! ```text
 //!   Box<T>  --from_box-->  OwnedPointer<T>  --into_box-->  Box<T>
@@ -15,7 +15,7 @@
 //!
 //! The model is the value that is kept. Proved: a box that was turned into a pointer and back has
 //! the same value, and nothing is freed on the way. A pointer that was lost without `into_box`
-//! would leak; the type forbids this, since it is no `Drop`.
+//! would leak; the type forbids this, since it is not `Drop`.
 //!
 //! Both functions take constant time and no memory: a pointer is one word, and a `Global` takes no
 //! room.

@@ -1,6 +1,7 @@
-//! The pointer, and its conversions from and to a box, which move no value. Its field is public, so
-//! that a crate with its own proof can keep the address elsewhere, for instance as a pointer whose
-//! type is erased. A pointer is no `Drop`, so it ends only by `into_box` or by such a proof.
+//! The pointer, and its conversions from and to a box, which move no value. The pointer's field is
+//! public, so that a crate with its own proof can keep the address elsewhere, for instance as a
+//! pointer whose type is erased. A pointer is not `Drop`, so it ends only by `into_box` or by such
+//! a proof.
 ghost use Rattle.std.specs.Prelude.{◌≡◌};
 
 use std::alloc::Global;
@@ -22,7 +23,7 @@ impl<T> Model for OwnedPointer<T> {
 }
 
 impl<T: Drop> OwnedPointer<T> {
-    /// The pointer of a box, which owns the block from now on.
+    /// Turns a box into a pointer. The pointer owns the block from now on.
     pub fn from_box(held: Box<T, Global>) -> OwnedPointer<T>
         ensures { result.value ≡ held.value }
     {
@@ -31,7 +32,7 @@ impl<T: Drop> OwnedPointer<T> {
         }
     }
 
-    /// The box again, through which the value can be used and its block is freed.
+    /// Turns the pointer back into a box. The box gives access to the value, and frees the block.
     pub fn into_box(self, alloc: Global) -> Box<T, Global>
         ensures { result.value ≡ self.value }
     {

@@ -27,7 +27,7 @@ pub nothing_left : (s : List ℕ) → length s ≡ 0 → s ≡ []
 nothing_left [] e = refl
 nothing_left (x ∷ s) e = absurd (omega (arith, e))
 
--- The parts of a text that has only digits: they are its whole part.
+-- The parts of a text of digits only. All the digits are in the whole part.
 abbrev digits_alone : List ℕ → Parts
 digits_alone bs = record { whole = bs; point = false; fraction = []; exponent_negative = false; exponent = []; len = length bs }
 
@@ -63,7 +63,7 @@ parts_alone bs =
 scan_of_digits : (bs : List ℕ) → AllDigits 10 bs → scan bs ≡ digits_alone bs
 scan_of_digits bs ds = scan_is bs ∙ ap (parts_at bs) (scan_end bs ds) ∙ parts_alone bs
 
--- The number of at most `k` digits is below 10^k.
+-- A number with at most `k` digits is below 10^k.
 pub few_digits_fit : (bs : List ℕ) (k : ℕ) → AllDigits 10 bs → length bs ≤ k → digits_value 10 bs < 10 ^ k
 few_digits_fit bs k ds few =
     let below = digits_value-lt 10 bs ds in

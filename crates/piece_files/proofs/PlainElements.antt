@@ -1,10 +1,10 @@
--- The elements that `number_at` and the other functions of `Elements.antt` take are plain. So these
--- functions take no list with an element that is not plain, or with too many elements.
+-- The functions of `Elements.antt`, such as `number_at`, accept only plain elements. So they reject
+-- each list that has too many elements, or an element that is not plain.
 use Rattle.std.proofs.Common.{◌≡◌, ℕ, zero, suc, List, [], ◌∷◌, length, Bool, true, false, ◌==◌, ◌&&◌, Option, Some, None, option_map, if◌then◌else◌, refl, ap, arith}
 use Rattle.std.specs.Prelude.{⊤}
 use Rattle.serde_json.specs.Data.{unsigned, negative, float, Data, null, boolean, number, string, array, object}
 use Rattle.serde_json.specs.Find.{as_str}
-use Rattle.piece_files.specs.Elements.{◌>>=◌, number_of, number_at, word_at, one_of, two_of, end_of, optional, optional_at, optional_of}
+use Rattle.piece_files.specs.Elements.{◌>>=◌, whole_number, number_at, leading_text, one_of, two_of, ends_here, optional, optional_at, optional_of}
 use Rattle.piece_files.specs.Tokens.{is_plain, are_plain}
 use Rattle.piece_files.proofs.ValueKinds.{never}
 
@@ -32,7 +32,7 @@ paired (Some x) ds p e = let same = ap (pick (x, ds)) e in (ap (λ q. Some q.0) 
 
 -- ---- single elements
 
-number_plain : (d : Data) (n : ℕ) → number_of d ≡ Some n → is_plain d ≡ true
+number_plain : (d : Data) (n : ℕ) → whole_number d ≡ Some n → is_plain d ≡ true
 number_plain null n e = never e
 number_plain (boolean b) n e = never e
 number_plain (number (unsigned m)) n e = refl
@@ -80,10 +80,10 @@ room (suc k) (d ∷ ds) e = both (is_plain d) e (λ rest. room k ds rest)
 pub number_first : (k : ℕ) (ds : List Data) (p : ℕ × List Data) → number_at ds ≡ Some p → are_plain k p.1 ≡ true → are_plain (suc k) ds ≡ true
 unfolding number_at are_plain
 number_first k [] p e h = never e
-number_first k (d ∷ ds) p e h = let parts = paired (number_of d) ds p e in rw (number_plain d p.0 parts.0, parts.1) h
+number_first k (d ∷ ds) p e h = let parts = paired (whole_number d) ds p e in rw (number_plain d p.0 parts.0, parts.1) h
 
-pub word_first : (k : ℕ) (ds : List Data) (p : List ℕ × List Data) → word_at ds ≡ Some p → are_plain k p.1 ≡ true → are_plain (suc k) ds ≡ true
-unfolding word_at are_plain
+pub word_first : (k : ℕ) (ds : List Data) (p : List ℕ × List Data) → leading_text ds ≡ Some p → are_plain k p.1 ≡ true → are_plain (suc k) ds ≡ true
+unfolding leading_text are_plain
 word_first k [] p e h = never e
 word_first k (d ∷ ds) p e h = let parts = paired (as_str d) ds p e in rw (text_plain d p.0 parts.0, parts.1) h
 
@@ -98,8 +98,8 @@ two_plain k ds p e =
     let b = bound (one_of a.0.1) _ p a.2 in
     number_first (suc k) ds a.0 a.1 (one_plain k a.0.1 b.0 b.1)
 
-pub end_plain : (k : ℕ) (ds : List Data) (x : ⊤) → end_of ds ≡ Some x → are_plain k ds ≡ true
-unfolding end_of
+pub end_plain : (k : ℕ) (ds : List Data) (x : ⊤) → ends_here ds ≡ Some x → are_plain k ds ≡ true
+unfolding ends_here
 end_plain k ds x e = none_left k ds (tested _ _ e)
 
 pub optional_first : (k : ℕ) (ds : List Data) (p : Option ℕ × List Data) → optional_at ds ≡ Some p → are_plain k p.1 ≡ true → are_plain (suc k) ds ≡ true
@@ -111,7 +111,7 @@ pub optional_all_plain : (k : ℕ) (ds : List Data) (r : Option ℕ) → optiona
 unfolding optional_of
 optional_all_plain k ds r e = let a = bound (optional_at ds) _ r e in optional_first k ds a.0 a.1 (none_left k a.0.1 (tested _ _ a.2))
 
--- ---- and so a list with other elements is no piece
+-- ---- a list with too many elements, or with one that is not plain, is no piece
 
 pub unless : {P : Type 0} (o : Option P) (b : Bool) → ((p : P) → o ≡ Some p → b ≡ true) → b ≡ false → o ≡ None
 unless None b f e = refl

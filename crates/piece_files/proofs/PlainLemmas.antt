@@ -25,7 +25,7 @@ use Rattle.serde_json.specs.Data.{Data, Members, array, item, no_members, null, 
 use Rattle.serde_json.specs.Find.{as_u64}
 use Rattle.serde_json.specs.Read.{max_depth, number_of, of_json, read}
 use Rattle.piece_files.specs.Plain.{data_of}
-use Rattle.piece_files.specs.PlainBytes.{tokens_at, Passed, EndsValue, Comma, Closes, Finishes, Opens, OpensObject, IsValue, IsKey, AreLeft, Begin, Follow, AreTaken, AreMembers, AreMembersTaken}
+use Rattle.piece_files.specs.PlainBytes.{tokens_at, PassesSpace, EndsValue, Comma, Closes, Finishes, OpensArray, OpensObject, IsValue, IsKey, AreLeft, Begin, Follow, AreTaken, AreMembers, AreMembersTaken}
 use Rattle.piece_files.specs.Tokens.{items_from, value_at}
 use Rattle.piece_files.specs.declared.plain.Plain.{Plain}
 use Rattle.piece_files.proofs.Numerals.{number_of-digits, number_of-unsigned}
@@ -69,10 +69,11 @@ blank x bytes e = elim (or_cases _ (x == 13) e) [
   ]
 ]
 
-pub nothing_passed : (bytes : List ℕ) → Passed bytes bytes
+pub nothing_passed : (bytes : List ℕ) → PassesSpace bytes bytes
 nothing_passed bytes = record { same = refl; ended = λ e. e }
 
-pub one_passed : (bytes before rest : List ℕ) (x : ℕ) → before ≡ x ∷ rest → is_space x ≡ true → Passed bytes before → Passed bytes rest
+pub one_passed : (bytes before rest : List ℕ) (x : ℕ) → before ≡ x ∷ rest → is_space x ≡ true → PassesSpace bytes before
+    → PassesSpace bytes rest
 one_passed bytes before rest x first space h =
     let b = blank x rest space in
     record { same = h.same ∙ ap (lex between) first ∙ b.0; ended = λ e. h.ended (ap ends_word first ∙ b.1) }
@@ -80,10 +81,11 @@ one_passed bytes before rest x first space h =
 -- ---- the bytes behind a value
 
 -- Nothing but white space is left.
-pub all_passed : (bytes : List ℕ) (at end : ℕ) → Passed (drop at bytes) (drop end bytes) → end ≡ length bytes → Passed (drop at bytes) []
-all_passed bytes at end h last = subst (Passed (drop at bytes)) (drop_all end bytes (omega (arith, last))) h
+pub all_passed : (bytes : List ℕ) (at end : ℕ) → PassesSpace (drop at bytes) (drop end bytes) → end ≡ length bytes
+    → PassesSpace (drop at bytes) []
+all_passed bytes at end h last = subst (PassesSpace (drop at bytes)) (drop_all end bytes (omega (arith, last))) h
 
-pub comma_comes : (bytes found rest next : List ℕ) → Passed bytes found → found ≡ 44 ∷ rest → Passed rest next → Comma bytes next
+pub comma_comes : (bytes found rest next : List ℕ) → PassesSpace bytes found → found ≡ 44 ∷ rest → PassesSpace rest next → Comma bytes next
 unfolding lex punctuate
 comma_comes bytes found rest next h first more =
     let is : lex between bytes ≡ comma ∷ lex between next = h.same ∙ ap (lex between) first ∙ ap (λ (ls : List Lexeme). comma ∷ ls) more.same in
@@ -92,7 +94,7 @@ comma_comes bytes found rest next h first more =
       left = ap (punctuate after_value) is;
     }
 
-pub closing : (bytes found rest : List ℕ) → Passed bytes found → found ≡ 93 ∷ rest → Closes bytes rest
+pub closing : (bytes found rest : List ℕ) → PassesSpace bytes found → found ≡ 93 ∷ rest → Closes bytes rest
 unfolding lex punctuate
 closing bytes found rest h first =
     let is : lex between bytes ≡ token spec.end_array ∷ lex between rest = h.same ∙ ap (lex between) first in
@@ -101,7 +103,7 @@ closing bytes found rest h first =
       left = ap (punctuate after_value) is;
     }
 
-pub finishing : (bytes found rest : List ℕ) → Passed bytes found → found ≡ 125 ∷ rest → Passed rest [] → Finishes bytes
+pub finishing : (bytes found rest : List ℕ) → PassesSpace bytes found → found ≡ 125 ∷ rest → PassesSpace rest [] → Finishes bytes
 unfolding lex punctuate
 finishing bytes found rest h first more =
     let is : lex between bytes ≡ token spec.end_object ∷ [] = h.same ∙ ap (lex between) first ∙ ap (λ (ls : List Lexeme). token spec.end_object ∷ ls) more.same in
@@ -110,11 +112,12 @@ finishing bytes found rest h first more =
       left = ap (punctuate after_value) is;
     }
 
-pub opening : (bytes rest next : List ℕ) → bytes ≡ 91 ∷ rest → Passed rest next → Opens bytes next
+pub opening : (bytes rest next : List ℕ) → bytes ≡ 91 ∷ rest → PassesSpace rest next → OpensArray bytes next
 unfolding lex
 opening bytes rest next first more = ap (lex between) first ∙ ap (λ (ls : List Lexeme). token spec.begin_array ∷ ls) more.same
 
-pub opening_object : (bytes found rest next : List ℕ) → Passed bytes found → found ≡ 123 ∷ rest → Passed rest next → OpensObject bytes next
+pub opening_object : (bytes found rest next : List ℕ) → PassesSpace bytes found → found ≡ 123 ∷ rest → PassesSpace rest next
+    → OpensObject bytes next
 unfolding lex
 opening_object bytes found rest next h first more = h.same ∙ ap (lex between) first ∙ ap (λ (ls : List Lexeme). token spec.begin_object ∷ ls) more.same
 
@@ -239,7 +242,7 @@ text_is bytes s rest is depth = λ e place may.
     let read : tokens_at place bytes ≡ spec.string s ∷ ts = ap (punctuate place) is ∙ placed_text place s ls may e.no_colon in
     (ap (value_at depth) read ∙ value_at-string depth s ts, ap after_end_array read)
 
-pub key_is : (bytes s behind found rest next : List ℕ) → lex between bytes ≡ token (spec.string s) ∷ lex between behind → Passed behind found → found ≡ 58 ∷ rest → Passed rest next → IsKey bytes s next
+pub key_is : (bytes s behind found rest next : List ℕ) → lex between bytes ≡ token (spec.string s) ∷ lex between behind → PassesSpace behind found → found ≡ 58 ∷ rest → PassesSpace rest next → IsKey bytes s next
 unfolding lex
 key_is bytes s behind found rest next is h first more = λ place may.
     let ended : lex between behind ≡ colon ∷ lex between next = h.same ∙ ap (lex between) first ∙ ap (λ (ls : List Lexeme). colon ∷ ls) more.same in
@@ -293,7 +296,7 @@ kept_to_bracket depth start bytes rest behind kept vs v is taken value h =
 
 -- ---- an array as a value, and as a whole text
 
-pub array_is : (depth : ℕ) (bytes start rest : List ℕ) (ds : List Data) → 0 < depth → Opens bytes start → Begin (depth - 1) start ds (tokens_at after_value rest) → IsValue depth bytes (array (items_from ds)) rest
+pub array_is : (depth : ℕ) (bytes start rest : List ℕ) (ds : List Data) → 0 < depth → OpensArray bytes start → Begin (depth - 1) start ds (tokens_at after_value rest) → IsValue depth bytes (array (items_from ds)) rest
 array_is depth bytes start rest ds some opens b = λ e place may.
     let ts = tokens_at fresh start in
     let read : tokens_at place bytes ≡ spec.begin_array ∷ ts = ap (punctuate place) opens ∙ placed_array place (lex between start) may in
@@ -302,7 +305,7 @@ array_is depth bytes start rest ds some opens b = λ e place may.
 read_from : (ts : List Token) (d : Data) → value_at max_depth ts ≡ Some (d, []) → option_and_then of_json (option_and_then (λ p. if_last p.0 p.1) (value max_depth ts)) ≡ Some d
 read_from ts d e = let b = read_before of_json (value max_depth ts) d [] e in rw b.1 b.2
 
-pub array_read : (text start behind : List ℕ) (ds : List Data) → Opens text start → Begin 126 start ds (tokens_at after_value behind) → Passed behind [] → read text ≡ Some (array (items_from ds))
+pub array_read : (text start behind : List ℕ) (ds : List Data) → OpensArray text start → Begin 126 start ds (tokens_at after_value behind) → PassesSpace behind [] → read text ≡ Some (array (items_from ds))
 unfolding lex punctuate
 array_read text start behind ds opens b more =
     let ts = tokens_at fresh start in
@@ -345,7 +348,7 @@ module _ (text bytes behind rest : List ℕ) (k : List ℕ) (d : Data) (old : Me
       let all = put k d old in
       taken all (member_begins bytes behind rest k d old all key is h.ends (λ n enough. members_over (value 126) all n (tokens_at after_value rest) [] enough (ap read_key h.left)))
 
--- ---- a piece of plain elements, as kinds of pieces read it
+-- ---- lemmas for `read_plain` of each kind of piece
 
 pub piece_found : {P : Type 0} (of : List Data → Option P) (B : List Data → Type 0) (r : Option P) (ds : List Data) → B ds → r ≡ of ds → IfSome r (λ piece. (es : List Data) × B es × (Some piece ≡ of es))
 piece_found of B None ds b e = tt

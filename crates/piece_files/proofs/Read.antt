@@ -1,4 +1,5 @@
--- The result of `json_of` for bytes that `read` takes, that it does not take, or that are too long.
+-- The result of `json_of` for bytes that `read` accepts, for bytes that it rejects, and for too
+-- many bytes.
 use Rattle.std.proofs.Common.{◌≡◌, ℕ, ◌<◌, ◌≤◌, nat_le, Bool, true, false, cond, List, length, Option, None, Err, refl, sym, ap, arith}
 use Rattle.std.specs.Str.{IsUtf8, is_utf8}
 use Rattle.std.proofs.lemmas.Str.{is_utf8-from_IsUtf8, IsUtf8-from_is_utf8}

@@ -9,7 +9,7 @@ use Rattle.std.proofs.lemmas.List.Quantifiers.{position-Some}
 use Rattle.serde_json.specs.Data.{Data, Members, no_members, put}
 use Rattle.serde_json.specs.Find.{get_member}
 use Rattle.serde_json.proofs.Views.{get_member-put, get_member-put_other}
-use Rattle.piece_files.specs.Elements.{number_of}
+use Rattle.piece_files.specs.Elements.{whole_number}
 use Rattle.piece_files.specs.declared.piece.Pieces.{Pieces}
 use Rattle.piece_files.specs.Files.{FileKind, version, names_of, are_apart}
 use Rattle.piece_files.specs.Members.{last_number, ArePiecesOf, ArePiecesIn, AreFound}
@@ -19,7 +19,6 @@ use Rattle.piece_files.specs.Members.{last_number, ArePiecesOf, ArePiecesIn, Are
 same_from : (a b : List ℕ) → bytes_eq a b ≡ true → a ≡ b
 same_from a b e = (bytes_eq-Decides a b).0 e
 
--- A test that does not pass fails.
 is_false : (b : Bool) → (b ≡ true → ⊥) → b ≡ false
 is_false true none = absurd (none refl)
 is_false false none = refl
@@ -50,11 +49,11 @@ last_here key name d ms same = ap (λ q. get_member q (put key d ms)) (sym same)
 pub last_other : (key name : List ℕ) (d : Data) (ms : Members) → bytes_eq key name ≡ false → get_member name (put key d ms) ≡ get_member name ms
 last_other key name d ms e = get_member-put_other name key d ms (λ same. true≢false (sym ((bytes_eq-Decides key name).1 (sym same)) ∙ e))
 
-pub number_here : (key name : List ℕ) (d : Data) (ms : Members) → key ≡ name → last_number (put key d ms) name ≡ number_of d
-number_here key name d ms same = ap (option_and_then number_of) (last_here key name d ms same)
+pub number_here : (key name : List ℕ) (d : Data) (ms : Members) → key ≡ name → last_number (put key d ms) name ≡ whole_number d
+number_here key name d ms same = ap (option_and_then whole_number) (last_here key name d ms same)
 
 pub number_other : (key name : List ℕ) (d : Data) (ms : Members) → bytes_eq key name ≡ false → last_number (put key d ms) name ≡ last_number ms name
-number_other key name d ms e = ap (option_and_then number_of) (last_other key name d ms e)
+number_other key name d ms e = ap (option_and_then whole_number) (last_other key name d ms e)
 
 -- ---- the numbers in the last members of some names
 
@@ -70,7 +69,7 @@ apart_at name (other ∷ names) zero lt e = not_true (bytes_eq name other) (both
 apart_at name (other ∷ names) (suc i) lt e = apart_at name names i (omega (arith, lt)) (both_true (not (bytes_eq name other)) (is_none name names) e).1
 
 pub numbers_set : (key : List ℕ) (d : Data) (ms : Members) (names : List (List ℕ)) (i : ℕ) → i < length names → get_or names i [] ≡ key → are_apart names ≡ true
-    → set (map (last_number ms) names) i (number_of d) ≡ map (last_number (put key d ms)) names
+    → set (map (last_number ms) names) i (whole_number d) ≡ map (last_number (put key d ms)) names
 numbers_set key d ms [] i lt same apart = absurd (omega (arith, lt))
 numbers_set key d ms (name ∷ names) zero lt same apart =
     let none : is_none key names ≡ true = subst (λ k. is_none k names ≡ true) same (both_true (is_none name names) (are_apart names) apart).0 in
@@ -123,7 +122,7 @@ stands_nowhere key names e =
 
 -- ---- what was found, with one member more
 
--- No name of a kind's members occurs twice.
+-- The members of a kind have different names.
 pub record Apart {P : Type 0} (kind : FileKind P) : Type 0 where
   pub first : bytes_eq version kind.pieces ≡ false
   pub from_version : is_none version kind.numbers ≡ true
@@ -141,7 +140,7 @@ module _ {P : Type 0} (kind : FileKind P) (apart : Apart kind) (n : Option ℕ) 
   same_pieces : bytes_eq key kind.pieces ≡ false → AreFound kind n numbers pieces ms → ArePiecesIn kind.of kind.is_old kind.part kind.most pieces (get_member kind.pieces (put key d ms))
   same_pieces e h = subst (ArePiecesIn kind.of kind.is_old kind.part kind.most pieces) (sym (last_other key kind.pieces d ms e)) h.the_pieces
 
-  pub take_version : bytes_eq key version ≡ true → (new : Option ℕ) → new ≡ number_of d → AreFound kind n numbers pieces ms → AreFound kind new numbers pieces (put key d ms)
+  pub take_version : bytes_eq key version ≡ true → (new : Option ℕ) → new ≡ whole_number d → AreFound kind n numbers pieces ms → AreFound kind new numbers pieces (put key d ms)
   take_version e new is h = let same = same_from key version e in record {
     the_version = is ∙ sym (number_here key version d ms same);
     the_numbers = h.the_numbers ∙ sym (numbers_other key d ms kind.numbers (ap (λ k. is_none k kind.numbers) same ∙ apart.from_version));
@@ -155,7 +154,7 @@ module _ {P : Type 0} (kind : FileKind P) (apart : Apart kind) (n : Option ℕ) 
     the_pieces = subst (ArePiecesIn kind.of kind.is_old kind.part kind.most new) (sym (last_here key kind.pieces d ms same)) are;
   }
 
-  pub take_number : bytes_eq key version ≡ false → bytes_eq key kind.pieces ≡ false → (i : ℕ) → position (λ name. bytes_eq name key) kind.numbers ≡ Some i → (new : Option ℕ) → new ≡ number_of d
+  pub take_number : bytes_eq key version ≡ false → bytes_eq key kind.pieces ≡ false → (i : ℕ) → position (λ name. bytes_eq name key) kind.numbers ≡ Some i → (new : Option ℕ) → new ≡ whole_number d
       → AreFound kind n numbers pieces ms → AreFound kind n (set numbers i new) pieces (put key d ms)
   take_number no_version no_pieces i at new is h =
       let there = stands_at key kind.numbers i at in
@@ -178,6 +177,6 @@ no_numbers [] (suc k) e = absurd (omega (arith, e))
 no_numbers (name ∷ names) zero e = absurd (omega (arith, e))
 no_numbers (name ∷ names) (suc k) e = ap (λ (rest : List (Option ℕ)). None ∷ rest) (no_numbers names k (omega (arith, e)))
 
--- In an object without members nothing is found.
+-- Nothing is found in an object without members.
 pub nothing_found : {P : Type 0} (kind : FileKind P) (k : ℕ) → length kind.numbers ≡ k → AreFound kind None (replicate k None) None no_members
 nothing_found kind k e = record { the_version = refl; the_numbers = no_numbers kind.numbers k e; the_pieces = refl }

@@ -59,7 +59,7 @@ no_member_after : (k : List ℕ) (j : json.Json) (found : Members) (o : Option (
 no_member_after k j found None e = refl
 no_member_after k j found (Some p) e = rw e refl
 
--- ---- the turns, if one value is read by p
+-- ---- the turns of the loops, where `p` reads one value
 
 module _ (p : Parse json.Json) where
   pub item_turn : (n : ℕ) (ts r : List Token) (d : Data) → 0 < n → after_end_array ts ≡ None → converted of_json (p ts) ≡ Some (d, r)

@@ -56,7 +56,7 @@ begins n (Token.boolean b) ts r d e = same (boolean b) d ts r (sym (value_at-boo
 begins n Token.null ts r d e = same null d ts r (sym (value_at-null n ts) ∙ e)
 begins n Token.bad ts r d e = never (sym (value_at-bad n ts) ∙ e)
 
--- ---- the tokens that begin a plain value, an array, an object
+-- ---- the tokens that begin a plain value, an array or an object
 
 abbrev pub can_be_plain : Token → Bool
 can_be_plain Token.begin_object = false

@@ -1,5 +1,4 @@
--- The value that tokens begin with, by the first token, and the loops over elements and members,
--- one turn at a time.
+-- The value that tokens begin with, for each kind of first token.
 use Rattle.std.proofs.Common.{◌≡◌, ℕ, ◌-◌, ◌<◌, List, [], ◌∷◌, length, Bool, Option, Some, None, option_map, Result, Ok, Err, OnErr, refl, ap, ◌∙◌, arith}
 use Rattle.json.specs.Token.{Token}
 use Rattle.json.specs.Json.{items, members, value, parse_map}

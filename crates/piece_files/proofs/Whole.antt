@@ -1,4 +1,4 @@
--- A file's contents, or its first fault, by the findings in its members (`AreFound`).
+-- How the findings in a file's members (`AreFound`) give its contents or its first fault.
 use Rattle.std.proofs.Common.{◌≡◌, ℕ, zero, suc, ◌<◌, ◌≤◌, List, [], ◌∷◌, ◌++◌, length, map, take, get_or, Bool, true, false, ◌&&◌, nat_le, cond, Option, Some, None, option_map, option_and_then, Result, Ok, Err, refl, sym, ap, subst, ◌∙◌, arith}
 use Rattle.std.specs.Option.{ok_or}
 use Rattle.std.specs.Result.{IsErrAnd}
@@ -11,8 +11,8 @@ use Rattle.piece_files.specs.declared.part.Part.{Part}
 use Rattle.piece_files.specs.declared.piece.Pieces.{Pieces}
 use Rattle.piece_files.specs.declared.file_fault.FileFault.{FileFault}
 use Rattle.piece_files.specs.declared.file_fault.FileFault.TheVariants.{NotJson, Member, Piece, Limit, NoMemory}
-use Rattle.piece_files.specs.Elements.{number_of, elements_of}
-use Rattle.piece_files.specs.Faults.{◌>>=◌, or_fault, Fails, Gives}
+use Rattle.piece_files.specs.Elements.{whole_number, elements_of}
+use Rattle.piece_files.specs.Faults.{◌>>=◌, or_fault, FailsAs, Gives}
 use Rattle.piece_files.specs.Files.{FileKind, version, all_of, contents_from, contents_of, is_version}
 use Rattle.piece_files.specs.Json.{number_named}
 use Rattle.piece_files.specs.Members.{AreFound, ArePiecesIn, FindsIn, last_number, members_within}
@@ -37,7 +37,7 @@ one_more (Some m ∷ numbers) n = ap (option_map (λ ns. m ∷ ns)) (one_more nu
 
 -- ---- the first fault
 
-pub fails_first : {A B : Type 0} (fault : FileFault) (r : Result A FileFault) (next : A → Result B FileFault) → Fails fault r → Fails fault (r >>= next)
+pub fails_first : {A B : Type 0} (fault : FileFault) (r : Result A FileFault) (next : A → Result B FileFault) → FailsAs fault r → FailsAs fault (r >>= next)
 fails_first NotJson r next h = ap (λ x. x >>= next) h
 fails_first Member r next h = ap (λ x. x >>= next) h
 fails_first (Piece part i) r next h = ap (λ x. x >>= next) h
@@ -45,9 +45,9 @@ fails_first Limit r next h = ap (λ x. x >>= next) h
 fails_first NoMemory r next h = tt
 
 -- The result after a `?` that hands on a fault.
-pub gives_fault : {X Y : Type 0} (seen : X → Y) (r : Result X FileFault) (fault : FileFault) (wanted : Result Y FileFault) → IsErrAnd r (λ e. e ≡ fault) → Fails fault wanted → Gives seen r wanted
+pub gives_fault : {X Y : Type 0} (seen : X → Y) (r : Result X FileFault) (fault : FileFault) (wanted : Result Y FileFault) → IsErrAnd r (λ e. e ≡ fault) → FailsAs fault wanted → Gives seen r wanted
 gives_fault seen (Ok x) fault wanted and h = absurd and
-gives_fault seen (Err e) fault wanted and h = subst (λ f. Fails f wanted) (sym and) h
+gives_fault seen (Err e) fault wanted and h = subst (λ f. FailsAs f wanted) (sym and) h
 
 -- A fault of `ok_or o Member` means that the member is missing.
 missing : {A : Type 0} (o : Option A) (fault : FileFault) → Err fault ≡ ok_or o Member → (o ≡ None) × (fault ≡ Member)
@@ -55,17 +55,18 @@ missing None fault e = (refl, cc)
 missing (Some x) fault e = absurd (grind (arith, e))
 
 module _ {P : Type 0} (most : ℕ) (version : Option ℕ) (numbers : Option (List ℕ)) (old new : Result (List P) FileFault) where
-  pub version_fault : (fault : FileFault) → Err fault ≡ ok_or version Member → Fails fault (contents_from most version numbers old new)
+  pub version_fault : (fault : FileFault) → Err fault ≡ ok_or version Member → FailsAs fault (contents_from most version numbers old new)
   unfolding contents_from
   version_fault fault e = let h = missing version fault e in rw (h.1, h.0) refl
 
   module _ (v : ℕ) (is : version ≡ Some v) where
-    pub numbers_fault : (fault : FileFault) → Err fault ≡ ok_or numbers Member → Fails fault (contents_from most version numbers old new)
+    pub numbers_fault : (fault : FileFault) → Err fault ≡ ok_or numbers Member → FailsAs fault (contents_from most version numbers old new)
     unfolding contents_from
     numbers_fault fault e = let h = missing numbers fault e in rw (h.1, is, h.0) refl
 
     module _ (ns : List ℕ) (are : numbers ≡ Some ns) where
-      pub pieces_fault : (fault : FileFault) → Fails fault (in_version v old new) → Fails fault (contents_from most version numbers old new)
+      pub pieces_fault : (fault : FileFault) → FailsAs fault (in_version v old new)
+          → FailsAs fault (contents_from most version numbers old new)
       unfolding contents_from
       pieces_fault fault h = rw (is, are) (fails_first fault (in_version v old new) _ h)
 
@@ -86,7 +87,7 @@ module _ {P : Type 0} (most : ℕ) (version : Option ℕ) (numbers : Option (Lis
           let long : nat_le (length all) most ≡ false = grind (arith, nat_tests, counted, more) in
           all_there all same ∙ rw (is_read, long) refl
 
--- ---- a file by the members of its value
+-- ---- the contents of a file, from the members of its value
 
 get-within : (name : List ℕ) (d : Data) → get name d ≡ get_member name (members_within d)
 get-within name null = refl
@@ -97,7 +98,7 @@ get-within name (array ds) = refl
 get-within name (object ms) = refl
 
 number-within : (d : Data) (name : List ℕ) → number_named name d ≡ last_number (members_within d) name
-number-within d name = ap (option_and_then number_of) (get-within name d)
+number-within d name = ap (option_and_then whole_number) (get-within name d)
 
 numbers-within : (d : Data) (names : List (List ℕ)) → map (λ name. number_named name d) names ≡ map (last_number (members_within d)) names
 numbers-within d [] = refl

@@ -3,7 +3,7 @@ use Rattle.std.specs.Prelude.{ℕ, List, [], ◌∷◌, length, ◌==◌, Option
 use Rattle.serde_json.specs.Data.{Data, Items, no_items, item}
 use Rattle.serde_json.specs.Find.{as_null, as_number, as_str, as_array, as_u64}
 
--- Go on with the value in an option, if there is one.
+-- Continues with the value in an option, if there is one.
 infixl 10 ◌>>=◌
 abbrev pub ◌>>=◌ : {A B : Type 0} → Option A → (A → Option B) → Option B
 (Some x) >>= f = f x
@@ -11,8 +11,8 @@ None >>= f = None
 
 -- A whole number below 2^64 with no sign, fraction or exponent: 2.0, 1e2, -0 and 2^64 are read as
 -- floats.
-abbrev pub number_of : Data → Option ℕ
-number_of d = option_and_then as_u64 (as_number d)
+abbrev pub whole_number : Data → Option ℕ
+whole_number d = option_and_then as_u64 (as_number d)
 
 -- Items as a list.
 abbrev pub list_of : Items → List Data
@@ -26,12 +26,12 @@ elements_of d = option_map list_of (as_array d)
 -- The first element, a number, and the elements after it.
 unfoldable pub number_at : List Data → Option (ℕ × List Data)
 number_at [] = None
-number_at (d ∷ ds) = option_map (λ n. (n, ds)) (number_of d)
+number_at (d ∷ ds) = option_map (λ n. (n, ds)) (whole_number d)
 
 -- The first element, a text, and the elements after it.
-unfoldable pub word_at : List Data → Option (List ℕ × List Data)
-word_at [] = None
-word_at (d ∷ ds) = option_map (λ s. (s, ds)) (as_str d)
+unfoldable pub leading_text : List Data → Option (List ℕ × List Data)
+leading_text [] = None
+leading_text (d ∷ ds) = option_map (λ s. (s, ds)) (as_str d)
 
 -- One number and nothing else.
 unfoldable pub one_of : List Data → Option ℕ
@@ -40,12 +40,12 @@ one_of ds = do
   if length n.1 == 0 then Some n.0 else None
 
 -- No element is left.
-unfoldable pub end_of : List Data → Option ⊤
-end_of ds = if length ds == 0 then Some tt else None
+unfoldable pub ends_here : List Data → Option ⊤
+ends_here ds = if length ds == 0 then Some tt else None
 
 -- Null is read as `None`, and a number as itself.
 abbrev pub optional : Data → Option (Option ℕ)
-optional d = if is_some (as_null d) then Some None else option_map (λ n. Some n) (number_of d)
+optional d = if is_some (as_null d) then Some None else option_map (λ n. Some n) (whole_number d)
 
 -- The first element, null or a number, and the elements after it.
 unfoldable pub optional_at : List Data → Option (Option ℕ × List Data)

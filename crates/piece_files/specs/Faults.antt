@@ -14,7 +14,7 @@ words_of (Piece parts.Entry i) = codes "21 entry " ++ decimal i
 words_of Limit = codes "22"
 words_of NoMemory = codes "14"
 
--- Go on with what was read, or stay with the first fault.
+-- Continues with what was read, or keeps the first fault.
 infixl 10 ◌>>=◌
 abbrev pub ◌>>=◌ : {A B : Type 0}
     → Result A FileFault → (A → Result B FileFault) → Result B FileFault
@@ -27,14 +27,14 @@ or_fault fault (Some x) = Ok x
 or_fault fault None = Err fault
 
 -- The fault is the one that the file has, unless memory was refused.
-abbrev pub Fails : {Y : Type 0} → FileFault → Result Y FileFault → Type 0
-Fails NoMemory wanted = Unit {0}
-Fails NotJson wanted = wanted ≡ Err NotJson
-Fails Member wanted = wanted ≡ Err Member
-Fails (Piece part i) wanted = wanted ≡ Err (Piece part i)
-Fails Limit wanted = wanted ≡ Err Limit
+abbrev pub FailsAs : {Y : Type 0} → FileFault → Result Y FileFault → Type 0
+FailsAs NoMemory wanted = Unit {0}
+FailsAs NotJson wanted = wanted ≡ Err NotJson
+FailsAs Member wanted = wanted ≡ Err Member
+FailsAs (Piece part i) wanted = wanted ≡ Err (Piece part i)
+FailsAs Limit wanted = wanted ≡ Err Limit
 
 -- A reader's answer, as `seen` shows it, is the one that the file has, unless memory was refused.
 abbrev pub Gives : {X Y : Type 0} → (X → Y) → Result X FileFault → Result Y FileFault → Type 0
 Gives seen (Ok x) wanted = wanted ≡ Ok (seen x)
-Gives seen (Err e) wanted = Fails e wanted
+Gives seen (Err e) wanted = FailsAs e wanted

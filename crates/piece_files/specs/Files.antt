@@ -48,8 +48,8 @@ abbrev pub is_version : ℕ → Bool
 is_version v = nat_le 1 v && nat_le v max_version
 
 -- The version, the numbers and the pieces, by what the members have: `old` has the pieces as
--- version 1 has them, and `new` as all other versions have them. The three are tested in this
--- order, and then whether the version is read and there are no more than `most` pieces.
+-- version 1 has them, and `new` as all other versions have them. The three are looked for in this
+-- order. Then it is tested whether the version is read and whether there are at most `most` pieces.
 unfoldable pub contents_from : {P : Type 0} → ℕ → Option ℕ → Option (List ℕ)
     → Result (List P) FileFault → Result (List P) FileFault
     → Result (ℕ × List ℕ × List P) FileFault

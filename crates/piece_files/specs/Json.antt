@@ -7,7 +7,7 @@ use Rattle.serde_json.specs.Read.{read}
 use Rattle.piece_files.specs.declared.file_fault.FileFault.{FileFault}
 use Rattle.piece_files.specs.declared.file_fault.FileFault.TheVariants.{NotJson, Member, Limit}
 use Rattle.piece_files.specs.Faults.{or_fault}
-use Rattle.piece_files.specs.Elements.{number_of, elements_of}
+use Rattle.piece_files.specs.Elements.{whole_number, elements_of}
 
 -- How many bytes a file may have.
 abbrev pub max_bytes : ℕ
@@ -22,8 +22,8 @@ json_of bytes =
 
 -- The number in the member of this name.
 abbrev pub number_named : List ℕ → Data → Option ℕ
-number_named name d = option_and_then number_of (get name d)
+number_named name d = option_and_then whole_number (get name d)
 
--- The elements of the member of this name, an array.
+-- The elements of the array in the member of this name.
 abbrev pub array_member : List ℕ → Data → Result (List Data) FileFault
 array_member name d = or_fault Member (option_and_then elements_of (get name d))

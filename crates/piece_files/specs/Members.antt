@@ -7,7 +7,7 @@ use Rattle.piece_files.specs.declared.piece.Pieces.{Pieces}
 use Rattle.piece_files.specs.declared.file_fault.FileFault.{FileFault}
 use Rattle.piece_files.specs.declared.file_fault.FileFault.TheVariants.{Member}
 use Rattle.piece_files.specs.declared.members.Names.{Names}
-use Rattle.piece_files.specs.Elements.{number_of, elements_of}
+use Rattle.piece_files.specs.Elements.{whole_number, elements_of}
 use Rattle.piece_files.specs.Files.{FileKind, version}
 use Rattle.piece_files.specs.Pieces.{pieces_from, old_of}
 use Rattle.piece_files.specs.Tokens.{FindsBoth}
@@ -23,9 +23,9 @@ members_within (object ms) = ms
 
 -- The number in the last member of this name.
 abbrev pub last_number : Members → List ℕ → Option ℕ
-last_number ms name = option_and_then number_of (get_member name ms)
+last_number ms name = option_and_then whole_number (get_member name ms)
 
--- The pieces that were read of a value, or `None` if the value is no array.
+-- The pieces that were read from a value, or `None` if the value is no array.
 abbrev pub ArePiecesOf : {P : Type 0} → (List Data → Option P) → (P → Bool) → Part → ℕ
     → Option (Pieces P) → Data → Type 0
 ArePiecesOf of is_old part most None d = elements_of d ≡ None
@@ -33,7 +33,7 @@ ArePiecesOf of is_old part most (Some p) d =
     (ds : List Data) × (elements_of d ≡ Some ds)
     × FindsBoth part most p (pieces_from (old_of is_old of) part 0 ds) (pieces_from of part 0 ds)
 
--- Pieces that are read from a member, if it is there.
+-- The pieces that were read from a member, or `None` if the member is missing or no array.
 abbrev pub ArePiecesIn : {P : Type 0} → (List Data → Option P) → (P → Bool) → Part → ℕ
     → Option (Pieces P) → Option Data → Type 0
 ArePiecesIn of is_old part most found None = found ≡ None
@@ -59,8 +59,9 @@ pub record AreFound {P : Type 0} (kind : FileKind P) (n : Option ℕ) (numbers :
   pub the_pieces :
       ArePiecesIn kind.of kind.is_old kind.part kind.most pieces (get_member kind.pieces ms)
 
--- For this finding in the member of pieces, `old` is the result in version 1, and `new` the result
--- in version 2. Without a finding both are the fault `Member`.
+-- The results of reading the member of pieces: `old` is the result for version 1, and `new` is the
+-- result for all other versions. The option has the pieces that were read. It is `None` if the
+-- member is missing or no array, and then both results are the fault `Member`.
 abbrev pub FindsIn : {P : Type 0} → Part → ℕ → Option (Pieces P)
     → Result (List P) FileFault → Result (List P) FileFault → Type 0
 FindsIn part most None old new = (old ≡ Err Member) × (new ≡ Err Member)

@@ -1,4 +1,4 @@
--- The pieces of a file, each an array: the steps of a step file, for one.
+-- The pieces of a file, such as the steps of a step file. Each piece is an array.
 use Rattle.std.specs.Prelude.{ℕ, suc, ◌==◌, Bool, List, [], ◌∷◌, Option, Some, None, option_and_then, Result, Ok, if◌then◌else◌}
 use Rattle.serde_json.specs.Data.{Data}
 use Rattle.piece_files.specs.declared.part.Part.{Part}
@@ -22,7 +22,8 @@ pieces_from of part i (d ∷ ds) = do
   others ← pieces_from of part (suc i) ds
   Ok (first ∷ others)
 
--- The piece that elements are in version 1, which lacks some of the pieces that version 2 has.
+-- The piece that has these elements in version 1, if there is one. A piece of version 2 is also a
+-- piece of version 1 exactly if `is_old` answers true for it.
 abbrev pub old_of : {P : Type 0} → (P → Bool) → (List Data → Option P) → List Data → Option P
 old_of is_old of ds = option_and_then (λ p. if is_old p then Some p else None) (of ds)
 

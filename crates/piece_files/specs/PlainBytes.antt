@@ -8,19 +8,20 @@ use Rattle.serde_json.specs.Data.{Data, Members, object}
 use Rattle.serde_json.specs.Read.{converted, of_items, of_members, read}
 use Rattle.piece_files.specs.Tokens.{items_from, value_at}
 
--- The tokens that bytes are, from this place on.
+-- The tokens of the bytes. `place` says what stands before the bytes: a value, a comma, a key, or
+-- none of these (`fresh`).
 abbrev pub tokens_at : Place → List ℕ → List Token
 tokens_at place bytes = punctuate place (lex between bytes)
 
 -- ---- the bytes between values
 
 -- The bytes are white space, and then the rest.
-pub record Passed (bytes rest : List ℕ) : Type 0 where
+pub record PassesSpace (bytes rest : List ℕ) : Type 0 where
   pub same : lex between bytes ≡ lex between rest
   pub ended : ends_word rest ≡ true → ends_word bytes ≡ true
 
--- The bytes may follow a value: they do not continue its word, and no colon in front of them makes
--- the value a key.
+-- The bytes may follow a value: they do not continue its word, and do not begin with a colon, which
+-- would make the value a key.
 pub record EndsValue (bytes : List ℕ) : Type 0 where
   pub ended : ends_word bytes ≡ true
   pub no_colon : begins_colon (lex between bytes) ≡ false
@@ -41,8 +42,8 @@ pub record Finishes (bytes : List ℕ) : Type 0 where
   pub left : tokens_at after_value bytes ≡ end_object ∷ []
 
 -- The bytes open an array, and the rest follows.
-abbrev pub Opens : List ℕ → List ℕ → Type 0
-Opens bytes rest = lex between bytes ≡ token begin_array ∷ lex between rest
+abbrev pub OpensArray : List ℕ → List ℕ → Type 0
+OpensArray bytes rest = lex between bytes ≡ token begin_array ∷ lex between rest
 
 -- The bytes open an object, and the rest follows.
 abbrev pub OpensObject : List ℕ → List ℕ → Type 0
@@ -50,16 +51,16 @@ OpensObject bytes rest = lex between bytes ≡ token begin_object ∷ lex betwee
 
 -- ---- values and keys
 
--- If the rest may follow a value, the bytes are this value and then the rest, wherever a value may
--- begin.
+-- If a value may begin where the bytes stand, and if the rest may follow a value, the bytes are the
+-- value `d` and then the rest.
 abbrev pub IsValue : ℕ → List ℕ → Data → List ℕ → Type 0
 IsValue depth bytes d rest =
     EndsValue rest → (place : Place) → may_begin place ≡ true
     → (value_at depth (tokens_at place bytes) ≡ Some (d, tokens_at after_value rest))
     × (after_end_array (tokens_at place bytes) ≡ None)
 
--- Wherever a key may begin, the bytes are this key, and then the rest, which is where a value may
--- begin.
+-- If a key may begin where the bytes stand, the bytes are the key `name` and then the rest. A value
+-- may begin where the rest stands.
 abbrev pub IsKey : List ℕ → List ℕ → List ℕ → Type 0
 IsKey bytes name rest =
     (place : Place) → may_begin place ≡ true
@@ -67,36 +68,37 @@ IsKey bytes name rest =
 
 -- ---- elements and members
 
--- The tokens are the elements that are left of an array, its bracket, and then the tokens `others`.
+-- The tokens are the remaining elements of an array, its closing bracket, and then the tokens
+-- `others`.
 abbrev pub AreLeft : ℕ → List Token → List Data → List Token → Type 0
 AreLeft depth ts ds others =
     (n : ℕ) → length ts ≤ n
     → converted of_items (items (value depth) n ts) ≡ Some (items_from ds, others)
 
--- Wherever an element may begin, the bytes are the elements that are left of an array.
+-- If an element may begin where the bytes stand, the bytes are the remaining elements of an array.
 abbrev pub Begin : ℕ → List ℕ → List Data → List Token → Type 0
 Begin depth bytes ds others =
     (place : Place) → may_begin place ≡ true → AreLeft depth (tokens_at place bytes) ds others
 
--- Behind an element the bytes are the elements that are left.
+-- Behind an element, the bytes are the remaining elements of an array.
 pub record Follow (depth : ℕ) (bytes : List ℕ) (ds : List Data) (others : List Token) : Type 0 where
   pub ends : EndsValue bytes
   pub left : AreLeft depth (tokens_at after_value bytes) ds others
 
--- The bytes `start` are the elements `ds`, and then the elements that the bytes `rest` are.
+-- The bytes `start` are the elements `ds`, followed by the elements in the bytes `rest`.
 abbrev pub AreTaken : ℕ → List ℕ → List Data → List ℕ → Type 0
 AreTaken depth start ds rest =
     (es : List Data) (others : List Token)
     → Begin depth rest es others → Begin depth start (ds ++ es) others
 
--- The tokens are the members that are left of an object, with nothing after the object. Added to
--- the members `old`, they make `all`.
+-- The tokens are the remaining members of an object, with nothing after the object. Added to the
+-- members `old`, they make `all`.
 abbrev pub AreMembers : List Token → Members → Members → Type 0
 AreMembers ts old all =
     (n : ℕ) → length ts ≤ n
     → converted (λ ms. of_members ms old) (members (value 126) n ts) ≡ Some (all, [])
 
--- The text is an object with the members `old`, and then the members that the bytes `rest` are.
+-- The text is an object with the members `old`, followed by the members in the bytes `rest`.
 abbrev pub AreMembersTaken : List ℕ → Members → List ℕ → Type 0
 AreMembersTaken text old rest =
     (all : Members)

@@ -32,7 +32,7 @@ is_whole (unsigned n) = true
 is_whole (negative z) = false
 is_whole (float x) = false
 
--- Whether a value is null, a text, or a whole number below 2^64: the elements that are kept.
+-- Whether a value is null, a text, or a whole number below 2^64. Only such elements are kept.
 abbrev pub is_plain : Data → Bool
 is_plain null = true
 is_plain (boolean b) = false
@@ -71,13 +71,14 @@ outcome part false pieces = Err (Piece part (length pieces))
 
 -- The pieces found are all pieces of an array, or those before its first element that is no piece.
 -- All of these are counted, and the first `most` of them are kept.
-abbrev pub Finds : {P : Type 0} → Part → ℕ → List P → ℕ → Bool → Result (List P) FileFault → Type 0
-Finds {P} part most pieces count are_all wanted =
+abbrev pub FindsPieces : {P : Type 0} → Part → ℕ → List P → ℕ → Bool → Result (List P) FileFault
+    → Type 0
+FindsPieces {P} part most pieces count are_all wanted =
     (all : List P) × (wanted ≡ outcome part are_all all) × (count ≡ length all)
     × (pieces ≡ take most all)
 
--- Version 1 gives the same result as version 2 or, if piece `i` is the first that only version 2
--- has, the fault of piece `i`.
+-- Version 1 gives the same result as version 2, unless some piece is valid only in version 2. Then
+-- version 1 gives the fault of the first such piece, piece `i`.
 abbrev pub FindsOld : {P : Type 0} → Part → Option ℕ
     → Result (List P) FileFault → Result (List P) FileFault → Type 0
 FindsOld part None old new = old ≡ new
@@ -87,4 +88,4 @@ FindsOld part (Some i) old new = old ≡ Err (Piece part i)
 abbrev pub FindsBoth : {P : Type 0} → Part → ℕ → Pieces P
     → Result (List P) FileFault → Result (List P) FileFault → Type 0
 FindsBoth part most p old new =
-    Finds part most p.pieces.items p.count p.are_all new × FindsOld part p.first_new old new
+    FindsPieces part most p.pieces.items p.count p.are_all new × FindsOld part p.first_new old new

@@ -4,7 +4,7 @@
 
 ghost use Rattle.std.specs.Prelude.{◌≡◌, map, option_map};
 ghost use Rattle.piece_files.specs.Plain.{data_of};
-ghost use Rattle.piece_files.specs.Elements.{number_at, word_at, optional_at, one_of, two_of, end_of};
+ghost use Rattle.piece_files.specs.Elements.{number_at, leading_text, optional_at, one_of, two_of, ends_here};
 ghost use Rattle.piece_files.specs.Elements.{optional_of};
 
 use crate::plain::Plain;
@@ -33,10 +33,10 @@ pub fn number_in<'v, 'a>(values: &'v [Plain<'a>]) -> Option<(u64, &'v [Plain<'a>
 /// # Cost
 ///
 /// Constant time; takes no memory.
-#[tactic(auto, unfolding(crate::specs::Elements::word_at))]
+#[tactic(auto, unfolding(crate::specs::Elements::leading_text))]
 pub fn word_in<'v, 'a>(values: &'v [Plain<'a>]) -> Option<(&'a str, &'v [Plain<'a>])>
     ensures { option_map (λ x. (x.0.now, map data_of x.1.now)) result
-        ≡ word_at (map data_of values.now) }
+        ≡ leading_text (map data_of values.now) }
 {
     let (first, rest) = values.split_first()?;
     match *first {
@@ -45,8 +45,8 @@ pub fn word_in<'v, 'a>(values: &'v [Plain<'a>]) -> Option<(&'a str, &'v [Plain<'
     }
 }
 
-/// The only element, which is a whole number below 2^64. Answers `None` if there is not exactly one
-/// element, or it is no such number.
+/// The only element, which is a whole number below 2^64. Answers `None` if there is no element or
+/// more than one, or the element is no such number.
 ///
 /// # Cost
 ///
@@ -64,15 +64,15 @@ pub fn one_in(values: &[Plain<'_>]) -> Option<u64>
 /// # Cost
 ///
 /// Constant time; takes no memory.
-#[tactic(auto, unfolding(crate::specs::Elements::end_of))]
+#[tactic(auto, unfolding(crate::specs::Elements::ends_here))]
 pub fn end_in(values: &[Plain<'_>]) -> Option<()>
-    ensures { result ≡ end_of (map data_of values.now) }
+    ensures { result ≡ ends_here (map data_of values.now) }
 {
     if values.is_empty() { Some(()) } else { None }
 }
 
-/// The first element, which is a whole number below 2^64, or `null`, which is read as `None`; and
-/// the elements after it. Answers `None` if there is no element, or the first is another value.
+/// The first element, and the elements after it. The first is a whole number below 2^64, or `null`,
+/// which is read as `None`. Answers `None` if there is no element, or the first is another value.
 ///
 /// # Cost
 ///
@@ -93,7 +93,7 @@ pub fn leading_optional_in<'v, 'a>(
 }
 
 /// The only element: a whole number below 2^64, or `null`, which is `Some(None)`. Answers `None` if
-/// there is not exactly one element, or it is another value.
+/// there is no element or more than one, or the element is another value.
 ///
 /// # Cost
 ///

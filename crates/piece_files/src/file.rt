@@ -5,7 +5,7 @@
 
 ghost use Rattle.std.specs.Prelude.{◌≡◌, ◌∷◌, ◌≤◌, List, length, take, map, true, Option, Some, Result, Ok, Err, MatchResult};
 ghost use Rattle.std.specs.Str.{IsUtf8};
-ghost use Rattle.piece_files.specs.Faults.{Fails, Gives, or_fault};
+ghost use Rattle.piece_files.specs.Faults.{FailsAs, Gives, or_fault};
 ghost use Rattle.piece_files.specs.Files.{FileKind, version, are_apart, all_of, contents_from, contents, is_version};
 ghost use Rattle.piece_files.specs.Json.{max_bytes};
 ghost use Rattle.piece_files.specs.Members.{FindsIn};
@@ -51,7 +51,7 @@ fn pieces_found<K: PieceKind>(
         → FindsIn K.part K.most found old new → MatchResult result
         (λ p. (all : List K.Piece) × (in_version version old new ≡ Ok all)
         × (p.count ≡ length all) × (p.pieces.items ≡ take K.most all))
-        (λ fault. Fails fault (in_version version old new)) }
+        (λ fault. FailsAs fault (in_version version old new)) }
 {
     let pieces = found.ok_or(FileFault::Member)?;
     if version == 1 {

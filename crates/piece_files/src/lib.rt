@@ -1,8 +1,9 @@
 //! Files that are an object in JSON: a version, some numbers, and an array of pieces. A kind of
 //! file is a table: the names of its numbers, in the order in which `read_file` answers them, the
-//! name of its pieces, and what a piece is (`PieceKind`). Version 1 of a kind of file may lack some
-//! of the pieces that version 2 has: in a file of version 1 these are wrong. This crate knows
-//! nothing of steps, scripts and entries but the words by which a fault names them (`Part`).
+//! name of its pieces, and what a piece is (`PieceKind`). A kind of file may allow a piece in
+//! version 2 but not in version 1 (`PieceKind::is_old`). In a file of version 1 such a piece is
+//! wrong. Of steps, scripts and entries this crate knows only the words by which a fault names them
+//! (`Part`).
 //!
 //! The model is a function of the bytes, `contents` of `specs/Files.antt`. It reads the bytes as a
 //! value of JSON (`json_of`), and gives the version, the numbers and the pieces in the value's
@@ -11,12 +12,13 @@
 //! `specs/Tokens.antt` says what they begin with. `json` and `serde_json` define what bytes, tokens
 //! and numbers mean as JSON.
 //!
-//! A file in plain form, as most are written, is read straight from its bytes. Plain form has no
-//! escapes, numbers of at most 19 digits, an array of at least one piece, only pieces that the kind
-//! has and no more than it keeps, plain values in the other members, and white space wherever JSON
-//! allows it. A file in any other form is read from its start by the reader of JSON, which makes an
-//! index of the text as it goes, and takes scratch memory of the text's length (`members.rt`).
-//! `specs/PlainBytes.antt` says which tokens the reader of JSON makes of bytes in plain form.
+//! A file in plain form, as most are written, is read straight from its bytes. In such a file no
+//! text has escapes, and no number has more than 19 digits. Its array has at least one piece, only
+//! pieces of the kind, and no more than the kind keeps; its other members have plain values. White
+//! space may stand wherever JSON allows it. A file in any other form is read from its start by the
+//! reader of JSON, which makes an index of the file as it goes, and takes scratch memory of the
+//! file's length (`members.rt`). `specs/PlainBytes.antt` says which tokens the reader of JSON makes
+//! of bytes in plain form.
 //!
 //! Promised: `read_file` computes `contents`, or says that memory was refused. A text is read once,
 //! or twice if it has no plain form, in time proportional to its length. What is passed over is

@@ -8,8 +8,8 @@ ghost use Rattle.serde_json.specs.Data.{Data, Members, no_members, put};
 ghost use Rattle.serde_json.specs.Read.{max_depth, read};
 ghost use Rattle.std.specs.Str.{bytes_eq};
 ghost use Rattle.std.specs.List.{position};
-ghost use Rattle.piece_files.specs.Elements.{number_of};
-ghost use Rattle.piece_files.specs.Faults.{Fails, or_fault};
+ghost use Rattle.piece_files.specs.Elements.{whole_number};
+ghost use Rattle.piece_files.specs.Faults.{FailsAs, or_fault};
 ghost use Rattle.piece_files.specs.Json.{json_of};
 ghost use Rattle.piece_files.specs.Members.{members_within, ArePiecesOf, AreFound, kind_named};
 ghost use Rattle.piece_files.specs.Files.{names_of, are_apart};
@@ -46,7 +46,7 @@ pub(crate) struct Found<P, const N: usize> {
     pub(crate) pieces: Option<Pieces<P>>,
 }
 
-/// The findings in no members.
+/// The findings before any member is taken.
 pub(crate) fn nothing_found<P, const N: usize>() -> Found<P, N>
     requires { N ≤ 64 }
     ensures version { result.version ≡ None }
@@ -69,7 +69,7 @@ fn number_member(
 ) -> Result<Option<u64>, Invalid>
     ensures ok { IfOk result (λ found. (d : Data)
         × (value_at depth (token_of token.entry ∷ reader.old) ≡ Some (d, reader.new))
-        × (found ≡ number_of d)) }
+        × (found ≡ whole_number d)) }
     ensures err { OnErr result (value_at depth (token_of token.entry ∷ reader.old) ≡ None) }
     ensures shorter { OnOk result (length reader.new ≤ length reader.old) }
 {
@@ -216,7 +216,8 @@ fn take_value<K: PieceKind, const N: usize>(
     }
 }
 
-/// The findings in the members of the object that a text is, by the reader of JSON.
+/// The findings in the members of a text, by the reader of JSON. A text that is no object has no
+/// members.
 fn indexed_members_in<K: PieceKind, const N: usize>(
     alloc: Global,
     text: &str,
@@ -229,7 +230,7 @@ fn indexed_members_in<K: PieceKind, const N: usize>(
         (λ found. (d : Data) × (read text.now ≡ Some d)
         × AreFound (kind_named names.entry K.of K.is_old K.part K.most)
         found.version found.numbers found.pieces (members_within d))
-        (λ fault. Fails fault (or_fault NoJson (read text.now))) }
+        (λ fault. FailsAs fault (or_fault NoJson (read text.now))) }
 {
     let mut found = nothing_found::<K::Piece, N>();
     let mut scratch = Scratch::new(alloc);
@@ -247,8 +248,8 @@ fn indexed_members_in<K: PieceKind, const N: usize>(
     }
 }
 
-/// The findings in the members of the object that a text is. A text in plain form is read straight
-/// from its bytes.
+/// The findings in the members of a text. A text that is no object has no members. A text in plain
+/// form is read straight from its bytes.
 pub(crate) fn members_in<K: PieceKind, const N: usize>(
     alloc: Global,
     text: &str,
@@ -261,7 +262,7 @@ pub(crate) fn members_in<K: PieceKind, const N: usize>(
         (λ found. (d : Data) × (read text.now ≡ Some d)
         × AreFound (kind_named names.entry K.of K.is_old K.part K.most)
         found.version found.numbers found.pieces (members_within d))
-        (λ fault. Fails fault (or_fault NoJson (read text.now))) }
+        (λ fault. FailsAs fault (or_fault NoJson (read text.now))) }
 {
     let plain = plain_members_in::<K, N>(alloc, text, names)?;
     match plain {

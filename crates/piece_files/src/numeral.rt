@@ -1,6 +1,7 @@
-//! The value of a number's text in JSON, if it is a whole number below 2^64. Texts of up to 19
-//! digits, as nearly all in a file are, are read by one short loop, the others by `fast_float`,
-//! which only this module uses. Time is in proportion to the text; no memory is taken.
+//! The value of a number's text in JSON, if it is a whole number below 2^64. Nearly all numbers in
+//! a file have at most 19 digits, and one short loop reads them. The others are read by
+//! `fast_float`, which only this module uses. Time is in proportion to the text; no memory is
+//! taken.
 
 ghost use Rattle.std.specs.Prelude.{◌≡◌, false, option_map, IfSome};
 ghost use Rattle.std.specs.Prelude as prelude;

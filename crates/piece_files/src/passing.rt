@@ -1,6 +1,6 @@
-//! Values that are passed over: they are tested to be JSON, and nothing of them is kept, at any
-//! depth that the reader allows. No kind of file is asked, so the same loops serve all of them. The
-//! calls nest as deep as the value does, which `depth` bounds.
+//! Values that are passed over: they are tested to be JSON, and nothing of them is kept. The kind
+//! of file does not matter, so the same loops serve all kinds. The calls nest as deep as the value
+//! does, and `depth` bounds how deep that may be.
 
 ghost use Rattle.std.specs.Prelude.{◌≡◌, ◌∷◌, ◌<◌, ◌≤◌, length, Some, None, OnOk, OnErr};
 ghost use Rattle.json.specs.Reads.{token_of};

@@ -114,13 +114,13 @@ pub trait PieceKind {
 /// The pieces that an array begins with, up to its first element that is no piece.
 #[derive(Drop)]
 pub struct Pieces<P> {
-    /// The first of them, as many as the kind keeps.
+    /// The first of these pieces, at most as many as the kind keeps.
     pub pieces: Vec<P>,
-    /// How many there are.
+    /// How many pieces the array begins with.
     pub count: usize,
     /// Whether all elements of the array are pieces.
     pub are_all: bool,
-    /// The index of the first of them that version 1 lacks, if there is one.
+    /// The index of the first piece that version 1 lacks, if there is one.
     pub first_new: Option<usize>,
 }
 

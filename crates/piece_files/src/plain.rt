@@ -1,11 +1,12 @@
 //! Plain values, the elements that are kept: null, a text, or a whole number below 2^64. Any other
-//! value is passed over, and its array is then not plain. An element takes no memory: an array has
-//! room for a fixed number, and a text stays in the file or the scratch.
+//! value is passed over, and its array is then not plain. An element takes no memory: an `ArrayVec`
+//! has room for a fixed number of elements, and a text stays in the file or in the scratch memory
+//! of the reader.
 
 ghost use Rattle.std.specs.Prelude.{◌≡◌, ◌∷◌, ◌<◌, ◌≤◌, List, length, Some, None, option_map, IfOk, OnOk, OnErr};
 ghost use Rattle.json.specs.Reads.{token_of};
 ghost use Rattle.serde_json.specs.Data.{Data};
-ghost use Rattle.piece_files.specs.Elements.{number_of};
+ghost use Rattle.piece_files.specs.Elements.{whole_number};
 ghost use Rattle.piece_files.specs.Plain.{data_of};
 ghost use Rattle.piece_files.specs.Tokens.{value_at, items_at, items_from, IsPlain, AreElements};
 
@@ -29,7 +30,7 @@ pub enum Plain<'a> {
 impl Plain<'_> {
     /// The number, or `None` if the value is no number.
     pub(crate) fn number(self) -> Option<u64>
-        ensures { result ≡ number_of (data_of self.entry) }
+        ensures { result ≡ whole_number (data_of self.entry) }
     {
         match self {
             Plain::Number(number) => Some(number),

@@ -1,6 +1,6 @@
-//! Arrays of plain values in plain form, read straight from the bytes into an array of fixed size,
-//! without memory. A piece within a file and a line by itself are read by the same loop. An array
-//! in any other form is left to the reader of JSON, which also decides on faults.
+//! Arrays of plain values in plain form, read straight from the bytes into an array of fixed size.
+//! No memory is taken. A piece within a file and a line by itself are read by the same loop. An
+//! array in any other form is left to the reader of JSON, which also decides on faults.
 ghost use Rattle.std.specs.Prelude.{◌≡◌, ◌<◌, ◌≤◌, ℕ, true, length, drop, map, Some, IfSome};
 ghost use Rattle.json.specs.Lex.{after_value};
 ghost use Rattle.serde_json.specs.Data.{array};
@@ -15,7 +15,8 @@ use arrayvec::ArrayVec;
 
 /// Takes the elements of an array, whose first is at `start`, into `elements`, in place of what is
 /// there. Answers where the array ends, or `None` if there is no element, there are more than
-/// `MOST`, or the array has no plain form: then `elements` has some of them.
+/// `MOST`, or the array has no plain form. After `None`, `elements` may have the first elements of
+/// the array.
 ///
 /// # Cost
 ///

@@ -1,7 +1,8 @@
 //! JSON in plain form, read straight from its bytes: white space, commas and brackets, keys, and
-//! plain values; a text has no escapes, and a number at most 19 digits. No index is made; the
-//! reader of JSON makes one, of 4,096 bytes of the text at a time. For a text in any other
-//! form some function here answers none or false; such a text is left to the reader of JSON.
+//! plain values. In plain form a text has no escapes, and a number has at most 19 digits. The
+//! functions here make no index of the bytes. The reader of the crate `json` makes one, of 4,096
+//! bytes of the input at a time. If the input is not in plain form, some function here answers none
+//! or false. Then the reader of the crate `json` reads the input.
 ghost use Rattle.std.specs.Prelude.{◌≡◌, ◌+◌, ◌∷◌, ◌<◌, ◌≤◌, [], ℕ, true, length, take, drop, get_or, IfSome};
 ghost use Rattle.std.specs.List.{All};
 ghost use Rattle.std.specs.Str.Parse.{AllDigits, digits_value};
@@ -11,7 +12,7 @@ ghost use Rattle.json.specs.Run.{is_plain};
 ghost use Rattle.json.specs.Word.{is_space};
 ghost use Rattle.serde_json.specs.Data.{null, number, unsigned};
 ghost use Rattle.piece_files.specs.Plain.{data_of};
-ghost use Rattle.piece_files.specs.PlainBytes.{Passed, Comma, Closes, Finishes, Opens, OpensObject, IsValue, IsKey};
+ghost use Rattle.piece_files.specs.PlainBytes.{PassesSpace, Comma, Closes, Finishes, OpensArray, OpensObject, IsValue, IsKey};
 
 use crate::plain::Plain;
 
@@ -31,7 +32,7 @@ fn is_space(byte: u8) -> bool
 fn spaces_end(bytes: &[u8], start: usize) -> usize
     requires { start ≤ length bytes.now }
     ensures place { (start ≤ result) × (result ≤ length bytes.now) }
-    ensures spaces { Passed (drop start bytes.now) (drop result bytes.now) }
+    ensures spaces { PassesSpace (drop start bytes.now) (drop result bytes.now) }
 {
     let mut at = start;
     'spaces: while at < bytes.len() && is_space(bytes[at]) {
@@ -53,7 +54,7 @@ fn is_at(bytes: &[u8], at: usize, byte: u8) -> bool
 #[tactic(auto, using(crate::proofs::PlainLemmas::all_passed))]
 pub(crate) fn is_over(bytes: &[u8], at: usize) -> bool
     requires { at ≤ length bytes.now }
-    ensures { result ≡ true → Passed (drop at bytes.now) [] }
+    ensures { result ≡ true → PassesSpace (drop at bytes.now) [] }
 {
     spaces_end(bytes, at) == bytes.len()
 }
@@ -104,7 +105,7 @@ pub(crate) fn is_last_brace(bytes: &[u8], at: usize) -> bool
 #[tactic(auto, using(crate::proofs::PlainLemmas::opening))]
 pub(crate) fn after_open(bytes: &[u8], at: usize) -> Option<usize>
     ensures place { IfSome result (λ start. (at < start) × (start ≤ length bytes.now)) }
-    ensures array { IfSome result (λ start. Opens (drop at bytes.now) (drop start bytes.now)) }
+    ensures array { IfSome result (λ start. OpensArray (drop at bytes.now) (drop start bytes.now)) }
 {
     if !is_at(bytes, at, b'[') {
         return None;

@@ -81,8 +81,8 @@ fn take_plain_member<K: PieceKind, const N: usize>(
     Ok(true)
 }
 
-/// The findings in the members of the object that a text is. Answers `None` if the text has no
-/// plain form.
+/// The findings in the members of a text that is an object. Answers `None` if the text has no plain
+/// form.
 pub(crate) fn plain_members_in<K: PieceKind, const N: usize>(
     alloc: Global,
     text: &str,

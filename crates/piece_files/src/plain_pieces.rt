@@ -13,8 +13,8 @@ use crate::piece::{PieceKind, Pieces};
 use crate::plain_bytes::{after_bracket, after_comma, after_open};
 use std::alloc::{AllocError, Global};
 
-/// For how many pieces room is made before the first is read. Most arrays have no more, and to make
-/// room again and again costs more than to read some pieces.
+/// The number of pieces for which room is made before the first is read. Most arrays have no more
+/// pieces than this. Making room several times costs more than reading a few pieces.
 const FIRST_ROOM: usize = 16;
 
 /// The piece at the place `at`, which moves behind the piece. Answers `None` if no piece in plain
@@ -53,8 +53,9 @@ fn piece_at<K: PieceKind>(
 ///
 /// # Cost
 ///
-/// Time in proportion to the text that is read, if that of `K::read_plain` and `K::is_old` is so;
-/// memory for the pieces, for 16 at least, and what `K::read_plain` takes.
+/// Time in proportion to the text that is read, if `K::read_plain` and `K::is_old` take time in
+/// proportion to what they read; memory for the pieces, for 16 at least, and what `K::read_plain`
+/// takes.
 pub fn pieces_at<K: PieceKind>(
     alloc: Global,
     text: &str,

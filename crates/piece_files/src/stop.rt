@@ -1,6 +1,7 @@
-//! The reasons why reading tokens stops early: no JSON, or no memory. They have a type beside
-//! `FileFault`, since the loops over tokens stop early for no other reason. `?` makes a `Stop` of
-//! an error of the reader or the allocator, and `members` turns a `Stop` into a `FileFault`.
+//! The reasons why reading tokens stops early: no JSON, or no memory. They have a type of their own
+//! beside `FileFault`, since the loops over tokens stop early for no other reason. `?` makes a
+//! `Stop` of an error of the reader or the allocator, and `members` turns a `Stop` into a
+//! `FileFault`.
 ghost use Rattle.std.specs.Prelude.{◌≡◌};
 ghost use Rattle.piece_files.specs.declared.stop.Stop.TheVariants.{NotJson, NoMemory};
 

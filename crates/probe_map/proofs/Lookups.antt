@@ -17,7 +17,7 @@ some_apart a b other same = other cc
 apart_some : (a b : ℕ) → Some a ≢ Some b → a ≢ b
 apart_some a b other same = other (ap Some same)
 
--- A slot that does not have the key, in front of other slots, does not change the key's value.
+-- If a slot without the key is put in front of other slots, the key's value does not change.
 found_behind : (slot : Slot) (slots : List Slot) (key : ℕ) → key_in slot ≢ Some key → found (slot ∷ slots) key ≡ found slots key
 found_behind Empty slots key other = refl
 found_behind (Removed k) slots key other = refl

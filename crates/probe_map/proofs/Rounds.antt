@@ -1,11 +1,11 @@
--- If each key is where its probe stops, a key is at no more than one place, and at no place if its
--- probe stops at an empty one. If a key is then put where its probe stops, each other key is still
--- where its own probe stops.
+-- Suppose that each place with a key is the place where that key's probe stops. Then no key is at
+-- two places, and a key whose probe stops at an empty place is at no place. If a key is then put
+-- where its probe stops, each other key is still where its own probe stops.
 use Rattle.std.proofs.Common.{◌≡◌, ◌≢◌, ℕ, ◌<◌, ◌≤◌, ◌⊎◌, true, false, Option, Some, None, inl, inr, ⊎_elim, arith, refl, sym, ap, subst, ◌∙◌, eq-eqb}
 use Rattle.std.proofs.lemmas.Bool.{cases_eq, cases_lt, eqb-true, false≢true}
-use Rattle.probe_map.specs.Probes.{IsBefore, IsProbed, LeadsTo, stops}
+use Rattle.probe_map.specs.Probes.{ReachesBefore, IsProbed, LeadsTo, stops}
 
-from_less : (home i j : ℕ) → i < j → IsBefore home i j ⊎ IsBefore home j i
+from_less : (home i j : ℕ) → i < j → ReachesBefore home i j ⊎ ReachesBefore home j i
 from_less home i j less = ⊎_elim
     (λ (low : i < home). ⊎_elim
     (λ (l : j < home). inl (inr (inl (less, l))))
@@ -13,12 +13,12 @@ from_less home i j less = ⊎_elim
     (λ (high : home ≤ i). inl (inl (high, less))) (cases_lt i home)
 
 -- Of two places one is before the other.
-either : (home i j : ℕ) → i ≢ j → IsBefore home i j ⊎ IsBefore home j i
+either : (home i j : ℕ) → i ≢ j → ReachesBefore home i j ⊎ ReachesBefore home j i
 either home i j other = ⊎_elim (λ (l : i < j). from_less home i j l)
     (λ (h : j ≤ i). let l : j < i = omega arith in ⊎_elim (λ b. inr b) (λ b. inl b) (from_less home j i l)) (cases_lt i j)
 
 -- No place is before itself.
-not_before : (home i j : ℕ) → IsBefore home j i → j ≢ i
+not_before : (home i j : ℕ) → ReachesBefore home j i → j ≢ i
 not_before home i j (inl b) same = let low = b.0 in let high = b.1 in absurd (omega arith)
 not_before home i j (inr (inl b)) same = let low = b.0 in let high = b.1 in absurd (omega arith)
 not_before home i j (inr (inr b)) same = let low = b.0 in let high = b.1 in absurd (omega arith)
@@ -38,8 +38,8 @@ pub unique : (keys : ℕ → Option ℕ) (count : ℕ) (home : ℕ → ℕ) (key
     → keys i ≡ Some key → keys j ≡ Some key → i ≡ j
 unique keys count home key i j probed li lj at_i at_j = ⊎_elim (λ (e : i ≡ j). e)
     (λ (other : i ≢ j). ⊎_elim
-    (λ (b : IsBefore (home key) i j). absurd (false≢true (sym (probed j key at_j i li b) ∙ stops_some (keys i) key at_i)))
-    (λ (b : IsBefore (home key) j i). absurd (false≢true (sym (probed i key at_i j lj b) ∙ stops_some (keys j) key at_j)))
+    (λ (b : ReachesBefore (home key) i j). absurd (false≢true (sym (probed j key at_j i li b) ∙ stops_some (keys i) key at_i)))
+    (λ (b : ReachesBefore (home key) j i). absurd (false≢true (sym (probed i key at_i j lj b) ∙ stops_some (keys j) key at_j)))
     (either (home key) i j other)) (cases_eq i j)
 
 -- A key whose probe stops at an empty place is nowhere.
@@ -48,8 +48,8 @@ absent : (keys : ℕ → Option ℕ) (count : ℕ) (home : ℕ → ℕ) (key i m
 absent keys count home key i m probed li lm none leads at_m = ⊎_elim
     (λ (e : i ≡ m). cc)
     (λ (other : i ≢ m). ⊎_elim
-    (λ (b : IsBefore (home key) i m). false≢true (sym (probed m key at_m i li b) ∙ stops_none (keys i) key none))
-    (λ (b : IsBefore (home key) m i). false≢true (sym (leads m lm b) ∙ stops_some (keys m) key at_m))
+    (λ (b : ReachesBefore (home key) i m). false≢true (sym (probed m key at_m i li b) ∙ stops_none (keys i) key none))
+    (λ (b : ReachesBefore (home key) m i). false≢true (sym (leads m lm b) ∙ stops_some (keys m) key at_m))
     (either (home key) i m other)) (cases_eq i m)
 
 -- No place has the key, except the place at which its probe stops.
@@ -67,7 +67,7 @@ put_there keys later count home key i probed li stop leads here same m k at_m j 
     (λ (e : m ≡ i).
     let is : Some key ≡ Some k = sym here ∙ ap later (sym e) ∙ at_m in
     let k_is : key ≡ k = cc in
-    let way : IsBefore (home key) j i = subst (λ n. IsBefore (home n) j i) (sym k_is) (subst (λ n. IsBefore (home k) j n) e before) in
+    let way : ReachesBefore (home key) j i = subst (λ n. ReachesBefore (home n) j i) (sym k_is) (subst (λ n. ReachesBefore (home k) j n) e before) in
     ap (λ o. stops o k) (same j (not_before (home key) i j way)) ∙ ap (stops (keys j)) (sym k_is) ∙ leads j lj way)
     (λ (other : m ≢ i).
     let was : keys m ≡ Some k = sym (same m other) ∙ at_m in

@@ -87,8 +87,9 @@ content_set slots room len shift key place slot table at is = set_lookups (pairs
     was q ne there = ⊎_elim (λ (none : key_at slots place ≡ None). let both : None ≡ Some q = sym none ∙ there in absurd (cc))
         (λ (same : key_at slots place ≡ Some key). ne (ap num (sym same ∙ there))) (stopped (key_at slots place) key at.stops)
 
--- After the write the slots are sound with `fewer` as the number of usable slots and `more` as the
--- number of values, if these numbers count the new slot instead of the old one.
+-- After the write the slots are sound with `fewer` in place of `room` and `more` in place of `len`.
+-- `fewer` is at most `room`, and below `room` if the old slot was empty. `more` is `len`, less 1 if
+-- the old slot had a value, plus 1 if the new slot has one.
 pub table_set : (slots : List Slot) (room len shift key place : ℕ) (slot : Slot) (fewer more : ℕ) → IsTable slots room len shift → StopsAt slots (begins slots shift key) key place
     → key_in slot ≡ Some key → fewer + tally (is_empty (slot_at slots place)) ≤ room
     → more + tally (is_full (slot_at slots place)) ≡ len + tally (is_full slot)
@@ -110,7 +111,7 @@ table_set slots room len shift key place slot fewer more table at is less counts
     not_empty (Removed k) h = refl
     not_empty (Full k v) h = refl
 
--- To take out a key that has no value changes nothing.
+-- Taking out a key that has no value changes nothing.
 pub removed_none : (m : Map) (key : ℕ) → get m key ≡ None → m ≡ set_at m key None
 removed_none m key none = same_map m (set_at m key None) (λ q. ⊎_elim
     (λ (e : q ≡ key). ap (get m) e ∙ none ∙ sym (get-set_at m key None q ∙ ap (λ b. cond b None (get m q)) (eq-eqb q key e)))

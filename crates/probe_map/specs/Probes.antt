@@ -9,14 +9,14 @@ stops None key = true
 stops (Some other) key = other == key
 
 -- A probe that begins at `home` and goes round reaches `j` before `i`.
-abbrev pub IsBefore : ℕ → ℕ → ℕ → Type 0
-IsBefore home j i =
+abbrev pub ReachesBefore : ℕ → ℕ → ℕ → Type 0
+ReachesBefore home j i =
     ((home ≤ j) × (j < i)) ⊎ (((j < i) × (i < home)) ⊎ ((i < home) × (home ≤ j)))
 
 -- A probe for a key, over the first `count` places, does not stop before it reaches `i`.
 abbrev pub LeadsTo : (ℕ → Option ℕ) → ℕ → ℕ → ℕ → ℕ → Type 0
 LeadsTo keys count home key i =
-    (j : ℕ) → j < count → IsBefore home j i → stops (keys j) key ≡ false
+    (j : ℕ) → j < count → ReachesBefore home j i → stops (keys j) key ≡ false
 
 -- Each key is at the place where a probe for it stops.
 abbrev pub IsProbed : (ℕ → Option ℕ) → ℕ → (ℕ → ℕ) → Type 0

@@ -5,10 +5,10 @@
 //! and values apart, and reads four.
 //!
 //! A probe for a key begins at the key's home, which is a hash of the key. It goes over the slots
-//! one by one, with the first slot after the last, and stops at a slot that is empty or has the
-//! key. A key that is removed keeps its slot, without a value. So no probe is cut short. An
-//! `insert` needs room for its key, also for one that was removed. If there is no room, `reserve`
-//! lays the keys with values into a new array, and drops the removed ones.
+//! one by one, and from the last slot it goes on to the first. It stops at a slot that is empty or
+//! has the key. A key that is removed keeps its slot, without a value. So no probe is cut short. An
+//! `insert` needs room for its key, also for a key that was removed before. If there is no room,
+//! `reserve` lays the keys with values into a new array, and drops the removed keys.
 //!
 //! A contract sees a map as its `content`, a finite map, and `spare`, the number of new keys that
 //! it has room for. The invariant is `IsTable` in `specs/Slots.antt`.

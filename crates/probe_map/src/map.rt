@@ -13,9 +13,9 @@ use crate::slot::Slot;
 use std::alloc::{AllocError, Global};
 use std::marker::Model;
 
-/// A map of fewer keys than this grows to four times its size, which moves a third as many keys as
-/// doubling. A larger one doubles, since an array of four times the size would leave too much
-/// memory unused.
+/// A map of fewer keys than this grows to four times its size. Its growths together move a third as
+/// many keys as growths by doubling would. A larger map doubles, since an array of four times the
+/// size would leave too much memory unused.
 const FEW: usize = 1024;
 
 /// A map from whole numbers to whole numbers.
@@ -63,8 +63,8 @@ fn count_for(keys: usize) -> Option<usize>
         .checked_next_power_of_two()
 }
 
-/// The number of keys for which a map that grows makes its new array. At first at most half of the
-/// new slots have a key, and at most a quarter if the map has few keys.
+/// The number of keys for which a growing map makes room in its new array. At first at most half of
+/// the new slots have a key, and at most a quarter if the map has few keys.
 fn grown(len: usize, more: usize) -> Option<usize>
     ensures { IfSome result (λ keys. len + more ≤ keys) }
 {
@@ -133,8 +133,8 @@ impl ProbeMap {
     ///
     /// # Cost
     ///
-    /// Time and memory in proportion to the keys; none for 0 keys. The array has fewer than 3 slots
-    /// for each key, or 4 slots.
+    /// Time and memory in proportion to the keys; none for 0 keys. For one key the array has 4
+    /// slots. For more keys it has fewer than 3 slots for each key.
     pub fn with_capacity(alloc: Global, keys: usize) -> Result<ProbeMap, AllocError>
         ensures empty { IfOk result (λ map. map.content ≡ empty) }
         ensures room { IfOk result (λ map. keys ≤ map.spare) }
@@ -224,8 +224,8 @@ impl ProbeMap {
     ///
     /// # Errors
     ///
-    /// `AllocError` if memory is refused, or if no memory can have room for the keys. It leaves the
-    /// map unchanged.
+    /// `AllocError` if memory is refused, or if no memory can have room for the keys. Then the map
+    /// is unchanged.
     ///
     /// # Cost
     ///

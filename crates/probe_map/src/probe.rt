@@ -1,6 +1,6 @@
 //! Probes over the slots. These are functions of the slots, and not methods of the map, so that
-//! they serve while its other fields change. A probe reads each slot at most once and writes none;
-//! if it answers no place, no slot is empty or has the key.
+//! they can be called while the map's other fields change. A probe reads each slot at most once and
+//! writes none; if it answers no place, no slot is empty or has the key.
 ghost use Rattle.std.specs.Prelude.{◌≡◌, ℕ, ◌<◌, ◌≤◌, Some, None, true, false, length, IfSome, unwrap_or};
 ghost use Rattle.probe_map.specs.Probes.{stops};
 ghost use Rattle.probe_map.specs.Slots.{StopsAt, home, key_at};

@@ -1,7 +1,7 @@
 //! A slot of the array: 24 bytes, so that a cache line has two or three of them. Probes read its
-//! key, and the map its value. A probe goes on over the slot of any other key, a removed one too,
-//! so a removal need not move other slots. A slot keeps its key until the array is replaced; no
-//! contract promises this.
+//! key, and the map reads its value. A probe goes on over the slot of any other key, also of a
+//! removed key, so a removal need not move other slots. A slot keeps its key until the array is
+//! replaced; no contract promises this.
 ghost use Rattle.std.specs.Prelude.{◌≡◌};
 ghost use Rattle.probe_map.specs.Probes.{stops};
 ghost use Rattle.probe_map.specs.Slots.{is_empty, key_in, value_in};
@@ -31,7 +31,7 @@ impl Slot {
         }
     }
 
-    /// Whether it has no key.
+    /// Whether the slot is empty.
     #[inline(always)]
     pub(crate) fn is_empty(&self) -> bool
         ensures { result ≡ is_empty self.now }

@@ -8,8 +8,8 @@ use Rattle.clap.specs.declared.builder.command.Command.TheViews.{out-Command}
 use Rattle.clap.specs.Words.{App, Rule, Text, app_of, new_rule}
 
 -- A command that `clap` built is this application.
-abbrev pub Has : Command → App → Type 0
-Has command app = (app_of command ≡ app) × ((out-Command command).has_globals ≡ false)
+abbrev pub IsApp : Command → App → Type 0
+IsApp command app = (app_of command ≡ app) × ((out-Command command).has_globals ≡ false)
 
 -- The word that names a file, and may not be left out.
 abbrev pub file_word : Text → Rule

@@ -1,4 +1,5 @@
-//! The system that a program runs on; all programs share it, below their command lines.
+//! The system that a program runs on. All programs share this crate, which is below their command
+//! lines.
 //!
 //! `System` has the services that a program needs: the words of its call, and files. So a program
 //! can also be tried on a system in memory. `Host` is the system behind a runtime.

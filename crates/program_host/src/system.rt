@@ -1,6 +1,7 @@
-//! The system that a program runs on, as a trait, and the one behind a runtime. Programs are
+//! The system that a program runs on, as a trait, and the system behind a runtime. Programs are
 //! written for the trait: their contracts say more if words and files are known. The toolchain
-//! promises nothing of a process's words and files, so nothing is known of those of `Host`.
+//! promises nothing of a process's words and files, so nothing is known of the words and files of
+//! `Host`.
 ghost use Rattle.std.specs.Prelude.{◌≡◌, ℕ, List, Option, Some, None, IfOk, IfErr, IfSome, map};
 ghost use Rattle.std.specs.String.{string_bytes};
 ghost use Rattle.std.specs.IoError.{error_kind};
@@ -20,15 +21,15 @@ pub trait System {
     /// The words of the call, if they are known.
     ghost spoken: { Self → Option (List (List ℕ)) } = { λ _. None };
 
-    /// The bytes of the file of a name, if they are known.
+    /// The bytes of the file of this name, if they are known.
     ghost bytes: { Self → List ℕ → Option (List ℕ) } = { λ _ _. None };
 
     /// The words of the call; the first is the program's name.
     ///
     /// # Errors
     ///
-    /// `OutOfMemory` if memory is refused; another kind if a word is no text, which is excluded if
-    /// the words are known.
+    /// `OutOfMemory` if memory is refused; another kind if a word is no text, which cannot happen
+    /// if the words are known.
     ///
     /// # Cost
     ///

@@ -1,7 +1,7 @@
 //! The program on a system in memory, with threads and without: both outputs and the status of each
 //! call. For seeds, the output is compared with the engine's; all other texts were written by hand.
-//! By contract `is_told` may be false although standard error took the whole line; these tests
-//! require that it is true then.
+//! By contract `is_told` may be false although standard error took the whole line. These tests
+//! require that `is_told` is true if standard error took the whole line.
 
 use crate::devices::{Desk, Ended, Narrow, compare_ended};
 use boostmap_engine::mix;
@@ -33,7 +33,7 @@ const LEGAL: &str =
 
 const LEGAL_LINE: &str = "legal 1 commits 0 open\n";
 
-/// The history `LEGAL` with a reply that no one put.
+/// The history `LEGAL` with a wrong reply: a value that no one put.
 const ILLEGAL: &str =
     "{\"version\":1,\"stripes\":8,\"entries\":[[\"began\",0,1],[\"asked\",0,\"put\",1,10],\
     [\"did\",0,7],[\"committed\",0,1]]}";
@@ -42,7 +42,7 @@ const ILLEGAL: &str =
 const SCRIPT: &str =
     r#"{"version":1,"workers":1,"stripes":8,"buckets":8,"tries":0,"scripts":[[["put",1,10]]]}"#;
 
-/// The line of a file that cannot be opened.
+/// The line on standard error if a file cannot be opened.
 const READ_FAILED: &str = "read failed\n";
 
 const HISTORY: &str = "{\"entries\":[[\"began\",0,1],[\"asked\",0,\"put\",1,10],[\"did\",0,null],\
@@ -52,7 +52,7 @@ const RUN_HISTORY: &str =
     "{\"entries\":[[\"began\",0,1],[\"asked\",0,\"put\",1,10],[\"did\",0,null],\
     [\"committed\",0,1]],\"stripes\":8,\"version\":3}\n";
 
-/// Two workers with one script each, of twelve gets: the history shows the order of the workers'
+/// Two workers with one script of twelve gets each. Their history shows the order of the workers'
 /// turns.
 const TWO_WORKERS: &str =
     "{\"version\":1,\"workers\":2,\"stripes\":8,\"buckets\":8,\"tries\":0,\"scripts\":[[[\"get\",\
@@ -244,8 +244,8 @@ fn mix_two(alloc: Global, seed: u64) -> Result<Narrow, Fail> {
     Ok(output)
 }
 
-/// Calls of `mix`, each with the seed that the engine gets: the call prints the engine's history
-/// for that seed. Both the high half and the low half of a seed count.
+/// Calls of `mix`, each with the seed that the engine gets. The call prints the engine's history
+/// for that seed. The history depends on both halves of a seed, the high one and the low one.
 const SEEDS: &[(&str, u64)] = &[
     ("boostmap mix --seed 7 two.json", 7),
     ("boostmap mix two.json --seed 7", 7),
@@ -268,7 +268,8 @@ fn seeds_of_mix(rt: HostRuntime) -> Result<(), Fail> {
     Ok(())
 }
 
-/// The histories of two workers differ if the seeds do, even in only one half.
+/// Two different seeds of `SEEDS` give different histories of `TWO_WORKERS`, also if the two seeds
+/// have the same high half or the same low half.
 #[test]
 fn seeds_that_differ_in_one_half(rt: HostRuntime) -> Result<(), Fail> {
     for (_, first) in SEEDS {
@@ -282,8 +283,9 @@ fn seeds_that_differ_in_one_half(rt: HostRuntime) -> Result<(), Fail> {
     Ok(())
 }
 
-/// Each row has an error, then standard error and the status if reading the words fails with it,
-/// then standard error if opening the file fails with it.
+/// Each row has the kind of an error. The pair has the text of standard error and the status if
+/// reading the words fails with this kind. The last text is that of standard error if opening the
+/// file fails with this kind.
 const REFUSED: &[(ErrorKind, (&str, u8), &str)] = &[
     (ErrorKind::OutOfMemory, ("no memory\n", 4), "no memory\n"),
     (ErrorKind::InvalidData, (USAGE, 2), "read failed\n"),
@@ -306,7 +308,7 @@ fn short(left: usize) -> Narrow {
     Narrow::new(left, Some(ErrorKind::StorageFull))
 }
 
-/// Standard output that fails is a fault, and standard error that fails changes no status.
+/// If standard output fails, that is a fault. If standard error fails, the status does not change.
 #[test]
 fn writers_that_fail(rt: HostRuntime) {
     let desk = Desk::new("boostmap replay steps.json", FILES);
@@ -329,8 +331,8 @@ fn writers_that_fail(rt: HostRuntime) {
     }
 }
 
-/// Meant to be run with each allocation refused in turn: all is well, or only the line of the fault
-/// is written.
+/// Meant to be run with each allocation refused in turn. Either the call succeeds, or only the line
+/// of the fault is written.
 #[test]
 fn refused_allocations(rt: HostRuntime) {
     let desk = Desk::new("boostmap check legal.json", FILES);

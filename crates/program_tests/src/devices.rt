@@ -1,6 +1,6 @@
 //! Shared parts of the tests: texts with gaps, readers and writers that fail at a given call, and a
-//! system in memory. Engines and commands are tested with the same ones. A reader or a writer takes
-//! no memory, so a test that is refused memory can still compare all that was written.
+//! system in memory. The tests of the engines and those of the commands share them. A reader or a
+//! writer takes no memory, so a test that is refused memory can still compare all that was written.
 
 use program_host::System;
 use std::alloc::{AllocError, Global};
@@ -163,7 +163,7 @@ pub struct Desk<'a> {
 }
 
 impl<'a> Desk<'a> {
-    /// A system of these words and files, if nothing fails.
+    /// A system of these words and files, in which nothing fails.
     pub fn new(words: &'a str, files: &'a [(&'a str, &'a str)]) -> Desk<'a> {
         Desk {
             words,

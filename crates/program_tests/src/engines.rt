@@ -30,8 +30,9 @@ enum Command {
     Run,
 }
 
-/// Similar files of one command. Each line of the pieces fills the gap `#` of the frame, and then
-/// each word of the fillings, which blanks separate, fills the gap `@`.
+/// Similar files of one command: one file for each pair of a line of `pieces` and a word of
+/// `fillings`. Blanks separate the words. The file is the frame with the line in each gap `#`, and
+/// then with the word in each gap `@`.
 #[derive(Clone, Copy)]
 struct Files {
     command: Command,
@@ -43,8 +44,8 @@ struct Files {
     status: u8,
 }
 
-/// Runs the engine of a command. If there is no fault, answers `false` if `check` finds the history
-/// illegal, and else `true`.
+/// Runs the engine of a command. Without a fault, the answer is `false` if `check` finds the
+/// history illegal, and `true` otherwise.
 fn run_engine<T: Threads + Wait + Sync, R: Read>(
     rt: &T,
     alloc: Global,
@@ -84,8 +85,8 @@ fn run_on<T: Threads + Wait + Sync, R: Read>(
     }
 }
 
-/// Compares the output of a command for a file, and the status. If it ends by a fault, standard
-/// error has the fault's line, and nothing is written to standard output.
+/// Compares the output of a command for a file, and the status. If the command ends by a fault,
+/// standard error must have the fault's line, and nothing may be written to standard output.
 fn compare_file<T: Abort + Threads + Wait + Sync>(
     rt: &T,
     alloc: Global,

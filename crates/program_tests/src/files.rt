@@ -1,6 +1,6 @@
-//! Files of steps, of scripts and of histories: their content, and the first fault of each that is
-//! refused. The kinds have a module each, for their tables and contents; here are the tests of all
-//! kinds: of faults, of large files, of cut ones, and of refused memory.
+//! Tests of files of steps, of scripts and of histories: their content, and the first fault of each
+//! file that is refused. Each kind of file has a module for its table and its contents. The tests
+//! of faults, of large files, of cut files and of refused memory are here.
 
 mod histories;
 mod scripts;
@@ -22,8 +22,9 @@ enum Kind {
     History,
 }
 
-/// Similar files. Each line of the pieces fills the gap `#` of the frame, and then each word of the
-/// fillings, which blanks separate, fills the gap `@`.
+/// Similar files: one file for each pair of a line of `pieces` and a word of `fillings`. Blanks
+/// separate the words. The file is the frame with the line in each gap `#`, and then with the word
+/// in each gap `@`.
 #[derive(Clone, Copy)]
 struct Files {
     kind: Kind,
@@ -103,9 +104,10 @@ const NOT_JSON: Option<FileFault> = Some(FileFault::NotJson);
 
 const WRONG_STEP: Option<FileFault> = Some(FileFault::Piece(Part::Step, 0));
 
-/// Values nested in up to 127 levels, and in more: the object of the file is one level, and the
-/// array of its steps another. Then up to 10,000 scripts or actions, and more. If a wrong script is
-/// behind too many scripts or actions, the fault is the wrong script.
+/// The first rows have nested values. A file may have at most 127 levels: the object of the file is
+/// one of them, and the array of its steps is another. The other rows have many scripts or actions.
+/// A file may have at most 10,000 scripts, and a script may have at most 10,000 actions. If a wrong
+/// script is behind too many scripts or actions, the fault is the wrong script.
 const GROWN: &[Grown] = &[
     (Kind::Steps, "#", 200, ["[", "", "]"], NOT_JSON),
     (Kind::Steps, BEYOND_STEPS, 125, ["[", "0", "]"], None),
@@ -194,8 +196,8 @@ fn compare_grown(rt: &impl Abort, alloc: Global, row: Grown) -> Result<(), Fail>
     Ok(())
 }
 
-/// The spaces are one byte more than a step file may have, so the file is too long. With one space
-/// fewer the file is not too long, but it is not JSON.
+/// A file of these spaces is one byte longer than a step file may be. With one space fewer the file
+/// is not too long, but it is not JSON.
 fn compare_spaces(rt: &impl Abort, alloc: Global, spaces: &[u8]) {
     let too_long = fault_of(alloc, Kind::Steps, spaces);
     same_fault(rt, too_long, Some(FileFault::Limit), "too long");
@@ -213,7 +215,7 @@ fn large_files(rt: HostRuntime) -> Result<(), Fail> {
     Ok(())
 }
 
-/// The bytes with 255, which is not in any text, at one place.
+/// The bytes with the byte 255 at one place. No text has a byte 255.
 fn spoilt(alloc: Global, bytes: &[u8], place: usize) -> Result<Vec<u8>, Fail> {
     let mut spoilt = bytes.to_vec(alloc)?;
     *spoilt.get_mut(place).ok_or("short")? = 255;

@@ -76,8 +76,8 @@ impl PieceKind for PointKind {
     }
 }
 
-/// Similar drawings of width 7, one for each of the versions. The points fill the gap `#` of the
-/// frame, and the version fills the gap `@`.
+/// Similar drawings of width 7: one drawing for each of the versions. The drawing is the frame with
+/// the points in each gap `#`, and then with the version in each gap `@`.
 #[derive(Clone, Copy)]
 struct Drawings {
     frame: &'static str,
@@ -101,9 +101,9 @@ fn drawing_in(alloc: Global, text: &str) -> Result<(u64, Vec<(u64, u64)>), FileF
 /// A drawing with gaps for its points and its version.
 const IN_VERSION: &str = r#"{"points":#,"version":@,"width":7}"#;
 
-/// Drawings, and the content or the fault of each. The last rows have points that only version 2
-/// has. In version 1 such a point is wrong, even behind more points than the three that are kept.
-/// In any other version it is no wrong piece.
+/// Drawings, and the content or the fault of each. The last rows have points that version 1 does
+/// not have. In version 1 such a point is a wrong piece, even if it is behind more than three
+/// points. In version 2 and in version 4, which is not read, such a point is not a wrong piece.
 const DRAWINGS: &[Drawings] = &[
     Drawings {
         frame: r#"{"version":1,"width":7,"points":[]}"#,
@@ -548,8 +548,8 @@ fn values_in_a_row(rt: HostRuntime) -> Result<(), Fail> {
     compare_row(&rt, rt.alloc(), &mut reader)
 }
 
-/// Texts behind an opening bracket, each with the place behind the array's closing bracket. It is
-/// `None` if the text is not the rest of an array of one or two plain elements.
+/// Texts behind an opening bracket, each with the place behind the array's closing bracket. The
+/// place is `None` if the text is not the rest of an array of one or two plain elements.
 const PLAIN: &[(&str, Option<usize>)] = &[
     ("1,2],3", Some(4)),
     ("null]", Some(5)),

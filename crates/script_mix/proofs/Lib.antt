@@ -1,2 +1,3 @@
+pub mod Vocabulary
 pub mod Lives
 pub mod Turns

@@ -8,16 +8,17 @@ use Rattle.txn_words.specs.Work.{Work}
 use Rattle.boost_core.specs.Machine.{State}
 use Rattle.script_worker.specs.declared.worker.Worker.{Worker}
 use Rattle.script_worker.specs.Accounts.{Outcome, AreTrue, every, tolds_of}
-use Rattle.script_worker.specs.Keeps.{Keeps}
+use Rattle.script_worker.specs.Keeps.{KeepsScripts}
 use Rattle.script_worker.specs.Workers.{IsReady}
-use Rattle.script_mix.specs.Turns.{live, AreDone, Mixing, beginning, TakeDrawn}
+use Rattle.script_mix.specs.Turns.{live, AreFinished, Mixing, beginning, TakeDrawn}
 
--- One of `count` workers, whose entries in the history so far are those of its scripts.
+-- The worker with the number `w`, one of `count` workers. Its entries in the history so far are
+-- those of its scripts.
 pub record IsMember (scripts : List (List Action)) (tries count : ℕ) (h : List Entry) (w : ℕ)
     (worker : Worker) : Type 0 where
   pub number : worker.number ≡ w
   pub workers : worker.limits.callers ≡ count
-  pub keeps : Keeps scripts tries worker (own w h)
+  pub keeps : KeepsScripts scripts tries worker (own w h)
   pub ready : IsReady worker
 
 -- The workers, by rising numbers.
@@ -27,20 +28,20 @@ pub record IsCrew (scripts : List (List Action)) (tries count : ℕ) (h : List E
   pub each : (w : ℕ) (other : Worker) → w < length crew → IsMember scripts tries count h w
       (slice_index_or crew w other)
 
--- A worker moved on: it keeps to its scripts, and adds no entry of another caller.
-pub record Goes (scripts : List (List Action)) (tries : ℕ) (old new : State)
+-- A worker moved on: it keeps to its scripts, and has added no entry of another caller.
+pub record MovesOn (scripts : List (List Action)) (tries : ℕ) (old new : State)
     (before after : Worker) : Type 0 where
   pub limits : new.limits ≡ old.limits
   pub number : after.number ≡ before.number
   pub same : after.limits ≡ before.limits
   pub others : (c : ℕ) → c ≢ before.number → own c new.history ≡ own c old.history
-  pub keeps : Keeps scripts tries after (own after.number new.history)
+  pub keeps : KeepsScripts scripts tries after (own after.number new.history)
 
 -- A core of the limits asked for, whose stripes are not words. The workers took turns on it as they
 -- were drawn, until none had a step or a script left, or 2^64 - 1 turns were taken. In the core's
 -- history each worker's committed transactions play its scripts, with rising numbers. For each
--- worker there is a list of outcomes, of its scripts from the first on, that is true of the
--- history; scripts that did not begin have no outcome in it.
+-- worker there is a list of its scripts' outcomes, from the first script on, which is true of the
+-- history. A script that did not begin has no outcome in the list.
 pub record IsMixed (work : Work) (seed : ℕ) (state : State) : Type 0 where
   pub limits : state.limits ≡ work.sizes
   pub words : state.words ≡ false
@@ -52,4 +53,4 @@ pub record IsMixed (work : Work) (seed : ℕ) (state : State) : Type 0 where
   pub last : Mixing
   pub core : last.core ≡ state
   pub turns : TakeDrawn work.scripts work.tries (beginning work seed) drawn last
-  pub ended : ((live last.crew ≡ 0) × AreDone last.crew) ⊎ (length drawn ≡ 2 ^ 64 - 1)
+  pub ended : ((live last.crew ≡ 0) × AreFinished last.crew) ⊎ (length drawn ≡ 2 ^ 64 - 1)

@@ -4,7 +4,7 @@ use Prim.Native.Nat.{zero, suc}
 use Rattle.txn_words.specs.declared.action.Action.{Action}
 use Rattle.txn_words.specs.Sizes.{Sizes}
 use Rattle.txn_words.specs.Work.{Work}
-use Rattle.boost_core.specs.Machine.{State, Move, start}
+use Rattle.boost_core.specs.Machine.{State, Happens, start}
 use Rattle.script_worker.specs.declared.worker.Worker.{Worker}
 use Rattle.script_worker.specs.declared.attempt.Finish.{Finish}
 use Rattle.script_worker.specs.Workers.{new_worker, step_by, TakesNext}
@@ -17,18 +17,18 @@ abbrev pub live : List Worker → ℕ
 live [] = 0
 live (worker ∷ workers) = if is_some (step_by worker) then suc (live workers) else live workers
 
--- The numbers of the workers that have a step to take, rising. The first worker of the list has the
--- number `n`.
+-- The numbers of the workers that have a step to take, in rising order. The first worker of the
+-- list has the number `n`.
 abbrev pub live_from : ℕ → List Worker → List ℕ
 live_from n [] = []
 live_from n (worker ∷ workers) =
     if is_some (step_by worker) then n ∷ live_from (suc n) workers else live_from (suc n) workers
 
 -- None of these workers has a script left.
-abbrev pub AreDone : List Worker → Type 0
-AreDone workers = All (λ (worker : Worker). worker.task ≡ None) workers
+abbrev pub AreFinished : List Worker → Type 0
+AreFinished workers = All (λ (worker : Worker). worker.task ≡ None) workers
 
--- The worker of this number is live, and `place` live ones precede it.
+-- The worker of this number is live, and `place` live workers precede it.
 pub record IsAtPlace (workers : List Worker) (place number : ℕ) : Type 0 where
   pub within : number < length workers
   pub before : live (take number workers) ≡ place
@@ -37,7 +37,7 @@ pub record IsAtPlace (workers : List Worker) (place number : ℕ) : Type 0 where
 -- A worker takes its next turn on the core, at the size of the core's table.
 abbrev pub TakesTurn : List (List Action) → ℕ → State → Worker → State → Worker → Type 0
 TakesTurn scripts tries old before new after =
-    (finish : Option Finish) × TakesNext Move old.size scripts tries old before finish new after
+    (finish : Option Finish) × TakesNext Happens old.size scripts tries old before finish new after
 
 -- A core, the workers that take turns on it, and the generator by which they are drawn.
 pub record Mixing : Type 0 where
@@ -45,7 +45,7 @@ pub record Mixing : Type 0 where
   pub crew : List Worker
   pub generator : Lcg
 
--- The first workers before their first steps; the number says how many.
+-- This number of workers, before their first steps.
 abbrev pub first_crew : List (List Action) → Sizes → ℕ → List Worker
 first_crew scripts limits zero = []
 first_crew scripts limits (suc w) = first_crew scripts limits w ++ new_worker scripts w limits ∷ []
@@ -59,7 +59,7 @@ beginning work seed = record {
 }
 
 -- The worker of this number takes its next turn. Its place among the live workers is the
--- generator's next word modulo their number.
+-- generator's next word modulo the number of live workers.
 pub record TakesDrawn (scripts : List (List Action)) (tries : ℕ) (old : Mixing) (number : ℕ)
     (new : Mixing) : Type 0 where
   pub drawn : IsAtPlace old.crew ((pcg32 old.generator).0 % live old.crew) number

@@ -12,7 +12,7 @@ use script_worker::Worker;
 use std::alloc::{AllocError, Global};
 use txn_trace::{Limits, Script};
 
-/// As many workers as callers, by rising numbers, before their first steps.
+/// One worker for each caller, by rising numbers, before their first steps.
 pub(crate) fn workers_of(
     alloc: Global,
     limits: Limits,
@@ -31,7 +31,7 @@ pub(crate) fn workers_of(
     Ok(workers)
 }
 
-/// The numbers of the workers that have a step to take, rising.
+/// The numbers of the workers that have a step to take, in rising order.
 pub(crate) fn live_numbers(alloc: Global, workers: &[Worker]) -> Result<Vec<usize>, AllocError>
     ensures { IfOk result (λ numbers. numbers.items ≡ live_from 0 workers.now) }
 {
@@ -44,8 +44,8 @@ pub(crate) fn live_numbers(alloc: Global, workers: &[Worker]) -> Result<Vec<usiz
     Ok(numbers)
 }
 
-/// Draws a place in the list of live workers, even if it has only one. Answers `None` if the list
-/// is empty.
+/// Draws a place in the list of live workers, even if only one worker is live. Answers `None` if
+/// the list is empty.
 pub(crate) fn draw_place(generator: &mut Pcg32, live: &[usize]) -> Option<usize>
     ensures below { IfSome result (λ place. place < length live.now) }
     ensures drawn { IfSome result (λ place.

@@ -1,6 +1,6 @@
-//! The whole run: draw a live worker, let it take its turn, until none has a step left. The loop's
-//! invariant says that every worker keeps to its scripts, which of them are live, and which worker
-//! was drawn for each turn.
+//! The whole run: a live worker is drawn and takes its turn, again and again, until no worker has a
+//! step left. The loop's invariant says that every worker keeps to its scripts, which workers are
+//! live, and which worker was drawn for each turn.
 ghost use Rattle.std.specs.Prelude.{IfOk};
 ghost use Rattle.script_mix.specs.Crews.{IsMixed};
 
@@ -24,8 +24,8 @@ use txn_trace::Scripts;
 ///
 /// # Cost
 ///
-/// That of `Core::new` and of the steps; when a worker's last script is over, time in proportion to
-/// the workers. Memory for the workers, and what core and steps take.
+/// That of `Core::new` and of the steps. When a worker's last script is over, also time in
+/// proportion to the workers. Memory for the workers, the core and the steps.
 pub fn mix_scripts(alloc: Global, seed: u64, work: &Scripts) -> Result<Core, AllocError>
     ensures { IfOk result (λ core. IsMixed work.now seed core) }
 {
@@ -52,7 +52,7 @@ pub fn mix_scripts(alloc: Global, seed: u64, work: &Scripts) -> Result<Core, All
         }
     }
     let core = core.into_core();
-    // The history of a core is legal.
+    // This call is made only for its contract, which says that the core's history is legal.
     let _history = core.trace();
     Ok(core)
 }

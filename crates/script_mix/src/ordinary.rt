@@ -1,6 +1,7 @@
 //! The type of a core whose stripes are not words. On such a core a worker's turn may ask without a
 //! claim. The type's invariant says that the stripes are not words, so the loops over turns need
-//! not carry this fact. Each method is one call of the core, at its cost, or moves the core.
+//! not carry this fact. Each method costs what its one call of the core costs, or only moves the
+//! core.
 ghost use Rattle.std.specs.Prelude.{◌≡◌, false, IfOk};
 ghost use Rattle.boost_core.specs.Machine.{start};
 
@@ -28,7 +29,7 @@ impl Model for OrdinaryCore {
 }
 
 impl OrdinaryCore {
-    ghost use Rattle.boost_core.specs.Machine.{Move};
+    ghost use Rattle.boost_core.specs.Machine.{Happens};
 
     /// A new core.
     ///
@@ -44,7 +45,7 @@ impl OrdinaryCore {
 
     /// Takes one step.
     pub(crate) fn step(&mut self, step: Step) -> Answer
-        ensures { Move self.old step result self.new }
+        ensures { Happens self.old step result self.new }
     {
         self.core.step(step)
     }

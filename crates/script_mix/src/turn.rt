@@ -4,8 +4,8 @@
 ghost use Rattle.std.specs.Prelude.{◌≡◌, is_some, true};
 ghost use Rattle.txn_words.specs.Shape.{own};
 ghost use Rattle.script_worker.specs.Workers.{step_by, IsReady};
-ghost use Rattle.script_worker.specs.Keeps.{Keeps};
-ghost use Rattle.script_mix.specs.Crews.{Goes};
+ghost use Rattle.script_worker.specs.Keeps.{KeepsScripts};
+ghost use Rattle.script_mix.specs.Crews.{MovesOn};
 ghost use Rattle.script_mix.specs.Turns.{TakesTurn};
 
 use crate::ordinary::OrdinaryCore;
@@ -21,8 +21,9 @@ pub(crate) fn take_turn(
     tries: u64,
 ) -> bool
     requires live { is_some (step_by worker.old) ≡ true }
-    requires keeps { Keeps scripts.now tries worker.old (own worker.old.number core.old.history) }
-    ensures goes { Goes scripts.now tries core.old core.new worker.old worker.new }
+    requires keeps { KeepsScripts scripts.now tries worker.old
+        (own worker.old.number core.old.history) }
+    ensures goes { MovesOn scripts.now tries core.old core.new worker.old worker.new }
     ensures takes { TakesTurn scripts.now tries core.old worker.old core.new worker.new }
     ensures lives { result ≡ is_some (step_by worker.new) }
     ensures ready { IsReady worker.new }

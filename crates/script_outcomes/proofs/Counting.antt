@@ -8,12 +8,12 @@ use Rattle.script_outcomes.specs.declared.outcome.Outcome.{Outcome}
 use Rattle.script_outcomes.specs.declared.outcome.Outcome.TheVariants.{Committed, Aborted}
 use Rattle.script_outcomes.specs.declared.way.Way.{Way}
 use Rattle.script_outcomes.specs.Matches.{AbortsItself}
-use Rattle.script_outcomes.specs.Ways.{IsFirstPlayed, MayCount, GoesOn, Counts, Commits, Aborts}
+use Rattle.script_outcomes.specs.Ways.{IsFirstPlayed, MayCount, Advances, IsCountedFor, CountsCommit, CountsAbort}
 
 abbrev pub GoneTo : ℕ → Way → Way → Type 0
 GoneTo number old new = ((old.turn < number) × (new.turn ≡ number)) ⊎ ((number ≤ old.turn) × (new.turn ≡ old.turn))
 
-pub gone_on : (w : ℕ) (old new : Way) (number : ℕ) → old.next % w ≡ old.turn % w → old.next ≤ number → number % w ≡ old.next % w → new.next ≡ number → GoneTo number old new → GoesOn w old new
+pub gone_on : (w : ℕ) (old new : Way) (number : ℕ) → old.next % w ≡ old.turn % w → old.next ≤ number → number % w ≡ old.next % w → new.next ≡ number → GoneTo number old new → Advances w old new
 gone_on w old new number same low mine next turn = elim turn [
   | inl far ↦ let a = far.0 in let b = far.1 in record { next = omega arith; turn = omega arith; order = omega arith; next_mine = ap (λ k. k % w) next ∙ mine; turn_mine = ap (λ k. k % w) b ∙ mine ∙ same }
   | inr near ↦ let a = near.0 in let b = near.1 in record { next = omega arith; turn = omega arith; order = omega arith; next_mine = ap (λ k. k % w) next ∙ mine; turn_mine = ap (λ k. k % w) b }
@@ -21,7 +21,7 @@ gone_on w old new number same low mine next turn = elim turn [
 
 pub commits_found : (w : ℕ) (scripts : List (List Action)) (place entry : ℕ) (old new : Way) (os os' : List Outcome) (number : ℕ) → MayCount w scripts old os
     → IsFirstPlayed w scripts old.part.items old.next number → number < length scripts → new.part.items ≡ old.part.items → new.next ≡ number + w → GoneTo (number + w) old new
-    → os' ≡ set os number (Committed place entry) → Commits w scripts place entry old new os os'
+    → os' ≡ set os number (Committed place entry) → CountsCommit w scripts place entry old new os os'
 commits_found w scripts place entry old new os os' number may first within part next turn is =
     let low = first.from in
     let some = may.some in
@@ -35,7 +35,7 @@ commits_found w scripts place entry old new os os' number may first within part 
 
 pub commits_lost : (w : ℕ) (scripts : List (List Action)) (place entry : ℕ) (old new : Way) (os : List Outcome) (number : ℕ) → MayCount w scripts old os
     → IsFirstPlayed w scripts old.part.items old.next number → length scripts ≤ number → new.part.items ≡ old.part.items → new.next ≡ number → GoneTo number old new
-    → Commits w scripts place entry old new os os
+    → CountsCommit w scripts place entry old new os os
 commits_lost w scripts place entry old new os number may first past part next turn =
     record {
       part = part;
@@ -46,14 +46,14 @@ commits_lost w scripts place entry old new os number may first past part next tu
     }
 
 passed_on : (w : ℕ) (scripts : List (List Action)) (old new : Way) (os : List Outcome) (number : ℕ) → MayCount w scripts old os → old.turn ≤ number → number % w ≡ old.turn % w
-    → new.next ≡ old.next → new.turn ≡ number + w → GoesOn w old new
+    → new.next ≡ old.next → new.turn ≡ number + w → Advances w old new
 passed_on w scripts old new os number may low mine next turn =
     let order = may.order in
     record { next = omega arith; turn = omega arith; order = omega arith; next_mine = ap (λ k. k % w) next; turn_mine = ap (λ k. k % w) turn ∙ add-mod_right number w ∙ mine }
 
 pub aborts_found : (w : ℕ) (scripts : List (List Action)) (entry : ℕ) (old new : Way) (os os' : List Outcome) (number : ℕ) → MayCount w scripts old os
     → old.turn ≤ number → number % w ≡ old.turn % w → number < length scripts → ((script : List Action) → slice_get scripts number ≡ Some script → AbortsItself script old.part.items)
-    → new.part.items ≡ old.part.items → new.next ≡ old.next → new.turn ≡ number + w → os' ≡ set os number (Aborted entry) → Aborts w scripts entry old new os os'
+    → new.part.items ≡ old.part.items → new.next ≡ old.next → new.turn ≡ number + w → os' ≡ set os number (Aborted entry) → CountsAbort w scripts entry old new os os'
 aborts_found w scripts entry old new os os' number may low mine within did part next turn is =
     let some = may.some in
     record {
@@ -67,7 +67,7 @@ aborts_found w scripts entry old new os os' number may low mine within did part 
     }
 
 pub aborts_none : (w : ℕ) (scripts : List (List Action)) (entry : ℕ) (old new : Way) (os : List Outcome) (number : ℕ) → MayCount w scripts old os
-    → old.turn ≤ number → number % w ≡ old.turn % w → new.part.items ≡ old.part.items → new.next ≡ old.next → new.turn ≡ number + w → Aborts w scripts entry old new os os
+    → old.turn ≤ number → number % w ≡ old.turn % w → new.part.items ≡ old.part.items → new.next ≡ old.next → new.turn ≡ number + w → CountsAbort w scripts entry old new os os
 aborts_none w scripts entry old new os number may low mine part next turn =
     record {
       part = part;

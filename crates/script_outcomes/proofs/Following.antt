@@ -17,8 +17,8 @@ use Rattle.script_outcomes.specs.declared.outcome.Outcome.{Outcome}
 use Rattle.script_outcomes.specs.declared.outcome.Outcome.TheVariants.{Committed, Aborted, GivenUp}
 use Rattle.script_outcomes.specs.declared.way.Way.{Way}
 use Rattle.script_outcomes.specs.Matches.{AbortsItself}
-use Rattle.script_outcomes.specs.Outcomes.{grown, last_of, Commits, Aborts, HasCome, AreInOrder, committed_from, committed_by, PlayInOrder, AreCounted, AreOutcomesOf}
-use Rattle.script_outcomes.specs.Ways.{IsFirstPlayed, GoesOn, Counts, CountsAt, Goes}
+use Rattle.script_outcomes.specs.Outcomes.{grown, latest_entries, CommitsScript, AbortsScript, HasCome, AreInOrder, committed_from, committed_by, PlayInOrder, CommitsCounted, AreOutcomesOf}
+use Rattle.script_outcomes.specs.Ways.{IsFirstPlayed, Advances, IsCountedFor, CountsAt, TakesEntry}
 use Rattle.script_outcomes.proofs.Strides.{stride}
 
 -- One outcome is written, and the others are unchanged.
@@ -34,8 +34,9 @@ get-set_other (y ∷ ys) zero (suc j) x apart = refl
 get-set_other (y ∷ ys) (suc i) zero x apart = refl
 get-set_other (y ∷ ys) (suc i) (suc j) x apart = get-set_other ys i j x (λ e. apart (ap suc e))
 
--- If the outcome of script `n` is a commit or an abort, the script is before the worker's position
--- `next` or `turn`, and the outcome's entry is among the first `fed` entries.
+-- If the outcome of script `n` is a commit, the script is before the worker's position `next`. If
+-- the outcome is an abort, the script is before the position `turn`. In both cases the outcome's
+-- entry is among the first `fed` entries.
 abbrev pub IsPast : ℕ → ℕ → ℕ → ℕ → Outcome → Type 0
 IsPast next turn fed n (Committed place entry) = (n < next) × (entry < fed)
 IsPast next turn fed n (Aborted entry) = (n < turn) × (entry < fed)
@@ -46,7 +47,8 @@ past_later next turn fed next' turn' fed' n (Committed place entry) a b d past =
 past_later next turn fed next' turn' fed' n (Aborted entry) a b d past = let x = past.0 in let y = past.1 in (omega arith, omega arith)
 past_later next turn fed next' turn' fed' n GivenUp a b d past = tt
 
--- Transactions that play scripts from `low` on also play scripts from a lower number on.
+-- The bound `low` of `PlayInOrder` may be replaced by `low'`, if each number of the caller's
+-- scripts that is at least `low` is also at least `low'`.
 pub play_lower : (w : ℕ) (scripts : List (List Action)) (c low low' : ℕ) (parts : List (List Entry)) → ((n : ℕ) → low ≤ n → n % w ≡ c → low' ≤ n)
     → PlayInOrder w scripts c low parts → PlayInOrder w scripts c low' parts
 play_lower w scripts c low low' [] less play = tt
@@ -58,7 +60,8 @@ pub record Known (w : ℕ) (scripts : List (List Action)) (h : List Entry) (c ne
   pub past : (n : ℕ) (o : Outcome) → n % w ≡ c → slice_get os n ≡ Some o → IsPast next turn fed n o
   pub ordered : (n m : ℕ) (o later : Outcome) → n < m → n % w ≡ c → m % w ≡ c → slice_get os n ≡ Some o → slice_get os m ≡ Some later → AreInOrder o later
 
--- `Known` also holds of outcomes that are equal at the caller's scripts, and of later positions.
+-- If the outcomes of the caller's scripts are unchanged, and the positions have not fallen, `Known`
+-- still holds.
 pub known_on : (w : ℕ) (scripts : List (List Action)) (h : List Entry) (c next turn fed next' turn' fed' : ℕ) (os os' : List Outcome)
     → ((n : ℕ) → n % w ≡ c → slice_get os' n ≡ slice_get os n) → next ≤ next' → turn ≤ turn' → fed ≤ fed'
     → Known w scripts h c next turn fed os → Known w scripts h c next' turn' fed' os'
@@ -81,8 +84,9 @@ read_written os number x n o within there = elim (cases_order n number) [
   | inr (inr more) ↦ inr (sym (get-set_other os number n x (λ same. omega (arith, same, more))) ∙ there)
 ]
 
--- The entry with index `fed` writes the outcome of script `number`: a commit, and the script is not
--- before the worker's position `next`; or an abort, and the script is not before `turn`.
+-- The new outcome of script `number` names the entry with index `fed`. There are two cases:
+-- - The outcome is a commit, and `number` is at least the worker's position `next`.
+-- - The outcome is an abort, and `number` is at least the worker's position `turn`.
 abbrev pub IsNew : ℕ → ℕ → ℕ → ℕ → Outcome → Type 0
 IsNew next turn fed number (Committed place entry) = (next ≤ number) × (entry ≡ fed)
 IsNew next turn fed number (Aborted entry) = (turn ≤ number) × (entry ≡ fed)
@@ -136,13 +140,13 @@ known_written w scripts h c next turn fed next' turn' os os' number x is within 
 
 -- The facts about a caller's scripts after the first entries.
 pub record Follows (w : ℕ) (scripts : List (List Action)) (h : List Entry) (c fed : ℕ) (os : List Outcome) (way : Way) : Type 0 where
-  pub part : way.part.items ≡ last_of c (take fed h)
+  pub part : way.part.items ≡ latest_entries c (take fed h)
   pub next : way.next % w ≡ c
   pub turn : way.turn % w ≡ c
   pub order : way.next ≤ way.turn
   pub known : Known w scripts h c way.next way.turn fed os
   pub counted : PlayInOrder w scripts c 0 (committed_by c h)
-      → PlayInOrder w scripts c way.next (committed_from c way.part.items (drop fed h)) × AreCounted w c fed h os
+      → PlayInOrder w scripts c way.next (committed_from c way.part.items (drop fed h)) × CommitsCounted w c fed h os
 
 module _ (w : ℕ) (scripts : List (List Action)) (h : List Entry) (c fed : ℕ) (e : Entry) (at : slice_get h fed ≡ Some e) where
   next_entries : take (fed + 1) h ≡ take fed h ++ e ∷ []
@@ -151,11 +155,11 @@ module _ (w : ℕ) (scripts : List (List Action)) (h : List Entry) (c fed : ℕ)
   left_entries : drop fed h ≡ e ∷ drop (fed + 1) h
   left_entries = drop_more h fed e (slice_get_within h fed e at) ∙ ap (λ x. x ∷ drop (fed + 1) h) (get_or_from_slice_get h fed e e at)
 
-  grown_part : caller_of e ≡ c → last_of c (take (fed + 1) h) ≡ grown (last_of c (take fed h)) e
-  grown_part mine = ap (last_of c) next_entries ∙ ap (fold grown []) (own-push_in c (take fed h) e mine) ∙ fold-append grown [] (own c (take fed h)) (e ∷ [])
+  grown_part : caller_of e ≡ c → latest_entries c (take (fed + 1) h) ≡ grown (latest_entries c (take fed h)) e
+  grown_part mine = ap (latest_entries c) next_entries ∙ ap (fold grown []) (own-push_in c (take fed h) e mine) ∙ fold-append grown [] (own c (take fed h)) (e ∷ [])
 
-  same_part : (caller_of e == c) ≡ false → last_of c (take (fed + 1) h) ≡ last_of c (take fed h)
-  same_part other = ap (last_of c) next_entries ∙ ap (fold grown []) (own-push_out c (take fed h) e other)
+  same_part : (caller_of e == c) ≡ false → latest_entries c (take (fed + 1) h) ≡ latest_entries c (take fed h)
+  same_part other = ap (latest_entries c) next_entries ∙ ap (fold grown []) (own-push_out c (take fed h) e other)
 
   passed_over : (part : List Entry) → (caller_of e == c) ≡ false → committed_from c part (drop fed h) ≡ committed_from c part (drop (fed + 1) h)
   passed_over part other =
@@ -168,10 +172,10 @@ module _ (w : ℕ) (scripts : List (List Action)) (h : List Entry) (c fed : ℕ)
       ap (committed_from c part) left_entries
       ∙ ap (λ b. cond b (cond (is_commit e) (grown part e ∷ committed_from c (grown part e) (drop (fed + 1) h)) (committed_from c (grown part e) (drop (fed + 1) h))) (committed_from c part (drop (fed + 1) h))) (eq-eqb (caller_of e) c mine)
 
-  counted_on : (os os' : List Outcome) → AreCounted w c fed h os
+  counted_on : (os os' : List Outcome) → CommitsCounted w c fed h os
       → ((n place entry : ℕ) → n % w ≡ c → slice_get os n ≡ Some (Committed place entry) → slice_get os' n ≡ Some (Committed place entry))
       → ((place : ℕ) → e ≡ entries.Committed c place → (n : ℕ) × (n % w ≡ c) × (slice_get os' n ≡ Some (Committed place fed)))
-      → AreCounted w c (fed + 1) h os'
+      → CommitsCounted w c (fed + 1) h os'
   counted_on os os' counted keep here entry place less there = elim (cases_lt entry fed) [
     | inl before ↦ let (n, mine, is) = counted entry place before there in (n, mine, keep n place entry mine is)
     | inr past ↦
@@ -196,8 +200,8 @@ module _ (w : ℕ) (scripts : List (List Action)) (h : List Entry) (c fed : ℕ)
     );
   }
 
-  module _ (os os' : List Outcome) (old new : Way) (mine : caller_of e ≡ c) (sized : length os ≡ length scripts) (f : Follows w scripts h c fed os old) (grows : new.part.items ≡ grown old.part.items e) (on : GoesOn w old new) where
-    part_is : new.part.items ≡ last_of c (take (fed + 1) h)
+  module _ (os os' : List Outcome) (old new : Way) (mine : caller_of e ≡ c) (sized : length os ≡ length scripts) (f : Follows w scripts h c fed os old) (grows : new.part.items ≡ grown old.part.items e) (on : Advances w old new) where
+    part_is : new.part.items ≡ latest_entries c (take (fed + 1) h)
     part_is = grows ∙ ap (λ p. grown p e) f.part ∙ sym (grown_part mine)
 
     quiet_play : is_commit e ≡ false → new.next ≡ old.next → PlayInOrder w scripts c old.next (committed_from c old.part.items (drop fed h)) → PlayInOrder w scripts c new.next (committed_from c new.part.items (drop (fed + 1) h))
@@ -230,7 +234,7 @@ module _ (w : ℕ) (scripts : List (List Action)) (h : List Entry) (c fed : ℕ)
         ap (λ ys. slice_get ys n) is ∙ get-set_other os number n x (λ same. omega (arith, same, before, low)) ∙ there
 
     -- An abort is counted.
-    abort_follows : e ≡ entries.Aborted c → new.next ≡ old.next → (number : ℕ) → old.turn ≤ number → number % w ≡ old.turn % w → Counts scripts (Aborted fed) number new.turn os os'
+    abort_follows : e ≡ entries.Aborted c → new.next ≡ old.next → (number : ℕ) → old.turn ≤ number → number % w ≡ old.turn % w → IsCountedFor scripts (Aborted fed) number new.turn os os'
         → ((script : List Action) → slice_get scripts number ≡ Some script → AbortsItself script new.part.items) → Follows w scripts h c (fed + 1) os' new
     abort_follows ends same number from its counts did =
         let low : old.next ≤ number = let a = f.order in omega arith in
@@ -262,7 +266,7 @@ module _ (w : ℕ) (scripts : List (List Action)) (h : List Entry) (c fed : ℕ)
     ]
 
     -- A commit is counted.
-    commit_follows : (place : ℕ) → e ≡ entries.Committed c place → (number : ℕ) → IsFirstPlayed w scripts new.part.items old.next number → Counts scripts (Committed place fed) number new.next os os'
+    commit_follows : (place : ℕ) → e ≡ entries.Committed c place → (number : ℕ) → IsFirstPlayed w scripts new.part.items old.next number → IsCountedFor scripts (Committed place fed) number new.next os os'
         → new.next ≡ number + w → Follows w scripts h c (fed + 1) os' new
     commit_follows place ends number first counts then =
         let within : number < length os = let a = counts.within in omega arith in
@@ -294,7 +298,8 @@ module _ (w : ℕ) (scripts : List (List Action)) (h : List Entry) (c fed : ℕ)
         place_of : (p q : ℕ) → entries.Committed c p ≡ entries.Committed c q → p ≡ q
         place_of p q is = ap place_in is
 
-    -- The transaction that commits plays none of the caller's scripts from `next` on.
+    -- The transaction commits, but plays none of the caller's scripts at the position `next` or
+    -- after it.
     lost_follows : (place : ℕ) → e ≡ entries.Committed c place → (number : ℕ) → IsFirstPlayed w scripts new.part.items old.next number → length scripts ≤ number → os' ≡ os → Follows w scripts h c (fed + 1) os' new
     lost_follows place ends number first past same = record {
       part = part_is;
@@ -311,7 +316,7 @@ module _ (w : ℕ) (scripts : List (List Action)) (h : List Entry) (c fed : ℕ)
 
 -- `Follows` still holds after the caller's next entry.
 pub own_follows : (w : ℕ) (scripts : List (List Action)) (h : List Entry) (c fed : ℕ) (e : Entry) (os os' : List Outcome) (old new : Way) → slice_get h fed ≡ Some e → caller_of e ≡ c
-    → length os ≡ length scripts → Goes w scripts e fed old new os os' → Follows w scripts h c fed os old → Follows w scripts h c (fed + 1) os' new
+    → length os ≡ length scripts → TakesEntry w scripts e fed old new os os' → Follows w scripts h c fed os old → Follows w scripts h c (fed + 1) os' new
 own_follows w scripts h c fed (entries.Committed d place) os os' old new at mine sized goes f =
     let ends : entries.Committed d place ≡ entries.Committed c place = ap (λ k. entries.Committed k place) mine in
     let (number, first, cases) = goes.counts in

@@ -1,4 +1,5 @@
--- A script that is called committed is played by a committed transaction, which has a number.
+-- If a script has the outcome `Committed`, a transaction plays the script and commits. In a history
+-- of the right shape, this transaction has a number.
 use Rattle.std.proofs.Common.{◌≡◌, ℕ, ◌+◌, true, List, [], ◌∷◌, ◌++◌, take, drop, Some, refl, sym, ap, subst, ◌∙◌, not, append-nil}
 use Rattle.std.specs.Prelude.{slice_get}
 use Rattle.std.specs.List.{fold}
@@ -18,9 +19,10 @@ use Rattle.txn_trace.proofs.Callers.{ended}
 use Rattle.txn_trace.proofs.Shaped.{callers_of, ended_in, ended_whole, shape_front}
 use Rattle.txn_trace.proofs.Running.{has_txn}
 use Rattle.txn_trace.proofs.Playing.{last_part}
-use Rattle.script_outcomes.specs.Outcomes.{grown, last_of, Commits}
+use Rattle.script_outcomes.specs.Outcomes.{grown, latest_entries, CommitsScript}
 
--- The entries `part` are those of a caller's newest part, without those that take changes back.
+-- The second argument has the entries of each transaction of a caller, the newest transaction
+-- first. `part` has the entries of the newest one, except those that take changes back.
 abbrev Matches : List Entry → List (List Entry) → Type 0
 Matches part [] = Unit {0}
 Matches part (p ∷ ps) = part ≡ without_undone p
@@ -36,10 +38,10 @@ matches_fold : (es part : List Entry) (ps : List (List Entry)) → Matches part 
 matches_fold [] part ps m = m
 matches_fold (e ∷ es) part ps m = matches_fold es (grown part e) (part_after ps e) (matches_step part ps e m)
 
-pub last_is : (c : ℕ) (g p : List Entry) (ps : List (List Entry)) → parts_of (own c g) ≡ p ∷ ps → last_of c g ≡ without_undone p
-last_is c g p ps is = subst (Matches (last_of c g)) is (matches_fold (own c g) [] [] tt)
+pub last_is : (c : ℕ) (g p : List Entry) (ps : List (List Entry)) → parts_of (own c g) ≡ p ∷ ps → latest_entries c g ≡ without_undone p
+last_is c g p ps is = subst (Matches (latest_entries c g)) is (matches_fold (own c g) [] [] tt)
 
-pub commit_plays : (c place entry : ℕ) (script : List Action) (h : List Entry) → IsShaped h → Commits c script place entry h → (t : ℕ) × (before : List Entry) × (of t h ≡ before ++ entries.Committed c place ∷ []) × Plays t script h × (is_committed t h ≡ true)
+pub commit_plays : (c place entry : ℕ) (script : List Action) (h : List Entry) → IsShaped h → CommitsScript c script place entry h → (t : ℕ) × (before : List Entry) × (of t h ≡ before ++ entries.Committed c place ∷ []) × Plays t script h × (is_committed t h ≡ true)
 commit_plays c place entry script h shape commits =
     let next : take (entry + 1) h ≡ take entry h ++ entries.Committed c place ∷ [] =
     take_more h entry (entries.Committed c place) (slice_get_within h entry (entries.Committed c place) commits.at)
@@ -59,6 +61,6 @@ commit_plays c place entry script h shape commits =
           t,
           of t g,
           stays ∙ of-push_in t g (entries.Committed c place) at,
-          subst (λ es. IsPlayed script (without_undone es)) (sym stays) (subst (IsPlayed script) (ap (last_of c) next ∙ last_is c now (of t now) parts is) commits.plays),
+          subst (λ es. IsPlayed script (without_undone es)) (sym stays) (subst (IsPlayed script) (ap (latest_entries c) next ∙ last_is c now (of t now) parts is) commits.plays),
           ap (ends_in is_commit) (stays ∙ of-push_in t g (entries.Committed c place) at) ∙ ends_in-push is_commit (of t g) (entries.Committed c place),
         )

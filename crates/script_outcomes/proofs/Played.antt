@@ -21,7 +21,7 @@ use Rattle.txn_trace.proofs.Running.{has_txn}
 use Rattle.txn_trace.proofs.Shaped.{ended_in, ended_stays}
 use Rattle.txn_trace.proofs.Steps.{txns_of-push}
 use Rattle.script_outcomes.specs.declared.outcome.Outcome.{Outcome}
-use Rattle.script_outcomes.specs.Outcomes.{AreCounted, AreOutcomes, PlayInOrder, committed_by, committed_from, grown, last_of}
+use Rattle.script_outcomes.specs.Outcomes.{CommitsCounted, AreOutcomes, PlayInOrder, committed_by, committed_from, grown, latest_entries}
 use Rattle.script_outcomes.proofs.Numbering.{last_is}
 
 -- ---- the committed parts with one more entry
@@ -75,7 +75,7 @@ module _ (c : ℕ) (g : List Entry) (e : Entry) (owners : Callers g) (shaped : i
       txns_of-push (is_commit_of c) g e ∙ ap (λ b. commits_of c g ++ cons_option (cond b (txn_at g e) None) []) is ∙ append-nil (commits_of c g) in
       record {
         parts_are = ap (entries_of (g ++ e ∷ [])) same ∙ kept (commits_of c g) told.all_ended ∙ told.parts_are ∙ sym (append-nil (committed_by c g))
-            ∙ ap (λ (ps : List (List Entry)). committed_by c g ++ ps) (sym (none_noted (caller_of e == c) (is_commit e) (grown (last_of c g) e) is)) ∙ sym (from_push c e g []);
+            ∙ ap (λ (ps : List (List Entry)). committed_by c g ++ ps) (sym (none_noted (caller_of e == c) (is_commit e) (grown (latest_entries c g) e) is)) ∙ sym (from_push c e g []);
         all_ended = subst (AllByRecursion (λ t. ended t (g ++ e ∷ []) ≡ true)) (sym same) (still_ended (commits_of c g) told.all_ended);
       }
 
@@ -87,9 +87,9 @@ commit c g d p shape owners shaped its told =
     let (parts, is) = last_part c g shape t (subst (λ x. txn_in g x ≡ Some t) (eqb-true d c its) (not_began_is g e t refl (at_is g e t at))) in
     let more : commits_of c now ≡ commits_of c g ++ t ∷ [] =
     txns_of-push (is_commit_of c) g e ∙ ap (λ b. commits_of c g ++ cons_option (cond b (txn_at g e) None) []) its ∙ ap (λ o. commits_of c g ++ cons_option o []) at in
-    let part : without_undone (of t now) ≡ last_of c g ++ e ∷ [] =
+    let part : without_undone (of t now) ≡ latest_entries c g ++ e ∷ [] =
     ap without_undone (of-push_in t g e at) ∙ filter-append (λ x. not (is_undone x)) (of t g) (e ∷ []) ∙ ap (λ es. es ++ e ∷ []) (sym (last_is c g (of t g) parts is)) in
-    let noted : committed_from c (last_of c g) (e ∷ []) ≡ (last_of c g ++ e ∷ []) ∷ [] = ap (λ b. if b then (last_of c g ++ e ∷ []) ∷ [] else []) its in
+    let noted : committed_from c (latest_entries c g) (e ∷ []) ≡ (latest_entries c g ++ e ∷ []) ∷ [] = ap (λ b. if b then (latest_entries c g ++ e ∷ []) ∷ [] else []) its in
     record {
       parts_are = ap (entries_of now) more ∙ map-append (λ x. without_undone (of x now)) (commits_of c g) (t ∷ [])
           ∙ (λ i. (kept c g e owners shaped (commits_of c g) told.all_ended ∙ told.parts_are) i ++ part i ∷ [])
@@ -116,6 +116,6 @@ in_order callers scripts c h low high (t ∷ ts) rising =
     (rising.0, rising.1, rising.2, rising.4, rising.5, in_order callers scripts c h (suc rising.0) high ts rising.6)
 
 pub all_counted : (callers : ℕ) (scripts : List (List Action)) (h : List Entry) (outcomes : List Outcome) → IsShaped h → PlayScripts callers scripts h → AreOutcomes callers scripts h outcomes
-    → (c : ℕ) → c < callers → AreCounted callers c (length h) h outcomes
+    → (c : ℕ) → c < callers → CommitsCounted callers c (length h) h outcomes
 all_counted callers scripts h outcomes shape plays are c below =
     (are.of c below).all (subst (PlayInOrder callers scripts c 0) (told c h shape).parts_are (in_order callers scripts c h 0 (length scripts) (commits_of c h) (plays c below)))

@@ -10,7 +10,7 @@ use Rattle.txn_words.specs.declared.entry.Entry.TheVariants as entries
 use Rattle.txn_words.specs.Kinds.{caller_of}
 use Rattle.script_outcomes.specs.declared.outcome.Outcome.{Outcome}
 use Rattle.script_outcomes.specs.declared.way.Way.{Way}
-use Rattle.script_outcomes.specs.Ways.{CountsAt, Counts, Goes, MayCount}
+use Rattle.script_outcomes.specs.Ways.{CountsAt, IsCountedFor, TakesEntry, MayCount}
 use Rattle.script_outcomes.proofs.Following.{Follows, AllFollow, own_follows, other_follows, get-set_same, get-set_other, the_one}
 
 apart : (n m : ℕ) → n ≢ m → (n == m) ≡ false
@@ -37,7 +37,7 @@ module _ (w : ℕ) (scripts : List (List Action)) (h : List Entry) (fed : ℕ) (
       let size = all.size in
       record { some = omega arith; one_each = all.one_each; order = f.order; mine = f.next ∙ sym f.turn }
 
-  -- The entry is not of a worker.
+  -- An entry of a caller without a worker changes nothing.
   pub all_skip : length ways ≤ caller_of e → AllFollow w scripts h (fed + 1) os ways
   all_skip past = record {
     size = all.size;
@@ -47,8 +47,8 @@ module _ (w : ℕ) (scripts : List (List Action)) (h : List Entry) (fed : ℕ) (
         other_follows w scripts h c fed e at os os way (apart (caller_of e) c (λ same. omega (arith, same, past, inside))) (λ n mine. refl) (all.each c way there);
   }
 
-  -- The entry is of a worker, which has taken it in.
-  pub all_step : (os' : List Outcome) (old new : Way) (ways' : List Way) → slice_get ways (caller_of e) ≡ Some old → Goes w scripts e fed old new os os' → ways' ≡ set ways (caller_of e) new
+  -- After a worker has taken in the entry of its caller, the facts hold.
+  pub all_step : (os' : List Outcome) (old new : Way) (ways' : List Way) → slice_get ways (caller_of e) ≡ Some old → TakesEntry w scripts e fed old new os os' → ways' ≡ set ways (caller_of e) new
       → AllFollow w scripts h (fed + 1) os' ways'
   all_step os' old new ways' there goes is = record {
     size = ap length is ∙ length-set ways (caller_of e) new ∙ all.size;
@@ -84,14 +84,14 @@ module _ (w : ℕ) (scripts : List (List Action)) (h : List Entry) (fed : ℕ) (
             | inr wrote ↦ ap (λ ys. slice_get ys n) wrote.3 ∙ get-set_other os wrote.0 n wrote.1 (λ same. not (sym mine ∙ ap (λ k. k % w) same ∙ wrote.2))
           ]
 
--- `MayCount` and `Goes` of equal arguments.
+-- `MayCount` and `TakesEntry` of equal arguments.
 pub may_same : (w w' : ℕ) (ss ss' : List (List Action)) (way : Way) (os os' : List Outcome) → w' ≡ w → ss' ≡ ss → os' ≡ os → MayCount w ss way os → MayCount w' ss' way os'
 may_same w w' ss ss' way os os' a b d may =
     subst (λ k. MayCount k ss' way os') (sym a) (subst (λ k. MayCount w k way os') (sym b) (subst (MayCount w ss way) (sym d) may))
 
-pub goes_same : (w w' : ℕ) (ss ss' : List (List Action)) (e : Entry) (k : ℕ) (old new : Way) (os os' now : List Outcome) → w' ≡ w → ss' ≡ ss → os' ≡ os → Goes w' ss' e k old new os' now → Goes w ss e k old new os now
+pub goes_same : (w w' : ℕ) (ss ss' : List (List Action)) (e : Entry) (k : ℕ) (old new : Way) (os os' now : List Outcome) → w' ≡ w → ss' ≡ ss → os' ≡ os → TakesEntry w' ss' e k old new os' now → TakesEntry w ss e k old new os now
 goes_same w w' ss ss' e k old new os os' now a b d goes =
-    subst (λ x. Goes x ss e k old new os now) a (subst (λ x. Goes w' x e k old new os now) b (subst (λ x. Goes w' ss' e k old new x now) d goes))
+    subst (λ x. TakesEntry x ss e k old new os now) a (subst (λ x. TakesEntry w' x e k old new os now) b (subst (λ x. TakesEntry w' ss' e k old new x now) d goes))
 
 -- A list that is overwritten by a list of the same length becomes that list.
 pub whole_written : (os now : List Outcome) (len : ℕ) → length now ≡ length os → len ≡ length os → take len (now ++ drop (length now) os) ≡ now

@@ -10,7 +10,7 @@ use Rattle.txn_words.specs.declared.entry.Entry.{Entry}
 use Rattle.script_outcomes.specs.declared.outcome.Outcome.{Outcome}
 use Rattle.script_outcomes.specs.declared.outcome.Outcome.TheVariants.{Committed, Aborted, GivenUp}
 use Rattle.script_outcomes.specs.declared.way.Way.{Way}
-use Rattle.script_outcomes.specs.Outcomes.{HasCome, AreInOrder, PlayInOrder, AreCounted, AreOutcomesOf, AreOutcomes, committed_by, committed_from}
+use Rattle.script_outcomes.specs.Outcomes.{HasCome, AreInOrder, PlayInOrder, CommitsCounted, AreOutcomesOf, AreOutcomes, committed_by, committed_from}
 use Rattle.script_outcomes.specs.Ways.{AreFresh, AreNone}
 use Rattle.script_outcomes.proofs.Following.{IsPast, Known, Follows, AllFollow, the_one}
 
@@ -85,7 +85,7 @@ all_end w scripts h os ways fed past within all = record {
       record {
         each = f.known.each;
         ordered = λ n m script other o later below mine also tn tm. f.known.ordered n m o later below mine.mine also.mine tn tm;
-        all = λ play. subst (λ k. AreCounted w c k h os) same (f.counted play).1;
+        all = λ play. subst (λ k. CommitsCounted w c k h os) same (f.counted play).1;
       };
 }
   where

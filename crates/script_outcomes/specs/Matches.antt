@@ -8,13 +8,13 @@ use Rattle.txn_words.specs.declared.entry.Entry.TheVariants.{Began, Asked, Did, 
 
 -- The entries are those of an action, in order, and then the rest. An abort has no rest: it ends
 -- its transaction.
-abbrev pub Does : Action → List Entry → List Entry → Type 0
-Does (actions.Op op) (Asked c asked ∷ Did d reply ∷ es) rest = (asked ≡ op) × (es ≡ rest)
-Does actions.Save (Saved c ∷ es) rest = es ≡ rest
-Does (actions.Back n) (Leave c (Some level) ∷ Returned d reached ∷ es) rest =
+abbrev pub PlaysAction : Action → List Entry → List Entry → Type 0
+PlaysAction (actions.Op op) (Asked c asked ∷ Did d reply ∷ es) rest = (asked ≡ op) × (es ≡ rest)
+PlaysAction actions.Save (Saved c ∷ es) rest = es ≡ rest
+PlaysAction (actions.Back n) (Leave c (Some level) ∷ Returned d reached ∷ es) rest =
     (level ≡ n) × (reached ≡ n) × (es ≡ rest)
-Does (actions.Help k) es rest = es ≡ rest
-Does _ _ _ = ⊥
+PlaysAction (actions.Help k) es rest = es ≡ rest
+PlaysAction _ _ _ = ⊥
 
 -- The entries are those of the actions before an abort, in order, and then those of the abort.
 abbrev pub ReachAbort : List Action → List Entry → Type 0

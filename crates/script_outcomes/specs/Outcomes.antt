@@ -18,36 +18,37 @@ abbrev pub grown : List Entry → Entry → List Entry
 grown part e = if is_began e then e ∷ [] else if is_undone e then part else part ++ e ∷ []
 
 -- A caller's entries from its last Began on, without those that take changes back.
-abbrev pub last_of : ℕ → List Entry → List Entry
-last_of c h = fold grown [] (own c h)
+abbrev pub latest_entries : ℕ → List Entry → List Entry
+latest_entries c h = fold grown [] (own c h)
 
 -- The entry of this index is a Committed of the caller with this commit number (`place`), and its
 -- transaction plays the script.
-pub record Commits (c : ℕ) (script : List Action) (place entry : ℕ) (h : List Entry) : Type 0 where
+pub record CommitsScript (c : ℕ) (script : List Action) (place entry : ℕ) (h : List Entry) :
+    Type 0 where
   pub at : slice_get h entry ≡ Some (entries.Committed c place)
-  pub plays : IsPlayed script (last_of c (take (entry + 1) h))
+  pub plays : IsPlayed script (latest_entries c (take (entry + 1) h))
 
 -- The entry of this index ends a transaction of the caller that did the script's actions up to its
 -- abort, and no more.
-pub record Aborts (c : ℕ) (script : List Action) (entry : ℕ) (h : List Entry) : Type 0 where
+pub record AbortsScript (c : ℕ) (script : List Action) (entry : ℕ) (h : List Entry) : Type 0 where
   pub at : slice_get h entry ≡ Some (entries.Aborted c)
-  pub did : AbortsItself script (last_of c (take (entry + 1) h))
+  pub did : AbortsItself script (latest_entries c (take (entry + 1) h))
 
 -- The meaning of an outcome for the history.
 abbrev pub HasCome : ℕ → List Action → List Entry → Outcome → Type 0
-HasCome c script h (Committed place entry) = Commits c script place entry h
-HasCome c script h (Aborted entry) = Aborts c script entry h
+HasCome c script h (Committed place entry) = CommitsScript c script place entry h
+HasCome c script h (Aborted entry) = AbortsScript c script entry h
 HasCome c script h GivenUp = Unit {0}
 
--- If the outcomes of an earlier and of a later script are two commits, or two aborts, the entry of
--- the earlier script's outcome is the earlier one.
+-- The outcomes are those of an earlier and of a later script. If both are commits, or both are
+-- aborts, the entry of the first outcome is before that of the second.
 abbrev pub AreInOrder : Outcome → Outcome → Type 0
 AreInOrder (Committed place entry) (Committed later_place later) = entry < later
 AreInOrder (Aborted entry) (Aborted later) = entry < later
 AreInOrder outcome other = Unit {0}
 
--- The caller's transactions that commit in a history, each as its entries. The transaction that the
--- caller is in before the history has the entries `part` already.
+-- The caller's transactions that commit in a history, each as the list of its entries. `part` has
+-- the entries that the caller's transaction got before the history.
 abbrev pub committed_from : ℕ → List Entry → List Entry → List (List Entry)
 committed_from c part [] = []
 committed_from c part (e ∷ h) =
@@ -61,7 +62,8 @@ committed_from c part (e ∷ h) =
 abbrev pub committed_by : ℕ → List Entry → List (List Entry)
 committed_by c h = committed_from c [] h
 
--- Each of these transactions plays one of the caller's scripts, with rising numbers from `low` on.
+-- Each of these transactions plays one of the caller's scripts. The scripts' numbers rise. Each is
+-- at least `low`.
 abbrev pub PlayInOrder : ℕ → List (List Action) → ℕ → ℕ → List (List Entry) → Type 0
 PlayInOrder callers scripts c low [] = Unit {0}
 PlayInOrder callers scripts c low (part ∷ parts) =
@@ -70,14 +72,15 @@ PlayInOrder callers scripts c low (part ∷ parts) =
 
 -- Each Committed entry of the caller among the first `fed` entries is counted: one of the caller's
 -- scripts has the outcome with its place and index.
-abbrev pub AreCounted : ℕ → ℕ → ℕ → List Entry → List Outcome → Type 0
-AreCounted callers c fed h outcomes =
+abbrev pub CommitsCounted : ℕ → ℕ → ℕ → List Entry → List Outcome → Type 0
+CommitsCounted callers c fed h outcomes =
     (entry place : ℕ) → entry < fed → slice_get h entry ≡ Some (entries.Committed c place)
     → (n : ℕ) × (n % callers ≡ c) × (slice_get outcomes n ≡ Some (Committed place entry))
 
 -- The outcomes of a caller's scripts in a history. Each is true of the history. Commits are in the
 -- order of the scripts, and so are aborts, so each transaction is counted for at most one script.
--- If the caller's transactions that commit play its scripts in order, each of them is counted.
+-- If the caller's transactions that commit play its scripts in order, each of these transactions is
+-- counted.
 pub record AreOutcomesOf (callers : ℕ) (scripts : List (List Action)) (h : List Entry)
     (outcomes : List Outcome) (c : ℕ) : Type 0 where
   pub each : (n : ℕ) (script : List Action) (outcome : Outcome)
@@ -88,10 +91,10 @@ pub record AreOutcomesOf (callers : ℕ) (scripts : List (List Action)) (h : Lis
       → slice_get outcomes n ≡ Some outcome → slice_get outcomes m ≡ Some later
       → AreInOrder outcome later
   pub all : PlayInOrder callers scripts c 0 (committed_by c h)
-      → AreCounted callers c (length h) h outcomes
+      → CommitsCounted callers c (length h) h outcomes
 
--- The outcomes of all scripts in a history. Every `callers`-th script is a caller's, beginning with
--- the one that has the caller's number.
+-- The outcomes of all scripts in a history. Caller `c` has the scripts whose number is `c` modulo
+-- `callers`.
 pub record AreOutcomes (callers : ℕ) (scripts : List (List Action)) (h : List Entry)
     (outcomes : List Outcome) : Type 0 where
   pub one_each : length outcomes ≡ length scripts

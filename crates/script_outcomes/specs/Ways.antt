@@ -14,11 +14,11 @@ use Rattle.script_outcomes.specs.Matches.{AbortsItself}
 use Rattle.script_outcomes.specs.Outcomes.{grown}
 
 -- The entries are Began and then the rest.
-abbrev pub HasBegun : List Entry → List Entry → Type 0
-HasBegun (Began c t ∷ es) rest = es ≡ rest
-HasBegun es rest = ⊥
+abbrev pub StartsWithBegan : List Entry → List Entry → Type 0
+StartsWithBegan (Began c t ∷ es) rest = es ≡ rest
+StartsWithBegan es rest = ⊥
 
--- The one entry is a Committed.
+-- The only entry is a Committed.
 abbrev pub IsLoneCommit : List Entry → Type 0
 IsLoneCommit (entries.Committed c p ∷ []) = Unit {0}
 IsLoneCommit es = ⊥
@@ -54,8 +54,8 @@ pub record IsFirstLeft (workers : ℕ) (scripts : List (List Action)) (part : Li
   pub reaches : (script : List Action) → reached ≡ true → slice_get scripts number ≡ Some script
       → AbortsItself script part
 
--- There are workers, and an outcome for each script. The positions `next` and `turn` are numbers of
--- one worker, and `next` is not after `turn`.
+-- There are workers, and an outcome for each script. The positions `next` and `turn` have the same
+-- remainder modulo `workers`, and `next` is not after `turn`.
 pub record MayCount (workers : ℕ) (scripts : List (List Action)) (way : Way)
     (outcomes : List Outcome) : Type 0 where
   pub some : 0 < workers
@@ -63,9 +63,9 @@ pub record MayCount (workers : ℕ) (scripts : List (List Action)) (way : Way)
   pub order : way.next ≤ way.turn
   pub mine : way.next % workers ≡ way.turn % workers
 
--- The worker goes on: `next` and `turn` do not fall, they stay numbers of this worker, and `next`
--- is not after `turn`.
-pub record GoesOn (workers : ℕ) (old new : Way) : Type 0 where
+-- The worker goes on: `next` and `turn` do not fall, each keeps its remainder modulo `workers`, and
+-- `next` is not after `turn`.
+pub record Advances (workers : ℕ) (old new : Way) : Type 0 where
   pub next : old.next ≤ new.next
   pub turn : old.turn ≤ new.turn
   pub order : new.next ≤ new.turn
@@ -74,34 +74,37 @@ pub record GoesOn (workers : ℕ) (old new : Way) : Type 0 where
 
 -- The transaction is counted for the script of this number, and the worker goes on to the position
 -- `low`, which is greater than this number.
-pub record Counts (scripts : List (List Action)) (outcome : Outcome) (number low : ℕ)
+pub record IsCountedFor (scripts : List (List Action)) (outcome : Outcome) (number low : ℕ)
     (outcomes outcomes' : List Outcome) : Type 0 where
   pub within : number < length scripts
   pub counted : outcomes' ≡ slice_set outcomes number outcome
   pub passed : number < low
 
--- A commit is counted for the worker's first script from `next` on that the transaction plays, or
--- for none if it plays none of these scripts.
-pub record Commits (workers : ℕ) (scripts : List (List Action)) (place entry : ℕ) (old new : Way)
-    (outcomes outcomes' : List Outcome) : Type 0 where
+-- The worker's scripts are tried in order, beginning at the position `next`. The commit is counted
+-- for the first one that the transaction plays. If the transaction plays none of them, the commit
+-- is not counted.
+pub record CountsCommit (workers : ℕ) (scripts : List (List Action)) (place entry : ℕ)
+    (old new : Way) (outcomes outcomes' : List Outcome) : Type 0 where
   pub part : new.part.items ≡ old.part.items
-  pub on : GoesOn workers old new
+  pub on : Advances workers old new
   pub number : ℕ
   pub first : IsFirstPlayed workers scripts old.part.items old.next number
-  pub counts : (Counts scripts (Committed place entry) number new.next outcomes outcomes'
+  pub counts : (IsCountedFor scripts (Committed place entry) number new.next outcomes outcomes'
       × (new.next ≡ number + workers))
       ⊎ ((length scripts ≤ number) × (outcomes' ≡ outcomes))
 
--- An abort is counted for a script from `turn` on whose abort the transaction reached, or for none.
-pub record Aborts (workers : ℕ) (scripts : List (List Action)) (entry : ℕ) (old new : Way)
+-- The abort is counted for one script or for none. If it is counted, the script is one of the
+-- worker's, at the position `turn` or after it, and the transaction reached this script's own abort
+-- (`AbortsItself`).
+pub record CountsAbort (workers : ℕ) (scripts : List (List Action)) (entry : ℕ) (old new : Way)
     (outcomes outcomes' : List Outcome) : Type 0 where
   pub part : new.part.items ≡ old.part.items
-  pub on : GoesOn workers old new
+  pub on : Advances workers old new
   pub next : new.next ≡ old.next
   pub number : ℕ
   pub from : old.turn ≤ number
   pub mine : number % workers ≡ old.turn % workers
-  pub counts : (Counts scripts (Aborted entry) number new.turn outcomes outcomes'
+  pub counts : (IsCountedFor scripts (Aborted entry) number new.turn outcomes outcomes'
       × ((script : List Action) → slice_get scripts number ≡ Some script
       → AbortsItself script old.part.items))
       ⊎ (outcomes' ≡ outcomes)
@@ -112,13 +115,13 @@ abbrev pub CountsAt : ℕ → List (List Action) → Entry → ℕ → List Entr
     → List Outcome → List Outcome → Type 0
 CountsAt workers scripts (entries.Committed c place) entry part old new outcomes outcomes' =
     (number : ℕ) × IsFirstPlayed workers scripts part old.next number
-    × ((Counts scripts (Committed place entry) number new.next outcomes outcomes'
+    × ((IsCountedFor scripts (Committed place entry) number new.next outcomes outcomes'
     × (new.next ≡ number + workers))
     ⊎ ((length scripts ≤ number) × (outcomes' ≡ outcomes)))
 CountsAt workers scripts (entries.Aborted c) entry part old new outcomes outcomes' =
     (new.next ≡ old.next)
     × (((number : ℕ) × (old.turn ≤ number) × (number % workers ≡ old.turn % workers)
-    × Counts scripts (Aborted entry) number new.turn outcomes outcomes'
+    × IsCountedFor scripts (Aborted entry) number new.turn outcomes outcomes'
     × ((script : List Action) → slice_get scripts number ≡ Some script
     → AbortsItself script part))
     ⊎ (outcomes' ≡ outcomes))
@@ -126,10 +129,10 @@ CountsAt workers scripts e entry part old new outcomes outcomes' =
     (new.next ≡ old.next) × (outcomes' ≡ outcomes)
 
 -- The worker has taken in an entry with this index.
-pub record Goes (workers : ℕ) (scripts : List (List Action)) (e : Entry) (entry : ℕ)
+pub record TakesEntry (workers : ℕ) (scripts : List (List Action)) (e : Entry) (entry : ℕ)
     (old new : Way) (outcomes outcomes' : List Outcome) : Type 0 where
   pub part : new.part.items ≡ grown old.part.items e
-  pub on : GoesOn workers old new
+  pub on : Advances workers old new
   pub counts : CountsAt workers scripts e entry new.part.items old new outcomes outcomes'
 
 -- The ways of this many workers before the first entry.
@@ -138,7 +141,7 @@ pub record AreFresh (workers : ℕ) (ways : List Way) : Type 0 where
   pub each : (c : ℕ) (way : Way) → slice_get ways c ≡ Some way
       → (way.part.items ≡ []) × (way.next ≡ c) × (way.turn ≡ c)
 
--- This many outcomes, each of a script that is given up.
+-- This many outcomes, each of them `GivenUp`.
 pub record AreNone (scripts : ℕ) (outcomes : List Outcome) : Type 0 where
   pub size : length outcomes ≡ scripts
   pub each : (n : ℕ) (outcome : Outcome) → slice_get outcomes n ≡ Some outcome → outcome ≡ GivenUp

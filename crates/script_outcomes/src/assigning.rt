@@ -1,6 +1,6 @@
 //! The run over a history: each entry is passed to the way of its caller's worker, which writes the
-//! outcomes. Only this module sees all workers together; it passes over entries of callers without
-//! a worker. Holds one way for each worker and one outcome for each script.
+//! outcomes. Only this module sees all workers together; it skips the entries of callers without a
+//! worker. It holds one way for each worker and one outcome for each script.
 ghost use Rattle.std.specs.Prelude.{◌≡◌, ℕ, ◌<◌, List, IfOk, length};
 ghost use Rattle.script_outcomes.specs.Outcomes.{AreOutcomes};
 ghost use Rattle.script_outcomes.specs.Ways.{AreFresh, AreNone};
@@ -32,18 +32,22 @@ fn none_yet(alloc: Global, scripts: usize) -> Result<Vec<Outcome>, AllocError>
     Ok(outcomes)
 }
 
-/// The outcome of each script in a history, in the order of the scripts. Script `i` belongs to
-/// worker `i` modulo the callers of the scripts' limits, and worker `w` is caller `w` of the
-/// history.
+/// The outcome of each script in a history, in the order of the scripts. The number of workers is
+/// the number of callers in the limits of `scripts`. Script `i` belongs to worker `i` modulo that
+/// number. Worker `w` is caller `w` of the history.
 ///
-/// A commit is counted for one of the caller's scripts that follow the script of the caller's last
-/// counted commit: the first of these that the transaction plays. If it plays none of them, neither
-/// this nor a later commit of the caller is counted. An abort is counted for a script whose actions
-/// the transaction did up to the script's own abort, or for none. If there are several such
-/// scripts, the caller's earlier entries decide for which of them the abort is counted. So each
-/// transaction is counted for at most one script. A caller's commits are in the order of its
-/// scripts, and so are its aborts. If the caller's commits play its scripts in order, each of them
-/// is counted, so none is missed.
+/// For a commit, the caller's scripts are tried in order. The scripts up to that of the caller's
+/// last counted commit are left out. The commit is counted for the first script that its
+/// transaction plays. If the transaction plays none of the scripts that are tried, neither this
+/// commit nor a later one of the caller is counted.
+///
+/// An abort is counted for one script or for none. If it is counted, its transaction did exactly
+/// the script's actions up to the script's own abort. If this is true of several scripts, the
+/// caller's earlier entries decide for which of them the abort is counted.
+///
+/// So each transaction is counted for at most one script. A caller's counted commits are in the
+/// order of its scripts, and so are its counted aborts. If the caller's commits play its scripts in
+/// order, every commit of the caller is counted.
 ///
 /// The history is not judged.
 ///

@@ -10,11 +10,12 @@ ghost use Rattle.txn_words.specs.declared.action.Action.{Action};
 ghost use Rattle.txn_words.specs.declared.entry.Entry.{Entry};
 ghost use Rattle.txn_words.specs.declared.entry.Entry.TheVariants as entries;
 ghost use Rattle.script_outcomes.specs.declared.outcome.Outcome.{Outcome};
-ghost use Rattle.script_outcomes.specs.Outcomes.{AreCounted, AreOutcomes, Commits};
+ghost use Rattle.script_outcomes.specs.Outcomes.{CommitsCounted, AreOutcomes, CommitsScript};
 
-/// In a history of the right shape, which each legal history has, a script that is called committed
-/// is played by a committed transaction (`Plays` of `txn_trace`). The last entry of this
-/// transaction is the Committed with the script's caller and the outcome's place.
+/// Let the history have the right shape, as each legal history has, and let a script have the
+/// outcome committed. Then a committed transaction plays the script (`Plays` of `txn_trace`). The
+/// last entry of this transaction is the Committed with the script's caller and the outcome's
+/// place.
 ///
 /// The contract is the law.
 ///
@@ -23,7 +24,7 @@ ghost use Rattle.script_outcomes.specs.Outcomes.{AreCounted, AreOutcomes, Commit
 /// None: it does nothing when it runs.
 pub fn committed_plays()
     ensures { (c place entry : ℕ) (script : List Action) (h : List Entry) → IsShaped h
-        → Commits c script place entry h
+        → CommitsScript c script place entry h
         → (t : ℕ) × (before : List Entry) × (of t h ≡ before ++ entries.Committed c place ∷ [])
         × Plays t script h × (is_committed t h ≡ true) }
 {}
@@ -42,5 +43,5 @@ pub fn commits_are_counted()
     ensures { (callers : ℕ) (scripts : List (List Action)) (h : List Entry)
         (outcomes : List Outcome) → IsShaped h → PlayScripts callers scripts h
         → AreOutcomes callers scripts h outcomes
-        → (c : ℕ) → c < callers → AreCounted callers c (length h) h outcomes }
+        → (c : ℕ) → c < callers → CommitsCounted callers c (length h) h outcomes }
 {}

@@ -8,19 +8,20 @@
 //!
 //! The model is `AreOutcomes` of `specs/Outcomes.antt`. Proved, of any history:
 //!
-//! - For a script that is called committed there is a Committed entry of its worker, at the index
-//!   and with the `place` that the outcome names. The transaction of this entry plays the script.
-//!   In a history of the right shape this transaction has a number under which `txn_trace` too says
-//!   that it is committed and plays the script (`laws::committed_plays`).
-//! - For a script that is called aborted there is an Aborted entry of its worker, at the index that
-//!   the outcome names. The transaction of this entry did exactly the script's actions up to the
-//!   script's own abort.
+//! - If a script has the outcome committed, there is a Committed entry of its worker, at the index
+//!   and with the `place` of the outcome. The transaction of this entry plays the script. In a
+//!   history of the right shape, this transaction has a number. By the definitions of `txn_trace`,
+//!   too, the transaction with this number is committed and plays the script
+//!   (`laws::committed_plays`).
+//! - If a script has the outcome aborted, there is an Aborted entry of its worker, at the index of
+//!   the outcome. The transaction of this entry did exactly the script's actions up to the script's
+//!   own abort.
 //! - A worker's commits are in the order of its scripts, and so are its aborts, so each transaction
 //!   is counted for at most one script.
 //! - If a worker's commits play its scripts in order, each of them is counted. So no commit is
 //!   missed in a history that `mix` prints (`laws::commits_are_counted`).
 //!
-//! Only tested: each script that aborts itself in a run is called aborted.
+//! Only tested: each script that aborts itself in a run has the outcome aborted.
 //!
 //! Takes one pass over the history. A transaction that has ended, except after a Busy, is compared
 //! with scripts until one fits; no script is compared with two commits or with two aborts, but no

@@ -1,11 +1,12 @@
-//! Compares one transaction with one script: whether its entries are those of the script. It knows
-//! no workers and no outcomes: `way.rt` says which scripts a transaction is compared with. A
-//! comparison takes a step for each action of the script that agrees, and no memory.
+//! Compares one transaction with one script: tells whether the transaction's entries are those of
+//! the script. This module knows no workers and no outcomes: `way.rt` says which scripts a
+//! transaction is compared with. A comparison takes a step for each action of the script that
+//! agrees, and no memory.
 ghost use Rattle.std.specs.Prelude.{◌≡◌, true, false, IfSome, IsNone, List};
 ghost use Rattle.txn_words.specs.declared.entry.Entry.{Entry as AnEntry};
 ghost use Rattle.txn_trace.specs.Plays.{IsPlayed};
-ghost use Rattle.script_outcomes.specs.Matches.{AbortsItself, Does};
-ghost use Rattle.script_outcomes.specs.Ways.{HasBegun, IsLoneCommit, IsLeft, SaysItself};
+ghost use Rattle.script_outcomes.specs.Matches.{AbortsItself, PlaysAction};
+ghost use Rattle.script_outcomes.specs.Ways.{StartsWithBegan, IsLoneCommit, IsLeft, SaysItself};
 
 use txn_trace::{Action, Entry, PackedAction};
 
@@ -22,8 +23,9 @@ pub(crate) enum Fit {
 
 /// The rest of the entries, if they begin with those of the action. Constant time.
 fn after<'a>(action: Action, entries: &'a [Entry]) -> Option<&'a [Entry]>
-    ensures does { IfSome result (λ rest. Does action entries.now rest.now) }
-    ensures other { IsNone result → (rest : List AnEntry) → Does action entries.now rest → ⊥ }
+    ensures does { IfSome result (λ rest. PlaysAction action entries.now rest.now) }
+    ensures other { IsNone result →
+        (rest : List AnEntry) → PlaysAction action entries.now rest → ⊥ }
 {
     match action {
         Action::Op(op) => match entries {
@@ -49,8 +51,8 @@ fn after<'a>(action: Action, entries: &'a [Entry]) -> Option<&'a [Entry]>
 
 /// The rest of the entries, if they begin with Began. Constant time.
 fn after_began(entries: &[Entry]) -> Option<&[Entry]>
-    ensures begun { IfSome result (λ rest. HasBegun entries.now rest.now) }
-    ensures other { IsNone result → (rest : List AnEntry) → HasBegun entries.now rest → ⊥ }
+    ensures begun { IfSome result (λ rest. StartsWithBegan entries.now rest.now) }
+    ensures other { IsNone result → (rest : List AnEntry) → StartsWithBegan entries.now rest → ⊥ }
 {
     match entries {
         [Entry::Began(..), rest @ ..] => Some(rest),

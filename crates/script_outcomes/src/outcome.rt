@@ -8,19 +8,19 @@ use std::fmt;
 /// `aborted entry 20`, or as `given up`.
 #[derive(Clone, Copy, Debug, PartialEq, Eq)]
 pub enum Outcome {
-    /// A transaction that plays it is committed.
+    /// A transaction that plays the script is committed.
     Committed {
         /// The commit number, from the entry.
         place: u64,
         /// The index of the Committed entry, from 0.
         entry: u64,
     },
-    /// A transaction did its actions up to its own abort.
+    /// A transaction did the script's actions up to the script's own abort.
     Aborted {
         /// The index of the Aborted entry, from 0.
         entry: u64,
     },
-    /// No transaction is counted for it.
+    /// No transaction is counted for the script.
     GivenUp,
 }
 

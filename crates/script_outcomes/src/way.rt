@@ -1,10 +1,11 @@
 //! A worker's way through its scripts, as the entries of its caller show it. The run over a history
 //! has one way for each worker, and passes it only that worker's entries. The two positions of a
-//! way, `next` and `turn`, never fall, and stay numbers of that worker (`GoesOn`). How often a
-//! script is compared with transactions is not promised.
+//! way, `next` and `turn`, never fall. The remainder of each modulo the number of workers is always
+//! the worker's number (`Advances`). How often a script is compared with transactions is not
+//! promised.
 ghost use Rattle.std.specs.Prelude.{◌≡◌, ◌⊎◌, ℕ, ◌+◌, ◌%◌, ◌^◌, ◌<◌, ◌≤◌, [], OnOk, length};
 ghost use Rattle.script_outcomes.specs.Outcomes.{grown};
-ghost use Rattle.script_outcomes.specs.Ways.{IsFirstPlayed, IsFirstLeft, MayCount, Commits, Aborts, Goes};
+ghost use Rattle.script_outcomes.specs.Ways.{IsFirstPlayed, IsFirstLeft, MayCount, CountsCommit, CountsAbort, TakesEntry};
 
 use crate::matching::{Fit, compare, plays};
 use crate::outcome::Outcome;
@@ -66,8 +67,9 @@ impl Way {
         Ok(())
     }
 
-    /// The worker's first script from `next` on that the transaction plays, or the worker's first
-    /// number past the scripts.
+    /// Tries the worker's scripts in order, beginning at the position `next`. Answers the number of
+    /// the first one that the transaction plays. If the transaction plays none of them, answers a
+    /// number past all scripts.
     fn first_played(&self, work: &Work<'_>) -> usize
         requires { 0 < work.now.workers }
         ensures { IsFirstPlayed work.now.workers work.now.scripts.now self.now.part.items
@@ -83,9 +85,10 @@ impl Way {
         number
     }
 
-    /// The worker's first script from `turn` on that the aborted transaction follows (`compare`),
-    /// or the worker's first number past the scripts. Also answers whether the transaction reached
-    /// that script's own abort.
+    /// Tries the worker's scripts in order, beginning at the position `turn`. Answers the number of
+    /// the first one that the aborted transaction follows (`compare`), and whether the transaction
+    /// reached this script's own abort. If the transaction follows none of them, answers a number
+    /// past all scripts, and `false`.
     fn first_left(&self, work: &Work<'_>) -> (usize, bool)
         requires { 0 < work.now.workers }
         ensures { IsFirstLeft work.now.workers work.now.scripts.now self.now.part.items
@@ -116,11 +119,13 @@ impl Way {
         }
     }
 
-    /// The transaction has committed: it is counted for the first script from `next` on that it
-    /// plays. If it plays none, no later commit is counted.
+    /// The transaction has committed. The worker's scripts are tried in order, beginning at the
+    /// position `next`. The commit is counted for the first one that the transaction plays. If the
+    /// transaction plays none of them, neither this commit nor a later one of the worker is
+    /// counted.
     fn commit(&mut self, work: &Work<'_>, place: u64, entry: u64, outcomes: &mut [Outcome])
         requires may { MayCount work.now.workers work.now.scripts.now self.old outcomes.old }
-        ensures { Commits work.now.workers work.now.scripts.now place entry self.old self.new
+        ensures { CountsCommit work.now.workers work.now.scripts.now place entry self.old self.new
             outcomes.old outcomes.new }
     {
         let number = self.first_played(work);
@@ -132,12 +137,14 @@ impl Way {
         }
     }
 
-    /// The transaction was aborted after a Leave without a level. It was an attempt at the first
-    /// script, from `turn` on, that it follows. This script is over now. If the transaction reached
-    /// the script's own abort, it is counted for the script.
+    /// The transaction was aborted after a Leave without a level. The worker's scripts are tried in
+    /// order, beginning at the position `turn`. The first one that the transaction follows
+    /// (`compare`) is over now. If the transaction reached this script's own abort, the abort is
+    /// counted for the script. If the transaction follows none of the scripts, neither this abort
+    /// nor a later one of the worker is counted.
     fn leave(&mut self, work: &Work<'_>, entry: u64, outcomes: &mut [Outcome])
         requires may { MayCount work.now.workers work.now.scripts.now self.old outcomes.old }
-        ensures { Aborts work.now.workers work.now.scripts.now entry self.old self.new
+        ensures { CountsAbort work.now.workers work.now.scripts.now entry self.old self.new
             outcomes.old outcomes.new }
     {
         let (number, reached) = self.first_left(work);
@@ -185,7 +192,7 @@ impl Way {
         outcomes: &mut [Outcome],
     ) -> Result<(), AllocError>
         requires may { MayCount work.now.workers work.now.scripts.now self.old outcomes.old }
-        ensures { OnOk result (Goes work.now.workers work.now.scripts.now entry index
+        ensures { OnOk result (TakesEntry work.now.workers work.now.scripts.now entry index
             self.old self.new outcomes.old outcomes.new) }
     {
         self.grow(entry)?;

@@ -1,49 +1,64 @@
--- Every n-th element of a list, as it grows; and numbers by their remainders.
-use Rattle.std.proofs.Common.{◌≡◌, ℕ, zero, suc, ◌+◌, ◌-◌, ◌*◌, ◌/◌, ◌%◌, ◌<◌, ◌≤◌, List, [], ◌∷◌, ◌++◌, length, map, slice_get, refl, sym, ap, ◌∙◌, arith, suc-mul, mod-eq_of_lt}
-use Rattle.script_worker.proofs.Vocabulary.{slice_get_within, slice_get_past}
-use Rattle.std.proofs.Math.Nat.{mod-add-div', add-mul-mod_self_right}
-use Rattle.script_worker.specs.Accounts.{every}
-use Rattle.script_worker.proofs.Places.{get_empty, get_none, get_within}
+-- Lemmas on the elements of lists by their places, on every n-th element of a list that grows, and
+-- on the remainders of numbers.
+use Rattle.std.proofs.Common.{◌≡◌, ℕ, ◌+◌, ◌<◌, ◌≤◌, List, [], ◌∷◌, ◌++◌, length, slice_get, Some, None, sym, ap, ◌∙◌, arith, zero, suc}
+use Rattle.std.proofs.Common.{◌-◌, ◌*◌, ◌/◌, ◌%◌, map, refl, mod-eq_of_lt}
+use Rattle.script_worker.proofs.Vocabulary.{add-mul-mod_self_right, every, mod-add-div', slice_get_past, slice_get_within}
+
+-- A list with no elements has no element at any place.
+pub get_empty : {X : Type 0} (k : ℕ) → slice_get {X = X} [] k ≡ None
+get_empty k = slice_get_past [] k (omega arith)
+
+-- If a list has no element at a place, the list's length is at most the place.
+pub get_none : {X : Type 0} (xs : List X) (k : ℕ) → slice_get xs k ≡ None → length xs ≤ k
+get_none [] k none = omega arith
+get_none (x ∷ xs) zero none = absurd (cc none)
+get_none (x ∷ xs) (suc k) none = omega (arith, get_none xs k none)
+
+-- A list has an element at each place within it.
+pub get_within : {X : Type 0} (xs : List X) (k : ℕ) → k < length xs → (x : X) × (slice_get xs k ≡ Some x)
+get_within [] k within = absurd (omega (arith, within))
+get_within (x ∷ xs) zero within = (x, refl)
+get_within (x ∷ xs) (suc k) within = get_within xs k (omega (arith, within))
+
+-- The last element of a list.
+pub get_last : {X : Type 0} (xs : List X) (x : X) → slice_get (xs ++ x ∷ []) (length xs) ≡ Some x
+get_last [] x = refl
+get_last (y ∷ xs) x = get_last xs x
 
 -- Element `k` of `every n after xs` is element `after + k * n` of `xs`.
 pub get-every : {X : Type 0} (n : ℕ) → 0 < n → (xs : List X) (after k : ℕ) → slice_get (every n after xs) k ≡ slice_get xs (after + k * n)
 get-every n some [] after k = get_empty k ∙ sym (get_empty (after + k * n))
 get-every n some (x ∷ xs) zero zero = let none : 0 ≡ 0 + 0 * n = omega arith in ap (slice_get (x ∷ xs)) none
 get-every n some (x ∷ xs) zero (suc k) =
-    let same : suc (n - 1 + k * n) ≡ 0 + suc k * n = omega (arith, suc-mul k n) in
-    get-every n some xs (n - 1) k ∙ ap (slice_get (x ∷ xs)) same
+    let same : suc (n - 1 + k * n) ≡ 0 + suc k * n = omega arith in
+    rw (← same) (get-every n some xs (n - 1) k)
 get-every n some (x ∷ xs) (suc after) k =
     let same : suc (after + k * n) ≡ suc after + k * n = omega arith in
-    get-every n some xs after k ∙ ap (slice_get (x ∷ xs)) same
+    rw (← same) (get-every n some xs after k)
 
 -- An element is appended to the list. If its position is `after + k * n`, it is also appended to
--- the list of every n-th.
+-- the list of every n-th element.
 pub every-hit : {X : Type 0} (n : ℕ) → 0 < n → (xs : List X) (x : X) (after k : ℕ) → length xs ≡ after + k * n → every n after (xs ++ x ∷ []) ≡ every n after xs ++ x ∷ []
 every-hit n some [] x zero k at = refl
 every-hit n some [] x (suc after) k at = absurd (omega arith)
-every-hit n some (y ∷ xs) x zero zero at = let none : suc (length xs) ≡ 0 + 0 * n = at in absurd (omega arith)
-every-hit n some (y ∷ xs) x zero (suc k) at =
-    let one : suc (length xs) ≡ 0 + suc k * n = at in
-    ap (λ ys. y ∷ ys) (every-hit n some xs x (n - 1) k (omega (arith, suc-mul k n)))
-every-hit n some (y ∷ xs) x (suc after) k at = let one : suc (length xs) ≡ suc after + k * n = at in every-hit n some xs x after k (omega arith)
+every-hit n some (y ∷ xs) x zero zero at = absurd (omega (arith, at))
+every-hit n some (y ∷ xs) x zero (suc k) at = ap (λ ys. y ∷ ys) (every-hit n some xs x (n - 1) k (omega (arith, at)))
+every-hit n some (y ∷ xs) x (suc after) k at = every-hit n some xs x after k (omega (arith, at))
 
 -- An element is appended to the list. If its position is `after + k * n` for no `k`, the list of
--- every n-th is unchanged.
+-- every n-th element is unchanged.
 pub every-miss : {X : Type 0} (n : ℕ) → 0 < n → (xs : List X) (x : X) (after : ℕ) → ((k : ℕ) → length xs ≡ after + k * n → ⊥) → every n after (xs ++ x ∷ []) ≡ every n after xs
 every-miss n some [] x zero never = absurd (never 0 (omega arith))
 every-miss n some [] x (suc after) never = refl
 every-miss n some (y ∷ xs) x zero never =
-    ap (λ ys. y ∷ ys) (every-miss n some xs x (n - 1) (λ k at.
-    let here : suc (length xs) ≡ 0 + suc k * n = omega (arith, suc-mul k n) in
-    never (suc k) here))
-every-miss n some (y ∷ xs) x (suc after) never =
-    every-miss n some xs x after (λ k at. let here : suc (length xs) ≡ suc after + k * n = omega arith in never k here)
+    ap (λ ys. y ∷ ys) (every-miss n some xs x (n - 1) (λ k at. never (suc k) (omega (arith, at))))
+every-miss n some (y ∷ xs) x (suc after) never = every-miss n some xs x after (λ k at. never k (omega (arith, at)))
 
--- Of lists of the same length, the lists of every n-th have the same length too.
+-- If two lists have equal lengths, their lists of every n-th element have equal lengths too.
 pub every-length : {X Y : Type 0} (n : ℕ) (xs : List X) (ys : List Y) (after : ℕ) → length xs ≡ length ys → length (every n after xs) ≡ length (every n after ys)
 every-length n [] [] after same = refl
-every-length n (x ∷ xs) (y ∷ ys) zero same = let one : suc (length xs) ≡ suc (length ys) = same in ap (λ (k : ℕ). suc k) (every-length n xs ys (n - 1) (omega arith))
-every-length n (x ∷ xs) (y ∷ ys) (suc after) same = let one : suc (length xs) ≡ suc (length ys) = same in every-length n xs ys after (omega arith)
+every-length n (x ∷ xs) (y ∷ ys) zero same = ap (λ (k : ℕ). suc k) (every-length n xs ys (n - 1) (omega (arith, same)))
+every-length n (x ∷ xs) (y ∷ ys) (suc after) same = every-length n xs ys after (omega (arith, same))
 every-length n xs ys after same = absurd (cc same)
 
 pub every-map : {X Y : Type 0} (f : X → Y) (n : ℕ) (xs : List X) (after : ℕ) → every n after (map f xs) ≡ map f (every n after xs)

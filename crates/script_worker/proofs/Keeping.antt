@@ -1,41 +1,32 @@
 -- A worker keeps to its scripts with each answer, and when it moves on to its next call.
-use Rattle.std.proofs.Common.{[], ◌≡◌, ℕ, suc, ◌+◌, ◌*◌, ◌<◌, nat_lt, Bool, true, false, if◌then◌else◌, List, ◌∷◌, ◌++◌, append_assoc, append-nil, length, length-append, get_or, slice_get, Option, Some, None, refl, sym, ap, subst, ◌∙◌, inl, inr, arith, suc-mul, ltb-true}
-use Rattle.script_worker.proofs.Vocabulary.{slice_get-get_or, Action, Answer, Entry, Step, Call, End, Drive, sized_of, told_of, end_of, new_drive, made, made_quiet, IsMade, IsQuiet, OutOfStep}
-use Rattle.txn_words.specs.Entries.{entries_of}
-use Rattle.txn_words.specs.Sizes.{Sizes}
-use Rattle.txn_drive.specs.declared.call.Call.TheVariants as calls
-use Rattle.txn_drive.specs.declared.«end».End.TheVariants as ends
-use Rattle.txn_drive.proofs.DriveLaws.{goes_on, made_at_end, made-new, made-sized}
-use Rattle.txn_drive.proofs.MadeLemmas.{made-told_of}
-use Rattle.script_worker.specs.declared.attempt.Attempt.{Attempt}
-use Rattle.script_worker.specs.declared.attempt.Stage.TheVariants.{Beginning}
-use Rattle.script_worker.specs.declared.attempt.Progress.{Progress}
-use Rattle.script_worker.specs.declared.attempt.Progress.TheVariants.{Next, Over}
-use Rattle.script_worker.specs.declared.task.Task.{Task}
-use Rattle.script_worker.specs.Accounts.{Outcome, AreAccounts, every, tolds_of}
-use Rattle.script_worker.specs.Attempts.{attempt_at, call_at}
-use Rattle.script_worker.specs.Chunks.{Heard, IsChunk, heard_at, txn_then, replies_then, outcome_by}
-use Rattle.script_worker.specs.Workers.{Standing, new_worker, started, with_drive, followed, progressed, settled_in, settled, drive_told, told_drive, told_by, sized_by, task_step, step_by}
-use Rattle.script_worker.specs.Keeps.{KeepsTask, KeepsAt, Keeps}
-use Rattle.script_worker.proofs.Accounts.{account_more, no_account}
-use Rattle.script_worker.proofs.Chunks.{ChunkAfter, after_call, chunk_begun}
-use Rattle.script_worker.proofs.Every.{get-every}
+use Rattle.std.proofs.Common.{ℕ, ◌<◌, List, [], ◌∷◌, ◌++◌, length, slice_get, Option, Some, None, refl, sym, ap, ◌∙◌, arith, ◌≡◌, ◌+◌, ◌*◌}
+use Rattle.std.proofs.Common.{nat_lt, Bool, true, false, if◌then◌else◌, append_assoc, append-nil, get_or, subst, inl, inr, ltb-true}
+use Rattle.script_worker.proofs.Vocabulary.{Action, Answer, append_quiet, AreAccounts, Attempt, attempt_at, Beginning, Call, call_at}
+use Rattle.script_worker.proofs.Vocabulary.{CommitNothing, Drive, drive_told, End, end_of, entries_of, Entry, every, followed, goes_on}
+use Rattle.script_worker.proofs.Vocabulary.{going_quiet, Heard, heard_at, IsChunk, IsMade, IsQuiet, IsReady, IsReadyTask, KeepsScripts, KeepsAt}
+use Rattle.script_worker.proofs.Vocabulary.{KeepsTask, length_push, made, made-new, made-sized, made-told_of, made_at_end, made_quiet}
+use Rattle.script_worker.proofs.Vocabulary.{new_drive, new_worker, Next, Outcome, outcome_by, OutOfStep, Over, Progress, progressed}
+use Rattle.script_worker.proofs.Vocabulary.{replies_then, settled, settled_in, sized_by, sized_of, Sizes, slice_get-get_or, Standing}
+use Rattle.script_worker.proofs.Vocabulary.{started, Step, step_by, step_of, Task, task_step, told_by, told_drive, told_of, tolds_of}
+use Rattle.script_worker.proofs.Vocabulary.{txn_then, with_drive}
+use Rattle.script_worker.proofs.Chunks.{chunk_quiet, ChunkAfter, after_call, chunk_begun}
+use Rattle.script_worker.proofs.{Accounts.account_more, Accounts.no_account, Every.get-every, Ready.steps_ended}
 
 -- A call whose drive has ended out of step has committed nothing.
 ended_quiet : (d : Drive) (outcome : End) → end_of d ≡ Some outcome → IsQuiet outcome (made d)
-ended_quiet d (ends.Refused OutOfStep) is = elim (made_quiet d) [
+ended_quiet d (End.Refused OutOfStep) is = elim (made_quiet d) [
   | inl quiet ↦ quiet
   | inr (p, committed) ↦ absurd (cc (is, committed))
 ]
 ended_quiet d outcome is = tt
 
--- The next script of the worker, if there is one.
+-- A worker that starts its next script, if it has one, keeps to its scripts.
 module _ (tries workers : ℕ) (half : Bool) (scripts : List (List Action)) (w : ℕ) where
   keeps_started : (outcomes : List Outcome) (n : ℕ) (seen : List Entry) → n ≡ w + length outcomes * workers → AreAccounts w tries (tolds_of (every workers w scripts) outcomes) seen
       → KeepsAt tries workers scripts w (started half scripts w n) seen
   keeps_started outcomes n seen number told = at (nat_lt n (length scripts)) refl
     where
-      at : (b : Bool) → nat_lt n (length scripts) ≡ b → KeepsAt tries workers scripts w (if b then Some (record { script = n; attempt = attempt_at 0 Beginning; drive = new_drive half w calls.Begin }) else None) seen
+      at : (b : Bool) → nat_lt n (length scripts) ≡ b → KeepsAt tries workers scripts w (if b then Some (record { script = n; attempt = attempt_at 0 Beginning; drive = new_drive half w Call.Begin }) else None) seen
       at true is = record {
         outcomes = outcomes;
         number = number;
@@ -91,12 +82,9 @@ module _ (tries workers : ℕ) (half : Bool) (scripts : List (List Action)) (w :
       moved_to task task.attempt (sized_of size task.drive) at.txn at.replies at.chunk seen seen at at.caller at.call
       (rw (made-sized size task.drive.caller task.drive.call task.drive.phase) at.entries) at.so_far
 
--- The call of a task has ended.
+-- The next lemmas are about a task whose call has ended.
 module _ (scripts : List (List Action)) (tries w : ℕ) (limits : Sizes) (below : w < limits.callers) (task : Task) (outcome : End) (seen : List Entry) (ended : end_of task.drive ≡ Some outcome)
     (at : KeepsTask tries limits.callers scripts w task seen) where
-  abbrev workers : ℕ
-  workers = limits.callers
-
   abbrev heard : Heard
   heard = heard_at task.attempt at.txn at.replies
 
@@ -104,27 +92,27 @@ module _ (scripts : List (List Action)) (tries w : ℕ) (limits : Sizes) (below 
   made_is = subst (λ c. IsMade c (call_at at.script task.attempt.stage) outcome (made task.drive)) at.caller
       (subst (λ (call : Call). IsMade task.drive.caller call outcome (made task.drive)) at.call (made_at_end task.drive outcome ended))
 
-  follows : (p : Progress) → ChunkAfter w tries at.script heard (at.chunk ++ made task.drive) outcome p → KeepsAt tries workers scripts w (followed scripts w limits task at.script p) seen
+  follows : (p : Progress) → ChunkAfter w tries at.script heard (at.chunk ++ made task.drive) outcome p
+      → KeepsAt tries limits.callers scripts w (followed scripts w limits task at.script p) seen
   follows (Next attempt) chunk =
-      moved_to tries workers limits.half scripts w task attempt (new_drive limits.half w (call_at at.script attempt.stage))
+      moved_to tries limits.callers limits.half scripts w task attempt (new_drive limits.half w (call_at at.script attempt.stage))
       (txn_then at.txn outcome) (replies_then at.replies outcome) (at.chunk ++ made task.drive) seen seen at refl refl
       (rw (made-new limits.half w (call_at at.script attempt.stage), append-nil (at.chunk ++ made task.drive)) at.entries) chunk
   follows (Over over) account =
       let told = outcome_by over outcome heard in
-      let some : 0 < workers = omega (arith, below) in
-      let here = get-every workers some scripts w (length at.outcomes) ∙ ap (slice_get scripts) (sym at.number) ∙ at.there in
-      let longer : length (at.outcomes ++ told ∷ []) ≡ suc (length at.outcomes) = omega (arith, length-append at.outcomes (told ∷ [])) in
-      keeps_started tries workers limits.half scripts w (at.outcomes ++ told ∷ []) (task.script + workers) seen
-      (rw (longer, suc-mul (length at.outcomes) workers) (omega (arith, at.number)))
-      (rw at.entries
-      (account_more w tries (every workers w scripts) at.outcomes at.script told at.earlier (at.chunk ++ made task.drive) here at.told account))
+      let some : 0 < limits.callers = omega (arith, below) in
+      let here = get-every limits.callers some scripts w (length at.outcomes) ∙ ap (slice_get scripts) (sym at.number) ∙ at.there in
+      keeps_started tries limits.callers limits.half scripts w (at.outcomes ++ told ∷ []) (task.script + limits.callers) seen
+      (rw (length_push at.outcomes told) (omega (arith, at.number)))
+      (rw at.entries (account_more w tries (every limits.callers w scripts) at.outcomes at.script told at.earlier
+      (at.chunk ++ made task.drive) here at.told account))
 
-  progressed_keeps : KeepsAt tries workers scripts w (progressed scripts tries w limits task outcome) seen
+  progressed_keeps : KeepsAt tries limits.callers scripts w (progressed scripts tries w limits task outcome) seen
   progressed_keeps =
       let quiet = ended_quiet task.drive outcome ended in
       rw at.there (follows _ (after_call w tries at.script heard at.chunk (made task.drive) outcome _ made_is quiet at.so_far refl))
 
--- The task of a worker that moves on keeps to its scripts.
+-- A task that is settled keeps to its scripts.
 module _ (scripts : List (List Action)) (tries w : ℕ) (limits : Sizes) (below : w < limits.callers) (seen : List Entry) where
   settled_in_keeps : (task : Task) (o : Option End) → end_of task.drive ≡ o → KeepsTask tries limits.callers scripts w task seen → KeepsAt tries limits.callers scripts w (settled_in scripts tries w limits task o) seen
   settled_in_keeps task None ended at = at
@@ -135,22 +123,22 @@ module _ (scripts : List (List Action)) (tries w : ℕ) (limits : Sizes) (below 
   settled_keeps (Some task) at = settled_in_keeps task (end_of task.drive) refl at
 
 -- A worker that is told an answer keeps to its scripts.
-pub told_keeps : (scripts : List (List Action)) (tries : ℕ) (worker : Standing) (answer : Answer) (seen : List Entry) (step : Step) → step_by worker ≡ Some step → Keeps scripts tries worker seen
-    → Keeps scripts tries (told_by scripts tries worker answer) (seen ++ entries_of step answer)
+pub told_keeps : (scripts : List (List Action)) (tries : ℕ) (worker : Standing) (answer : Answer) (seen : List Entry) (step : Step) → step_by worker ≡ Some step → KeepsScripts scripts tries worker seen
+    → KeepsScripts scripts tries (told_by scripts tries worker answer) (seen ++ entries_of step answer)
 told_keeps scripts tries worker answer seen step is keeps =
     let settles = settled_keeps scripts tries worker.number worker.limits keeps.number (seen ++ entries_of step answer) in
     let told = drive_keeps tries worker.limits.callers worker.limits.half scripts worker.number worker.task step answer seen is keeps.at in
     record { number = keeps.number; at = settles _ (settles _ told) }
 
-pub sized_keeps : (size : ℕ) (scripts : List (List Action)) (tries : ℕ) (worker : Standing) (seen : List Entry) → Keeps scripts tries worker seen → Keeps scripts tries (sized_by size worker) seen
+pub sized_keeps : (size : ℕ) (scripts : List (List Action)) (tries : ℕ) (worker : Standing) (seen : List Entry) → KeepsScripts scripts tries worker seen → KeepsScripts scripts tries (sized_by size worker) seen
 sized_keeps size scripts tries worker seen keeps = record { number = keeps.number; at = task_sized tries worker.limits.callers worker.limits.half scripts worker.number size worker.task seen keeps.at }
 
-pub new_keeps : (scripts : List (List Action)) (tries w : ℕ) (limits : Sizes) → w < limits.callers → Keeps scripts tries (new_worker scripts w limits) []
+pub new_keeps : (scripts : List (List Action)) (tries w : ℕ) (limits : Sizes) → w < limits.callers → KeepsScripts scripts tries (new_worker scripts w limits) []
 new_keeps scripts tries w limits below =
     let first : w ≡ w + 0 * limits.callers = omega arith in
     record { number = below; at = keeps_started tries limits.callers limits.half scripts w [] w [] first (no_account w tries (every limits.callers w scripts)) }
 
--- A task with a step to take is unchanged.
+-- Settling does not change a task with a step to take.
 stays : (scripts : List (List Action)) (tries w : ℕ) (limits : Sizes) (step : Step) (task : Option Task) → task_step task ≡ Some step → settled scripts tries w limits task ≡ task
 stays scripts tries w limits step None is = refl
 stays scripts tries w limits step (Some task) is = ap (settled_in scripts tries w limits task) (goes_on task.drive step is)
@@ -159,3 +147,23 @@ pub told_on : (scripts : List (List Action)) (tries : ℕ) (worker : Standing) (
 told_on scripts tries worker answer step is =
     let once = stays scripts tries worker.number worker.limits step (drive_told worker.task answer) is in
     rw (once, once)
+
+-- The entries of a worker are the accounts of its scripts. If the last script is not over, its
+-- entries commit nothing, so they are the account of a script that has aborted.
+module _ (tries workers : ℕ) (scripts : List (List Action)) (w : ℕ) (below : w < workers) where
+  at_told : (task : Option Task) (seen : List Entry) → IsReadyTask task → KeepsAt tries workers scripts w task seen
+      → (outcomes : List Outcome) × AreAccounts w tries (tolds_of (every workers w scripts) outcomes) seen
+  at_told None seen ready at = at
+  at_told (Some task) seen ready at =
+      let some : 0 < workers = omega (arith, below) in
+      let here = get-every workers some scripts w (length at.outcomes) ∙ ap (slice_get scripts) (sym at.number) ∙ at.there in
+      let quiet : CommitNothing (at.chunk ++ made task.drive) = append_quiet at.chunk (made task.drive)
+      (chunk_quiet w at.script (heard_at task.attempt at.txn at.replies) at.chunk at.so_far)
+      (going_quiet task.drive (steps_ended (step_of task.drive) task.drive refl ready)) in
+      let account = account_more w tries (every workers w scripts) at.outcomes at.script Outcome.Aborted at.earlier
+      (at.chunk ++ made task.drive) here at.told quiet in
+      (at.outcomes ++ Outcome.Aborted ∷ [], rw at.entries account)
+
+pub keeps_told : (scripts : List (List Action)) (tries : ℕ) (worker : Standing) (seen : List Entry) → IsReady worker → KeepsScripts scripts tries worker seen
+    → (outcomes : List Outcome) × AreAccounts worker.number tries (tolds_of (every worker.limits.callers worker.number scripts) outcomes) seen
+keeps_told scripts tries worker seen ready keeps = at_told tries worker.limits.callers scripts worker.number keeps.number worker.task seen ready keeps.at

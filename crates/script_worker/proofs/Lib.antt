@@ -1,15 +1,9 @@
 pub mod Vocabulary
-pub mod Attempting
-pub mod Undoing
 pub mod Chunks
-pub mod Places
 pub mod Every
 pub mod Accounts
-pub mod Parts
-pub mod Placing
 pub mod Reading
 pub mod Telling
 pub mod Keeping
 pub mod Ready
-pub mod Remaining
 pub mod Taking

@@ -1,12 +1,61 @@
--- The committed transactions of a caller, found in its own entries.
-use Rattle.std.proofs.Common.{◌≡◌, ℕ, ◌==◌, false, cond, List, [], ◌∷◌, ◌++◌, append-nil, fold, Some, None, Option, refl, sym, ap, ◌∙◌, inl, inr, eq-eqb, ne_eqb}
-use Rattle.script_worker.proofs.Vocabulary.{cons_option, Entry, Began, Committed, txn_after, caller_of, is_commit, own, IsShaped, is_commit_of, commits_of, txn_in, txn_at, txn_in-push, own-push_in, own-push_out, CommitNothing}
-use Rattle.std.proofs.lemmas.Bool.{cases_eq}
-use Rattle.std.proofs.Math.Bool.{and-true, and-false}
-use Rattle.std.proofs.lemmas.List.Sums.{fold-append}
-use Rattle.txn_trace.proofs.Inductions.{by_entries}
-use Rattle.txn_trace.proofs.Steps.{txns_of-push}
-use Rattle.script_worker.proofs.Parts.{BeginNothing}
+-- The entries of a transaction that plays a script, and the committed transactions of a caller,
+-- read from its own entries.
+use Rattle.std.proofs.Common.{◌≡◌, ℕ, Bool, true, false, List, [], ◌∷◌, ◌++◌, append-nil, fold, filter, Some, None, Option, option_and_then}
+use Rattle.std.proofs.Common.{is_some, refl, sym, ap, ◌∙◌, ◌==◌, cond, inl, inr, eq-eqb, ne_eqb}
+use Rattle.script_worker.proofs.Vocabulary.{Action, and-false, and-true, ArePlayed, Asked, Began, by_entries, caller_of, cases_eq}
+use Rattle.script_worker.proofs.Vocabulary.{closed_seat, CommitNothing, commits_of, Committed, cons_option, Did, Entry, false≢true}
+use Rattle.script_worker.proofs.Vocabulary.{filter-append, fold-append, is_began, is_commit, is_commit_of, IsPlayed, IsShaped, Leave, own}
+use Rattle.script_worker.proofs.Vocabulary.{own-push_in, own-push_out, Returned, row, same_from_push, Saved, Seat, seat_after, txn_after}
+use Rattle.script_worker.proofs.Vocabulary.{txn_at, txn_in, txn_in-push, txns_of-push, Undone, without_undone}
+
+-- Entries that begin no transaction.
+abbrev pub BeginNothing : List Entry → Type 0
+BeginNothing es = filter is_began es ≡ []
+
+-- The entries of a script begin no transaction, and commit only at its end.
+played : (script : List Action) (es : List Entry) → ArePlayed script es → BeginNothing es × (e : Entry) × (filter is_commit es ≡ e ∷ [])
+played [] (Committed c p ∷ []) plays = (refl, Committed c p, refl)
+played (Action.Op op ∷ script) (Asked c asked ∷ Did d reply ∷ es) plays = played script es plays.1
+played (Action.Save ∷ script) (Saved c ∷ es) plays = played script es plays
+played (Action.Back n ∷ script) (Leave c (Some level) ∷ Returned d reached ∷ es) plays = played script es plays.2
+played (Action.Help k ∷ script) es plays = played script es plays
+played _ _ plays = absurd plays
+
+-- A test that no Undone entry passes finds the same entries with and without the Undone entries.
+with_undone : (test : Entry → Bool) → ((c : ℕ) → test (Undone c) ≡ false) → (es : List Entry)
+    → filter test es ≡ filter test (without_undone es)
+with_undone test never [] = refl
+with_undone test never (Undone c ∷ es) = rw (never c) (with_undone test never es)
+with_undone test never (e ∷ es) = rw (with_undone test never es)
+
+module _ (c : ℕ) (script : List Action) (txn place : ℕ) (inner : List Entry) (plays : IsPlayed script (without_undone (Began c txn ∷ inner ++ Committed c place ∷ []))) where
+  abbrev rest : List Entry
+  rest = inner ++ Committed c place ∷ []
+
+  pub inner_begins : BeginNothing inner
+  inner_begins = rw (filter-append is_began inner (Committed c place ∷ []), append-nil) at
+      (with_undone is_began (λ c. refl) rest ∙ (played script (without_undone rest) plays).0)
+
+  pub inner_commits : CommitNothing inner
+  inner_commits =
+      let (quiet, e, one) = played script (without_undone rest) plays in
+      (same_from_push (filter is_commit inner) [] (Committed c place) e
+      (sym (filter-append is_commit inner (Committed c place ∷ [])) ∙ with_undone is_commit (λ c. refl) rest ∙ one)).0
+
+-- If every entry of a list has a row, so has every entry of a front part of the list.
+abbrev seat_step : Option Seat → Entry → Option Seat
+seat_step seat e = option_and_then (λ s. row s s.phase e) seat
+
+none_stays : (es : List Entry) → fold seat_step None es ≡ None
+none_stays [] = refl
+none_stays (e ∷ es) = none_stays es
+
+pub seat_front : (es fs : List Entry) → is_some (seat_after (es ++ fs)) ≡ true → is_some (seat_after es) ≡ true
+seat_front es fs some = at (seat_after es) (ap is_some (sym (fold-append seat_step (Some closed_seat) es fs)) ∙ some)
+  where
+    at : (o : Option Seat) → is_some (fold seat_step o fs) ≡ true → is_some o ≡ true
+    at None some = absurd (false≢true (sym (ap is_some (none_stays fs)) ∙ some))
+    at (Some s) some = refl
 
 -- The committed transactions, read from a caller's own entries: each Committed entry commits the
 -- transaction of the last Began entry before it.
@@ -24,9 +73,7 @@ cons_append (Some x) xs ys = refl
 
 pub ended-append : (o : Option ℕ) (xs ys : List Entry) → ended_txns o (xs ++ ys) ≡ ended_txns o xs ++ ended_txns (fold next_txn o xs) ys
 ended-append o [] ys = refl
-ended-append o (x ∷ xs) ys =
-    let first : Option ℕ = cond (is_commit x) (next_txn o x) None in
-    ap (cons_option first) (ended-append (next_txn o x) xs ys) ∙ cons_append first (ended_txns (next_txn o x) xs) (ended_txns (fold next_txn (next_txn o x) xs) ys)
+ended-append o (x ∷ xs) ys = rw (ended-append (next_txn o x) xs ys, cons_append)
 
 pub record IsRead (c : ℕ) (h : List Entry) : Type 0 where
   pub last : txn_in h c ≡ fold next_txn None (own c h)
@@ -43,32 +90,29 @@ txn_stays g _ c other = refl
 read_push : (c : ℕ) (g : List Entry) (e : Entry) → IsRead c g → IsRead c (g ++ e ∷ [])
 read_push c g e r = elim (cases_eq (caller_of e) c) [
   | inl mine ↦
-      let own_is : own c (g ++ e ∷ []) ≡ own c g ++ e ∷ [] = own-push_in c g e mine in
       let at : txn_at g e ≡ next_txn (fold next_txn None (own c g)) e = at-next g e ∙ ap (λ o. next_txn o e) (ap (txn_in g) mine ∙ r.last) in
       record {
-        last = ap (λ f. f c) (txn_in-push g e) ∙ ap (λ d. txn_after (txn_in g) e d) (sym mine) ∙ at ∙ sym (ap (fold next_txn None) own_is ∙ fold-append next_txn None (own c g) (e ∷ []));
-        all = rw (own_is, ended-append, txns_of-push (is_commit_of c) g e, eq-eqb (caller_of e) c mine, and-true, at, r.all);
+        last = ap (λ f. f c) (txn_in-push g e) ∙ rw (own-push_in c g e mine, fold-append, ← at, ← mine);
+        all = rw (own-push_in c g e mine, ended-append, txns_of-push (is_commit_of c) g e, eq-eqb _ c mine, and-true, at, r.all);
       }
   | inr other ↦
       let apart : (caller_of e == c) ≡ false = ne_eqb (caller_of e) c other in
-      let own_is : own c (g ++ e ∷ []) ≡ own c g = own-push_out c g e apart in
       record {
-        last = ap (λ f. f c) (txn_in-push g e) ∙ txn_stays g e c apart ∙ r.last ∙ ap (fold next_txn None) (sym own_is);
-        all = rw (own_is, txns_of-push (is_commit_of c) g e, apart, and-false, append-nil) r.all;
+        last = ap (λ f. f c) (txn_in-push g e) ∙ rw (own-push_out c g e apart, txn_stays g e c apart) r.last;
+        all = rw (own-push_out c g e apart, txns_of-push (is_commit_of c) g e, apart, and-false, append-nil) r.all;
       }
 ]
 
 pub are_read : (c : ℕ) (h : List Entry) → IsShaped h → IsRead c h
 are_read c = by_entries (IsRead c) (λ g e shape callers shaped r. read_push c g e r) (record { last = refl; all = refl })
 
--- Entries that commit nothing yield no transaction; if none of them begins one, the present
--- transaction is unchanged.
+-- Entries that commit nothing yield no committed transaction.
 pub quiet_txns : (o : Option ℕ) (es : List Entry) → CommitNothing es → ended_txns o es ≡ []
 quiet_txns o [] quiet = refl
 quiet_txns o (Committed c p ∷ es) quiet = absurd (cc quiet)
-quiet_txns o (Began c t ∷ es) quiet = quiet_txns (Some t) es quiet
-quiet_txns o (e ∷ es) quiet = quiet_txns o es quiet
+quiet_txns o (e ∷ es) quiet = quiet_txns (next_txn o e) es quiet
 
+-- Entries that begin nothing leave the present transaction unchanged.
 pub same_txn : (o : Option ℕ) (es : List Entry) → BeginNothing es → fold next_txn o es ≡ o
 same_txn o [] quiet = refl
 same_txn o (Began c t ∷ es) quiet = absurd (cc quiet)

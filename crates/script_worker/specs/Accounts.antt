@@ -13,8 +13,8 @@ use Rattle.txn_words.specs.Shape.{own, how_many}
 use Rattle.txn_trace.specs.Plays.{without_undone, IsPlayed, Plays, commits_of}
 use Rattle.txn_drive.specs.Made.{CommitNothing}
 
--- The outcome of a script: committed, as this transaction, with this commit number and these
--- replies; or with nothing committed.
+-- The outcome of a script: it is committed as this transaction, with this commit number and these
+-- replies, or nothing is committed.
 pub data Outcome : Type 0 where
   Committed : ℕ → ℕ → List (Option ℕ) → Outcome
   Aborted : Outcome
@@ -41,13 +41,13 @@ abbrev pub replies_in : List Entry → List (Option ℕ)
 replies_in es = filter_map reply_in es
 
 -- This number of attempts found a stripe held: nothing is committed, and at least this many entries
--- tell so.
+-- tell of a held stripe.
 pub record AreBusy (attempts : ℕ) (es : List Entry) : Type 0 where
   pub nothing : CommitNothing es
   pub enough : attempts ≤ how_many is_busy es
 
--- The entries are those of a transaction of the caller, from its Began to its Committed, which
--- plays the script and has these replies.
+-- The entries are those of a transaction of the caller, from its Began to its Committed. The
+-- transaction plays the script and has these replies.
 pub record IsPlayedBy (c : ℕ) (script : List Action) (txn place : ℕ) (replies : List (Option ℕ))
     (es : List Entry) : Type 0 where
   pub inner : List Entry
@@ -55,8 +55,8 @@ pub record IsPlayedBy (c : ℕ) (script : List Action) (txn place : ℕ) (replie
   pub plays : IsPlayed script (without_undone es)
   pub replied : replies_in es ≡ replies
 
--- The entries are those that a caller has added by a script with this outcome: first those of
--- attempts without a commit, and then, if it is committed, those of its transaction.
+-- The entries that a caller has added by a script with this outcome: first those of attempts
+-- without a commit, and then, if the script is committed, those of its transaction.
 abbrev pub IsAccount : ℕ → ℕ → List Action → Outcome → List Entry → Type 0
 IsAccount c tries script (Committed txn place replies) es =
     (before : List Entry) × (part : List Entry) × (es ≡ before ++ part) × CommitNothing before
@@ -88,32 +88,32 @@ abbrev pub HasCome : ℕ → List Entry → List Action → Outcome → Type 0
 HasCome c h script (Committed txn place replies) = IsCommittedAs c script txn place replies h
 HasCome c h script outcome = Unit {0}
 
--- The Committed entry of an outcome, and its transaction, if it has one.
+-- The Committed entry and the transaction of an outcome, if it has them.
 abbrev pub commit_in : ℕ → Outcome → Option Entry
 commit_in c (Committed txn place replies) = Some (entries.Committed c place)
 commit_in c outcome = None
 
-abbrev pub txn_in : Outcome → Option ℕ
-txn_in (Committed txn place replies) = Some txn
-txn_in outcome = None
+abbrev pub committed_txn : Outcome → Option ℕ
+committed_txn (Committed txn place replies) = Some txn
+committed_txn outcome = None
 
 -- Whether a script found a stripe held in each of its attempts.
 abbrev pub is_busy_outcome : Outcome → Bool
 is_busy_outcome Busy = true
 is_busy_outcome outcome = false
 
--- The outcomes of a caller's scripts are true of the history: each committed one stands for a
--- transaction of the caller; the caller's Committed entries, and its committed transactions, are
--- those of the outcomes, in order; and there are at least `tries + 1` Busy entries for each outcome
--- that is busy.
+-- The outcomes of a caller's scripts are true of the history. Each committed outcome stands for a
+-- transaction of the caller. The caller's Committed entries and its committed transactions are
+-- those of the outcomes, in order. For each busy outcome there are at least `tries + 1` Busy
+-- entries.
 pub record AreTrue (c tries : ℕ) (h : List Entry) (tolds : List Told) : Type 0 where
   pub each : AllByRecursion (λ told. HasCome c h told.script told.outcome) tolds
   pub entries_are : filter is_commit (own c h) ≡ filter_map (λ told. commit_in c told.outcome) tolds
-  pub txns_are : commits_of c h ≡ filter_map (λ told. txn_in told.outcome) tolds
+  pub txns_are : commits_of c h ≡ filter_map (λ told. committed_txn told.outcome) tolds
   pub busy : length (filter (λ told. is_busy_outcome told.outcome) tolds) * (tries + 1)
       ≤ how_many is_busy (own c h)
 
--- Every `n`-th element of a list, after `after` others.
+-- Every `n`-th element of a list, beginning after the first `after` elements.
 abbrev pub every : {X : Type 0} → ℕ → ℕ → List X → List X
 every n after [] = []
 every n zero (x ∷ xs) = x ∷ every n (n - 1) xs
@@ -125,8 +125,8 @@ tolds_of (script ∷ scripts) (outcome ∷ outcomes) =
     record { script = script; outcome = outcome } ∷ tolds_of scripts outcomes
 tolds_of scripts outcomes = []
 
--- The outcomes of all scripts are true of the history. A caller has every `callers`-th script, from
--- the one with the caller's number on.
+-- The outcomes of all scripts are true of the history. A caller has every `callers`-th script,
+-- beginning with the one that has the caller's number.
 abbrev pub AreAllTrue : ℕ → ℕ → List (List Action) → List Outcome → List Entry → Type 0
 AreAllTrue callers tries scripts outcomes h = (c : ℕ) → c < callers
     → AreTrue c tries h (tolds_of (every callers c scripts) (every callers c outcomes))

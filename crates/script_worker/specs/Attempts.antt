@@ -41,7 +41,7 @@ call_at script Beginning = calls.Begin
 call_at script (Acting i) = call_of (slice_get script i)
 call_at script (Leaving refusal) = calls.Abort
 
--- The next action follows one that is done; after an abort, and after the commit, the script is
+-- After an action that is done comes the next action. After an abort or the commit the script is
 -- over.
 abbrev pub done_with : ℕ → ℕ → Option Action → Progress
 done_with again i None = Over finishes.Committed
@@ -54,8 +54,8 @@ done_at script again Beginning = Next (attempt_at again (Acting 0))
 done_at script again (Acting i) = done_with again i (slice_get script i)
 done_at script again (Leaving refusal) = Over (finishes.Refused refusal)
 
--- After a busy stripe the script is attempted again, if fewer than `tries` attempts were made
--- before.
+-- A script that found a stripe held is attempted again if fewer than `tries` attempts were made
+-- before this one.
 abbrev pub busy_at : ℕ → ℕ → Progress
 busy_at tries again =
     if nat_lt again tries then Next (attempt_at (again + 1) Beginning) else Over finishes.Busy
@@ -71,16 +71,17 @@ refused_in script again (Acting i) refusal = refused_with again (slice_get scrip
 refused_in script again stage refusal = Over (finishes.Refused refusal)
 
 -- The progress after a refused call. `OutOfStep` ends the script at once.
-abbrev pub refused_at : List Action → ℕ → Stage → Refusal → Progress
-refused_at script again stage OutOfStep = Over (finishes.Refused OutOfStep)
-refused_at script again stage refusal = refused_in script again stage refusal
+abbrev pub progress_refused : List Action → ℕ → Stage → Refusal → Progress
+progress_refused script again stage OutOfStep = Over (finishes.Refused OutOfStep)
+progress_refused script again stage refusal = refused_in script again stage refusal
 
--- The progress after the call of a stage, by its end.
+-- The progress after the call of a stage, if the call has this end.
 abbrev pub progress_at : List Action → ℕ → ℕ → Stage → End → Progress
 progress_at script tries again stage (ends.Answered answer) = done_at script again stage
 progress_at script tries again stage ends.Helped = done_at script again stage
 progress_at script tries again stage (ends.Busy holder) = busy_at tries again
-progress_at script tries again stage (ends.Refused refusal) = refused_at script again stage refusal
+progress_at script tries again stage (ends.Refused refusal) = progress_refused script again stage
+    refusal
 
 abbrev pub progress_of : List Action → ℕ → Attempt → End → Progress
 progress_of script tries attempt outcome =

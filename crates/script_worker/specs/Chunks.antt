@@ -46,7 +46,7 @@ abbrev pub heard_then : Heard → End → Attempt → Heard
 heard_then heard outcome next =
     heard_at next (txn_then heard.txn outcome) (replies_then heard.replies outcome)
 
--- The outcome of a script whose attempt is over, with this end of the last call.
+-- The outcome of a script that ended with this finish, if its last call had this end.
 abbrev pub outcome_by : Finish → End → Heard → Outcome
 outcome_by finishes.Committed (ends.Answered (answers.Committed place)) heard =
     accounts.Committed heard.txn place heard.replies
@@ -55,8 +55,8 @@ outcome_by finishes.Aborted outcome heard = accounts.Aborted
 outcome_by finishes.Busy outcome heard = accounts.Busy
 outcome_by (finishes.Refused refusal) outcome heard = accounts.Refused refusal
 
--- The entries of a transaction that has played the script up to the actions `left`, with these
--- replies.
+-- The entries of a transaction that has played all of the script except the actions `left`, with
+-- these replies.
 pub record IsFront (c : ℕ) (script left : List Action) (txn : ℕ) (replies : List (Option ℕ))
     (es : List Entry) : Type 0 where
   pub inner : List Entry

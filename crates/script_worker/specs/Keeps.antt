@@ -28,8 +28,8 @@ pub record KeepsTask (tries workers : ℕ) (scripts : List (List Action)) (w : �
   pub replies : List (Option ℕ)
   pub so_far : IsChunk w script (heard_at task.attempt txn replies) chunk
 
--- If no script is left, the entries are the accounts of the worker's scripts, as far as there are
--- outcomes.
+-- If no script is left, the entries are the accounts of the worker's scripts. A script without an
+-- outcome has no account.
 abbrev pub KeepsAt : ℕ → ℕ → List (List Action) → ℕ → Option Task → List Entry → Type 0
 KeepsAt tries workers scripts w None seen =
     (outcomes : List Outcome)
@@ -38,7 +38,7 @@ KeepsAt tries workers scripts w (Some task) seen = KeepsTask tries workers scrip
 
 -- The worker's entries in the history so far are those of its scripts; each script is tried again
 -- at most `tries` times.
-pub record Keeps (scripts : List (List Action)) (tries : ℕ) (worker : Standing)
+pub record KeepsScripts (scripts : List (List Action)) (tries : ℕ) (worker : Standing)
     (seen : List Entry) : Type 0 where
   pub number : worker.number < worker.limits.callers
   pub at : KeepsAt tries worker.limits.callers scripts worker.number worker.task seen

@@ -1,4 +1,4 @@
--- A worker: the script that it is at, its next step, and its state after the answer to it.
+-- A worker: the script that it is at, its next step, and its state after the answer to that step.
 use Rattle.std.specs.Prelude.{◌≡◌, ℕ, ◌+◌, nat_lt, Bool, if◌then◌else◌, List, length, Option, Some, None, is_some, slice_get}
 use Rattle.std.specs.Option.{option_map, option_and_then, option_or}
 use Rattle.txn_words.specs.declared.action.Action.{Action}
@@ -26,7 +26,7 @@ pub record Standing : Type 0 where
   pub limits : Sizes
   pub task : Option Task
 
--- The first attempt at the script of a number, if there is one.
+-- The first attempt at the script with this number, if there is one.
 abbrev pub started : Bool → List (List Action) → ℕ → ℕ → Option Task
 started half scripts w n =
     if nat_lt n (length scripts)
@@ -51,7 +51,7 @@ followed scripts w limits task script (Over finish) =
     started limits.half scripts w (task.script + limits.callers)
 
 -- The worker's task after the call of this task has ended with `outcome`: `None` if no script is
--- left, or if the task's number is that of no script.
+-- left, or if no script has the task's number.
 abbrev pub progressed : List (List Action) → ℕ → ℕ → Sizes → Task → End → Option Task
 progressed scripts tries w limits task outcome =
     option_and_then (λ script. followed scripts w limits task script
@@ -68,18 +68,18 @@ settled scripts tries w limits None = None
 settled scripts tries w limits (Some task) =
     settled_in scripts tries w limits task (end_of task.drive)
 
--- How the script is over, if this progress ends it.
+-- How the script ended, if this progress ends it.
 abbrev pub finish_of : Progress → Option Finish
 finish_of (Next attempt) = None
 finish_of (Over finish) = Some finish
 
--- How the script of a task is over, if this end of the call ends it.
+-- How the script of a task ended, if this end of the call ends it.
 abbrev pub finish_at : List (List Action) → ℕ → Task → End → Option Finish
 finish_at scripts tries task outcome =
     option_and_then (λ script. finish_of (progress_of script tries task.attempt outcome))
     (slice_get scripts task.script)
 
--- How the task's script is over, if the end of its call ends it.
+-- How the task's script ended, if the end of the task's call ends the script.
 abbrev pub finish_by : List (List Action) → ℕ → Option Task → Option Finish
 finish_by scripts tries None = None
 finish_by scripts tries (Some task) =
@@ -100,7 +100,7 @@ abbrev pub task_told : List (List Action) → ℕ → ℕ → Sizes → Option T
 task_told scripts tries w limits task answer =
     settled scripts tries w limits (settled scripts tries w limits (drive_told task answer))
 
--- How the task's script is over, if this answer ended it.
+-- How the task's script ended, if this answer ended it.
 abbrev pub finish_after : List (List Action) → ℕ → ℕ → Sizes → Option Task → Answer
     → Option Finish
 finish_after scripts tries w limits task answer =
@@ -117,7 +117,7 @@ told_by scripts tries worker answer = record worker {
   task = task_told scripts tries worker.number worker.limits worker.task answer;
 }
 
--- How the worker's script is over, if this answer ended it.
+-- How the worker's script ended, if this answer ended it.
 abbrev pub finish_told : List (List Action) → ℕ → Standing → Answer → Option Finish
 finish_told scripts tries worker answer =
     finish_after scripts tries worker.number worker.limits worker.task answer
@@ -153,8 +153,8 @@ IsTurnBy worker (Some (Two step next)) =
     (step_by worker ≡ Some step) × (step_by (told_drive worker answers.Placed) ≡ Some next)
 IsTurnBy worker (Some (Ended outcome)) = ⊥
 
--- The state on which a worker's steps are taken, the worker, and how its script is over, if this
--- turn ended it.
+-- The state on which a worker's steps are taken, the worker, and how its script ended, if this turn
+-- ended it.
 pub record Working (X : Type 0) : Type 0 where
   pub taker : X
   pub worker : Standing
@@ -168,12 +168,12 @@ pub record TakesStep {X : Type 0} (takes : X → Step → Answer → X → Type 
   pub told : new.worker ≡ told_by scripts tries old.worker answer
   pub ended : new.finish ≡ option_or (finish_told scripts tries old.worker answer) old.finish
 
--- A turn of a worker takes at least one step.
-abbrev pub TakesIn : {X : Type 0} → (X → Step → Answer → X → Type 0) → List (List Action) → ℕ
+-- A turn of a worker is taken. It has at least one step.
+abbrev pub TakesTurnBy : {X : Type 0} → (X → Step → Answer → X → Type 0) → List (List Action) → ℕ
     → Working X → Option Turn → Working X → Type 0
-TakesIn takes scripts tries old None new = ⊥
-TakesIn takes scripts tries old (Some (Ended outcome)) new = ⊥
-TakesIn takes scripts tries old (Some turn) new =
+TakesTurnBy takes scripts tries old None new = ⊥
+TakesTurnBy takes scripts tries old (Some (Ended outcome)) new = ⊥
+TakesTurnBy takes scripts tries old (Some turn) new =
     TakesTurn (TakesStep takes scripts tries) old turn new
 
 -- The next turn of a worker is taken, at this size of the table.
@@ -181,7 +181,7 @@ pub record TakesNext {X : Type 0} (takes : X → Step → Answer → X → Type 
     (size : ℕ) (scripts : List (List Action)) (tries : ℕ)
     (old : X) (before : Standing) (finish : Option Finish) (new : X)
     (after : Standing) : Type 0 where
-  pub steps : TakesIn takes scripts tries
+  pub steps : TakesTurnBy takes scripts tries
       (record { taker = old; worker = sized_by size before; finish = None })
       (turn_by (sized_by size before))
       (record { taker = new; worker = after; finish = finish })

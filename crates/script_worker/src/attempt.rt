@@ -2,7 +2,7 @@
 //! are about one script only and take no step; those of the worker are in `task`. An attempt keeps
 //! its stage and the number of attempts before it, and nothing of the script.
 ghost use Rattle.std.specs.Prelude.{◌≡◌};
-ghost use Rattle.script_worker.specs.Attempts.{first_attempt, call_for, call_at, done_with, done_at, busy_at, refused_with, refused_at, progress_of};
+ghost use Rattle.script_worker.specs.Attempts.{first_attempt, call_for, call_at, done_with, done_at, busy_at, refused_with, progress_refused, progress_of};
 
 use txn_drive::{Call, End};
 use txn_trace::{Action, PackedAction, Refusal};
@@ -12,10 +12,10 @@ use txn_trace::{Action, PackedAction, Refusal};
 pub enum Stage {
     /// The next call is the begin.
     Beginning,
-    /// The next call is the action of this index, from 0; if the script has no such action, it is
-    /// the commit.
+    /// The next call is the action with this index, counted from 0, or the commit if the script has
+    /// no such action.
     Acting(usize),
-    /// The next call is the abort, since a call was refused with this.
+    /// The next call is the abort, since a call was refused with this refusal.
     Leaving(Refusal),
 }
 
@@ -28,16 +28,16 @@ pub struct Attempt {
     pub stage: Stage,
 }
 
-/// The finish of a script: it says how the script ended, by the rules of its attempts. The outcome
-/// that `thread_runs` tells of a committed script also has the transaction, its commit number and
-/// the replies.
+/// The finish of a script: how the script ended. `Attempt::progress` answers it. The outcome that
+/// `thread_runs` tells of a committed script also has the transaction, its commit number and the
+/// replies.
 #[derive(Clone, Copy, Debug, PartialEq, Eq)]
 pub enum Finish {
     /// Its transaction is committed.
     Committed,
-    /// It has aborted its transaction itself.
+    /// The script has aborted its transaction itself.
     Aborted,
-    /// Each attempt found a stripe held by another, and is aborted.
+    /// Each attempt found a stripe held by another caller, and was aborted.
     Busy,
     /// A call was refused with this refusal. The script's transaction is aborted, or did not begin;
     /// but after `OutOfStep`, or if a commit or an abort was refused, it may still be open.
@@ -49,7 +49,7 @@ pub enum Finish {
 pub enum Progress {
     /// The next call of this attempt.
     Next(Attempt),
-    /// Nothing: the script is over.
+    /// No further call: the script is over.
     Over(Finish),
 }
 
@@ -91,11 +91,11 @@ impl Attempt {
         }
     }
 
-    /// The progress after the call that `call` names, by its end.
+    /// The progress after the call that `call` names, if the call ends with `end`.
     ///
     /// A script that found a stripe held is attempted again if fewer than `tries` attempts were
-    /// made before this one. After a refusal of an operation, a savepoint, a return or help the
-    /// transaction is aborted; every other refusal, and `OutOfStep` of any call, ends the script at
+    /// made before this one. If an operation, a savepoint, a return or help is refused, the
+    /// transaction is aborted; any other refusal, and `OutOfStep` from any call, ends the script at
     /// once.
     pub fn progress(self, script: &[PackedAction], tries: u64, end: End) -> Progress
         ensures { result ≡ progress_of script.now tries self end }
@@ -124,7 +124,7 @@ impl Attempt {
         }
     }
 
-    /// The progress if a stripe was held by another, and the transaction is aborted.
+    /// The progress if a stripe was held by another caller, and the transaction was aborted.
     fn busy(self, tries: u64) -> Progress
         ensures { result ≡ busy_at tries self.again }
     {
@@ -140,7 +140,7 @@ impl Attempt {
 
     /// The progress if the call was refused.
     fn after_refusal(self, script: &[PackedAction], refusal: Refusal) -> Progress
-        ensures { result ≡ refused_at script.now self.again self.stage refusal }
+        ensures { result ≡ progress_refused script.now self.again self.stage refusal }
     {
         let over = Progress::Over(Finish::Refused(refusal));
         if let Refusal::OutOfStep = refusal {

@@ -1,6 +1,6 @@
-//! The script that a worker is at, and the effect of an answer on it: the drive is told; a call
-//! that ended is followed by the next call, and a script that is over is followed by the worker's
-//! next script. A worker without a script left has no task.
+//! The script that a worker is at, and the effect of an answer on it. The drive is told the answer.
+//! After a call that ended comes the next call. After a script that is over comes the worker's next
+//! script. A worker without a script left has no task.
 ghost use Rattle.std.specs.Prelude.{◌≡◌};
 ghost use Rattle.script_worker.specs.Workers.{started, progressed, settled, task_told};
 ghost use Rattle.script_worker.specs.Workers.{finish_at, finish_by, finish_after};
@@ -42,8 +42,8 @@ impl Task {
     }
 }
 
-/// Moves on to the next call if the call of the worker's task has ended. Answers how the task's
-/// script is over, if the end of the call ended it.
+/// Moves on to the next call if the call of the worker's task has ended. If that call was the last
+/// of the task's script, answers how the script ended.
 fn settle(
     task: &mut Option<Task>,
     worker: usize,
@@ -79,8 +79,8 @@ fn settle(
     }
 }
 
-/// Tells the worker's task the answer to its step and finds its next step. Answers how its script
-/// is over, if this answer ended it.
+/// Tells the worker's task the answer to its step and finds its next step. If this answer ends the
+/// task's script, answers how the script ended.
 pub(crate) fn tell(
     task: &mut Option<Task>,
     worker: usize,
@@ -100,8 +100,8 @@ pub(crate) fn tell(
         return None;
     };
     let first = settle(task, worker, limits, scripts, tries);
-    // A call of help may end before its first step. Then an abort follows at once, which takes a
-    // step.
+    // A call of help may end before its first step. Then the next call is an abort, and an abort
+    // takes a step.
     let Some(next) = task else {
         return first;
     };

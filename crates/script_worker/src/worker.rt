@@ -1,6 +1,6 @@
-//! A worker: its number, the limits of the map and its task. `task` says what follows an answer;
-//! this module adds the type, whose invariant is that a worker with a script left has a step to
-//! take. Turns and answers keep the account of its scripts in the history (`specs/Keeps.antt`).
+//! A worker: its number, the limits of the map and its task. `task` says what follows an answer.
+//! This module adds the type, whose invariant is that a worker with a script left has a step to
+//! take. With each turn and each answer the worker keeps to its scripts (`specs/Keeps.antt`).
 ghost use Rattle.std.specs.Option.{option_or};
 ghost use Rattle.std.specs.Prelude.{◌≡◌, ℕ, ◌<◌, ◌++◌, List, [], Some, true, is_some};
 ghost use Rattle.txn_words.specs.declared.action.Action.{Action};
@@ -8,7 +8,7 @@ ghost use Rattle.txn_words.specs.declared.entry.Entry.{Entry};
 ghost use Rattle.txn_words.specs.declared.step.Step.{Step};
 ghost use Rattle.txn_words.specs.Entries.{entries_of};
 ghost use Rattle.script_worker.specs.Workers.{new_worker, told_by, told_drive, finish_told, sized_by, turn_by, step_by, IsReady, IsTurnBy, TakesNext};
-ghost use Rattle.script_worker.specs.Keeps.{Keeps};
+ghost use Rattle.script_worker.specs.Keeps.{KeepsScripts};
 
 use crate::attempt::Finish;
 use crate::task::{Task, tell};
@@ -20,11 +20,11 @@ use txn_trace::{Answer, Limits, Script, Step};
 /// `w`, `w + n`, `w + 2 n` and so on, in this order. While it has a script left it has a step to
 /// take.
 ///
-/// Begin with `new`. While the worker is live, take turns by `take_turn`; or by `turn`, and after
-/// each step pass its answer to `told`.
+/// Begin with `new`. While the worker is live, take turns by `take_turn`. Or call `turn`, take its
+/// steps yourself, and pass the answer to each step to `told`.
 #[derive(Clone, Copy, Debug, PartialEq, Eq)]
 pub struct Worker {
-    /// The worker's number, from 0, which is its caller's too.
+    /// The number of the worker and of its caller, counted from 0.
     number: usize,
     /// The limits of the map; its callers are the workers.
     limits: Limits,
@@ -59,7 +59,7 @@ impl Worker {
         requires { number < limits.callers }
         ensures worker { result ≡ new_worker scripts.now number limits }
         ensures ready { IsReady result }
-        ensures keeps { (tries : ℕ) → Keeps scripts.now tries result [] }
+        ensures keeps { (tries : ℕ) → KeepsScripts scripts.now tries result [] }
     {
         Worker {
             number,
@@ -92,7 +92,7 @@ impl Worker {
         ensures step { IsTurnBy self.new result }
         ensures ready { IsReady self.new }
         ensures keeps { (scripts : List (List Action)) (tries : ℕ) (seen : List Entry)
-            → Keeps scripts tries self.old seen → Keeps scripts tries self.new seen }
+            → KeepsScripts scripts tries self.old seen → KeepsScripts scripts tries self.new seen }
     {
         match &mut self.task {
             Some(task) => Some(task.drive.turn(size)),
@@ -101,8 +101,8 @@ impl Worker {
     }
 
     /// Takes the next turn, for a table that has this size now: `step` takes each of its steps, and
-    /// the worker is told the answers, as by `told`. Answers how the worker's script is over, if
-    /// this turn ended it.
+    /// the worker is told the answers, as by `told`. If this turn ends the worker's script, answers
+    /// how the script ended.
     ///
     /// # Cost
     ///
@@ -144,15 +144,15 @@ impl Worker {
 
     /// Tells the worker the answer to a step that its turn named. For a turn of two steps, call
     /// `told` after each step that was taken. Pass the same scripts and tries each time: a script
-    /// that found a stripe held is attempted again up to `tries` times. Answers how the worker's
-    /// script is over, if this answer ended it.
+    /// that found a stripe held is attempted again up to `tries` times. If this answer ends the
+    /// worker's script, answers how the script ended.
     ///
     /// If the answer ended the worker's call, `told` moves the worker on to the next call of the
     /// same script, or to the first call of the worker's next script, if there is one.
     ///
     /// # Cost
     ///
-    /// Constant time: the search of a helper's next bucket takes up to 32 rounds.
+    /// Constant time: the search for a helper's next bucket takes up to 32 rounds.
     pub fn told(&mut self, scripts: &[Script], tries: u64, answer: Answer) -> Option<Finish>
         ensures finish { result ≡ finish_told scripts.now tries self.old answer }
         ensures worker { self.new ≡ told_by scripts.now tries self.old answer }
@@ -162,8 +162,8 @@ impl Worker {
         ensures second { (step : Step) → step_by (told_drive self.old answer) ≡ Some step
             → step_by self.new ≡ Some step }
         ensures keeps { (seen : List Entry) (step : Step) → step_by self.old ≡ Some step
-            → Keeps scripts.now tries self.old seen
-            → Keeps scripts.now tries self.new (seen ++ entries_of step answer) }
+            → KeepsScripts scripts.now tries self.old seen
+            → KeepsScripts scripts.now tries self.new (seen ++ entries_of step answer) }
     {
         let (number, limits) = (self.number, self.limits);
         tell(&mut self.task, number, limits, scripts, tries, answer)

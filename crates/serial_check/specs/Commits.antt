@@ -2,7 +2,7 @@
 use Rattle.std.specs.Prelude.{◌≡◌, ◌≢◌, ◌⊎◌, ℕ, Bool, true, false, List, [], ◌∷◌, ◌++◌, None, Some, IsSome, slice_get}
 use Rattle.std.specs.Option.{IfSome}
 use Rattle.txn_words.specs.declared.entry.Entry.{Entry}
-use Rattle.txn_trace.specs.Alone.{Run, alone}
+use Rattle.txn_trace.specs.Alone.{AloneRun, alone}
 use Rattle.txn_trace.specs.History.{is_open, of}
 use Rattle.txn_trace.specs.Legal.{is_running}
 use Rattle.txn_trace.specs.Log.{log_of}
@@ -32,32 +32,34 @@ pub record IsOfCaller (h : List Entry) (c : ℕ) (foot : Footprint) : Type 0 whe
 
 -- The values are those of the map that the committed transactions leave, and each caller has the
 -- footprint of its transaction.
-pub record Keeps (h : List Entry) (commits : Commits) : Type 0 where
+pub record ShowsSerial (h : List Entry) (commits : Commits) : Type 0 where
   pub values : Has (serial h) commits.values
   pub footprints : (c : ℕ) → IfSome (slice_get commits.footprints.items c) (IsOfCaller h c)
 
--- The new commits keep all that the old ones keep.
+-- If `old` shows a history (`ShowsSerial`), `new` shows this history too.
 abbrev pub Stays : Commits → Commits → Type 0
-Stays old new = (h : List Entry) → Keeps h old → Keeps h new
+Stays old new = (h : List Entry) → ShowsSerial h old → ShowsSerial h new
 
--- `right` says whether the entry may follow the history by the rule of replies: whether it commits
--- no transaction, or a transaction with right replies. If so, the new commits keep the history with
--- this entry added.
+-- `right` says whether the rule of replies lets the entry follow the history. The rule forbids only
+-- an entry that commits a transaction with wrong replies. If `right` is true, `new` shows the
+-- history with this entry added (`ShowsSerial`).
 pub record JudgesAt (h : List Entry) (e : Entry) (right : Bool) (new : Commits) : Type 0 where
   pub right_is : commits_right h e ≡ right
-  pub keeps : right ≡ true → Keeps (h ++ e ∷ []) new
+  pub keeps : right ≡ true → ShowsSerial (h ++ e ∷ []) new
 
--- After each history that the callers have entered and the old commits keep, an entry of the right
--- shape is judged as `JudgesAt` says.
+-- The entry is judged as `JudgesAt` says after each history `h` of which three facts hold:
+-- - The table `callers` has taken in the entries `h` (`HaveEntered`).
+-- - `old` shows `h` (`ShowsSerial`).
+-- - The entry has the right shape after `h`.
 abbrev pub Judges : Entry → Callers → Commits → Bool → Commits → Type 0
 Judges e callers old right new =
-    (h : List Entry) → HaveEntered h callers → Keeps h old → is_shaped h e ≡ true
+    (h : List Entry) → HaveEntered h callers → ShowsSerial h old → is_shaped h e ≡ true
     → JudgesAt h e right new
 
 -- By the transaction's replies the key must have had the value `read`; the committed map has
 -- another one, `due`.
 pub record IsMisread (h : List Entry) (t : ℕ) (miss : Misread) : Type 0 where
-  pub read_is : (m : Map) (r : Run) → alone m (of t h) ≡ Some r → get m miss.key ≡ miss.read
+  pub read_is : (m : Map) (r : AloneRun) → alone m (of t h) ≡ Some r → get m miss.key ≡ miss.read
   pub due_is : get (serial h) miss.key ≡ miss.due
   pub differs : miss.read ≢ miss.due
 
@@ -69,7 +71,7 @@ IsTorn h t = (m : Map) → alone m (of t h) ≡ None
 abbrev pub RunsSomewhere : List Entry → ℕ → Type 0
 RunsSomewhere h t = (m : Map) × IsSome (alone m (of t h))
 
--- A transaction has the replies of running alone on the committed map, or no map gives it all of
--- its replies.
+-- A transaction has the same replies as if it ran alone on the committed map, or no map gives it
+-- all of its replies.
 abbrev pub FitsOrTorn : List Entry → ℕ → Type 0
 FitsOrTorn h t = IsSome (alone (serial h) (of t h)) ⊎ IsTorn h t

@@ -6,14 +6,14 @@ use Rattle.history_check.specs.Callers.{HaveEntered}
 use Rattle.history_check.specs.Verdicts.{number_of}
 use Rattle.serial_check.specs.declared.state.State.{State}
 use Rattle.serial_check.specs.Serializable.{IsSerializable, broken}
-use Rattle.serial_check.specs.Commits.{Keeps}
+use Rattle.serial_check.specs.Commits.{ShowsSerial}
 
 -- The entries are a serializable history, and the state has the callers and the commits that this
 -- history leaves.
 pub record Tells (h : List Entry) (state : State) : Type 0 where
   pub serializable : IsSerializable h
   pub entered : HaveEntered h state.callers
-  pub keeps : Keeps h state.commits
+  pub keeps : ShowsSerial h state.commits
 
 -- The new state tells each history that the old one tells.
 abbrev pub Stays : State → State → Type 0

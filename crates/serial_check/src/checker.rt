@@ -1,7 +1,7 @@
-//! The checker that judges a history by the order of its commits. To the state it adds the number
-//! of entries and the first bad entry, after which the verdict no longer changes. A transaction's
-//! replies are judged at its Committed entry; before that entry, `misread` and `is_torn` tell
-//! whether the transaction could commit, and change nothing.
+//! The checker that judges a history by the order of its commits. The checker adds two things to
+//! the state: the number of entries and the first bad entry. After a bad entry the verdict no
+//! longer changes. A transaction's replies are judged at its Committed entry. Before that entry,
+//! `misread` and `is_torn` tell whether the transaction could commit, and change nothing.
 ghost use Rattle.std.specs.Prelude.{◌≡◌, ℕ, ◌<◌, ◌++◌, [], ◌∷◌, List, IfOk, OnOk, OnErr, IfSome, IsNone, Some, true, false};
 ghost use Rattle.txn_words.specs.Kinds.{caller_of};
 ghost use Rattle.serial_check.specs.Verdicts.{IsVerdictOn};
@@ -14,7 +14,7 @@ use txn_trace::Entry;
 
 /// A checker that is fed the entries of a history one after another, and keeps none of them.
 ///
-/// A contract sees the entries that it was fed: `IsFed h checker`.
+/// In a contract, `IsFed h checker` says that the checker was fed the entries `h`.
 #[derive(Drop)]
 pub struct Checker {
     state: State,
@@ -53,8 +53,8 @@ impl Checker {
         })
     }
 
-    /// Feeds it the next entry, whose caller is below 64. Entries after the first bad one change
-    /// nothing.
+    /// Feeds the checker the next entry, whose caller is below 64. Entries after the first bad one
+    /// change nothing.
     ///
     /// # Errors
     ///
@@ -67,8 +67,8 @@ impl Checker {
     /// A Committed costs, for each of these keys, the logarithm of the number of keys in the map.
     /// An Aborted costs a step for each of these keys. Any other entry takes constant time. All
     /// times are amortized, since an entry may drop changes and savepoints. A Did takes memory,
-    /// even if it is no change; so do a Saved, and a Committed for new keys. After the first bad
-    /// entry a call takes constant time and no memory.
+    /// even if its operation changes nothing. So do a Saved, and a Committed that adds keys to the
+    /// map. After the first bad entry a call takes constant time and no memory.
     pub fn feed(&mut self, entry: &Entry) -> Result<(), AllocError>
         requires { caller_of entry.now < 64 }
         ensures ok { OnOk result ((h : List Entry) →
@@ -105,8 +105,8 @@ impl Checker {
         }
     }
 
-    /// The callers after the entries so far, as long as none is bad: the phase of each says which
-    /// entries may follow.
+    /// The callers after the entries so far, as long as no entry is bad. A caller's phase says
+    /// which of its entries may follow.
     pub fn callers(&self) -> &Callers
         ensures { (h : List Entry) →
             IsFed h self.now → IsSerializable h → HaveEntered h result.now }

@@ -31,18 +31,18 @@ pub struct Misread {
 pub(crate) struct Commits {
     /// The values of the keys.
     pub(crate) values: BTreeMap<u64, u64>,
-    /// The footprint of each caller's transaction, by its number.
+    /// The footprint of each caller's transaction, by the caller's number.
     pub(crate) footprints: Vec<Footprint>,
     ghost all: { vec_len footprints ≡ 64 },
 }
 
 impl Commits {
     ghost use Rattle.serial_check.specs.Serializable.{txn_in};
-    ghost use Rattle.serial_check.specs.Commits.{Keeps, Judges, Stays, IsMisread, IsTorn, FitsOrTorn, RunsSomewhere};
+    ghost use Rattle.serial_check.specs.Commits.{ShowsSerial, Judges, Stays, IsMisread, IsTorn, FitsOrTorn, RunsSomewhere};
 
     /// The empty map, with no transactions.
     pub(crate) fn new(alloc: Global) -> Result<Commits, AllocError>
-        ensures { IfOk result (Keeps []) }
+        ensures { IfOk result (ShowsSerial []) }
     {
         let mut footprints = Vec::with_capacity(alloc, CALLERS)?;
         for _ in 0..CALLERS {
@@ -54,7 +54,7 @@ impl Commits {
         })
     }
 
-    /// Takes in an entry of the right shape and answers `true`; or answers `false` if the entry
+    /// Takes in an entry of the right shape and answers `true`, or answers `false` if the entry
     /// commits a transaction with a wrong reply.
     pub(crate) fn take_in(&mut self, callers: &Callers, entry: &Entry) -> Result<bool, AllocError>
         requires { caller_of entry.now < 64 }
@@ -79,9 +79,9 @@ impl Commits {
         Ok(true)
     }
 
-    /// Commits the caller's transaction if it has the replies of running alone on the map, and
-    /// answers whether it has them. After a commit the map has the values that the transaction
-    /// leaves, and the caller's footprint is empty.
+    /// Commits the caller's transaction if its replies are the same as if it ran alone on the map.
+    /// Answers whether they are. After a commit the map has the values that the transaction leaves,
+    /// and the caller's footprint is empty.
     fn commit(&mut self, caller: u64) -> Result<bool, AllocError>
         requires { caller < 64 }
         ensures ok { IfOk result (λ right. (callers : Callers) (number : ℕ) →
@@ -102,9 +102,9 @@ impl Commits {
     /// Takes a look-up for each key.
     pub(crate) fn misread(&self, caller: u64) -> Option<Misread>
         requires { caller < 64 }
-        ensures some { (h : List Entry) (t : ℕ) → Keeps h self.now → txn_in h caller ≡ Some t →
-            is_open t h ≡ true → IfSome result (IsMisread h t) }
-        ensures none { IsNone result → (h : List Entry) (t : ℕ) → Keeps h self.now →
+        ensures some { (h : List Entry) (t : ℕ) → ShowsSerial h self.now →
+            txn_in h caller ≡ Some t → is_open t h ≡ true → IfSome result (IsMisread h t) }
+        ensures none { IsNone result → (h : List Entry) (t : ℕ) → ShowsSerial h self.now →
             txn_in h caller ≡ Some t → is_open t h ≡ true → FitsOrTorn h t }
     {
         let footprint = &self.footprints[caller as usize];
@@ -119,9 +119,9 @@ impl Commits {
     /// Whether the replies of the caller's transaction contradict one another. Constant time.
     pub(crate) fn is_torn(&self, caller: u64) -> bool
         requires { caller < 64 }
-        ensures torn { result ≡ true → (h : List Entry) (t : ℕ) → Keeps h self.now →
+        ensures torn { result ≡ true → (h : List Entry) (t : ℕ) → ShowsSerial h self.now →
             txn_in h caller ≡ Some t → is_open t h ≡ true → IsTorn h t }
-        ensures whole { result ≡ false → (h : List Entry) (t : ℕ) → Keeps h self.now →
+        ensures whole { result ≡ false → (h : List Entry) (t : ℕ) → ShowsSerial h self.now →
             txn_in h caller ≡ Some t → is_open t h ≡ true → RunsSomewhere h t }
     {
         let footprint = &self.footprints[caller as usize];

@@ -15,7 +15,7 @@ use txn_trace::{Entry, SmallEntry};
 ///
 /// The verdict is `Legal`, with the numbers of commits and of callers that are in a transaction at
 /// the end, exactly if the history is serializable in that order. Otherwise it is `Illegal`, with
-/// the index of the first entry that breaks a rule, from 0, and the rule: shape, or replies if the
+/// the index, from 0, of the first entry that breaks a rule, and the rule: shape, or replies if the
 /// entry is the Committed of a transaction with a wrong reply.
 ///
 /// # Errors

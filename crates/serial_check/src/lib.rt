@@ -1,30 +1,39 @@
 //! A judge of recorded histories by the order of their commits.
 //!
-//! A history, a list of `txn_trace`'s entries, is serializable in the order of its commits if each
-//! transaction that commits has the replies of running alone on the map of those that committed
-//! before it, and if each caller's entries have the right shape: `IsSerializable`. The rule of
-//! shape is that of `history_check`; there is no rule of locks, and transactions that abort or stay
-//! open may have read anything. So it judges stores whose readers share locks or that validate at
-//! the commit (optimistic, or multi-version), while `history_check` judges those that lock each key
-//! for one transaction. A history that is serializable only in another order than that of its
+//! A history is a list of `txn_trace`'s entries. It is serializable in the order of its commits
+//! (`IsSerializable`) if two rules hold:
+//! - Each transaction that commits has the same replies as if it ran alone on the map that the
+//!   earlier commits leave.
+//! - Each caller's entries have the right shape. This is the rule of shape of `history_check`.
+//!
+//! There is no rule of locks, and transactions that abort or stay open may have read anything. So
+//! this crate judges stores whose readers share locks, and stores that validate at the commit
+//! (optimistic, or multi-version). `history_check` judges stores that lock each key for one
+//! transaction at a time. A history that is serializable only in another order than that of its
 //! commits is refused.
 //!
-//! No transaction is run again, and no entry is kept. A transaction's first reply at a key is the
-//! value that the key must have had before. Every later reply there follows from the transaction's
-//! own operations, or fits no map. If all of them follow, the replies fit exactly the maps that had
-//! these values. So the checker keeps a *footprint* of each caller: for each key the value that it
-//! must have had before, and its value now. A return to a savepoint restores a key's value now, but
-//! not the value that the key must have had before. A footprint is about every map, not only the
-//! present one, so no commit of another caller changes it. At a Committed the keys are compared
-//! with the committed map, and written only if all fit. Comparing reads with the committed state is
-//! the validation of Kung and Robinson, "On Optimistic Methods for Concurrency Control" (TODS
-//! 1981).
+//! No transaction is run again, and no entry is kept. Instead the checker keeps a *footprint* of
+//! each caller's transaction. The footprint has two values for each key that the transaction asked
+//! for:
+//! - `need` is the value that the key must have before the transaction. It is the transaction's
+//!   first reply at the key, and never changes.
+//! - `now` is the value that the transaction sees at the key now. Each operation of the transaction
+//!   may change it. A return to a savepoint sets it back.
 //!
-//! An entry costs the logarithm of the number of its transaction's keys; a Committed costs, for
-//! each of these keys, the logarithm of the number of keys in the map; an Aborted costs a step for
-//! each of its transaction's keys. Memory is in proportion to the committed map and to the
-//! different keys, standing changes and savepoints of the transactions that are open at one time.
-//! Calls take constant time and no memory unless they say otherwise.
+//! Each later reply at a key must be `now`. If one is not, the replies contradict one another, and
+//! no map gives the transaction all of them. Otherwise a map gives the transaction all of them
+//! exactly if it has the value `need` at each of the keys. No commit of another caller changes a
+//! footprint, since a footprint is about all maps and not only about the present one.
+//!
+//! At a Committed entry each `need` is compared with the committed map. If all are equal, the keys
+//! get the values `now` in the committed map. Comparing reads with the committed state is the
+//! validation of Kung and Robinson, "On Optimistic Methods for Concurrency Control" (TODS 1981).
+//!
+//! An entry costs the logarithm of the number of its transaction's keys. A Committed costs, for
+//! each of these keys, the logarithm of the number of keys in the map. An Aborted costs a step for
+//! each of these keys. Memory is in proportion to the committed map and to the different keys,
+//! standing changes and savepoints of the transactions that are open at one time. Calls take
+//! constant time and no memory unless they say otherwise.
 //!
 //! Proved: `check`, `check_packed`, and a `Checker` that was fed the same entries, answer what the
 //! definition `verdict` says, with the first bad entry, and they answer legal exactly if

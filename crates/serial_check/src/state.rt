@@ -1,6 +1,7 @@
-//! The state of a checker: callers, committed map and footprints. It puts two judges together, that
-//! of shape from `history_check`, which is asked first, and that of commits. Its model is the
-//! history that it was fed, unchanged if memory is refused; no list of the entries is kept.
+//! The state of a checker: callers, committed map and footprints. It puts two judges together: the
+//! judge of shape from `history_check`, which is asked first, and the judge of commits. The model
+//! of the state is the history that it was fed. A refusal of memory leaves this model unchanged. No
+//! list of the entries is kept.
 ghost use Rattle.std.specs.Prelude.{◌<◌, [], IfOk, OnErr};
 ghost use Rattle.txn_words.specs.Kinds.{caller_of};
 
@@ -9,7 +10,7 @@ use history_check::{Callers, Rule};
 use std::alloc::{AllocError, Global};
 use txn_trace::Entry;
 
-/// The parts of a serializable history that are needed to judge the next entry.
+/// The state of a serializable history, enough to judge the next entry.
 #[derive(Drop)]
 pub(crate) struct State {
     /// The callers, by which shape is judged.

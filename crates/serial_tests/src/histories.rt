@@ -66,7 +66,7 @@ const WRONG_BUT_ABORTED: [Entry; 8] = [
 ];
 
 /// A transaction reads a value that is not committed yet. When the transaction commits, the value
-/// is committed.
+/// has been committed.
 const RIGHT_LATER: [Entry; 8] = [
     Entry::Began(0, 1),
     Entry::Began(1, 2),
@@ -78,7 +78,7 @@ const RIGHT_LATER: [Entry; 8] = [
     Entry::Committed(0, 2),
 ];
 
-/// A wrong reply above a savepoint, to which its transaction goes back.
+/// A wrong reply above a savepoint. Its transaction goes back to the savepoint.
 const WRONG_BUT_TAKEN_BACK: [Entry; 9] = [
     Entry::Began(0, 1),
     Entry::Asked(0, Op::Put(1, 10)),
@@ -115,8 +115,8 @@ const BACK_TO_A_SAVEPOINT: [Entry; 20] = [
     Entry::Aborted(1),
 ];
 
-/// One transaction puts three keys. The next one takes the first, puts over the second and reads
-/// the third. The last one reads an old value.
+/// One transaction puts three keys. The next transaction takes the first key, overwrites the second
+/// key and reads the third key. The last transaction reads an old value.
 const NEW_KEYS: [Entry; 22] = [
     Entry::Began(0, 1),
     Entry::Asked(0, Op::Put(1, 10)),

@@ -7,7 +7,7 @@ use std::alloc::{AllocError, Global};
 use std::test::Fail;
 use txn_files::{read_packed_history, read_scripts};
 
-/// A script file, a history file, and the outcomes, one on each line.
+/// A script file, a history file, and the outcomes, separated by commas.
 type Row = (&'static str, &'static str, &'static str);
 
 /// Two workers meet: the second finds the stripe held, and tries its script again.
@@ -31,7 +31,7 @@ const USED_UP: Row = (
     "committed 2 entry 10, given up, given up, committed 1 entry 8",
 );
 
-/// A script whose tries are used up; the next one of the same worker aborts at once.
+/// A script whose tries are used up. The worker's next script aborts at once.
 const USED_UP_BEFORE_AN_ABORT: Row = (
     r#"{"version":1,"workers":2,"stripes":8,"buckets":8,"tries":1,
         "scripts":[[["put",1,1],["put",2,2]],[["put",1,9]],[["abort"]]]}"#,

@@ -6,7 +6,7 @@ use Rattle.map_answers.specs.declared.stop.Stop.{Stop}
 use Rattle.map_answers.specs.declared.stop.Stop.TheVariants.{Busy, Refused}
 use Rattle.core_tokens.specs.Tokens.{Token}
 use Rattle.shared_transactions.specs.Within.{GoesOn, IsBegun, IsTakenBack, IsUndone}
-use Rattle.shared_transactions.specs.Tries.{is_busy_stop, is_busy, IsWhy, Fails, BusyTries, HasTried, GivesUp}
+use Rattle.shared_transactions.specs.Tries.{is_busy_stop, is_busy, IsWhy, Fails, BusyTries, HasRetried, GivesUp}
 
 -- A busy result is an error, so what is known of an error (`OnErr`) holds.
 pub if_busy : {R P : Type 0} (result : Result R Stop) → is_busy result ≡ true → OnErr result P → P
@@ -32,14 +32,15 @@ module _ {S X T : Type 0} (work : X → Result T Stop → X → Type 0) (me : X 
   one_more n old between new (Ok value) busy tries failed = absurd (false≢true busy)
   one_more n old between new (Err stop) busy tries failed = busy_more n old between new stop busy tries failed
 
-  -- A try fails if it began, the work or the commit failed, and the transaction was taken back.
+  -- A try began a transaction. Then the work or the commit failed, and the transaction was taken
+  -- back. Such a try fails (`Fails`).
   pub failed_try : (old new : Token S) (txn : ℕ) (t u : X) (answer : Result T Stop) (stop : Stop) → IsBegun old txn (me t) → work t answer u → IsWhy answer stop (me u) new → GoesOn (me t) (me u) → IsTakenBack (me u) new → Fails work me stop old new
   failed_try old new txn t u answer stop began worked why goes_on back =
       inl (record { begun = t; left = u; txn = txn; answer = answer; began = began; worked = worked; why = why; goes_on = goes_on; back = back })
 
-  -- `HasTried` after `n` busy tries, if `n` is at most `most` and all tries together are undone
+  -- `HasRetried` after `n` busy tries, if `n` is at most `most` and all tries together are undone
   -- (`IsUndone`).
-  pub tried : (most n : ℕ) (old new : Token S) → n ≤ most → BusyTries work me n old new → IsUndone old new → HasTried work me most old new
+  pub tried : (most n : ℕ) (old new : Token S) → n ≤ most → BusyTries work me n old new → IsUndone old new → HasRetried work me most old new
   tried most n old new within tries undone = record { busy = n; within = within; tries = tries; undone = undone }
 
   -- If the last try fails, the tries are given up.

@@ -52,7 +52,7 @@ none_stays (e ∷ es) = none_stays es
 seat_append : (xs ys : List Entry) → seat_after (xs ++ ys) ≡ fold (λ seat e. option_and_then (λ (s : Seat). row s s.phase e) seat) (seat_after xs) ys
 seat_append xs ys = fold-append (λ seat e. option_and_then (λ (s : Seat). row s s.phase e) seat) (Some closed_seat) xs ys
 
--- If all entries of a list have rows, those of a beginning of the list have rows too.
+-- If all entries of a list have rows, all entries of each prefix of the list have rows too.
 rows_before : (xs ys : List Entry) → is_some (seat_after (xs ++ ys)) ≡ true → is_some (seat_after xs) ≡ true
 rows_before xs ys there = at (seat_after xs) (sym (ap is_some (seat_append xs ys)) ∙ there)
   where
@@ -215,8 +215,8 @@ abbrev is_refused : End → Bool
 is_refused (ends.Refused r) = true
 is_refused outcome = false
 
--- A call that is not refused, and neither begins nor commits, adds no entries, or entries of which
--- `Adds` holds.
+-- If a call is not refused, and neither begins nor commits, it adds no entries, or `Adds` holds of
+-- the entries that it adds.
 made_adds : (c : ℕ) (call : Call) (outcome : End) (es : List Entry) → is_quiet call ≡ true → is_refused outcome ≡ false → IsMade c call outcome es → (es ≡ []) ⊎ Adds es
 made_adds c calls.Begin outcome es inner sound is = absurd (false≢true inner)
 made_adds c calls.Commit outcome es inner sound is = absurd (false≢true inner)
@@ -319,7 +319,7 @@ since_start k over = record {
   steady = λ sound. over_steady (seat_after k.seen) (over sound);
 }
 
--- After a begin that stopped no transaction is open if none was before.
+-- After a begin that stopped, no transaction is open if none was open before.
 over_stopped : {S : Type 0} (words : S → List ℕ) (k : Token S) (stop : Stop) (l : Token S) → IsOver k → Stopped words k calls.Begin stop l → IsOver l
 over_stopped words k (stops.Busy x) l over did = absurd did.made
 over_stopped words k (stops.Refused r) l over (inl (free, same)) = subst IsOver (sym same) over
@@ -423,7 +423,7 @@ holds_open l xs e ends seen =
 given_none : (l k : Claimed) → l ≡ given_back k → HoldsNone l
 given_none l k is = (ap (λ (c : Claimed). c.held) is, ap (λ (c : Claimed). c.seat.held) is)
 
--- A token keeps `HoldsWithin` if it has seen no more and its claims are unchanged.
+-- A token keeps `HoldsWithin` if it has seen no more entries and its claims are unchanged.
 holds_same : {S : Type 0} (k l : Token S) → k.broken ≡ false → l.seen ≡ k.seen → l.claims ≡ k.claims → HoldsWithin k → HoldsWithin l
 holds_same k l sound seen claims holds =
     λ _ idle. subst HoldsNone (sym claims) (holds sound (sym (ap (λ es. is_idle (seat_after es)) seen) ∙ idle))
@@ -465,8 +465,8 @@ op_open k op free = at k.broken (seat_after k.seen) free
     at false None is = refl
     at false (Some s) is = seated s s.phase is
 
--- If no claim changes when a call is made ready, none has changed if the call is refused after
--- that.
+-- A call that is refused leaves all claims unchanged, if no claim changes when the call is made
+-- ready.
 same_claims : {S : Type 0} (k : Token S) (call : Call) (r : Refusal) (l : Token S) → ((c d : Claimed) → Readies c call d → d ≡ c) → TriedNothing k r l ⊎ WentOn k call (ends.Refused r) l → l.claims ≡ k.claims
 same_claims k call r l readied (inl (memory, same)) = same
 same_claims k call r l readied (inr went) = went.claims ∙ readied k.claims went.ready.claims went.readied
@@ -498,7 +498,7 @@ goes_on words k call outcome l inner ended = record {
   holds = holds_ended words k call outcome l inner ended;
 }
 
--- Going on is transitive.
+-- `GoesOn` is transitive.
 pub goes_further : {S : Type 0} (k l m : Token S) → GoesOn k l → GoesOn l m → GoesOn k m
 goes_further k l m first second = record {
   since = λ base since. second.since base (first.since base since);
@@ -511,7 +511,7 @@ goes_further k l m first second = record {
 pub keeps_by : {S : Type 0} (words : S → List ℕ) (old new : MutBor (Token S)) (call : Call) (outcome : End) → new.ghost_name ≡ old.ghost_name → is_quiet call ≡ true → Ended words old.now call outcome new.now → Keeps old new
 keeps_by words old new call outcome same inner ended = record { same_token = same; goes_on = goes_on words old.now call outcome new.now inner ended }
 
--- A work that makes no call keeps `Keeps`; `keeps_on` joins one part of a work to the next.
+-- `Keeps` of a work that makes no call; `keeps_on` joins one part of a work to the next.
 pub keeps_stay : {S : Type 0} (me : MutBor (Token S)) → Keeps me me
 keeps_stay me = record { same_token = refl; goes_on = record { since = λ base since. since; whose = record { number = refl; limits = refl }; sound = λ sound. sound; txn = λ sound. refl; holds = λ holds. holds } }
 
@@ -628,7 +628,8 @@ undone_after k t u m txn begun goes_on back = record {
   holds = λ _. back.goes_on.holds (goes_on.holds (holds_open t k.seen (entries.Began k.number txn) tt begun.seen));
 }
 
--- A transaction that began, went on and was committed is a run, and its receipt has its number.
+-- A transaction that began, went on and was committed is a run, and the receipt has the
+-- transaction's number.
 pub run : {S : Type 0} (base t u l : Token S) (began txn place : ℕ) → IsBegun base began t → GoesOn t u → IsCommitted txn place u l → IsRun base t u l txn place
 run base t u l began txn place begun goes_on committed =
     let same : began ≡ txn = sym (committed.numbered ∙ goes_on.txn committed.sound ∙ ap last_txn begun.seen ∙ fold-append began_by 0 base.seen (entries.Began base.number began ∷ [])) in

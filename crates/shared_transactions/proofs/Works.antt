@@ -61,7 +61,8 @@ together_most n (e ∷ h) = elim (cases_lt (caller_of e) n) [
   | inr past ↦ let none = together_out n e h past in let rest = together_most n h in omega (arith, none, rest)
 ]
 
--- If the callers below a number have as many entries as the history, each entry is of one of them.
+-- If the callers with numbers below `n` have as many entries as the history, each entry is of one
+-- of them.
 all_below : (n : ℕ) (h : List Entry) → together n h ≡ length h → All (λ e. caller_of e < n) h
 all_below n [] whole i d less = absurd (omega (arith, less))
 all_below n (e ∷ h) whole zero d less = elim (cases_lt (caller_of e) n) [
@@ -133,8 +134,9 @@ get_right (x ∷ xs) ys i =
     let next : suc (length xs) + i ≡ suc (length xs + i) = omega arith in
     ap (slice_get (x ∷ xs ++ ys)) next ∙ get_right xs ys i
 
--- `AreDone` on a closed map, if each work was seated with a caller and done by it. The map was
--- closed with these callers first, and `others` after them.
+-- Each work was seated with a caller, and this caller did the work. Then a map was closed with a
+-- list of callers. The list has the callers of the works first, and the callers `others` at its
+-- end. `AreDone` holds of the closed map.
 pub are_done : {S J D W T : Type 0} (work_of : J → W) (me_of : D → Token S) (outcome_of : D → T) (promises : W → T → Token S → Type 0) (limits : Sizes) (works : List W) (seated : List J) (done : List D) (others : List (Token S)) (core : State) (callers : ℕ)
     → length works + length others ≡ callers → callers ≤ limits.callers → map work_of seated ≡ works → length done ≡ length seated
     → ((i : ℕ) (s : J) (d : D) → slice_get seated i ≡ Some s → slice_get done i ≡ Some d → promises (work_of s) (outcome_of d) (me_of d))
@@ -161,13 +163,15 @@ are_done work_of me_of outcome_of promises limits works seated done others core 
       only = subst (λ (n : ℕ). All (λ e. caller_of e < n) core.history) in_all closed.only;
     }
 
--- The callers `others`, after the callers `ks`, have seen exactly their entries in the history.
+-- A map was closed with the list of callers `ks ++ others`. Each caller in `others` has seen
+-- exactly its own entries in the history. The first caller in `others` has the number `place`,
+-- which is the length of `ks`.
 pub are_in : {S : Type 0} (limits : Sizes) (ks others : List (Token S)) (place : ℕ) (core : State) → length ks ≡ place → IsClosedBy limits (ks ++ others) core → AreIn core.history place others
 are_in limits ks others place core as_many closed i k at =
     let here : slice_get (ks ++ others) (length ks + i) ≡ Some k = get_right ks others i ∙ at in
     (closed.numbered (length ks + i) k here ∙ ap (λ n. n + i) as_many, all_at (λ k. IsOwn core.history k) (ks ++ others) closed.own (length ks + i) k here)
 
--- A single caller has the number `place`, and has seen exactly its entries in the history.
+-- A single caller has the number `place`, and has seen exactly its own entries in the history.
 pub is_in : {S : Type 0} (h : List Entry) (place : ℕ) (me : Token S) → AreIn h place (me ∷ []) → (me.number ≡ place) × IsOwn h me
 is_in h place me are =
     let (number, own) = are 0 me refl in

@@ -1,5 +1,5 @@
 -- A map that begins with the pairs of a core: the entries of the caller that puts them, and the
--- causes if they are not put.
+-- causes for which they are not put.
 use Rattle.std.specs.Prelude.{ℕ, ◌≡◌, ◌<◌, ◌≤◌, ◌⊎◌, List, [], ◌∷◌, ◌++◌, length, take, Option}
 use Rattle.std.specs.Prelude.{slice_index_or}
 use Rattle.map_answers.specs.declared.stop.Stop.{Stop}
@@ -25,7 +25,8 @@ ArePuts c (pair ∷ pairs) es =
     (reply : Option ℕ) × (rest : List Entry)
     × (es ≡ Asked c (Put pair.0 pair.1) ∷ Did c reply ∷ rest) × ArePuts c pairs rest
 
--- Between `k` and `l` a caller has put these pairs, and done nothing else.
+-- A caller's token was `k` at first, and is `l` now. In between the caller has put these pairs, and
+-- has done nothing else.
 pub record HasPut {S : Type 0} (pairs : List (ℕ × ℕ)) (k l : Token S) : Type 0 where
   pub puts : List Entry
   pub are : ArePuts k.number pairs puts
@@ -49,7 +50,8 @@ pub record IsRefilledIn (h : List Entry) (number : ℕ) (pairs : List (ℕ × �
   pub refilled : IsRefilled pairs me
   pub own : IsOwn h me
 
--- After `k` the first `put` pairs of `pairs` were put, and the put of the next pair stopped.
+-- A caller's token was `k` at first, and is `l` now. In between the caller has put the first pairs
+-- of `pairs`; their number is `put`. Then the put of the next pair stopped.
 pub record StopsPutting {S : Type 0} (words : S → List ℕ) (pairs : List (ℕ × ℕ)) (k : Token S)
     (stop : Stop) (l : Token S) : Type 0 where
   pub put : ℕ
@@ -59,14 +61,16 @@ pub record StopsPutting {S : Type 0} (words : S → List ℕ) (pairs : List (ℕ
   pub stopped : StoppedGrowing words between
       (Put (slice_index_or pairs put (0, 0)).0 (slice_index_or pairs put (0, 0)).1) stop l
 
--- After `k` a put of these pairs stopped, and then the transaction was taken back.
+-- A caller's token was `k` at first, and is `l` now. In between a put of these pairs stopped
+-- (`StopsPutting`), and then the transaction was taken back.
 pub record IsPutBack {S : Type 0} (words : S → List ℕ) (pairs : List (ℕ × ℕ)) (k : Token S)
     (stop : Stop) (l : Token S) : Type 0 where
   pub left : Token S
   pub stopped : StopsPutting words pairs k stop left
   pub back : IsTakenBack left l
 
--- After `k` all these pairs were put, and the commit was refused.
+-- A caller's token was `k` at first, and is `l` now. In between the caller has put all these pairs,
+-- and then the commit was refused.
 pub record StopsCommitting {S : Type 0} (pairs : List (ℕ × ℕ)) (k : Token S) (stop : Stop)
     (l : Token S) : Type 0 where
   pub done : Token S
@@ -112,16 +116,17 @@ pub record IsUnrefilled {S : Type 0} (words : S → List ℕ) (limits : Sizes) (
   pub unused : IsNew old
   pub why : IsNotRefilled words pairs old stop new
 
--- A map of these limits has a caller for each of the works, and one more that puts these pairs
--- first; but the map was not made or not closed, or the pairs were not put.
+-- These limits allow a caller for each of the works, and one more to put these pairs first. But the
+-- map was not made or not closed, or the pairs were not put.
 pub record IsUnended {S : Type 0} (words : S → List ℕ) (limits : Sizes) (works : ℕ)
     (pairs : List (ℕ × ℕ)) (stop : Stop) : Type 0 where
   pub few : works < limits.callers
   pub other : stop ≡ Refused CallersMissing → ⊥
   pub why : IsUnclosedBy stop ⊎ IsUnrefilled words limits works pairs stop
 
--- Why works have no outcomes on a map of these limits that begins with these pairs; `works` is
--- their number. The refusal is `CallersMissing` exactly if there are not more callers than works.
+-- Why works have no outcomes on a map of these limits that begins with these pairs. The number of
+-- works is `works`. The refusal is `CallersMissing` exactly if there are not more callers than
+-- works.
 abbrev pub IsUnrunFrom : {S : Type 0} → (S → List ℕ) → Sizes → ℕ → List (ℕ × ℕ) → Stop → Type 0
 IsUnrunFrom words limits works pairs stop =
     ((stop ≡ Refused CallersMissing) × (limits.callers ≤ works))

@@ -25,16 +25,15 @@ pub record IsNotCommitted {S : Type 0} (stop : Stop) (k l : Token S) : Type 0 wh
   pub refused : IsRefusalOf k calls.Commit stop left
   pub back : IsTakenBack left l
 
--- An operation was done at a key that was absent, and the help for the key after it fell out of
--- step.
+-- An operation was done at a key that was absent. Then the help for the key fell out of step.
 pub record IsOutGrowing {S : Type 0} (words : S → List ℕ) (k : Token S) (op : Op) (l : Token S) :
     Type 0 where
   pub between : Token S
   pub done : Ran words k (calls.Op op) (ends.Answered (answers.Done None)) between
   pub out : WasRefused between (calls.Help (key_of op)) OutOfStep l
 
--- Why a call stopped that does an operation and may then grow the table: the operation was stopped,
--- or the growth after it fell out of step.
+-- Why a call stopped, if it does an operation and may then grow the table: the operation was
+-- stopped, or it was done and the growth fell out of step.
 abbrev pub StoppedGrowing : {S : Type 0} → (S → List ℕ) → Token S → Op → Stop → Token S → Type 0
 StoppedGrowing words k op stop l =
     Stopped words k (calls.Op op) stop l

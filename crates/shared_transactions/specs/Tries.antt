@@ -58,18 +58,18 @@ BusyTries {S} work me (suc n) old new =
     × IsFailedTry work me (Busy holder) between new
 
 -- At most `most` tries each found a stripe held, and nothing else was done.
-pub record HasTried {S X T : Type 0} (work : X → Result T Stop → X → Type 0) (me : X → Token S)
+pub record HasRetried {S X T : Type 0} (work : X → Result T Stop → X → Type 0) (me : X → Token S)
     (most : ℕ) (old new : Token S) : Type 0 where
   pub busy : ℕ
   pub within : busy ≤ most
   pub tries : BusyTries work me busy old new
   pub undone : IsUndone old new
 
--- The tries were given up: each before the last found a stripe held, and the last failed. If the
--- last found a stripe held too, `most` tries had been made before it.
+-- The tries were given up: each try before the last found a stripe held, and the last try failed.
+-- If the last try found a stripe held too, `most` tries had been made before it.
 pub record GivesUp {S X T : Type 0} (work : X → Result T Stop → X → Type 0) (me : X → Token S)
     (most : ℕ) (stop : Stop) (old new : Token S) : Type 0 where
   pub last : Token S
-  pub tried : HasTried work me most old last
+  pub tried : HasRetried work me most old last
   pub all : is_busy_stop stop ≡ true → tried.busy ≡ most
   pub failed : Fails work me stop last new

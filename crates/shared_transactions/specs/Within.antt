@@ -52,8 +52,8 @@ pub record IsSince {S : Type 0} (base k : Token S) : Type 0 where
   pub quiet : is_some (seat_after k.seen) ≡ true → CommitNothing added
   pub steady : k.broken ≡ false → is_steady (seat_after k.seen) ≡ true
 
--- The same caller went on, in the same transaction or out of it. It committed nothing; a broken
--- token stays broken; and if it held stripes only within a transaction before, it still does.
+-- The caller went on, within its transaction or after it, and committed nothing. A broken token
+-- stays broken. If `HoldsWithin` was true, it stays true.
 pub record GoesOn {S : Type 0} (k l : Token S) : Type 0 where
   pub since : (base : Token S) → IsSince base k → IsSince base l
   pub whose : IsSameCaller k l
@@ -62,7 +62,7 @@ pub record GoesOn {S : Type 0} (k l : Token S) : Type 0 where
   pub holds : HoldsWithin k → HoldsWithin l
 
 -- A transaction was taken back, and no other was begun. If nothing was unfinished before, no
--- transaction is open now; and if stripes were held only within a transaction, all rights to
+-- transaction is open now. If, besides, stripes were held only within a transaction, all rights to
 -- stripes are given back, as long as all entries have rows and the token is not broken.
 pub record IsTakenBack {S : Type 0} (k l : Token S) : Type 0 where
   pub goes_on : GoesOn k l

@@ -32,14 +32,14 @@ pub record IsClosedBy {S : Type 0} (limits : Sizes) (ks : List (Token S)) (core 
     pub own : All (λ k. IsOwn core.history k) ks
     pub only : All (λ e. caller_of e < length ks) core.history
 
--- The numbers of these callers are `place`, `place + 1` and so on, and each has seen exactly its
--- entries in the history.
+-- The numbers of these callers are `place`, `place + 1` and so on. Each caller has seen exactly its
+-- own entries in the history.
 abbrev pub AreIn : {S : Type 0} → List Entry → ℕ → List (Token S) → Type 0
 AreIn {S} h place ks =
     (i : ℕ) (k : Token S) → slice_get ks i ≡ Some k → (k.number ≡ place + i) × IsOwn h k
 
--- The caller with the number `place` did the work, with this outcome. The work keeps its promise,
--- about a token with exactly the entries that this caller has in the history.
+-- The caller with the number `place` did the work, with this outcome. The work's promise holds of a
+-- token that has exactly the entries of this caller in the history.
 pub record IsDoneIn {S W T : Type 0} (promises : W → T → Token S → Type 0) (h : List Entry)
     (place : ℕ) (work : W) (outcome : T) : Type 0 where
   pub me : Token S
@@ -66,8 +66,8 @@ IsUnclosed NoMemory = Unit {0}
 IsUnclosed OutOfStep = Unit {0}
 IsUnclosed refusal = ⊥
 
--- The refusals if works that need `needed` callers have no outcomes on a map with `callers`
--- callers: `CallersMissing` exactly if the map has too few callers, else those of `IsUnclosed`.
+-- The refusals of works that need `needed` callers on a map with `callers` callers:
+-- `CallersMissing` exactly if the map has too few callers, else those of `IsUnclosed`.
 abbrev pub IsUnrun : ℕ → ℕ → Refusal → Type 0
 IsUnrun callers needed CallersMissing = callers < needed
 IsUnrun callers needed refusal = (needed ≤ callers) × IsUnclosed refusal

@@ -1,23 +1,24 @@
 //! Work that is run in a transaction, and begun again if another caller holds a stripe.
 //!
 //! The toolchain refuses a bound that names `Transaction`, such as
-//! `Fn(&mut Transaction<'_, L, R>)`, since its parameter `L` is owned by a ghost member of a bound.
-//! So `transact` is generic over the trait `Attempts`, which `Transaction` implements.
+//! `Fn(&mut Transaction<'_, L, R>)`. The cause is the parameter `L` of `Transaction`: its bound is
+//! the trait `Ledger`, and this trait has ghost members. So `transact` is generic over the trait
+//! `Attempts`, and `Transaction` implements this trait.
 ghost use Rattle.std.specs.Prelude.{◌≡◌, true, false, IfOk, IfErr, OnErr, Ok};
 ghost use Rattle.std.specs.Borrow.{MutBor};
 ghost use Rattle.core_tokens.specs.Tokens.{Token};
 ghost use Rattle.core_tokens.specs.declared.no_side.NoSide.{NoSide};
 ghost use Rattle.shared_transactions.specs.Keeps.{Keeps};
 ghost use Rattle.shared_transactions.specs.Stops.{IsNotCommitted};
-ghost use Rattle.shared_transactions.specs.Tries.{Fails, GivesUp, HasTried, IsNotBegun, is_busy};
+ghost use Rattle.shared_transactions.specs.Tries.{Fails, GivesUp, HasRetried, IsNotBegun, is_busy};
 ghost use Rattle.shared_transactions.specs.Within.{IsBegun, IsCommitted, IsOver, IsRun};
 ghost use Rattle.shared_transactions.specs.Within.{IsTakenBack, IsUndone};
 
 use crate::retry::Retry;
 use locked_map::{Receipt, Stop};
 
-/// A value that begins a transaction, is worked in, and ends it. `Transaction` implements it; no
-/// other type needs to.
+/// A value whose calls begin a transaction, work in it and end it. `Transaction` implements this
+/// trait; no other type needs to.
 pub trait Attempts {
     /// The caller's token.
     ghost me: { Self → MutBor (Token NoSide) };
@@ -86,9 +87,11 @@ fn found_busy<T>(outcome: &Result<T, Stop>) -> bool
 }
 
 /// Runs the work in a transaction and commits it. If another caller held a stripe, waits and begins
-/// again, as often and as long as `retry` says. So the work may run several times, and what it does
-/// besides the calls of its transaction is done each time. `it` is a `Transaction`, and the work's
-/// parameter is written with that type.
+/// again, as often and as long as `retry` says. So the work may run several times. Only the calls
+/// of its transaction are taken back: anything else that the work does is done each time.
+///
+/// Pass a `Transaction` as `it`. Write the closure `work` with the type of its parameter, for
+/// example `|t: &mut Transaction<'_, L, R>| count(t)`.
 ///
 /// # Errors
 ///
@@ -112,7 +115,7 @@ pub fn transact<T: Drop, G: Attempts, F: Fn(&mut G) -> Result<T, Stop>>(
     ensures same_token { (G.me it.new).ghost_name ≡ (G.me it.old).ghost_name }
     ensures ok { IfOk result (λ r.
         (base : Token NoSide) × (t : _) × (u : _) × F.post work t (Ok r.0) u
-        × HasTried (F.post work) (λ t. (G.me t.now).now) retry.times (G.me it.old).now base
+        × HasRetried (F.post work) (λ t. (G.me t.now).now) retry.times (G.me it.old).now base
         × IsOver base
         × IsRun base (G.me t.now).now (G.me u.now).now (G.me it.new).now r.1.txn r.1.place) }
     ensures err { OnErr result (IsUndone (G.me it.old).now (G.me it.new).now) }

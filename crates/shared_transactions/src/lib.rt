@@ -49,13 +49,13 @@
 //! - Each work in a thread keeps its promise (`Work::promises`), about a token with exactly the
 //!   entries that its caller has in the history of the closed map. Work `i` has caller `i`. The
 //!   history is legal, and has no entries but those of these callers (`AreDone`).
-//! - Two things are not promised of a broken token: that no transaction is open; and, if the rule
-//!   of shape (`row` of `txn_words`) has no row for one of the token's entries, that nothing was
-//!   committed.
+//! - The promise that no transaction is open does not hold for a broken token. The promise that
+//!   nothing was committed does not hold for a token with an entry for which the rule of shape
+//!   (`row` of `txn_words`) has no row.
 //!
 //! What a map holds is known when it is closed, as `locked_map` says, and not after a call, since
-//! other callers may take steps at once. No clause is about time: none says that a call returns, or
-//! how long it waits.
+//! other callers may take steps at the same time. No clause is about time: none says that a call
+//! returns, or how long it waits.
 //!
 //! The contract of a work states by one definition, `Keeps`, what every call of a transaction
 //! keeps; the work's proof joins its calls by `keeps_stay` and `keeps_on` of `proofs/Within.antt`.

@@ -26,8 +26,8 @@ use undo_log::Side;
 /// that has done nothing yet. The core, whose history is legal, is unchanged, and may be dropped
 /// afterwards.
 ///
-/// Called with the core of a closed map, before other callers of the new map work, this trims the
-/// history of a map of threads. `run_works_from` calls it in this way.
+/// To trim the history of a map of threads, close the map, and call `refill` on a new map with the
+/// core of the closed one, before other callers of the new map work. `run_works_from` does so.
 ///
 /// # Errors
 ///

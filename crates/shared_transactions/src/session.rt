@@ -1,10 +1,10 @@
-//! A call that makes a map of threads and runs a session on it, so that its user need not name the
+//! A call that makes a map of threads and runs a session on it. Whoever calls it need not name the
 //! map's ledger.
 //!
 //! A closure cannot be generic over the ledger's name, so a session is a trait with a generic
-//! method. The toolchain does not prove a `run` that starts threads: what such a method sends to a
-//! thread rests on a bound that is assumed of the calling thread only. So a session is for callers
-//! that take turns in one thread; for threads there is `run_works`.
+//! method. The toolchain does not prove a `run` that starts threads: it assumes the bounds of a
+//! trait's method for the calling thread only, and not for the threads that the method starts. So a
+//! session is for callers that take turns in one thread; for threads there is `run_works`.
 ghost use Rattle.std.specs.Prelude.{◌≡◌, ◌<◌, All, IfOk, IfErr, OnErr, length, map};
 ghost use Rattle.core_tokens.specs.Tokens.{AreTickets};
 ghost use Rattle.shared_transactions.specs.Works.{IsNew};
@@ -58,7 +58,7 @@ pub fn run_session<R, W: Session<R> + Drop>(
     run_under::<Brand, R, W>(rt, alloc, blank, limits, session)
 }
 
-/// `run_session`, with its ledger as a type parameter.
+/// Does what `run_session` does. The ledger is a type parameter.
 fn run_under<L: Ledger + Send + Sync, R, W: Session<R> + Drop>(
     rt: &R,
     alloc: Global,
@@ -76,8 +76,8 @@ fn run_under<L: Ledger + Send + Sync, R, W: Session<R> + Drop>(
     Ok(session.run(rt, alloc, map, passes))
 }
 
-/// Makes the callers of passes, in the order of the passes. They have no side value, and have done
-/// nothing yet.
+/// Makes a caller from each pass, in the order of the passes. The callers have no side value, and
+/// have done nothing yet.
 ///
 /// # Errors
 ///
@@ -86,7 +86,7 @@ fn run_under<L: Ledger + Send + Sync, R, W: Session<R> + Drop>(
 ///
 /// # Cost
 ///
-/// Time and memory in proportion to the passes.
+/// Time and memory in proportion to the number of passes.
 pub fn callers_of<L: Ledger>(
     alloc: Global,
     passes: Vec<Pass<L>>,

@@ -1,7 +1,7 @@
-//! A caller's token with its map, by which a transaction is begun, worked in and ended.
+//! A caller's token with its map. Its calls begin a transaction, work in it and end it.
 //!
-//! It borrows the token, so no other call can be made with the token meanwhile. It adds no state:
-//! the token says whether a transaction is open.
+//! A `Transaction` borrows the token, so no other call can be made with the token meanwhile. It
+//! adds no state: the token says whether a transaction is open.
 ghost use Rattle.std.specs.Prelude.{◌≡◌, ◌+◌, ◌++◌, [], ◌∷◌, ℕ, Option, Some, is_some, length};
 ghost use Rattle.std.specs.Prelude.{nat_eq, true, false, IfErr, IfOk, OnErr, OnOk};
 ghost use Rattle.std.specs.Option.{option_eq};
@@ -33,9 +33,9 @@ impl OnRelease for Unheard {
 }
 
 /// A caller on a map of threads, in a transaction or about to begin one. If a transaction is still
-/// open when this is dropped, it is aborted, unless the token is broken: at every `?` and every
-/// early return its changes are taken back, and no stripe stays held. If none is open, a drop
-/// leaves the token unchanged.
+/// open when this is dropped, and the token is not broken, the drop aborts the transaction. So a
+/// `?` or an early return takes all its changes back, and no stripe stays held. If no transaction
+/// is open, a drop leaves the token unchanged.
 pub struct Transaction<'a, L: Ledger, R: Wait> {
     rt: &'a R,
     map: &'a SharedMap<L>,
@@ -117,15 +117,15 @@ impl<'a, L: Ledger, R: Wait> Transaction<'a, L, R> {
         Ok(self.get(key)?.is_some())
     }
 
-    /// Puts a value at a key, and answers the value before. If the key is new, the table grows by a
-    /// step, if that is due: it is doubled if it is full, and the key's bucket is initialised. If
+    /// Puts a value at a key, and answers the value before. For a new key the table also grows by a
+    /// step, if one is due: it is doubled if it is full, and the key's bucket is initialised. If
     /// memory or a stamp is refused for the growth, the table stays smaller and nothing else
     /// changes.
     ///
     /// # Errors
     ///
     /// `Busy` as for `get`, and each `Refused` of the map's `put`. Also `Refused` with `OutOfStep`
-    /// if the put was done and the growth after it fell out of step, which breaks the token.
+    /// if the put was done, but the growth fell out of step. That breaks the token.
     ///
     /// # Cost
     ///
@@ -168,7 +168,7 @@ impl<'a, L: Ledger, R: Wait> Transaction<'a, L, R> {
     /// # Errors
     ///
     /// `Busy` as for `get`, and each `Refused` of the map's `put_if`. Also `Refused` with
-    /// `OutOfStep` if the growth after it fell out of step, as for `put`.
+    /// `OutOfStep` if the growth fell out of step, as for `put`.
     ///
     /// # Cost
     ///
@@ -185,7 +185,8 @@ impl<'a, L: Ledger, R: Wait> Transaction<'a, L, R> {
     }
 
     /// Puts a value at a key if the key has the expected value, or, if none is expected, if the key
-    /// is absent. Answers whether it did; `put_if` answers the value before instead.
+    /// is absent. Answers whether the value was put. `put_if` does the same, but answers the value
+    /// that the key had.
     ///
     /// # Errors
     ///
@@ -208,11 +209,11 @@ impl<'a, L: Ledger, R: Wait> Transaction<'a, L, R> {
         Ok(Swapped(had == expected))
     }
 
-    /// Sets a savepoint, and answers its level, from 1.
+    /// Sets a savepoint, and answers its level, counted from 1.
     ///
     /// # Errors
     ///
-    /// Each `Refused` of the map's `save`, which leaves the transaction as that call says.
+    /// Each `Refused` of the map's `save`. The transaction is then as described there.
     ///
     /// # Cost
     ///
@@ -234,7 +235,7 @@ impl<'a, L: Ledger, R: Wait> Transaction<'a, L, R> {
     ///
     /// # Errors
     ///
-    /// Each `Refused` of the map's `back`, which leaves the transaction as that call says.
+    /// Each `Refused` of the map's `back`. The transaction is then as described there.
     ///
     /// # Cost
     ///

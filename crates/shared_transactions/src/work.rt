@@ -1,5 +1,5 @@
-//! Works that threads do on one map, each with its own caller. Their user need not name the map's
-//! ledger.
+//! Works that threads do on one map, each with its own caller. Whoever runs works need not name the
+//! map's ledger.
 //!
 //! A closure cannot be generic over the ledger's name, so a thread's work is a trait with a generic
 //! method, which starts no threads. A free function starts them, because the toolchain proves a
@@ -194,16 +194,16 @@ fn close<L: Ledger>(
 /// the map. Work `i` has caller `i`; the other callers do nothing. If no thread can be started,
 /// works are done one after the other.
 ///
-/// If it answers `Ok`, each work keeps its promise, about a token with exactly the entries that its
-/// caller has in the core's history. The history is legal by the rule that a Busy may name any
-/// other caller that has begun a transaction, and has no entries but those of the works.
+/// If it answers `Ok`, the promise of each work holds of a token that has exactly the entries of
+/// the work's caller in the core's history. The history has no entries but those of the works. It
+/// is legal by the rule that a Busy may name any other caller that has begun a transaction.
 ///
 /// # Errors
 ///
 /// - `CallersMissing` exactly if there are more works than callers. No work is done then.
 /// - `NoMemory` if memory is refused for the map, for the threads or for the outcomes.
 /// - `OutOfStep` if the map does not close: a token is not the one that its work was given, or has
-///   not seen exactly its entries in the history.
+///   not seen exactly its own entries in the history.
 ///
 /// # Cost
 ///
@@ -225,13 +225,14 @@ pub fn run_works<R: Threads + Wait + Sync, W: Work<R> + Send + Drop>(
     run_under::<Brand, R, W>(rt, alloc, blank, limits, works)
 }
 
-/// Does an opening, which gives the map its first pairs, in this thread, and then the works, as
-/// `run_works` does. The opening's caller has the number `works.len()`. Answers the opening's
-/// outcome too.
+/// Does an opening in this thread, and then the works as `run_works` does. The opening gives the
+/// map its first pairs, and its caller has the number `works.len()`. Answers the opening's outcome
+/// too.
 ///
-/// If it answers `Ok`, the opening keeps its promise as the works do, and the history has only
-/// their entries. The opening's entries are the first, since no other thread is started before it
-/// ends. No clause says so, because no contract sees through the map's lock.
+/// If it answers `Ok`, the opening keeps its promise as the works do, and the history has only the
+/// entries of the opening and of the works. The opening's entries are the first, since no other
+/// thread is started before it ends. No clause says so, because no contract sees through the map's
+/// lock.
 ///
 /// # Errors
 ///
@@ -266,9 +267,9 @@ pub fn run_works_after<R: Threads + Wait + Sync, O: Work<R> + Drop, W: Work<R> +
 /// caller, and the pairs need one more.
 ///
 /// If it answers `Ok`, that caller has exactly the entries of one committed transaction, which puts
-/// the pairs in the order of the core's list, and the history has no entries but those and the
-/// works'. That transaction is the first of the history, since no other thread is started before it
-/// ends. No clause says so, because no contract sees through the map's lock.
+/// the pairs in the order of the core's list. That transaction is the first of the history, since
+/// no other thread is started before it ends. No clause says so, because no contract sees through
+/// the map's lock. The other entries of the history are those of the works.
 ///
 /// # Errors
 ///
@@ -301,7 +302,8 @@ pub fn run_works_from<R: Threads + Wait + Sync, W: Work<R> + Send + Drop>(
     refill_under::<Brand, R, W>(rt, alloc, blank, limits, core, works)
 }
 
-/// `run_works`, with its ledger as a type parameter, if there are no more works than callers.
+/// Does what `run_works` does. The ledger is a type parameter. There must be no more works than
+/// callers.
 fn run_under<L: Ledger + Send + Sync, R: Threads + Wait + Sync, W: Work<R> + Send + Drop>(
     rt: &R,
     alloc: Global,
@@ -322,7 +324,8 @@ fn run_under<L: Ledger + Send + Sync, R: Threads + Wait + Sync, W: Work<R> + Sen
     Ok(finished)
 }
 
-/// `run_works_after`, with its ledger as a type parameter, if there are more callers than works.
+/// Does what `run_works_after` does. The ledger is a type parameter. There must be more callers
+/// than works.
 fn open_under<
     L: Ledger + Send + Sync,
     R: Threads + Wait + Sync,
@@ -354,7 +357,8 @@ fn open_under<
     Ok((outcome, finished))
 }
 
-/// `run_works_from`, with its ledger as a type parameter, if there are more callers than works.
+/// Does what `run_works_from` does. The ledger is a type parameter. There must be more callers than
+/// works.
 fn refill_under<L: Ledger + Send + Sync, R: Threads + Wait + Sync, W: Work<R> + Send + Drop>(
     rt: &R,
     alloc: Global,
@@ -399,8 +403,9 @@ fn alone<L: Ledger>(
 }
 
 /// Does each work in its own thread, with a caller made from a pass, beginning with the first pass.
-/// Then closes the map with these callers, the callers in `used`, whose numbers follow, and the
-/// callers of all other passes, which did nothing.
+/// Then closes the map with these callers, with the callers in `used` and with the callers of all
+/// other passes. The numbers of the callers in `used` follow those of the works' callers. The
+/// callers of the other passes did nothing.
 ///
 /// # Errors
 ///

@@ -1,6 +1,6 @@
 //! A caller of a striped map with a *side value*: a value that belongs to the caller, such as a
-//! count or a place in a file, whose changes are taken back with the transaction that they were
-//! made in.
+//! count or a place in a file. If a transaction is taken back, the changes of the side value that
+//! were made in it are taken back too.
 //!
 //! The model is the caller (`striped_map`) beside the side value with its levels (`undo_log`).
 //! Invariant: the side value has as many levels as the transaction, one for the beginning and one

@@ -1,15 +1,15 @@
 //! A caller beside its side value. Each call on the map is made on the caller, and then the side
-//! value follows the answer. Following takes only the memory that the jobs' runs take, since `save`
-//! makes room for a level before it calls the caller. Invariant: in a transaction the side value
-//! has a level for the beginning and one for each savepoint; outside a transaction it has one
-//! level.
+//! value follows the answer. `save` makes room for a level of the side value before it calls the
+//! caller. So once the caller has answered, only the runs of the side value's jobs take memory.
+//! Invariant: in a transaction the side value has a level for the beginning and one for each
+//! savepoint; outside a transaction it has one level.
 ghost use Rattle.std.specs.Prelude.{◌≡◌, ℕ, ◌+◌, ◌≤◌, ◌<◌, ◌%◌, ◌^◌, true, false, [], ◌∷◌, IfOk, IfErr, OnOk, OnErr, Some, None, length, if◌then◌else◌};
 ghost use mathlib.Core.List.{IsPrefix};
 ghost use Rattle.txn_words.specs.declared.entry.Entry.TheVariants.{Began, Asked, Did, Saved, Leave, Returned, Committed, Aborted};
 ghost use Rattle.txn_words.specs.declared.op.Op.TheVariants.{Get, Put, Take, PutIf};
 ghost use Rattle.txn_words.specs.declared.refusal.Refusal.TheVariants.{NoMemory, NotOpen, AlreadyOpen, NoSuchLevel};
 ghost use Rattle.undo_log.specs.Sides.{HasLevel, IsBackAt, IsSameSide, IsSettled};
-ghost use Rattle.striped_map.specs.Callers.{number, seen, levels, changes, changes_above, stripes_held, IsStep, IsStopped};
+ghost use Rattle.striped_map.specs.Callers.{number, seen, levels, changes_made, changes_above, stripes_held, IsStep, IsStopped};
 ghost use Rattle.striped_map.specs.Lone.{RunsAlone};
 ghost use Rattle.striped_map.specs.Steps.{undoing};
 ghost use Rattle.sided_caller.specs.Calls.{HasStopped};
@@ -66,15 +66,16 @@ impl<S: Side> SidedCaller<S> {
         Ok(SidedCaller { caller, side })
     }
 
-    /// The four words of the side value now. One call of the side type's `words`.
+    /// The four words of the side value now. Costs one call of the side type's `words`.
     pub fn words(&self) -> [u64; 4]
         ensures { result ≡ S.words_of self.now.side.value }
     {
         self.side.words()
     }
 
-    /// Changes the side value, and keeps the job that takes the change back. In a transaction it is
-    /// taken back with the map's changes; a change that is made outside of one stays.
+    /// Changes the side value, and keeps the job that takes the change back. A change that is made
+    /// in a transaction is taken back with the map's changes. A change that is made outside a
+    /// transaction stays.
     ///
     /// # Errors
     ///
@@ -341,7 +342,7 @@ impl<S: Side> SidedCaller<S> {
         ensures closed { self.new.caller.is_open ≡ false }
         ensures ok { OnOk result ((self.old.caller.is_open ≡ true)
             × IsStep self.old.caller (Leave (number self.old.caller) None
-            ∷ undoing (number self.old.caller) (changes self.old.caller)
+            ∷ undoing (number self.old.caller) (changes_made self.old.caller)
             (Aborted (number self.old.caller))) self.new.caller) }
         ensures side { OnOk result (IsBackAt S.words_of 0 self.old.side self.new.side) }
         ensures err { IfErr result (λ stop. (stop ≡ Stop.Refused NotOpen)
@@ -377,7 +378,7 @@ impl<S: Side> SidedCaller<S> {
     ///
     /// # Cost
     ///
-    /// Constant time beside the drop of the side value and of the jobs that it still has.
+    /// Constant time, and the drop of the side value and of the jobs that it still has.
     pub fn into_caller(self) -> Caller
         ensures { result ≡ self.caller }
     {

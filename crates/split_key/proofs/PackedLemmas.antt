@@ -8,7 +8,7 @@ use Rattle.std.specs.Int.{byte_at, bytes_low_first}
 use Rattle.split_key.specs.declared.sort.SortKey.{SortKey}
 use Rattle.split_key.specs.Split.{reversed, split}
 use Rattle.split_key.specs.Sort.{is_before, is_same, regular_at, dummy_at}
-use Rattle.split_key.specs.SortAt.{IsPacked, bytes_of, word_of, key_in, key_in_dummy, key_in_regular, seen, upper_is}
+use Rattle.split_key.specs.SortAt.{IsPacked, bytes_of, word_of, key_of_split, key_in_dummy, key_in_regular, sort_seen, upper_is}
 use Rattle.split_key.proofs.SplitLemmas.{reversed_below, reversed_twice, split_odd}
 use Rattle.split_key.proofs.SortLemmas.{true-false, below_test, above_test, same_test, by_split, by_key}
 
@@ -44,7 +44,7 @@ packed word is_upper fits odd = record {
 
 -- ---- the sort keys that are made
 -- The split key of a key, together with the half that the key is in, gives the key back.
-key_told : (key : ℕ) (is_upper : Bool) → key < 2 ^ 64 → is_upper ≡ nat_le (2 ^ 63) key → reversed (split key) ≡ key % 2 ^ 63 + 2 ^ 63 → key_in (split key) is_upper ≡ key
+key_told : (key : ℕ) (is_upper : Bool) → key < 2 ^ 64 → is_upper ≡ nat_le (2 ^ 63) key → reversed (split key) ≡ key % 2 ^ 63 + 2 ^ 63 → key_of_split (split key) is_upper ≡ key
 key_told key true fits is again = elim (leb_tells (2 ^ 63) key) [
   | inl over ↦ omega (arith, key_in_regular (split key) true (split_odd key), again, over.1, fits)
   | inr under ↦ absurd (true-false (is ∙ under.0))
@@ -65,7 +65,7 @@ split_fits key = reversed_below _
 pub regular_packed : (key : ℕ) (is_upper : Bool) → IsPacked (bytes_of (split key)) is_upper
 regular_packed key is_upper = packed (split key) is_upper (split_fits key) (λ upper. split_odd key)
 
-pub regular_seen : (key : ℕ) (is_upper : Bool) → key < 2 ^ 64 → is_upper ≡ nat_le (2 ^ 63) key → seen (bytes_of (split key)) is_upper ≡ regular_at key
+pub regular_seen : (key : ℕ) (is_upper : Bool) → key < 2 ^ 64 → is_upper ≡ nat_le (2 ^ 63) key → sort_seen (bytes_of (split key)) is_upper ≡ regular_at key
 regular_seen key is_upper fits is =
     rw (word_back (split key) (split_fits key)) (ap (λ (k : ℕ). record { split = split key; key = k }) (key_told key is_upper fits is (split_again key)))
 
@@ -75,7 +75,7 @@ not_upper word upper = cc
 pub dummy_packed : (bucket : ℕ) → IsPacked (bytes_of (reversed bucket)) false
 dummy_packed bucket = packed (reversed bucket) false (reversed_below _) (λ upper. not_upper _ upper)
 
-pub dummy_seen : (bucket : ℕ) → reversed bucket % 2 ≡ 0 → seen (bytes_of (reversed bucket)) false ≡ dummy_at bucket
+pub dummy_seen : (bucket : ℕ) → reversed bucket % 2 ≡ 0 → sort_seen (bytes_of (reversed bucket)) false ≡ dummy_at bucket
 dummy_seen bucket even =
     let back : word_of (bytes_of (reversed bucket)) ≡ reversed bucket = word_back (reversed bucket) (reversed_below _) in
     rw back (ap (λ (k : ℕ). record { split = reversed bucket; key = k }) (key_in_dummy (reversed bucket) false even))
@@ -97,21 +97,21 @@ halves_same true true is = refl
 -- is odd if the key is in the upper half.
 pub record HasParts (at : SortKey) (bytes : List ℕ) (is_upper : Bool) : Type 0 where
   pub split : word_of bytes ≡ at.split
-  pub key : key_in at.split is_upper ≡ at.key
+  pub key : key_of_split at.split is_upper ≡ at.key
   pub odd : is_upper ≡ true → at.split % 2 ≡ 1
 
-pub parts_of : (at : SortKey) (bytes : List ℕ) (is_upper : Bool) → seen bytes is_upper ≡ at → IsPacked bytes is_upper → HasParts at bytes is_upper
+pub parts_of : (at : SortKey) (bytes : List ℕ) (is_upper : Bool) → sort_seen bytes is_upper ≡ at → IsPacked bytes is_upper → HasParts at bytes is_upper
 parts_of at bytes is_upper is packed =
     let split_is : word_of bytes ≡ at.split = ap (λ (s : SortKey). s.split) is in
     record {
       split = split_is;
-      key = ap (λ split. key_in split is_upper) (sym split_is) ∙ ap (λ (s : SortKey). s.key) is;
+      key = ap (λ split. key_of_split split is_upper) (sym split_is) ∙ ap (λ (s : SortKey). s.key) is;
       odd = λ upper. ap (λ split. split % 2) (sym split_is) ∙ packed.upper upper;
     }
 
 -- If two keys have the same split key, the first is below the second exactly if only the second is
 -- in the upper half.
-upper_before : (at k l : ℕ) (is_upper others : Bool) → key_in at is_upper ≡ k → key_in at others ≡ l → (is_upper ≡ true → at % 2 ≡ 1) → (others ≡ true → at % 2 ≡ 1) → nat_lt k l ≡ (not is_upper && others)
+upper_before : (at k l : ℕ) (is_upper others : Bool) → key_of_split at is_upper ≡ k → key_of_split at others ≡ l → (is_upper ≡ true → at % 2 ≡ 1) → (others ≡ true → at % 2 ≡ 1) → nat_lt k l ≡ (not is_upper && others)
 upper_before at k l false false k_is l_is odd others_odd = above_test k l (omega (arith, k_is, l_is))
 upper_before at k l false true k_is l_is odd others_odd =
     below_test k l (omega (arith, sym k_is ∙ key_in_regular at false (others_odd refl), sym l_is ∙ key_in_regular at true (others_odd refl)))
@@ -122,7 +122,7 @@ upper_before at k l true true k_is l_is odd others_odd = above_test k l (omega (
 pub before_by_half : (a b : SortKey) (own its : List ℕ) (is_upper others : Bool) → HasParts a own is_upper → HasParts b its others → word_of own ≡ word_of its → is_before a b ≡ (not is_upper && others)
 before_by_half a b own its is_upper others a_has b_has same_word =
     let same : a.split ≡ b.split = sym a_has.split ∙ same_word ∙ b_has.split in
-    by_key a b same ∙ upper_before a.split a.key b.key is_upper others a_has.key (ap (λ split. key_in split others) same ∙ b_has.key) a_has.odd (λ upper. ap (λ split. split % 2) same ∙ b_has.odd upper)
+    by_key a b same ∙ upper_before a.split a.key b.key is_upper others a_has.key (ap (λ split. key_of_split split others) same ∙ b_has.key) a_has.odd (λ upper. ap (λ split. split % 2) same ∙ b_has.odd upper)
 
 pub before_by_word : (a b : SortKey) (own its : List ℕ) (is_upper others : Bool) → HasParts a own is_upper → HasParts b its others → word_of own ≢ word_of its → is_before a b ≡ nat_lt (word_of own) (word_of its)
 before_by_word a b own its is_upper others a_has b_has differ =
@@ -131,7 +131,7 @@ before_by_word a b own its is_upper others a_has b_has differ =
 pub same_by_word : (a b : SortKey) (own its : List ℕ) (is_upper others : Bool) → HasParts a own is_upper → HasParts b its others → is_upper ≡ others → (word_of own == word_of its) ≡ is_same a b
 same_by_word a b own its is_upper others a_has b_has half = elim (eqb_tells a.split b.split) [
   | inl here ↦
-      let keys : a.key ≡ b.key = sym a_has.key ∙ ap₂ (λ split upper. key_in split upper) here.1 half ∙ b_has.key in
+      let keys : a.key ≡ b.key = sym a_has.key ∙ ap₂ (λ split upper. key_of_split split upper) here.1 half ∙ b_has.key in
       rw (a_has.split, b_has.split, here.0, same_test a.key b.key keys) refl
   | inr differs ↦ rw (a_has.split, b_has.split, differs.0) refl
 ]

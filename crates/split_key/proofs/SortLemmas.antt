@@ -120,7 +120,7 @@ before_once a b before = elim (cases_before b a) [
 pub before_apart : (a b : SortKey) → IsBefore a b → a ≢ b
 before_apart a b before same = before_not_before b b (rw same at before) (before_irreflexive b)
 
--- If `a` is before `b`, and `c` is not, `a` is before `c`.
+-- If `a` is before `b`, and `c` is not before `b`, then `a` is before `c`.
 pub before_behind : (a b c : SortKey) → IsBefore a b → IsNotBefore c b → IsBefore a c
 before_behind a b c before not_before = elim (cases_before b c) [
   | inl behind ↦ before_transitive a b c before behind

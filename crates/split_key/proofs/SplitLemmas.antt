@@ -1,5 +1,5 @@
--- Bits in reverse order: the position of each bit, that no two words share a reversal, and the
--- order of split keys.
+-- Bits in reverse order: the position of each bit, the fact that no two words share a reversal, and
+-- the order of split keys.
 use Prim.Native.Nat.{zero, suc}
 use Rattle.std.proofs.Common.{◌≡◌, ℕ, ◌+◌, ◌*◌, ◌-◌, ◌/◌, ◌%◌, ◌^◌, ◌<◌, ◌≤◌, refl, sym, ◌∙◌, ap, arith, bit_or, pow-suc, zero-add, suc-add, div-add-mod', add-mul, subst, mul_assoc, mul_left_comm, inl, inr}
 use Rattle.std.proofs.lemmas.Bool.{cases_lt}
@@ -99,7 +99,7 @@ reversed_twice word within = reversed_low_twice 64 word within
 pub same_from_reversed : (a b : ℕ) → a < 2 ^ 64 → b < 2 ^ 64 → reversed a ≡ reversed b → a ≡ b
 same_from_reversed a b a_fits b_fits same = sym (reversed_twice a a_fits) ∙ ap reversed same ∙ reversed_twice b b_fits
 
--- A key with bit 63 set, as a sum and as the machine computes it.
+-- Setting bit 63 of a key by `bit_or`, as the machine does, adds 2 ^ 63 to the key's lower bits.
 top_set_below : (key : ℕ) → key % 2 ^ 63 + 2 ^ 63 < 2 ^ 64
 top_set_below key = omega (arith, mod_below key (2 ^ 63) (pow_pos 63))
 
@@ -139,7 +139,7 @@ pub split_same : (a b : ℕ) → a % 2 ^ 63 ≡ b % 2 ^ 63 → split a ≡ split
 unfolding split
 split_same a b same = ap (λ rest. reversed (rest + 2 ^ 63)) same
 
--- A regular node's split key is odd, a dummy's even.
+-- The split key of a regular node is odd, and that of a dummy is even.
 pub split_odd : (key : ℕ) → split key % 2 ≡ 1
 unfolding split
 split_odd key =

@@ -1,4 +1,4 @@
--- Swaps of neighbouring groups of bits, as masks and shifts make them, and six of them in a row.
+-- Swaps of neighbouring groups of bits by masks and shifts, and six such swaps in a row.
 use Rattle.std.proofs.Common.{◌≡◌, ℕ, ◌+◌, ◌*◌, ◌-◌, ◌/◌, ◌%◌, ◌^◌, ◌<◌, ◌≤◌, add-zero, refl, sym, ◌∙◌, ap, arith, inl, inr, true, bit_and, bit_or, nat_eq, nat_lt, min}
 use Rattle.std.proofs.lemmas.Bool.{agree_below, agree_below_at, cases_eq, cases_lt, eq-eqb, eqb-true, ltb-true, ne_eqb}
 use Rattle.std.proofs.lemmas.Nat.{pow_pos, shr-shr, shr_split}
@@ -7,7 +7,7 @@ use Rattle.std.proofs.lemmas.Nat.Bits.{bit_at_and, bit_at_or, bit_at-lt, bit_at-
 use Rattle.std.specs.Int.{bit_at}
 use Rattle.split_key.specs.Swap.{swapped_place}
 
--- Two functions agree at each position of a word if computing says so.
+-- Two functions agree at each position of a word if the test of all positions says so.
 pub same_at_places : (f g : ℕ → ℕ) → agree_below (λ place. nat_eq (f place) (g place)) (λ _. true) 64 ≡ true → (place : ℕ) → place < 64 → f place ≡ g place
 same_at_places f g e place within = eqb-true (f place) (g place) (agree_below_at (λ k. nat_eq (f k) (g k)) (λ _. true) 64 place e within)
 
@@ -32,7 +32,8 @@ swapped_place_of_lower width place lower = rw (eq-eqb (place / width % 2) 0 lowe
 swapped_place_of_upper : (width place : ℕ) → place / width % 2 ≡ 1 → swapped_place width place ≡ place - width
 swapped_place_of_upper width place upper = rw (ne_eqb (place / width % 2) 0 (λ none. omega arith)) refl
 
--- The group before an upper group is a lower one, and the other way round.
+-- The group before an upper group is a lower group, and the group before a lower group is an upper
+-- group.
 group_before : (width place : ℕ) → 0 < width → width ≤ place → (place - width) / width % 2 ≡ 1 - place / width % 2
 group_before width place some above = omega (arith, div-eq-sub-div some above)
 

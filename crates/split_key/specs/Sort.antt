@@ -3,8 +3,7 @@ use Rattle.std.specs.Prelude.{ℕ, ◌≡◌, Bool, true, false, ◌==◌, ◌&&
 use Rattle.split_key.specs.declared.sort.SortKey.{SortKey}
 use Rattle.split_key.specs.Split.{reversed, split}
 
--- Whether the first precedes the second: by the split key, and if the split keys are equal by the
--- key.
+-- Whether the first precedes the second: by split key, and by key where the split keys are equal.
 unfoldable pub is_before : SortKey → SortKey → Bool
 is_before a b = if a.split == b.split then nat_lt a.key b.key else nat_lt a.split b.split
 

@@ -22,16 +22,16 @@ bytes_of word = to_le_bytes w64 word
 
 -- The key that has this split key, and is in the upper half of the keys exactly if `is_upper`; 0
 -- for a dummy's split key.
-unfoldable pub key_in : ℕ → Bool → ℕ
-key_in split is_upper =
+unfoldable pub key_of_split : ℕ → Bool → ℕ
+key_of_split split is_upper =
     if split % 2 == 0 then 0 else reversed split % 2 ^ 63 + (if is_upper then 2 ^ 63 else 0)
 
 -- The sort key that has these bytes as its split key, and whose key is in the upper half exactly if
 -- `is_upper`.
-abbrev pub seen : List ℕ → Bool → SortAt
-seen bytes is_upper = record {
+abbrev pub sort_seen : List ℕ → Bool → SortAt
+sort_seen bytes is_upper = record {
   split = word_of bytes;
-  key = key_in (word_of bytes) is_upper;
+  key = key_of_split (word_of bytes) is_upper;
 }
 
 -- The list has eight bytes, and `is_upper` is false if their number is a dummy's split key.
@@ -40,29 +40,29 @@ pub record IsPacked (bytes : List ℕ) (is_upper : Bool) : Type 0 where
   pub small : (place : ℕ) → slice_index_or bytes place 0 < 256
   pub upper : is_upper ≡ true → word_of bytes % 2 ≡ 1
 
--- For a dummy's split key, `key_in` is 0.
-pub key_in_dummy : (split : ℕ) (is_upper : Bool) → split % 2 ≡ 0 → key_in split is_upper ≡ 0
-unfolding key_in
+-- For a dummy's split key, `key_of_split` is 0.
+pub key_in_dummy : (split : ℕ) (is_upper : Bool) → split % 2 ≡ 0 → key_of_split split is_upper ≡ 0
+unfolding key_of_split
 key_in_dummy split is_upper even = rw (eq-eqb (split % 2) 0 even) refl
 
--- For a regular node's split key, `key_in` is the lowest 63 bits of the reversed split key, plus
--- 2^63 if `is_upper`.
+-- For a regular node's split key, `key_of_split` is the lowest 63 bits of the reversed split key,
+-- plus 2^63 if `is_upper`.
 pub key_in_regular : (split : ℕ) (is_upper : Bool) → split % 2 ≡ 1
-    → key_in split is_upper ≡ reversed split % 2 ^ 63 + (if is_upper then 2 ^ 63 else 0)
-unfolding key_in
+    → key_of_split split is_upper ≡ reversed split % 2 ^ 63 + (if is_upper then 2 ^ 63 else 0)
+unfolding key_of_split
 key_in_regular split is_upper odd = rw (ne_eqb (split % 2) 0 (λ even. omega arith)) refl
 
--- `key_in` is in the upper half of the keys exactly if `is_upper`, provided that `is_upper` is true
--- only for a regular node's split key.
+-- `key_of_split` is in the upper half of the keys exactly if `is_upper`, provided that `is_upper`
+-- is true only for a regular node's split key.
 pub upper_is : (split : ℕ) (is_upper : Bool) → (is_upper ≡ true → split % 2 ≡ 1)
-    → nat_le (2 ^ 63) (key_in split is_upper) ≡ is_upper
+    → nat_le (2 ^ 63) (key_of_split split is_upper) ≡ is_upper
 upper_is split true odd =
-    elim (leb_tells (2 ^ 63) (key_in split true)) [
+    elim (leb_tells (2 ^ 63) (key_of_split split true)) [
       | inl over ↦ over.0
       | inr under ↦ absurd (omega (arith, under.1, key_in_regular split true (odd refl)))
     ]
 upper_is split false odd =
-    elim (leb_tells (2 ^ 63) (key_in split false)) [
+    elim (leb_tells (2 ^ 63) (key_of_split split false)) [
       | inl over ↦ absurd (elim (cases_eq (split % 2) 0) [
         | inl even ↦ omega (arith, over.1, key_in_dummy split false even)
         | inr other ↦ omega (arith, over.1, key_in_regular split false (omega arith))

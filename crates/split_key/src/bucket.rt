@@ -8,8 +8,8 @@ ghost use Rattle.split_key.specs.Split.{IsAncestor, IsPowerOfTwo};
 use crate::key::Key;
 use crate::reversal::reverse;
 
-/// The parent of a bucket other than 0: the bucket with its highest 1 bit cleared. The bucket's
-/// keys were the parent's in the table of half the size, before the bucket was split off.
+/// The parent of a bucket other than 0: the bucket with its highest 1 bit cleared. Before the
+/// bucket was split off, its keys belonged to its parent.
 pub fn parent(bucket: u32) -> u32
     requires { 0 < bucket }
     ensures value { result ≡ parent_of bucket }

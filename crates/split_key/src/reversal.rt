@@ -1,6 +1,6 @@
-//! The bits of a word in reverse, by six swaps of neighbouring groups. It knows neither keys nor
-//! buckets: `split` makes split keys by it. A second reversal restores the word, so `sort` and
-//! `bucket` find the key and the bucket of a split key by it too.
+//! The bits of a word in reverse, by six swaps of neighbouring groups. This module knows neither
+//! keys nor buckets: `split` makes split keys with it. A second reversal restores the word, so
+//! `sort` and `bucket` also use it, to find the key and the bucket of a split key.
 ghost use Rattle.std.specs.Prelude.{◌≡◌, ℕ, ◌-◌, ◌*◌, ◌/◌, ◌%◌, ◌<◌};
 ghost use Rattle.std.specs.Int.{bit_at};
 ghost use Rattle.split_key.specs.Split.{reversed};

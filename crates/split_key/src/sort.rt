@@ -1,5 +1,5 @@
-//! Sort keys: the order of the nodes of a list, by split key and then by key. A split key by itself
-//! does not order them, since two keys may share one; no two keys have the same sort key.
+//! Sort keys: the order of the nodes of a list, by split key and then by key. Split keys alone do
+//! not order the nodes, since two keys may share a split key; no two keys share a sort key.
 //! The map tests this order only by `is_before`, which takes constant time.
 ghost use Rattle.std.specs.Prelude.{◌≡◌, ◌≢◌, ℕ};
 ghost use Rattle.std.proofs.Common.{rules};
@@ -13,8 +13,8 @@ use crate::split::{dummy, regular};
 use std::marker::Model;
 use std::mem::size_of;
 
-/// The position of a node in the order of the list: by split key, and among nodes of one split key
-/// by key. A dummy has key 0 here. No two nodes of a list have the same sort key.
+/// The position of a node in the order of the list: by split key, and by key where split keys are
+/// equal. A dummy has key 0 here. No two nodes of a list have the same sort key.
 ///
 /// It takes 9 bytes, at any address. A split key tells all bits of its key but the top one, which
 /// is kept beside it: so a node need not store the key as well.
@@ -28,11 +28,11 @@ const _: () = prove!(size_of::<SortKey>() == 9);
 
 impl Model for SortKey {
     ghost use Rattle.std.specs.Prelude.{nat_le, ◌^◌};
-    ghost use Rattle.split_key.specs.SortAt.{SortAt, IsPacked, bytes_are, bytes_of, seen, upper_is, word_of};
+    ghost use Rattle.split_key.specs.SortAt.{SortAt, IsPacked, bytes_are, bytes_of, sort_seen, upper_is, word_of};
 
     ghost Value = { SortAt };
 
-    ghost view = { λ s. seen s.split s.is_upper };
+    ghost view = { λ s. sort_seen s.split s.is_upper };
 
     ghost invariant = { λ s. IsPacked s.split s.is_upper };
 
@@ -110,7 +110,7 @@ impl SortKey {
         word(self.split)
     }
 
-    /// The key of a regular node, by reversing its split key; 0 for a dummy.
+    /// The key of a regular node, found by reversing its split key; 0 for a dummy.
     pub fn key(self) -> u64
         ensures { result ≡ self.key }
     {

@@ -11,8 +11,8 @@ use crate::reversal::reverse;
 const TOP_BIT: u64 = 1 << 63;
 
 /// The split key of a key's node, a regular node: the key's 64 bits, the top one set, in reverse
-/// order. It is odd. Keys that agree below their top bit share it, and no others do; so no two keys
-/// below 2^63 share one.
+/// order. It is odd. Keys share a split key exactly if they agree below their top bit, so no two
+/// keys below 2^63 share one.
 pub fn regular(key: Key) -> u64
     ensures value { result ≡ split key }
     ensures odd { result % 2 ≡ 1 }

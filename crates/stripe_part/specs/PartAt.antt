@@ -1,4 +1,4 @@
--- A contract sees a part as its content and how many changes can be taken back.
+-- A contract sees a part as its content and the number of changes that can be taken back.
 use Rattle.std.specs.Prelude.{ℕ, refl}
 use Rattle.std.specs.Coded.{Coded, code_by, coded×, coded_ℕ}
 use Rattle.txn_words.specs.Map.{Map, empty}

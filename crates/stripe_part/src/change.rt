@@ -9,7 +9,7 @@ ghost use Rattle.stripe_part.specs.Stored.{part_of};
 use probe_map::ProbeMap;
 use txn_words::{Op, Refusal, Reply};
 
-/// Gives a key this value, or none.
+/// Gives a key this value, or no value.
 fn set(map: &mut ProbeMap, key: u64, value: Option<u64>)
     requires { 0 < map.old.spare }
     ensures content { map.new.content ≡ set_at map.old.content key value }

@@ -44,8 +44,9 @@ impl CountedMap {
         }
     }
 
-    /// An empty map with no change to take back, and with room for one key more than `keys`: before
-    /// a change `apply` reserves room for its key, and for one key to take the change back.
+    /// An empty map with no change to take back, and with room for one key more than `keys`. To put
+    /// a key, `apply` reserves room for at least two keys: one for the key, and one for taking the
+    /// change back.
     pub(crate) fn with_capacity(alloc: Global, keys: usize) -> Result<CountedMap, AllocError>
         ensures { IfOk result (λ map. map ≡ nothing) }
     {

@@ -9,11 +9,12 @@
 //! keeps these changes, each with its key and the value before, in one log for all its parts: so an
 //! operation writes only the map.
 //!
-//! - `apply` does an operation, with the reply and the effect that it has on that map; if it is a
-//!   change, one more is owed. A refusal leaves the part unchanged; a get is never refused.
-//! - `take_back` gives the key of a change the value that the key had before the change. It is the
-//!   inverse of boosting (Herlihy and Koskinen, "Transactional Boosting", PPoPP 2008, rule 3); the
-//!   inverses are run newest first. It takes no memory.
+//! - `apply` does an operation. The reply and the new content are those of the operation on a plain
+//!   finite map. If the operation is a change, one more change is owed. A refusal leaves the part
+//!   unchanged; a get is never refused.
+//! - `take_back` gives the key of a change the value that the key had before the change. In
+//!   boosting (Herlihy and Koskinen, "Transactional Boosting", PPoPP 2008, rule 3) this is the
+//!   inverse of the change. The inverses are run newest first. `take_back` takes no memory.
 //! - `settle` keeps all changes. It takes no memory either.
 //! - `len`, `changes` and `pairs` read the part.
 //!

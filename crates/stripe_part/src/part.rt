@@ -20,8 +20,8 @@ use txn_words::{Op, Refusal, Reply};
 ///
 /// # Cost
 ///
-/// A part takes no memory before its first change, which takes a box and the map's array. One that
-/// has room from the start (`with_capacity`) takes both at the start.
+/// A part takes no memory before its first change, which takes a box and the map's array. A part
+/// that has room from the start (`with_capacity`) takes both at the start.
 #[derive(Drop)]
 pub struct Part {
     inner: Option<Box<CountedMap>>,
@@ -63,10 +63,10 @@ impl Part {
         Part { inner: None }
     }
 
-    /// An empty part, with no change to take back, that has room for this number of keys. `apply`
-    /// takes no memory while the keys that were put (also those taken out since) and the changes
-    /// that are owed are together fewer than `keys`. So the first `keys` new keys take no memory,
-    /// if the part settles after each of them.
+    /// An empty part, with no change to take back, that has room for this number of keys. Let `n`
+    /// be the number of keys that were put plus the number of changes that are owed. A key that was
+    /// taken out since still counts. As long as `n` is below `keys`, `apply` takes no memory. For
+    /// instance, if the part settles after each new key, the first `keys` new keys take no memory.
     ///
     /// # Errors
     ///
@@ -93,7 +93,7 @@ impl Part {
     ///
     /// # Errors
     ///
-    /// `NoMemory` if memory is refused, never for a get. It leaves the part unchanged.
+    /// `NoMemory` if memory is refused, which cannot happen for a get. Then the part is unchanged.
     ///
     /// # Cost
     ///
@@ -117,8 +117,8 @@ impl Part {
     }
 
     /// Takes a change back: its key gets the value that it had before, and all other keys keep
-    /// theirs. One change fewer is owed; `changes` must be above 0. Taken back newest first, the
-    /// changes of a transaction leave what was there before them.
+    /// theirs. One change fewer is owed; `changes` must be above 0. If the changes of a transaction
+    /// are taken back newest first, the content is then what it was before them.
     ///
     /// # Cost
     ///

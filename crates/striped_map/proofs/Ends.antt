@@ -11,20 +11,20 @@ use Rattle.striped_map.specs.declared.hand.Hand.{Hand}
 use Rattle.striped_map.specs.declared.map.StripedMap.{StripedMap}
 use Rattle.striped_map.specs.declared.view.View.{View}
 use Rattle.striped_map.specs.Handling.{idle}
-use Rattle.striped_map.specs.Hands.{Moves}
+use Rattle.striped_map.specs.Hands.{MovesHand}
 use Rattle.striped_map.specs.Rule.{Holds}
 use Rattle.striped_map.specs.Seats.{IsOf, known, stripes_of}
-use Rattle.striped_map.specs.Steps.{Standing, Extends, AddsIn, SeesIn, TakesIn, FindsIn, undoing}
+use Rattle.striped_map.specs.Steps.{StateAfter, Extends, AddsIn, SeesIn, GainsStripe, SeesHolder, undoing}
 use Rattle.striped_map.specs.Additions.{due, entries_of}
 use Rattle.striped_map.specs.declared.addition.Addition.TheVariants.{Yield}
 use Rattle.striped_map.proofs.Hands.{extends_then, extends_none, own_same}
 use Rattle.striped_map.proofs.Sounds.{due_same}
 
-pub moved : (map : StripedMap) (a b : Hand) (es : List Entry) (left : Standing) → AddsIn (stripes_of map) (known a.seat) es left (known b.seat) → Moves map a es b
+pub moved : (map : StripedMap) (a b : Hand) (es : List Entry) (left : StateAfter) → AddsIn (stripes_of map) (known a.seat) es left (known b.seat) → MovesHand map a es b
 moved map a b es left x = record { number_is = ap (λ (v : View). v.number) x.view_is; retired_is = ap (λ (v : View). v.retired) x.view_is; made_is = ap (λ (v : View). v.made) x.view_is; goes = x.goes }
 
--- A step that added entries, after which the stripes were given back.
-pub moved_idle : (map : StripedMap) (a b : Hand) (w : View) (es : List Entry) (left : Standing) → AddsIn (stripes_of map) (known a.seat) es left w → known b.seat ≡ idle w → Moves map a es b
+-- If entries are added and the stripes are then given back, this is one step that adds the entries.
+pub moved_idle : (map : StripedMap) (a b : Hand) (w : View) (es : List Entry) (left : StateAfter) → AddsIn (stripes_of map) (known a.seat) es left w → known b.seat ≡ idle w → MovesHand map a es b
 moved_idle map a b w es left x is = record {
   number_is = ap (λ (v : View). v.number) is ∙ ap (λ (v : View). v.number) x.view_is;
   retired_is = ap (λ (v : View). v.retired) is ∙ ap (λ (v : View). v.retired) x.view_is;
@@ -33,7 +33,7 @@ moved_idle map a b w es left x is = record {
 }
 
 -- A step that added nothing and then one that added these entries are one step that added them.
-pub moved_then : (map : StripedMap) (a b c : Hand) (es : ℕ → List Entry) → Moves map a [] b → Moves map b (es (known b.seat).number) c → Moves map a (es (known a.seat).number) c
+pub moved_then : (map : StripedMap) (a b c : Hand) (es : ℕ → List Entry) → MovesHand map a [] b → MovesHand map b (es (known b.seat).number) c → MovesHand map a (es (known a.seat).number) c
 moved_then map a b c es x y = record {
   number_is = y.number_is ∙ x.number_is;
   retired_is = y.retired_is ∙ x.retired_is;
@@ -47,17 +47,17 @@ cons_at l zero ne = absurd (ne refl)
 cons_at l (suc k) ne = ap (λ (i : ℕ). get_or l i 0) (omega arith)
 
 -- `moved_then` for an operation that was done, and for one whose stripe another caller held.
-pub moved_did : (map : StripedMap) (a b c : Hand) (op : Op) (reply : Option ℕ) → Moves map a [] b → Moves map b (Asked (known b.seat).number op ∷ Did (known b.seat).number reply ∷ []) c → Moves map a (Asked (known a.seat).number op ∷ Did (known a.seat).number reply ∷ []) c
+pub moved_did : (map : StripedMap) (a b c : Hand) (op : Op) (reply : Option ℕ) → MovesHand map a [] b → MovesHand map b (Asked (known b.seat).number op ∷ Did (known b.seat).number reply ∷ []) c → MovesHand map a (Asked (known a.seat).number op ∷ Did (known a.seat).number reply ∷ []) c
 moved_did map a b c op reply x y = moved_then map a b c (λ k. Asked k op ∷ Did k reply ∷ []) x y
 
-pub moved_busy : (map : StripedMap) (a b c : Hand) (op : Op) (holder : ℕ) → Moves map a [] b → Moves map b (entries_of (known b.seat) (Yield op holder)) c
-    → Moves map a (Busy (known a.seat).number op holder ∷ undoing (known a.seat).number (due (known a.seat)) (Aborted (known a.seat).number)) c
+pub moved_busy : (map : StripedMap) (a b c : Hand) (op : Op) (holder : ℕ) → MovesHand map a [] b → MovesHand map b (entries_of (known b.seat) (Yield op holder)) c
+    → MovesHand map a (Busy (known a.seat).number op holder ∷ undoing (known a.seat).number (due (known a.seat)) (Aborted (known a.seat).number)) c
 moved_busy map a b c op holder x y = moved_then map a b c (λ k. Busy k op holder ∷ undoing k (due (known a.seat)) (Aborted k)) x
-    (subst (λ (jobs : List (ℕ × Option ℕ)). Moves map b (Busy (known b.seat).number op holder ∷ undoing (known b.seat).number jobs (Aborted (known b.seat).number)) c)
+    (subst (λ (jobs : List (ℕ × Option ℕ)). MovesHand map b (Busy (known b.seat).number op holder ∷ undoing (known b.seat).number jobs (Aborted (known b.seat).number)) c)
     (due_same (known a.seat) (known b.seat) x.number_is (own_same (stripes_of map) (known a.seat).number (known a.seat).seen (known b.seat).seen x.goes)) y)
 
 -- A step to a hand is also a step to any other hand whose seat has the same view.
-pub moved_known : (map : StripedMap) (a b : Hand) (es : List Entry) → Moves map a es b → (c : Hand) → known c.seat ≡ known b.seat → Moves map a es c
+pub moved_known : (map : StripedMap) (a b : Hand) (es : List Entry) → MovesHand map a es b → (c : Hand) → known c.seat ≡ known b.seat → MovesHand map a es c
 moved_known map a b es x c same = record {
   number_is = ap (λ (v : View). v.number) same ∙ x.number_is;
   retired_is = ap (λ (v : View). v.retired) same ∙ x.retired_is;
@@ -67,20 +67,20 @@ moved_known map a b es x c same = record {
 
 -- A hand that does not change makes a step that adds nothing, and two steps that add nothing are
 -- one.
-pub moved_still : (map : StripedMap) (a : Hand) → IsOf a.seat map → Moves map a [] a
+pub moved_still : (map : StripedMap) (a : Hand) → IsOf a.seat map → MovesHand map a [] a
 moved_still map a of = record { number_is = refl; retired_is = refl; made_is = refl; goes = extends_none (stripes_of map) (known a.seat).number (known a.seat).seen (subst (λ z. IsLegal Begun z.slots (known a.seat).seen) of a.sound.legal) }
 
-pub moved_on : (map : StripedMap) (a b c : Hand) → Moves map a [] b → Moves map b [] c → Moves map a [] c
+pub moved_on : (map : StripedMap) (a b c : Hand) → MovesHand map a [] b → MovesHand map b [] c → MovesHand map a [] c
 moved_on map a b c x y = moved_then map a b c (λ k. []) x y
 
 -- A stripe that was held is still held after another stripe was taken, and after a stripe was found
 -- to be held by another caller.
-pub holds_taken : (n k : ℕ) (v w : View) (part : PartAt) → TakesIn n k v part w → (other : ℕ) → Holds v other → Holds w other
+pub holds_taken : (n k : ℕ) (v w : View) (part : PartAt) → GainsStripe n k v part w → (other : ℕ) → Holds v other → Holds w other
 holds_taken n k v w part t other hold = subst (λ (u : View). Holds u other) (sym t.view_is) (let h : 0 < times other v.held = hold in let more : 0 < times other (k ∷ v.held) = omega arith in more)
 
-pub holds_found : (n holder : ℕ) (v w : View) → FindsIn n v holder w → (other : ℕ) → Holds v other → Holds w other
+pub holds_found : (n holder : ℕ) (v w : View) → SeesHolder n v holder w → (other : ℕ) → Holds v other → Holds w other
 holds_found n holder v w f other hold = subst (λ (u : View). Holds u other) (sym f.sees.view_is) hold
 
 -- A look at the history is a step that adds nothing.
-pub moved_seen : (map : StripedMap) (a b : Hand) → SeesIn (stripes_of map) (known a.seat) (known b.seat) → Moves map a [] b
+pub moved_seen : (map : StripedMap) (a b : Hand) → SeesIn (stripes_of map) (known a.seat) (known b.seat) → MovesHand map a [] b
 moved_seen map a b x = record { number_is = ap (λ (v : View). v.number) x.view_is; retired_is = ap (λ (v : View). v.retired) x.view_is; made_is = ap (λ (v : View). v.made) x.view_is; goes = x.goes }

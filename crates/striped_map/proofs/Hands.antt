@@ -25,11 +25,11 @@ use Rattle.stripe_part.specs.PartAt.{PartAt}
 use Rattle.stripe_part.specs.Calls.{Does, TakesBack}
 use Rattle.striped_map.specs.declared.view.View.{View}
 use Rattle.striped_map.specs.declared.seat.MapSeat.{MapSeat}
-use Rattle.striped_map.specs.Rule.{Holds, Fits}
+use Rattle.striped_map.specs.Rule.{Holds, IsPartOf}
 use Rattle.striped_map.specs.Seats.{HoldsAll, LeavesOthers, part_in}
-use Rattle.striped_map.specs.Steps.{Extends, TakesIn, lost, undone}
+use Rattle.striped_map.specs.Steps.{Extends, GainsStripe, lost, rolled_back}
 use Rattle.striped_map.specs.Handling.{under}
-use Rattle.striped_map.specs.Sound.{Held, parts_of, stripes_in, with_part, owed_in, at_place, of_job, Change, Spot, AreHeld, AreLogged}
+use Rattle.striped_map.specs.Sound.{HeldPart, held_parts, stripes_in, with_part, owed_on, at_place, of_job, Change, Spot, AreHeld, AreLogged}
 use Rattle.striped_map.proofs.Lands.{own-append, own-none}
 
 abbrev pub Job : Type 0
@@ -64,22 +64,22 @@ read_at [] k h lt e = absurd (omega arith)
 read_at (x ∷ xs) zero h lt e = ap (λ (y : ℕ). Some y) (sym e)
 read_at (x ∷ xs) (suc k) h lt e = read_at xs k h (omega arith) e
 
--- The stripes of parts.
-pub stripes_push : (held : List Held) (h : Held) → stripes_in (held ++ h ∷ []) ≡ stripes_in held ++ h.stripe ∷ []
+-- Lemmas on the stripes of a list of parts.
+pub stripes_push : (held : List HeldPart) (h : HeldPart) → stripes_in (held ++ h ∷ []) ≡ stripes_in held ++ h.stripe ∷ []
 stripes_push [] h = refl
 stripes_push (x ∷ held) h = ap (λ (l : List ℕ). x.stripe ∷ l) (stripes_push held h)
 
-pub stripe_at : (held : List Held) (i : ℕ) (h : Held) → slice_get held i ≡ Some h → slice_get (stripes_in held) i ≡ Some h.stripe
+pub stripe_at : (held : List HeldPart) (i : ℕ) (h : HeldPart) → slice_get held i ≡ Some h → slice_get (stripes_in held) i ≡ Some h.stripe
 stripe_at [] i h e = absurd (none-some h e)
-stripe_at (x ∷ held) zero h e = ap (λ (y : Held). Some y.stripe) (same_Some x h e)
+stripe_at (x ∷ held) zero h e = ap (λ (y : HeldPart). Some y.stripe) (same_Some x h e)
 stripe_at (x ∷ held) (suc i) h e = stripe_at held i h e
 
-pub stripes_set : (held : List Held) (j : ℕ) (h new : Held) → slice_get held j ≡ Some h → new.stripe ≡ h.stripe → stripes_in (set held j new) ≡ stripes_in held
+pub stripes_set : (held : List HeldPart) (j : ℕ) (h new : HeldPart) → slice_get held j ≡ Some h → new.stripe ≡ h.stripe → stripes_in (set held j new) ≡ stripes_in held
 stripes_set [] j h new at same = refl
-stripes_set (x ∷ held) zero h new at same = ap (λ (k : ℕ). k ∷ stripes_in held) (same ∙ ap (λ (y : Held). y.stripe) (sym (same_Some x h at)))
+stripes_set (x ∷ held) zero h new at same = ap (λ (k : ℕ). k ∷ stripes_in held) (same ∙ ap (λ (y : HeldPart). y.stripe) (sym (same_Some x h at)))
 stripes_set (x ∷ held) (suc j) h new at same = ap (λ (l : List ℕ). x.stripe ∷ l) (stripes_set held j h new at same)
 
--- Stripes with their parts.
+-- Lemmas on lists of stripes with their parts.
 pub stripes_with : (f : ℕ → PartAt) (ks : List ℕ) → stripes_in (map (with_part f) ks) ≡ ks
 stripes_with f [] = refl
 stripes_with f (k ∷ ks) = ap (λ (l : List ℕ). k ∷ l) (stripes_with f ks)
@@ -91,32 +91,32 @@ with_at f (x ∷ ks) (suc i) k e = with_at f ks i k e
 
 pub with_push : (f : ℕ → PartAt) (ks : List ℕ) (k : ℕ) → map (with_part f) (ks ++ k ∷ []) ≡ map (with_part f) ks ++ with_part f k ∷ []
 with_push f [] k = refl
-with_push f (x ∷ ks) k = ap (λ (l : List Held). with_part f x ∷ l) (with_push f ks k)
+with_push f (x ∷ ks) k = ap (λ (l : List HeldPart). with_part f x ∷ l) (with_push f ks k)
 
 -- If `f` and `g` give all stripes of `ks` the same parts, the lists of stripes with their parts are
 -- equal. If they give only the stripe `k` another part, the lists differ only at its place `j`.
 pub with_same : (f g : ℕ → PartAt) (ks : List ℕ) → ((i k : ℕ) → slice_get ks i ≡ Some k → g k ≡ f k) → map (with_part g) ks ≡ map (with_part f) ks
 with_same f g [] same = refl
-with_same f g (x ∷ ks) same = ap (λ (p : PartAt). (record { stripe = x; part = p }) ∷ map (with_part g) ks) (same 0 x refl) ∙ ap (λ (l : List Held). with_part f x ∷ l) (with_same f g ks (λ i k at. same (suc i) k at))
+with_same f g (x ∷ ks) same = ap (λ (p : PartAt). (record { stripe = x; part = p }) ∷ map (with_part g) ks) (same 0 x refl) ∙ ap (λ (l : List HeldPart). with_part f x ∷ l) (with_same f g ks (λ i k at. same (suc i) k at))
 
 pub with_set : (f g : ℕ → PartAt) (ks : List ℕ) (j k : ℕ) → slice_get ks j ≡ Some k → ((i : ℕ) → slice_get ks i ≡ Some k → i ≡ j) → ((other : ℕ) → other ≢ k → g other ≡ f other) → map (with_part g) ks ≡ set (map (with_part f) ks) j (with_part g k)
 with_set f g [] j k at apart same = absurd (none-some k at)
 with_set f g (x ∷ ks) zero k at apart same = ap (λ (y : ℕ). with_part g y ∷ map (with_part g) ks) (same_Some x k at)
-    ∙ ap (λ (l : List Held). with_part g k ∷ l) (with_same f g ks (λ i other there. same other (λ e. absurd (let z = apart (suc i) (there ∙ ap (λ (y : ℕ). Some y) e) in omega arith))))
+    ∙ ap (λ (l : List HeldPart). with_part g k ∷ l) (with_same f g ks (λ i other there. same other (λ e. absurd (let z = apart (suc i) (there ∙ ap (λ (y : ℕ). Some y) e) in omega arith))))
 with_set f g (x ∷ ks) (suc j) k at apart same = ap (λ (p : PartAt). (record { stripe = x; part = p }) ∷ map (with_part g) ks) (same x (λ e. absurd (let z = apart 0 (ap (λ (y : ℕ). Some y) e) in omega arith)))
-    ∙ ap (λ (l : List Held). with_part f x ∷ l) (with_set f g ks j k at (λ i there. let z = apart (suc i) there in omega arith) same)
+    ∙ ap (λ (l : List HeldPart). with_part f x ∷ l) (with_set f g ks j k at (λ i there. let z = apart (suc i) there in omega arith) same)
 
--- A part at a place is of a stripe that is held.
-pub holds_at : (n : ℕ) (v : View) (held : List Held) (m : Map) → AreHeld n v held m → (i k : ℕ) → slice_get (stripes_in held) i ≡ Some k → Holds v k
+-- The seat holds the stripe of each part.
+pub holds_at : (n : ℕ) (v : View) (held : List HeldPart) (m : Map) → AreHeld n v held m → (i k : ℕ) → slice_get (stripes_in held) i ≡ Some k → Holds v k
 holds_at n v held m s i k at = subst (λ (ks : List ℕ). 0 < times k ks) (sym s.kept) (let t : 0 < times k (stripes_in held) = times_at (stripes_in held) i k at in omega (arith, times_reverse k (stripes_in held)))
 
--- A stripe of no part is not held.
-pub not_held : (n : ℕ) (v : View) (held : List Held) (m : Map) → AreHeld n v held m → (k : ℕ) → ((i : ℕ) → slice_get (stripes_in held) i ≢ Some k) → Holds v k → ⊥
+-- The seat holds no stripe other than those of the parts.
+pub not_held : (n : ℕ) (v : View) (held : List HeldPart) (m : Map) → AreHeld n v held m → (k : ℕ) → ((i : ℕ) → slice_get (stripes_in held) i ≢ Some k) → Holds v k → ⊥
 not_held n v held m s k none hold = let h : 0 < times k (reverse (stripes_in held)) = subst (λ (ks : List ℕ). 0 < times k ks) s.kept hold in
     let at = at_times (stripes_in held) k (omega (arith, times_reverse k (stripes_in held))) in none at.0 at.1
 
 -- Parts that fit a map also fit any map with the same values in the stripes that are held.
-pub parts_on : (n : ℕ) (v w : View) (held : List Held) (m k : Map) → AreHeld n v held m → w.held ≡ v.held → ((key : ℕ) → Holds v (stripe_of n key) → get k key ≡ get m key) → AreHeld n w held k
+pub parts_on : (n : ℕ) (v w : View) (held : List HeldPart) (m k : Map) → AreHeld n v held m → w.held ≡ v.held → ((key : ℕ) → Holds v (stripe_of n key) → get k key ≡ get m key) → AreHeld n w held k
 parts_on n v w held m k s same have = record {
   kept = same ∙ s.kept;
   apart = s.apart;
@@ -124,8 +124,8 @@ parts_on n v w held m k s same have = record {
 }
 
 -- A stripe is taken, and its part is added to those that are held.
-pub parts_taken : (n k : ℕ) (v w : View) (held : List Held) (part : PartAt) → AreHeld n v held (now v.seen) → ((i : ℕ) → slice_get (stripes_in held) i ≢ Some k) → TakesIn n k v part w → AreHeld n w (held ++ (record { stripe = k; part = part }) ∷ []) (now w.seen)
-parts_taken n k v w held part s none t = let new : Held = record { stripe = k; part = part } in let ks : List ℕ = stripes_in held in
+pub parts_taken : (n k : ℕ) (v w : View) (held : List HeldPart) (part : PartAt) → AreHeld n v held (now v.seen) → ((i : ℕ) → slice_get (stripes_in held) i ≢ Some k) → GainsStripe n k v part w → AreHeld n w (held ++ (record { stripe = k; part = part }) ∷ []) (now w.seen)
+parts_taken n k v w held part s none t = let new : HeldPart = record { stripe = k; part = part } in let ks : List ℕ = stripes_in held in
     let is : stripes_in (held ++ new ∷ []) ≡ ks ++ k ∷ [] = stripes_push held new in
     record {
       kept = ap (λ (x : View). x.held) t.view_is ∙ ap (λ (l : List ℕ). k ∷ l) s.kept ∙ sym (reverse-append ks (k ∷ [])) ∙ ap reverse (sym is);
@@ -137,42 +137,42 @@ parts_taken n k v w held part s none t = let new : Held = record { stripe = k; p
           (push_at ks k stripe i (ap (λ (l : List ℕ). slice_get l i) (sym is) ∙ a));
       fits = λ i h at. ⊎_elim
           (λ (x : slice_get held i ≡ Some h). λ q in_k. s.fits i h x q in_k ∙ sym (t.still q (subst (Holds v) (sym in_k) (holds_at n v held (now v.seen) s i h.stripe (stripe_at held i h x)))))
-          (λ (x : (i ≡ length held) × (new ≡ h)). subst (λ (y : Held). Fits n y.stripe y.part (now w.seen)) x.1 t.part_is.fits) (push_at held new h i at);
+          (λ (x : (i ≡ length held) × (new ≡ h)). subst (λ (y : HeldPart). IsPartOf n y.stripe y.part (now w.seen)) x.1 t.part_is.fits) (push_at held new h i at);
     }
 
 -- The stripes of a seat's parts.
-pub stripe_in : (seat : MapSeat) (ks : List ℕ) (i k : ℕ) → slice_get ks i ≡ Some k → slice_get (stripes_in (parts_of seat ks)) i ≡ Some k
+pub stripe_in : (seat : MapSeat) (ks : List ℕ) (i k : ℕ) → slice_get ks i ≡ Some k → slice_get (stripes_in (held_parts seat ks)) i ≡ Some k
 stripe_in seat ks i k at = ap (λ (l : List ℕ). slice_get l i) (stripes_with (part_in seat) ks) ∙ at
 
-pub none_in : (seat : MapSeat) (ks : List ℕ) (k : ℕ) → ((i : ℕ) → slice_get ks i ≢ Some k) → (i : ℕ) → slice_get (stripes_in (parts_of seat ks)) i ≢ Some k
+pub none_in : (seat : MapSeat) (ks : List ℕ) (k : ℕ) → ((i : ℕ) → slice_get ks i ≢ Some k) → (i : ℕ) → slice_get (stripes_in (held_parts seat ks)) i ≢ Some k
 none_in seat ks k none i at = none i (ap (λ (l : List ℕ). slice_get l i) (sym (stripes_with (part_in seat) ks)) ∙ at)
 
-pub apart_in : (n : ℕ) (v : View) (seat : MapSeat) (ks : List ℕ) (m : Map) → AreHeld n v (parts_of seat ks) m → (i j k : ℕ) → slice_get ks i ≡ Some k → slice_get ks j ≡ Some k → i ≡ j
+pub apart_in : (n : ℕ) (v : View) (seat : MapSeat) (ks : List ℕ) (m : Map) → AreHeld n v (held_parts seat ks) m → (i j k : ℕ) → slice_get ks i ≡ Some k → slice_get ks j ≡ Some k → i ≡ j
 apart_in n v seat ks m s i j k x y = s.apart i j k (stripe_in seat ks i k x) (stripe_in seat ks j k y)
 
-pub holds_in : (n : ℕ) (v : View) (seat : MapSeat) (ks : List ℕ) (m : Map) → AreHeld n v (parts_of seat ks) m → HoldsAll v ks
-holds_in n v seat ks m s i k at = holds_at n v (parts_of seat ks) m s i k (stripe_in seat ks i k at)
+pub holds_in : (n : ℕ) (v : View) (seat : MapSeat) (ks : List ℕ) (m : Map) → AreHeld n v (held_parts seat ks) m → HoldsAll v ks
+holds_in n v seat ks m s i k at = holds_at n v (held_parts seat ks) m s i k (stripe_in seat ks i k at)
 
 -- The parts of a seat after it took a stripe, after it worked on one part, and after it gave a
 -- stripe back.
-pub parts_pushed : (a b : MapSeat) (ks : List ℕ) (k : ℕ) → ((i : ℕ) → slice_get ks i ≢ Some k) → LeavesOthers k a b → parts_of b (ks ++ k ∷ []) ≡ parts_of a ks ++ with_part (part_in b) k ∷ []
-parts_pushed a b ks k none others = with_push (part_in b) ks k ∙ ap (λ (l : List Held). l ++ with_part (part_in b) k ∷ [])
+pub parts_pushed : (a b : MapSeat) (ks : List ℕ) (k : ℕ) → ((i : ℕ) → slice_get ks i ≢ Some k) → LeavesOthers k a b → held_parts b (ks ++ k ∷ []) ≡ held_parts a ks ++ with_part (part_in b) k ∷ []
+parts_pushed a b ks k none others = with_push (part_in b) ks k ∙ ap (λ (l : List HeldPart). l ++ with_part (part_in b) k ∷ [])
     (with_same (part_in a) (part_in b) ks (λ i other at. others other (λ e. none i (at ∙ ap (λ (x : ℕ). Some x) e))))
 
-pub parts_worked : (n : ℕ) (v : View) (a b : MapSeat) (ks : List ℕ) (m : Map) → AreHeld n v (parts_of a ks) m → (j k : ℕ) → slice_get ks j ≡ Some k → LeavesOthers k a b → parts_of b ks ≡ set (parts_of a ks) j (with_part (part_in b) k)
+pub parts_worked : (n : ℕ) (v : View) (a b : MapSeat) (ks : List ℕ) (m : Map) → AreHeld n v (held_parts a ks) m → (j k : ℕ) → slice_get ks j ≡ Some k → LeavesOthers k a b → held_parts b ks ≡ set (held_parts a ks) j (with_part (part_in b) k)
 parts_worked n v a b ks m s j k at others = with_set (part_in a) (part_in b) ks j k at (λ i there. apart_in n v a ks m s i j k there at) others
 
-pub parts_less : (n : ℕ) (v : View) (a b : MapSeat) (ks : List ℕ) (k : ℕ) (m : Map) → AreHeld n v (parts_of a (ks ++ k ∷ [])) m → LeavesOthers k a b → parts_of b ks ≡ parts_of a ks
+pub parts_less : (n : ℕ) (v : View) (a b : MapSeat) (ks : List ℕ) (k : ℕ) (m : Map) → AreHeld n v (held_parts a (ks ++ k ∷ [])) m → LeavesOthers k a b → held_parts b ks ≡ held_parts a ks
 parts_less n v a b ks k m s others = with_same (part_in a) (part_in b) ks (λ i other at. others other (λ e.
     let last : i ≡ length ks = apart_in n v a (ks ++ k ∷ []) m s i (length ks) k (push_old ks k k i (at ∙ ap (λ (x : ℕ). Some x) e)) (push_last ks k) in
     let lt : i < length ks = slice_get_within ks i other at in omega arith))
 
--- The changes of a stripe.
-owed_mine : (n k : ℕ) (job : Job) (jobs : List Job) → stripe_of n job.0 ≡ k → owed_in n k (job ∷ jobs) ≡ owed_in n k jobs + 1
-owed_mine n k job jobs is = ap (λ b. cond b (owed_in n k jobs + 1) (owed_in n k jobs)) (eq-eqb (stripe_of n job.0) k is)
+-- How many changes a stripe has after one more change, in this stripe or in another.
+owed_mine : (n k : ℕ) (job : Job) (jobs : List Job) → stripe_of n job.0 ≡ k → owed_on n k (job ∷ jobs) ≡ owed_on n k jobs + 1
+owed_mine n k job jobs is = ap (λ b. cond b (owed_on n k jobs + 1) (owed_on n k jobs)) (eq-eqb (stripe_of n job.0) k is)
 
-owed_other : (n k : ℕ) (job : Job) (jobs : List Job) → stripe_of n job.0 ≢ k → owed_in n k (job ∷ jobs) ≡ owed_in n k jobs
-owed_other n k job jobs ne = ap (λ b. cond b (owed_in n k jobs + 1) (owed_in n k jobs)) (ne_eqb (stripe_of n job.0) k ne)
+owed_other : (n k : ℕ) (job : Job) (jobs : List Job) → stripe_of n job.0 ≢ k → owed_on n k (job ∷ jobs) ≡ owed_on n k jobs
+owed_other n k job jobs ne = ap (λ b. cond b (owed_on n k jobs + 1) (owed_on n k jobs)) (ne_eqb (stripe_of n job.0) k ne)
 
 head_same : (a b : Spot) (xs ys : List Spot) → a ∷ xs ≡ b ∷ ys → a ≡ b
 head_same a b xs ys e = cc (e)
@@ -206,7 +206,7 @@ newest_of n change ks changes (job ∷ jobs) e = let head = head_same (at_place 
   ordered = tail_same (at_place ks change) (of_job n job) (map (at_place ks) changes) (map (of_job n) jobs) e;
 }
 
-owed_none : (n k : ℕ) (ks : List ℕ) (changes : List Change) (jobs : List Job) → map (at_place ks) changes ≡ map (of_job n) jobs → ((i : ℕ) → slice_get ks i ≢ Some k) → owed_in n k jobs ≡ 0
+owed_none : (n k : ℕ) (ks : List ℕ) (changes : List Change) (jobs : List Job) → map (at_place ks) changes ≡ map (of_job n) jobs → ((i : ℕ) → slice_get ks i ≢ Some k) → owed_on n k jobs ≡ 0
 owed_none n k ks changes [] e none = refl
 owed_none n k ks [] (job ∷ jobs) e none = absurd (nil_cons (of_job n job) (map (of_job n) jobs) e)
 owed_none n k ks (change ∷ changes) (job ∷ jobs) e none =
@@ -224,37 +224,38 @@ ordered_push n k ks (change ∷ changes) (job ∷ jobs) e =
     let more = ordered_push n k ks changes jobs (tail_same (at_place ks change) (of_job n job) (map (at_place ks) changes) (map (of_job n) jobs) e) in
     ap (λ (s : Spot). s ∷ map (at_place (ks ++ k ∷ [])) changes) (spot_same _ _ _ _ (push_old ks k (stripe_of n job.0) change.0 here) what) ∙ ap (λ (l : List Spot). of_job n job ∷ l) more
 
-pub logged_taken : (n k : ℕ) (held : List Held) (order : List Change) (jobs : List Job) (part : PartAt) → AreLogged n held order jobs → ((i : ℕ) → slice_get (stripes_in held) i ≢ Some k) → part.owed ≡ 0 → AreLogged n (held ++ (record { stripe = k; part = part }) ∷ []) order jobs
-logged_taken n k held order jobs part s none empty = let new : Held = record { stripe = k; part = part } in let ks : List ℕ = stripes_in held in record {
+pub logged_taken : (n k : ℕ) (held : List HeldPart) (order : List Change) (jobs : List Job) (part : PartAt) → AreLogged n held order jobs → ((i : ℕ) → slice_get (stripes_in held) i ≢ Some k) → part.owed ≡ 0 → AreLogged n (held ++ (record { stripe = k; part = part }) ∷ []) order jobs
+logged_taken n k held order jobs part s none empty = let new : HeldPart = record { stripe = k; part = part } in let ks : List ℕ = stripes_in held in record {
   owed = λ i h at. ⊎_elim (λ (x : slice_get held i ≡ Some h). s.owed i h x)
-      (λ (x : (i ≡ length held) × (new ≡ h)). subst (λ (y : Held). y.part.owed ≡ owed_in n y.stripe jobs) x.1 (empty ∙ sym (owed_none n k ks (reverse order) jobs s.ordered none))) (push_at held new h i at);
+      (λ (x : (i ≡ length held) × (new ≡ h)). subst (λ (y : HeldPart). y.part.owed ≡ owed_on n y.stripe jobs) x.1 (empty ∙ sym (owed_none n k ks (reverse order) jobs s.ordered none))) (push_at held new h i at);
   ordered = ap (λ (l : List ℕ). map (at_place l) (reverse order)) (stripes_push held new) ∙ ordered_push n k ks (reverse order) jobs s.ordered;
 }
 
--- The part at a place changes, and with it the map in its stripe.
-pub parts_changed : (n : ℕ) (v : View) (held : List Held) (m k : Map) → AreHeld n v held m → (j : ℕ) (h new : Held) → slice_get held j ≡ Some h → new.stripe ≡ h.stripe
-    → Fits n h.stripe new.part k → ((q : ℕ) → stripe_of n q ≢ h.stripe → get k q ≡ get m q) → AreHeld n v (set held j new) k
+-- The part at the place `j` of the list `held` is replaced. The map changes only at keys of this
+-- part's stripe.
+pub parts_changed : (n : ℕ) (v : View) (held : List HeldPart) (m k : Map) → AreHeld n v held m → (j : ℕ) (h new : HeldPart) → slice_get held j ≡ Some h → new.stripe ≡ h.stripe
+    → IsPartOf n h.stripe new.part k → ((q : ℕ) → stripe_of n q ≢ h.stripe → get k q ≡ get m q) → AreHeld n v (set held j new) k
 parts_changed n v held m k s j h new at same fits still = let is = stripes_set held j h new at same in record {
   kept = s.kept ∙ ap reverse (sym is);
   apart = λ a b stripe x y. s.apart a b stripe (ap (λ (l : List ℕ). slice_get l a) (sym is) ∙ x) (ap (λ (l : List ℕ). slice_get l b) (sym is) ∙ y);
   fits = λ i other there. ⊎_elim
-      (λ (t : (i ≡ j) × (new ≡ other)). subst (λ (y : Held). Fits n y.stripe y.part k) t.1 (subst (λ (stripe : ℕ). Fits n stripe new.part k) (sym same) fits))
+      (λ (t : (i ≡ j) × (new ≡ other)). subst (λ (y : HeldPart). IsPartOf n y.stripe y.part k) t.1 (subst (λ (stripe : ℕ). IsPartOf n stripe new.part k) (sym same) fits))
       (λ (t : (i ≢ j) × (slice_get held i ≡ Some other)). λ q in_k. s.fits i other t.1 q in_k
       ∙ sym (still q (λ in_h. t.0 (s.apart i j h.stripe (stripe_at held i other t.1 ∙ ap (λ (x : ℕ). Some x) (sym in_k ∙ in_h)) (stripe_at held j h at))))) (set_place held j i new other there);
 }
 
-pub logged_changed : (n : ℕ) (v : View) (held : List Held) (m : Map) (order later : List Change) (jobs more : List Job) → AreHeld n v held m → AreLogged n held order jobs → (j : ℕ) (h new : Held) → slice_get held j ≡ Some h → new.stripe ≡ h.stripe
-    → new.part.owed ≡ owed_in n h.stripe more → ((k : ℕ) → k ≢ h.stripe → owed_in n k more ≡ owed_in n k jobs)
+pub logged_changed : (n : ℕ) (v : View) (held : List HeldPart) (m : Map) (order later : List Change) (jobs more : List Job) → AreHeld n v held m → AreLogged n held order jobs → (j : ℕ) (h new : HeldPart) → slice_get held j ≡ Some h → new.stripe ≡ h.stripe
+    → new.part.owed ≡ owed_on n h.stripe more → ((k : ℕ) → k ≢ h.stripe → owed_on n k more ≡ owed_on n k jobs)
     → map (at_place (stripes_in held)) (reverse later) ≡ map (of_job n) more → AreLogged n (set held j new) later more
 logged_changed n v held m order later jobs more p s j h new at same owed still ordered = record {
   owed = λ i other there. ⊎_elim
-      (λ (t : (i ≡ j) × (new ≡ other)). subst (λ (y : Held). y.part.owed ≡ owed_in n y.stripe more) t.1 (owed ∙ ap (λ (k : ℕ). owed_in n k more) (sym same)))
+      (λ (t : (i ≡ j) × (new ≡ other)). subst (λ (y : HeldPart). y.part.owed ≡ owed_on n y.stripe more) t.1 (owed ∙ ap (λ (k : ℕ). owed_on n k more) (sym same)))
       (λ (t : (i ≢ j) × (slice_get held i ≡ Some other)). s.owed i other t.1
       ∙ sym (still other.stripe (λ in_h. t.0 (p.apart i j h.stripe (stripe_at held i other t.1 ∙ ap (λ (x : ℕ). Some x) in_h) (stripe_at held j h at))))) (set_place held j i new other there);
   ordered = ap (λ (l : List ℕ). map (at_place l) (reverse later)) (stripes_set held j h new at same) ∙ ordered;
 }
 
--- Keys of one stripe with one sub-key are the same.
+-- Two different keys of one stripe have different sub-keys.
 sub_apart : (n q key : ℕ) → stripe_of n q ≡ stripe_of n key → q ≢ key → q / n ≢ key / n
 sub_apart n q key same ne e = ne (sym (div-add-mod q n) ∙ ap (λ (x : ℕ). n * x + q % n) e ∙ ap (λ (x : ℕ). n * (key / n) + x) same ∙ div-add-mod key n)
 
@@ -289,22 +290,22 @@ sub_after n c m op q same at_q at_key = let s : ℕ = key_of op / n in dite (ℕ
     (λ (e : q ≡ key_of op). subst (λ (x : ℕ). get (after c (under op s)) (x / n) ≡ get (after m op) x) (sym e) (after_here c m op s at_key))
     (λ ne. get-after_other c (under op s) (q / n) (λ e. sub_apart n q (key_of op) same ne (e ∙ under_key op s)) ∙ at_q ∙ sym (get-after_other m op q ne))
 
-pub parts_noted : (n : ℕ) (v : View) (held : List Held) (m : Map) → AreHeld n v held m → (j : ℕ) (h : Held) (part : PartAt) (op : Op) (reply : Option ℕ) → slice_get held j ≡ Some h → h.stripe ≡ stripe_of n (key_of op)
+pub parts_noted : (n : ℕ) (v : View) (held : List HeldPart) (m : Map) → AreHeld n v held m → (j : ℕ) (h : HeldPart) (part : PartAt) (op : Op) (reply : Option ℕ) → slice_get held j ≡ Some h → h.stripe ≡ stripe_of n (key_of op)
     → Does h.part part (under op (key_of op / n)) reply → AreHeld n v (set held j (record { stripe = h.stripe; part = part })) (after m op)
 parts_noted n v held m s j h part op reply at in_k does = parts_changed n v held m (after m op) s j h (record { stripe = h.stripe; part = part }) at refl
     (λ q in_h. ap (λ (c : Map). get c (q / n)) does.content_is ∙ sub_after n h.part.content m op q (in_h ∙ in_k) (s.fits j h at q in_h) (s.fits j h at (key_of op) (sym in_k)))
     (λ q out. get-after_other m op q (λ e. out (ap (stripe_of n) e ∙ sym in_k)))
 
--- The reply of a part is the map's.
-pub reply_right : (n : ℕ) (v : View) (held : List Held) (m : Map) → AreHeld n v held m → (j : ℕ) (h : Held) (part : PartAt) (op : Op) (reply : Option ℕ) → slice_get held j ≡ Some h → h.stripe ≡ stripe_of n (key_of op)
+-- The reply of an operation on a part is the value of the map at the operation's key.
+pub reply_right : (n : ℕ) (v : View) (held : List HeldPart) (m : Map) → AreHeld n v held m → (j : ℕ) (h : HeldPart) (part : PartAt) (op : Op) (reply : Option ℕ) → slice_get held j ≡ Some h → h.stripe ≡ stripe_of n (key_of op)
     → Does h.part part (under op (key_of op / n)) reply → reply ≡ get m (key_of op)
 reply_right n v held m s j h part op reply at in_k does = does.reply_is ∙ ap (get h.part.content) (under_key op (key_of op / n)) ∙ s.fits j h at (key_of op) (sym in_k)
 
-owed_split : (b : Bool) (n k : ℕ) (job : Job) (jobs : List Job) → stripe_of n job.0 ≢ k → owed_in n k (cond b (job ∷ jobs) jobs) ≡ owed_in n k jobs
+owed_split : (b : Bool) (n k : ℕ) (job : Job) (jobs : List Job) → stripe_of n job.0 ≢ k → owed_on n k (cond b (job ∷ jobs) jobs) ≡ owed_on n k jobs
 owed_split true n k job jobs ne = owed_other n k job jobs ne
 owed_split false n k job jobs ne = refl
 
-owed_grows : (b : Bool) (n k : ℕ) (job : Job) (jobs : List Job) → stripe_of n job.0 ≡ k → cond b (owed_in n k jobs + 1) (owed_in n k jobs) ≡ owed_in n k (cond b (job ∷ jobs) jobs)
+owed_grows : (b : Bool) (n k : ℕ) (job : Job) (jobs : List Job) → stripe_of n job.0 ≡ k → cond b (owed_on n k jobs + 1) (owed_on n k jobs) ≡ owed_on n k (cond b (job ∷ jobs) jobs)
 owed_grows true n k job jobs is = sym (owed_mine n k job jobs is)
 owed_grows false n k job jobs is = refl
 
@@ -314,7 +315,7 @@ order_grows true n j ks order job jobs at e = ap (map (at_place ks)) (reverse-ap
     ∙ ap (λ (s : Spot). s ∷ map (at_place ks) (reverse order)) (spot_same _ _ _ _ at refl) ∙ ap (λ (l : List Spot). of_job n job ∷ l) e
 order_grows false n j ks order job jobs at e = e
 
-pub logged_noted : (n : ℕ) (v : View) (held : List Held) (m : Map) (order : List Change) (jobs : List Job) → AreHeld n v held m → AreLogged n held order jobs → (j : ℕ) (h : Held) (part : PartAt) (op : Op) (reply : Option ℕ) → slice_get held j ≡ Some h
+pub logged_noted : (n : ℕ) (v : View) (held : List HeldPart) (m : Map) (order : List Change) (jobs : List Job) → AreHeld n v held m → AreLogged n held order jobs → (j : ℕ) (h : HeldPart) (part : PartAt) (op : Op) (reply : Option ℕ) → slice_get held j ≡ Some h
     → h.stripe ≡ stripe_of n (key_of op) → Does h.part part (under op (key_of op / n)) reply
     → AreLogged n (set held j (record { stripe = h.stripe; part = part })) (cond (changes op reply) (order ++ (j, key_of op / n, reply) ∷ []) order) (cond (changes op reply) ((key_of op, reply) ∷ jobs) jobs)
 logged_noted n v held m order jobs p s j h part op reply at in_k does = let b : Bool = changes op reply in let job : Job = (key_of op, reply) in let sub : ℕ = key_of op / n in
@@ -325,18 +326,19 @@ logged_noted n v held m order jobs p s j h part op reply at in_k does = let b : 
     (order_grows b n j (stripes_in held) order job jobs (stripe_at held j h at ∙ ap (λ (x : ℕ). Some x) in_k) s.ordered)
 
 -- The newest change of an order is the one at its end.
-pub newest : (n : ℕ) (held : List Held) (order : List Change) (change : Change) (jobs : List Job) → AreLogged n held (order ++ change ∷ []) jobs → Newest n change (stripes_in held) (reverse order) jobs
+pub newest : (n : ℕ) (held : List HeldPart) (order : List Change) (change : Change) (jobs : List Job) → AreLogged n held (order ++ change ∷ []) jobs → Newest n change (stripes_in held) (reverse order) jobs
 newest n held order change jobs s = newest_of n change (stripes_in held) (reverse order) jobs (ap (map (at_place (stripes_in held))) (sym (reverse-append order (change ∷ []))) ∙ s.ordered)
 
--- The part of the newest change has that change to take back.
-pub newest_owed : (n : ℕ) (held : List Held) (order : List Change) (change : Change) (jobs : List Job) (s : AreLogged n held (order ++ change ∷ []) jobs) (h : Held) → slice_get held change.0 ≡ Some h
-    → let new = newest n held order change jobs s in h.part.owed ≡ owed_in n h.stripe new.older + 1
+-- The newest change was made in the part `h`. The number of changes that this part can take back is
+-- one more than the number of older changes in its stripe.
+pub newest_owed : (n : ℕ) (held : List HeldPart) (order : List Change) (change : Change) (jobs : List Job) (s : AreLogged n held (order ++ change ∷ []) jobs) (h : HeldPart) → slice_get held change.0 ≡ Some h
+    → let new = newest n held order change jobs s in h.part.owed ≡ owed_on n h.stripe new.older + 1
 newest_owed n held order change jobs s h at = let new = newest n held order change jobs s in
     let in_k : stripe_of n new.job.0 ≡ h.stripe = same_Some _ _ (sym new.place_is ∙ stripe_at held change.0 h at) in
-    s.owed change.0 h at ∙ ap (owed_in n h.stripe) new.jobs_are ∙ owed_mine n h.stripe new.job new.older in_k
+    s.owed change.0 h at ∙ ap (owed_on n h.stripe) new.jobs_are ∙ owed_mine n h.stripe new.job new.older in_k
 
--- A change of a held part is taken back.
-pub parts_back : (n : ℕ) (v : View) (held : List Held) (m : Map) → AreHeld n v held m → (j : ℕ) (h : Held) (part : PartAt) (job : Job) → slice_get held j ≡ Some h → h.stripe ≡ stripe_of n job.0
+-- A change is taken back in one of the parts that the seat holds.
+pub parts_back : (n : ℕ) (v : View) (held : List HeldPart) (m : Map) → AreHeld n v held m → (j : ℕ) (h : HeldPart) (part : PartAt) (job : Job) → slice_get held j ≡ Some h → h.stripe ≡ stripe_of n job.0
     → TakesBack h.part part (job.0 / n) job.1 → AreHeld n v (set held j (record { stripe = h.stripe; part = part })) (set_at m job.0 job.1)
 parts_back n v held m s j h part job at in_k back = parts_changed n v held m (set_at m job.0 job.1) s j h (record { stripe = h.stripe; part = part }) at refl
     (λ q in_h. ap (λ (c : Map). get c (q / n)) back.content_is ∙ get-set_at h.part.content (job.0 / n) job.1 (q / n) ∙ dite (ℕ_discrete q job.0)
@@ -344,32 +346,33 @@ parts_back n v held m s j h part job at in_k back = parts_changed n v held m (se
     (λ ne. ap (λ b. cond b job.1 (get h.part.content (q / n))) (ne_eqb (q / n) (job.0 / n) (sub_apart n q job.0 (in_h ∙ in_k) ne)) ∙ s.fits j h at q in_h ∙ sym (get-set_at m job.0 job.1 q ∙ ap (λ b. cond b job.1 (get m q)) (ne_eqb q job.0 ne))))
     (λ q out. get-set_at m job.0 job.1 q ∙ ap (λ b. cond b job.1 (get m q)) (ne_eqb q job.0 (λ e. out (ap (stripe_of n) e ∙ sym in_k))))
 
-pub logged_back : (n : ℕ) (v : View) (held : List Held) (m : Map) (order : List Change) (jobs : List Job) → AreHeld n v held m → (change : Change) (s : AreLogged n held (order ++ change ∷ []) jobs) (h : Held) (part : PartAt) → slice_get held change.0 ≡ Some h
-    → let new = newest n held order change jobs s in part.owed ≡ owed_in n h.stripe new.older → AreLogged n (set held change.0 (record { stripe = h.stripe; part = part })) order new.older
+pub logged_back : (n : ℕ) (v : View) (held : List HeldPart) (m : Map) (order : List Change) (jobs : List Job) → AreHeld n v held m → (change : Change) (s : AreLogged n held (order ++ change ∷ []) jobs) (h : HeldPart) (part : PartAt) → slice_get held change.0 ≡ Some h
+    → let new = newest n held order change jobs s in part.owed ≡ owed_on n h.stripe new.older → AreLogged n (set held change.0 (record { stripe = h.stripe; part = part })) order new.older
 logged_back n v held m order jobs p change s h part at owed = let new = newest n held order change jobs s in
     let in_k : stripe_of n new.job.0 ≡ h.stripe = same_Some _ _ (sym new.place_is ∙ stripe_at held change.0 h at) in
     logged_changed n v held m (order ++ change ∷ []) order jobs new.older p s change.0 h (record { stripe = h.stripe; part = part }) at refl owed
-    (λ k ne. sym (ap (owed_in n k) new.jobs_are ∙ owed_other n k new.job new.older (λ e. ne (sym e ∙ in_k)))) new.ordered
+    (λ k ne. sym (ap (owed_on n k) new.jobs_are ∙ owed_other n k new.job new.older (λ e. ne (sym e ∙ in_k)))) new.ordered
 
--- The newest part is given back.
-pub newest_stripe : (n : ℕ) (v : View) (held : List Held) (m : Map) (h : Held) → AreHeld n v (held ++ h ∷ []) m → Holds v h.stripe
+-- The part `h` was taken last, so it is the last of the list. It is given back.
+pub newest_stripe : (n : ℕ) (v : View) (held : List HeldPart) (m : Map) (h : HeldPart) → AreHeld n v (held ++ h ∷ []) m → Holds v h.stripe
 newest_stripe n v held m h s = holds_at n v (held ++ h ∷ []) m s (length held) h.stripe (stripe_at (held ++ h ∷ []) (length held) h (push_last held h))
 
-pub newest_fits : (n : ℕ) (v : View) (held : List Held) (m : Map) (h : Held) → AreHeld n v (held ++ h ∷ []) m → Fits n h.stripe h.part m
+pub newest_fits : (n : ℕ) (v : View) (held : List HeldPart) (m : Map) (h : HeldPart) → AreHeld n v (held ++ h ∷ []) m
+    → IsPartOf n h.stripe h.part m
 newest_fits n v held m h s = s.fits (length held) h (push_last held h)
 
-pub parts_given : (n : ℕ) (v : View) (held : List Held) (m : Map) (h : Held) → AreHeld n v (held ++ h ∷ []) m → AreHeld n (lost v h.stripe) held m
+pub parts_given : (n : ℕ) (v : View) (held : List HeldPart) (m : Map) (h : HeldPart) → AreHeld n v (held ++ h ∷ []) m → AreHeld n (lost v h.stripe) held m
 parts_given n v held m h s = let ks : List ℕ = stripes_in held in let is = stripes_push held h in record {
   kept = ap (removed h.stripe) (s.kept ∙ ap reverse is ∙ reverse-append ks (h.stripe ∷ [])) ∙ removed_same h.stripe (reverse ks);
   apart = λ i j stripe a b. s.apart i j stripe (ap (λ (l : List ℕ). slice_get l i) is ∙ push_old ks h.stripe stripe i a) (ap (λ (l : List ℕ). slice_get l j) is ∙ push_old ks h.stripe stripe j b);
   fits = λ i other at. s.fits i other (push_old held h other i at);
 }
 
--- Nothing is held.
+-- `AreHeld` and `AreLogged` if nothing is held.
 pub parts_none : (n : ℕ) (v : View) (m : Map) → v.held ≡ [] → AreHeld n v [] m
 parts_none n v m is = record { kept = is; apart = λ i j k a b. absurd (none-some k a); fits = λ i h at. absurd (none-some h at) }
 
-pub logged_none : (n : ℕ) (held : List Held) → ((i : ℕ) (h : Held) → slice_get held i ≡ Some h → ⊥) → AreLogged n held [] []
+pub logged_none : (n : ℕ) (held : List HeldPart) → ((i : ℕ) (h : HeldPart) → slice_get held i ≡ Some h → ⊥) → AreLogged n held [] []
 logged_none n held none = record { owed = λ i h at. absurd (none i h at); ordered = refl }
 
 -- The caller's own entries after the history went on.
@@ -395,10 +398,10 @@ extends_none n c seen legal = record { between = []; goes = sym (append-nil (see
 
 -- One change fewer remains to be taken back.
 pub back_step : (m : Map) (left less : ℕ) (jobs older : List Job) (job : Job) → left ≡ suc less → jobs ≡ job ∷ older
-    → (undone (set_at m job.0 job.1) (take less older) ≡ undone m (take left jobs)) × (drop less older ≡ drop left jobs)
-back_step m left less jobs older job e f = subst (λ (l : ℕ). (undone (set_at m job.0 job.1) (take less older) ≡ undone m (take l jobs)) × (drop less older ≡ drop l jobs)) (sym e)
-    (subst (λ (js : List Job). (undone (set_at m job.0 job.1) (take less older) ≡ undone m (take (suc less) js)) × (drop less older ≡ drop (suc less) js)) (sym f) (refl, refl))
+    → (rolled_back (set_at m job.0 job.1) (take less older) ≡ rolled_back m (take left jobs)) × (drop less older ≡ drop left jobs)
+back_step m left less jobs older job e f = subst (λ (l : ℕ). (rolled_back (set_at m job.0 job.1) (take less older) ≡ rolled_back m (take l jobs)) × (drop less older ≡ drop l jobs)) (sym e)
+    (subst (λ (js : List Job). (rolled_back (set_at m job.0 job.1) (take less older) ≡ rolled_back m (take (suc less) js)) × (drop less older ≡ drop (suc less) js)) (sym f) (refl, refl))
 
 -- No change is left to be taken back.
-pub back_done : (m : Map) (left : ℕ) (jobs : List Job) → left ≡ 0 → (undone m (take left jobs) ≡ m) × (drop left jobs ≡ jobs)
-back_done m left jobs e = subst (λ (l : ℕ). (undone m (take l jobs) ≡ m) × (drop l jobs ≡ jobs)) (sym e) (refl, refl)
+pub back_done : (m : Map) (left : ℕ) (jobs : List Job) → left ≡ 0 → (rolled_back m (take left jobs) ≡ m) × (drop left jobs ≡ jobs)
+back_done m left jobs e = subst (λ (l : ℕ). (rolled_back m (take l jobs) ≡ m) × (drop l jobs ≡ jobs)) (sym e) (refl, refl)

@@ -29,8 +29,8 @@ set_away (x ∷ xs) zero (suc j) a b ne e = e
 set_away (x ∷ xs) (suc i) zero a b ne e = e
 set_away (x ∷ xs) (suc i) (suc j) a b ne e = set_away xs i j a b (λ same. ne (ap suc same)) e
 
--- A stripe is at no place if the index has for it no place, a place past the end, or the place of
--- another stripe.
+-- A stripe is not in `ks` in three cases: the index has no place for the stripe, it has a place
+-- past the end of `ks`, or it has a place where `ks` has another stripe.
 pub none_indexed : (ks index : List ℕ) → IsIndexed ks index → (stripe : ℕ) → slice_get index stripe ≡ None → (other : ℕ) → slice_get ks other ≢ Some stripe
 none_indexed ks index is stripe none other at = none-some other (sym none ∙ is other stripe at)
 
@@ -60,7 +60,7 @@ indexed_taken ks index k place none lt long is i stripe at =
     ap (slice_get (set index k place)) (sym last.1) ∙ set_here index k place lt ∙ ap (λ (x : ℕ). Some x) (long ∙ sym last.0))
     (push_at ks k stripe i at)
 
--- A list whose numbers differ and are below n is no longer than n.
+-- A list of different numbers below n has at most n elements.
 others_apart : (k : ℕ) (ks : List ℕ) → ((i : ℕ) → slice_get ks i ≢ Some k) → AllByRecursion (λ other. eqb k other ≡ false) ks
 others_apart k [] none = tt
 others_apart k (x ∷ ks) none = (ne_eqb k x (λ e. none 0 (ap (λ (y : ℕ). Some y) (sym e))), others_apart k ks (λ i. none (suc i)))

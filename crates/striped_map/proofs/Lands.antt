@@ -31,8 +31,8 @@ use Rattle.txn_trace.proofs.Held.{log_held}
 use Rattle.txn_words.proofs.Maps.{get-set_at}
 use Rattle.striped_map.specs.declared.view.View.{View}
 use Rattle.striped_map.specs.Rule.{Holds, HasSeen}
-use Rattle.striped_map.specs.Steps.{Standing, at_begin, at_end, undone, undoing, noting, saving, returning}
-use Rattle.striped_map.specs.Adding.{Grows, GoesOn, Lands, MayAdd}
+use Rattle.striped_map.specs.Steps.{StateAfter, at_begin, at_end, rolled_back, undoing, noting, saving, returning}
+use Rattle.striped_map.specs.Adding.{Grows, GoesOnFrom, Lands, MayAdd}
 
 abbrev pub Job : Type 0
 Job = ℕ × Option ℕ
@@ -91,7 +91,7 @@ lands_one n P g e seat jobs serial current held next from still = record {
 }
 
 -- The state after two lists of entries, one after the other.
-lands_both : (n c : ℕ) (P : ℕ → Type 0) (m k : ℕ) (g es fs : List Entry) (left : Standing) → Grows n c P m g es → Lands n c P k (g ++ es) fs left → Lands n c P (m + k) g (es ++ fs) left
+lands_both : (n c : ℕ) (P : ℕ → Type 0) (m k : ℕ) (g es fs : List Entry) (left : StateAfter) → Grows n c P m g es → Lands n c P k (g ++ es) fs left → Lands n c P (m + k) g (es ++ fs) left
 lands_both n c P m k g es fs left a b = let is : (g ++ es) ++ fs ≡ g ++ (es ++ fs) = append_assoc g es fs in record {
   grows = grows_both n c P m k g es fs a b.grows;
   seat_is = ap (λ (l : List Entry). seat_after (own c l)) (sym is) ∙ b.seat_is;
@@ -99,8 +99,9 @@ lands_both n c P m k g es fs left a b = let is : (g ++ es) ++ fs ≡ g ++ (es ++
   have = λ q hold. ap (λ (l : List Entry). get (now l) q) (sym is) ∙ b.have q hold;
 }
 
--- The state after entries may name any map with the same values in the stripes that P names.
-lands_as : (n c : ℕ) (P : ℕ → Type 0) (m : ℕ) (g es : List Entry) (left : Standing) (jobs : List Job) (seat : Seat) (map : Map) → Lands n c P m g es left → left.seat ≡ seat → left.log ≡ jobs
+-- `Lands` also holds with another map in the state, if the two maps have the same values in the
+-- stripes that P names.
+lands_as : (n c : ℕ) (P : ℕ → Type 0) (m : ℕ) (g es : List Entry) (left : StateAfter) (jobs : List Job) (seat : Seat) (map : Map) → Lands n c P m g es left → left.seat ≡ seat → left.log ≡ jobs
     → ((q : ℕ) → P (stripe_of n q) → get left.map q ≡ get map q) → Lands n c P m g es (record { seat = seat; log = jobs; map = map })
 lands_as n c P m g es left jobs seat map l seat_is log_is same = record {
   grows = l.grows;
@@ -153,7 +154,7 @@ commits n P g legal c seat seat_is opened =
     lands_one n P g (Committed c (how_many is_commit g + 1)) _ _ _ _ _ next (λ k d h. inl (none_cond (option_eq nat_eq (holder_of n k g) (Some c)) (holder_of n k g) d h)) (λ q no. refl)
 
 -- Taking back the same changes keeps two maps equal at a key.
-pub undone_same : (q : ℕ) (jobs : List Job) (a b : Map) → get a q ≡ get b q → get (undone a jobs) q ≡ get (undone b jobs) q
+pub undone_same : (q : ℕ) (jobs : List Job) (a b : Map) → get a q ≡ get b q → get (rolled_back a jobs) q ≡ get (rolled_back b jobs) q
 undone_same q [] a b same = same
 undone_same q (job ∷ jobs) a b same = undone_same q jobs (set_at a job.0 job.1) (set_at b job.0 job.1)
     (get-set_at a job.0 job.1 q ∙ ap (λ (o : Option ℕ). cond (q == job.0) job.1 o) same ∙ sym (get-set_at b job.0 job.1 q))
@@ -167,7 +168,7 @@ undoes_one n P c job g seat jobs serial held next mine =
 
 -- All standing changes are taken back, and the transaction is aborted.
 undoes_to_end : (n : ℕ) (P : ℕ → Type 0) (c : ℕ) (jobs : List Job) (g : List Entry) → IsLegal Begun n g → (seat : Seat) → seat_after (own c g) ≡ Some seat → seat.phase ≡ LeavingToEnd → log_of c g ≡ jobs
-    → AllByRecursion (λ (job : Job). P (stripe_of n job.0)) jobs → Lands n c P 0 g (undoing c jobs (Aborted c)) (at_end (undone (now g) jobs))
+    → AllByRecursion (λ (job : Job). P (stripe_of n job.0)) jobs → Lands n c P 0 g (undoing c jobs (Aborted c)) (at_end (rolled_back (now g) jobs))
 undoes_to_end n P c [] g legal seat seat_is leaving log_is mine =
     let none : seat.standing ≡ 0 = sym (length-log_of g c seat seat_is) ∙ ap length log_is in
     let next = aborted n g legal c seat seat_is leaving none in
@@ -177,12 +178,12 @@ undoes_to_end n P c (job ∷ jobs) g legal seat seat_is leaving log_is mine =
     let next = undone_to_end n g legal c seat seat_is leaving (omega arith) job jobs log_is in
     let more = undoes_to_end n P c jobs (g ++ Undone c ∷ []) next.legal (record seat { standing = seat.standing - 1 }) next.seat_is leaving next.log_is mine.1 in
     lands_as n c P 0 g (undoing c (job ∷ jobs) (Aborted c)) _ _ _ _
-    (lands_both n c P 0 0 g (Undone c ∷ []) (undoing c jobs (Aborted c)) _ (undoes_one n P c job g _ _ _ (λ s. holder_of n s g) next mine.0) more) refl refl (λ q hold. ap (λ (m : Map). get (undone m jobs) q) next.now_is)
+    (lands_both n c P 0 0 g (Undone c ∷ []) (undoing c jobs (Aborted c)) _ (undoes_one n P c job g _ _ _ (λ s. holder_of n s g) next mine.0) more) refl refl (λ q hold. ap (λ (m : Map). get (rolled_back m jobs) q) next.now_is)
 
--- The changes above a level are taken back, and the caller is back at it.
+-- The changes above a level are taken back, and the caller is back at the level.
 undoes_to_level : (n : ℕ) (P : ℕ → Type 0) (c level : ℕ) (jobs kept : List Job) (g : List Entry) → IsLegal Begun n g → (seat : Seat) → seat_after (own c g) ≡ Some seat → seat.phase ≡ LeavingTo level → log_of c g ≡ jobs ++ kept
     → slice_index seat.kept level ≡ length kept → AllByRecursion (λ (job : Job). P (stripe_of n job.0)) jobs
-    → Lands n c P 0 g (undoing c jobs (Returned c level)) (record { seat = record { phase = Opened; standing = length kept; kept = take (level + 1) seat.kept }; log = kept; map = undone (now g) jobs })
+    → Lands n c P 0 g (undoing c jobs (Returned c level)) (record { seat = record { phase = Opened; standing = length kept; kept = take (level + 1) seat.kept }; log = kept; map = rolled_back (now g) jobs })
 undoes_to_level n P c level [] kept g legal seat seat_is leaving log_is at mine =
     let many : seat.standing ≡ length kept = sym (length-log_of g c seat seat_is) ∙ ap length log_is in
     let next = returned n g legal c level seat seat_is leaving (at ∙ sym many) in
@@ -194,7 +195,7 @@ undoes_to_level n P c level (job ∷ jobs) kept g legal seat seat_is leaving log
     let next = undone_to n g legal c level seat seat_is leaving (omega arith) job (jobs ++ kept) log_is in
     let more = undoes_to_level n P c level jobs kept (g ++ Undone c ∷ []) next.legal (record seat { standing = seat.standing - 1 }) next.seat_is leaving next.log_is at mine.1 in
     lands_as n c P 0 g (undoing c (job ∷ jobs) (Returned c level)) _ _ _ _
-    (lands_both n c P 0 0 g (Undone c ∷ []) (undoing c jobs (Returned c level)) _ (undoes_one n P c job g _ _ _ (λ s. holder_of n s g) next mine.0) more) refl refl (λ q hold. ap (λ (m : Map). get (undone m jobs) q) next.now_is)
+    (lands_both n c P 0 0 g (Undone c ∷ []) (undoing c jobs (Returned c level)) _ (undoes_one n P c job g _ _ _ (λ s. holder_of n s g) next mine.0) more) refl refl (λ q hold. ap (λ (m : Map). get (rolled_back m jobs) q) next.now_is)
 
 held_pass : (n : ℕ) (P : ℕ → Type 0) (c : ℕ) (g : List Entry) → ((key : ℕ) → holder_of n (stripe_of n key) g ≡ Some c → P (stripe_of n key)) → (jobs : List Job) → AllByRecursion (λ (job : Job). holder_of n (stripe_of n job.0) g ≡ Some c) jobs
     → AllByRecursion (λ (job : Job). P (stripe_of n job.0)) jobs
@@ -209,7 +210,8 @@ first_pass Q (job ∷ jobs) kept all = (all.0, first_pass Q jobs kept all.1)
 pub own_seen : (n : ℕ) (log : List Entry) (v : View) → HasSeen n log v → v.acts ≡ true → own v.number log ≡ own v.number v.seen
 own_seen n log v h acting = ap (own v.number) h.goes ∙ own-append v.number v.seen h.rest ∙ ap (λ (l : List Entry). own v.number v.seen ++ l) (h.others acting) ∙ append-nil (own v.number v.seen)
 
--- If a caller has begun a transaction, it still has after more entries.
+-- If a caller has begun a transaction in a history, it has also begun one in the history with more
+-- entries.
 pub begun_on : (c : ℕ) (log es : List Entry) → has_begun c log ≡ true → has_begun c (log ++ es) ≡ true
 begun_on c log es is = list_any-append (λ e. is_began e && caller_of e == c) log es ∙ or_left (has_begun c log) (has_begun c es) is
 
@@ -218,15 +220,15 @@ pub open_begun : (n c : ℕ) (g : List Entry) → IsLegal Begun n g → (seat : 
 open_begun n c g legal seat seat_is opened =
     txn_begun c g legal.shape (ap is_some (in_txn n g legal (Saved c) seat (record seat { kept = seat.kept ++ seat.standing ∷ [] }) seat_is (ap (λ q. row seat q (Saved c)) opened) refl (ap runs opened)))
 
--- The entries that a caller may add, by what it has seen.
+-- The entries that a caller in a transaction may add, given what it has seen.
 module _ (n : ℕ) (v : View) (acting : v.acts ≡ true) (seat : Seat) (seat_is : seat_after (own v.number v.seen) ≡ Some seat) (opened : seat.phase ≡ Opened) where
-  seat_on : (log : List Entry) → GoesOn n v log → seat_after (own v.number log) ≡ Some seat
+  seat_on : (log : List Entry) → GoesOnFrom n v log → seat_after (own v.number log) ≡ Some seat
   seat_on log on = ap seat_after (own_seen n log v on.seen acting) ∙ seat_is
 
-  log_on : (log : List Entry) → GoesOn n v log → log_of v.number log ≡ log_of v.number v.seen
+  log_on : (log : List Entry) → GoesOnFrom n v log → log_of v.number log ≡ log_of v.number v.seen
   log_on log on = ap (λ (es : List Entry). (log_after es).standing) (own_seen n log v on.seen acting)
 
-  all_mine : 0 < n → (log : List Entry) (on : GoesOn n v log) → AllByRecursion (λ (job : Job). Holds v (stripe_of n job.0)) (log_of v.number v.seen)
+  all_mine : 0 < n → (log : List Entry) (on : GoesOnFrom n v log) → AllByRecursion (λ (job : Job). Holds v (stripe_of n job.0)) (log_of v.number v.seen)
   all_mine some log on = subst (AllByRecursion (λ (job : Job). Holds v (stripe_of n job.0))) (log_on log on)
       (held_pass n (Holds v) v.number log (λ key hd. on.mine (stripe_of n key) (mod-lt key some) hd) (log_of v.number log) (log_held n log on.legal v.number (ap is_running (seat_on log on) ∙ ap runs opened)))
 
@@ -245,8 +247,8 @@ module _ (n : ℕ) (v : View) (acting : v.acts ≡ true) (seat : Seat) (seat_is 
 
   -- After the first entry, by which the caller leaves, all its changes are taken back.
   leaves : 0 < n → (first : Entry) → caller_of first ≡ v.number → is_commit first ≡ false
-      → ((log : List Entry) → GoesOn n v log → Next Begun n log first (record seat { phase = LeavingToEnd }) (log_of v.number log) (serial log) (now log) (λ s. holder_of n s log))
-      → MayAdd n v (first ∷ undoing v.number (log_of v.number v.seen) (Aborted v.number)) (at_end (undone (now v.seen) (log_of v.number v.seen)))
+      → ((log : List Entry) → GoesOnFrom n v log → Next Begun n log first (record seat { phase = LeavingToEnd }) (log_of v.number log) (serial log) (now log) (λ s. holder_of n s log))
+      → MayAdd n v (first ∷ undoing v.number (log_of v.number v.seen) (Aborted v.number)) (at_end (rolled_back (now v.seen) (log_of v.number v.seen)))
   leaves some first is quiet next log on =
       let c : ℕ = v.number in let jobs : List Job = log_of c v.seen in let one = next log on in
       let goes = grows_one n (Holds v) log first _ _ _ _ _ one (λ k d h. inl h) (λ q no. refl) in
@@ -257,11 +259,11 @@ module _ (n : ℕ) (v : View) (acting : v.acts ≡ true) (seat : Seat) (seat_is 
       lands_as n c (Holds v) 0 log _ _ _ _ _ (lands_both n c (Holds v) 0 0 log (first ∷ []) (undoing c jobs (Aborted c)) _ goes' more) refl refl
       (λ q hold. undone_same q jobs (now (log ++ first ∷ [])) (now v.seen) (ap (λ (m : Map). get m q) one.now_is ∙ on.seen.still q hold))
 
-  pub may_abort : 0 < n → MayAdd n v (Leave v.number None ∷ undoing v.number (log_of v.number v.seen) (Aborted v.number)) (at_end (undone (now v.seen) (log_of v.number v.seen)))
+  pub may_abort : 0 < n → MayAdd n v (Leave v.number None ∷ undoing v.number (log_of v.number v.seen) (Aborted v.number)) (at_end (rolled_back (now v.seen) (log_of v.number v.seen)))
   may_abort some = leaves some (Leave v.number None) refl refl (λ log on. left_to_end n log on.legal v.number seat (seat_on log on) opened)
 
   pub may_yield : 0 < n → (op : Op) (x : ℕ) → x ≢ v.number → has_begun x v.seen ≡ true
-      → MayAdd n v (Busy v.number op x ∷ undoing v.number (log_of v.number v.seen) (Aborted v.number)) (at_end (undone (now v.seen) (log_of v.number v.seen)))
+      → MayAdd n v (Busy v.number op x ∷ undoing v.number (log_of v.number v.seen) (Aborted v.number)) (at_end (rolled_back (now v.seen) (log_of v.number v.seen)))
   may_yield some op x other begun = leaves some (Busy v.number op x) refl refl (λ log on.
       let still : has_begun x log ≡ true = ap (has_begun x) on.seen.goes ∙ begun_on x v.seen on.seen.rest begun in
       let locked : (not (x == v.number) && has_begun x log) ≡ true = and_from (not (x == v.number)) (has_begun x log) (ap not (ne_eqb x v.number other)) still in

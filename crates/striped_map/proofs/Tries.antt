@@ -9,8 +9,8 @@ use Rattle.striped_map.specs.Attempts.{Fails, FailsBusy, IsWhy}
 use Rattle.striped_map.specs.Callers.{number, IsSince, IsStep, IsTakenBack, IsWithin}
 use Rattle.striped_map.proofs.Within.{by_cases, since_began, since_then, within_taken_back}
 
--- If a caller is in a transaction after `n` attempts that were busy, `n` is 0, so the caller is
--- unchanged.
+-- An attempt that was busy leaves no transaction open. So if a caller is in a transaction after `n`
+-- attempts that were busy, `n` is 0, and the caller is unchanged.
 pub still : {T : Type 0} (work : Caller → Result T Stop → Caller → Type 0) (n : ℕ) (a b : Caller)
     → FailsBusy work n a b → b.is_open ≡ true → b ≡ a
 still work zero a b same is = same

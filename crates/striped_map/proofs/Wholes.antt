@@ -19,8 +19,8 @@ use Rattle.txn_words.proofs.Order.{pair_parts, pair_both}
 use Rattle.stripe_part.proofs.Rows.{below_is}
 use Rattle.stripe_part.specs.PartAt.{PartAt}
 use Rattle.striped_map.specs.declared.view.View.{View}
-use Rattle.striped_map.specs.Rule.{Holds, Fits}
-use Rattle.striped_map.specs.Sound.{Held, AreHeld, stripes_in, with_part}
+use Rattle.striped_map.specs.Rule.{Holds, IsPartOf}
+use Rattle.striped_map.specs.Sound.{HeldPart, AreHeld, stripes_in, with_part}
 use Rattle.striped_map.specs.Contents.{count_at, pairs_at, pairs_in, whole}
 use Rattle.striped_map.proofs.Hands.{holds_at, stripe_at}
 
@@ -143,10 +143,11 @@ all_stripes n ks once some (row ∷ rows) = IsPermutation-trans _ _ _ (IsPermuta
     (one_more n row rows ks (once (stripe_of n row.0) (mod-lt row.0 some)))
 
 -- The pairs of parts that fit are the rows of their stripes.
-part_pairs : (n : ℕ) (h : Held) (m : Map) → h.stripe < n → Fits n h.stripe h.part m → pairs_at n h ≡ filter (is_in n h.stripe) m.rows
+part_pairs : (n : ℕ) (h : HeldPart) (m : Map) → h.stripe < n → IsPartOf n h.stripe h.part m
+    → pairs_at n h ≡ filter (is_in n h.stripe) m.rows
 part_pairs n h m lt fits = ap (map (whole n h.stripe)) (part_rows n h.stripe lt h.part.content m fits) ∙ whole_sub n h.stripe m.rows
 
-parts_pairs : (n : ℕ) (m : Map) (held : List Held) → ((i : ℕ) (h : Held) → slice_get held i ≡ Some h → (h.stripe < n) × Fits n h.stripe h.part m) → pairs_in n held ≡ by_stripes n (stripes_in held) m.rows
+parts_pairs : (n : ℕ) (m : Map) (held : List HeldPart) → ((i : ℕ) (h : HeldPart) → slice_get held i ≡ Some h → (h.stripe < n) × IsPartOf n h.stripe h.part m) → pairs_in n held ≡ by_stripes n (stripes_in held) m.rows
 parts_pairs n m [] fit = refl
 parts_pairs n m (h ∷ held) fit = let first = fit 0 h refl in
     ap (λ (l : List Pair). l ++ pairs_in n held) (part_pairs n h m first.0 first.1)
@@ -167,7 +168,7 @@ times_once k (x ∷ ks) apart = dite (ℕ_discrete x k)
     no_other e (suc c) is = let at = at_times ks k (omega arith) in let same : 0 ≡ suc at.0 = apart 0 (suc at.0) k (ap (λ (y : ℕ). Some y) e) at.1 in absurd (omega arith)
 
 -- Whoever holds every stripe has the map's pairs.
-pub all_pairs : (n : ℕ) (v : View) (held : List Held) (m : Map) → 0 < n → AreHeld n v held m → ((k : ℕ) → k < n → Holds v k) → ((k : ℕ) → Holds v k → k < n) → IsPermutation m.rows (pairs_in n held)
+pub all_pairs : (n : ℕ) (v : View) (held : List HeldPart) (m : Map) → 0 < n → AreHeld n v held m → ((k : ℕ) → k < n → Holds v k) → ((k : ℕ) → Holds v k → k < n) → IsPermutation m.rows (pairs_in n held)
 all_pairs n v held m some s all inside = subst (IsPermutation m.rows)
     (sym (parts_pairs n m held (λ i h at. (inside h.stripe (holds_at n v held m s i h.stripe (stripe_at held i h at)), s.fits i h at))))
     (all_stripes n (stripes_in held) once some m.rows)
@@ -177,8 +178,8 @@ all_pairs n v held m some s all inside = subst (IsPermutation m.rows)
         omega (arith, some, times_reverse k (stripes_in held), times_once k (stripes_in held) s.apart)
 
 -- The count of the parts from the place i on is the count of part i plus the count of the parts
--- after it. The pairs of the parts up to the place i are the pairs of the parts before it, then of
--- part i.
+-- after it. The pairs of the parts up to the place i are the pairs of the parts before it and then
+-- the pairs of part i.
 pub sum_drop : (f : ℕ → PartAt) (ks : List ℕ) (i k : ℕ) → slice_get ks i ≡ Some k → sum_by count_at (map (with_part f) (drop i ks)) ≡ count_at (with_part f k) + sum_by count_at (map (with_part f) (drop (suc i) ks))
 sum_drop f [] i k at = absurd (none-some k at)
 sum_drop f (x ∷ ks) zero k at = sum_by-cons count_at (with_part f x) (map (with_part f) ks) ∙ ap (λ (y : ℕ). count_at (with_part f y) + sum_by count_at (map (with_part f) ks)) (same_Some x k at)
@@ -192,10 +193,10 @@ pairs_take n f (x ∷ ks) (suc i) k at = ap (λ (l : List Pair). pairs_at n (wit
 
 -- The number of pairs in the parts is the sum of the parts' counts. If these pairs are the map's,
 -- the sum is the number of the map's rows.
-length_pairs : (n : ℕ) (held : List Held) → length (pairs_in n held) ≡ sum_by count_at held
+length_pairs : (n : ℕ) (held : List HeldPart) → length (pairs_in n held) ≡ sum_by count_at held
 length_pairs n [] = refl
 length_pairs n (h ∷ held) = length-append (pairs_at n h) (pairs_in n held) ∙ ap (λ (c : ℕ). c + length (pairs_in n held)) (length-map h.part.content.rows (whole n h.stripe))
     ∙ ap (λ (c : ℕ). count_at h + c) (length_pairs n held) ∙ sym (sum_by-cons count_at h held)
 
-pub all_counted : (n : ℕ) (held : List Held) (m : Map) → IsPermutation m.rows (pairs_in n held) → sum_by count_at held ≡ length m.rows
+pub all_counted : (n : ℕ) (held : List HeldPart) (m : Map) → IsPermutation m.rows (pairs_in n held) → sum_by count_at held ≡ length m.rows
 all_counted n held m p = sym (length_pairs n held) ∙ length_permutation m.rows (pairs_in n held) p

@@ -11,7 +11,7 @@ use Rattle.txn_trace.specs.Log.{log_of}
 use Rattle.txn_trace.specs.Legal.{IsLegal}
 use Rattle.striped_map.specs.declared.view.View.{View}
 use Rattle.striped_map.specs.Rule.{Holds, HasSeen}
-use Rattle.striped_map.specs.Steps.{Standing}
+use Rattle.striped_map.specs.Steps.{StateAfter}
 
 -- A history goes on with entries of caller c only, and is legal with them. `commits_more` of them
 -- are commits. Only a stripe that P names may get c as its new holder, and only the keys of such a
@@ -26,9 +26,10 @@ pub record Grows (stripes c : ℕ) (P : ℕ → Type 0) (commits_more : ℕ) (lo
     pub still : (key : ℕ) → (P (stripe_of stripes key) → ⊥)
         → get (now (log ++ es)) key ≡ get (now log) key
 
--- The history goes on from what the seat has seen. By the history, no other seat holds a stripe
--- that the view holds, and the view holds each stripe that its seat holds.
-pub record GoesOn (stripes : ℕ) (v : View) (log : List Entry) : Type 0 where
+-- The history goes on from what the seat has seen. If a stripe is in the view's list `held`, no
+-- other seat holds it by the history. If the seat holds a stripe by the history, the stripe is in
+-- this list.
+pub record GoesOnFrom (stripes : ℕ) (v : View) (log : List Entry) : Type 0 where
   pub legal : IsLegal Begun stripes log
   pub seen : HasSeen stripes log v
   pub own_only : (stripe d : ℕ) → Holds v stripe → holder_of stripes stripe log ≡ Some d
@@ -39,14 +40,14 @@ pub record GoesOn (stripes : ℕ) (v : View) (log : List Entry) : Type 0 where
 -- The history grows by these entries as `Grows` says, and they leave caller c and the stripes that
 -- P names in the state `left`.
 pub record Lands (stripes c : ℕ) (P : ℕ → Type 0) (commits_more : ℕ) (log es : List Entry)
-    (left : Standing) : Type 0 where
+    (left : StateAfter) : Type 0 where
   pub grows : Grows stripes c P commits_more log es
   pub seat_is : seat_after (own c (log ++ es)) ≡ Some left.seat
   pub log_is : log_of c (log ++ es) ≡ left.log
   pub have : (key : ℕ) → P (stripe_of stripes key) → get (now (log ++ es)) key ≡ get left.map key
 
--- The entries may be added to any history that goes on from what the seat has seen (`GoesOn`), and
--- leave the state `left`.
-abbrev pub MayAdd : ℕ → View → List Entry → Standing → Type 0
-MayAdd stripes v es left = (log : List Entry) → GoesOn stripes v log
+-- The entries may be added to any history that goes on from what the seat has seen (`GoesOnFrom`),
+-- and leave the state `left`.
+abbrev pub MayAdd : ℕ → View → List Entry → StateAfter → Type 0
+MayAdd stripes v es left = (log : List Entry) → GoesOnFrom stripes v log
     → Lands stripes v.number (Holds v) 0 log es left

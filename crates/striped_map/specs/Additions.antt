@@ -7,7 +7,7 @@ use Rattle.txn_trace.specs.Now.{now}
 use Rattle.striped_map.specs.declared.view.View.{View}
 use Rattle.striped_map.specs.declared.addition.Addition.{Addition}
 use Rattle.striped_map.specs.declared.addition.Addition.TheVariants.{Note, Save, Back, Abort, Yield}
-use Rattle.striped_map.specs.Steps.{Standing, Told, added, at_end, noting, saving, returning, seat_of, undone, undoing}
+use Rattle.striped_map.specs.Steps.{StateAfter, StepEffect, added, at_end, noting, saving, returning, seat_of, rolled_back, undoing}
 
 -- The changes that the caller of a view has to take back.
 abbrev pub due : View → List (ℕ × Option ℕ)
@@ -29,13 +29,13 @@ entries_of v (Yield op holder) =
     Busy v.number op holder ∷ undoing v.number (due v) (Aborted v.number)
 
 -- The state after an addition.
-abbrev pub left_of : View → Addition → Standing
+abbrev pub left_of : View → Addition → StateAfter
 left_of v (Note op reply) = noting v (seat_of v) op reply
 left_of v Save = saving v (seat_of v)
 left_of v (Back level count) =
     returning v (seat_of v) level (take count (due v)) (drop count (due v))
-left_of v Abort = at_end (undone (now v.seen) (due v))
-left_of v (Yield op holder) = at_end (undone (now v.seen) (due v))
+left_of v Abort = at_end (rolled_back (now v.seen) (due v))
+left_of v (Yield op holder) = at_end (rolled_back (now v.seen) (due v))
 
-abbrev pub made : Addition → Told
-made what st m found n = added (entries_of m.0 what) (left_of m.0 what) st m found n
+abbrev pub appended : Addition → StepEffect
+appended what st m found n = added (entries_of m.0 what) (left_of m.0 what) st m found n

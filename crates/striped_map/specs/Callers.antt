@@ -31,13 +31,13 @@ stripes_in c = stripes_of c.map.value
 abbrev pub stripes_held : Caller → List ℕ
 stripes_held c = (known c.hand.seat).held
 
--- How many savepoints its transaction has.
+-- How many savepoints the caller's transaction has.
 abbrev pub levels : Caller → ℕ
 levels c = length (seat_of (known c.hand.seat)).kept - 1
 
--- The changes of its transaction, newest first, and those since a level's savepoint.
-abbrev pub changes : Caller → List (ℕ × Option ℕ)
-changes c = due (known c.hand.seat)
+-- The changes of the caller's transaction, newest first, and its changes since a level's savepoint.
+abbrev pub changes_made : Caller → List (ℕ × Option ℕ)
+changes_made c = due (known c.hand.seat)
 
 abbrev pub changes_above : ℕ → Caller → List (ℕ × Option ℕ)
 changes_above level c = above level (known c.hand.seat)
@@ -55,12 +55,13 @@ pub record IsStep (a : Caller) (es : List Entry) (b : Caller) : Type 0 where
 abbrev pub IsStopped : Caller → Op → Caller → Stop → Type 0
 IsStopped a op b (Busy holder) = (a.is_open ≡ true) × (b.is_open ≡ false)
     × IsStep a (BusyEntry (number a) op holder
-    ∷ undoing (number a) (changes a) (Aborted (number a))) b
+    ∷ undoing (number a) (changes_made a) (Aborted (number a))) b
 IsStopped a op b (Refused NotOpen) = (a.is_open ≡ false) × (b ≡ a)
 IsStopped a op b (Refused refusal) = (refusal ≡ NoMemory) × (a.is_open ≡ true)
     × (b.is_open ≡ true) × IsStep a [] b
 
--- A call that takes every stripe was not done: it stopped as a get of some key stops.
+-- A call that takes every stripe was not done. Its outcome is the outcome of a failed get of some
+-- key (`IsStopped`).
 abbrev pub IsCut : Caller → Caller → Stop → Type 0
 IsCut a b stop = (key : ℕ) × IsStopped a (Get key) b stop
 
@@ -84,7 +85,8 @@ pub record IsTakenBack (a b : Caller) : Type 0 where
   pub closed : b.is_open ≡ false
   pub given : stripes_held b ≡ []
   pub back : a.is_open ≡ true
-      → IsStep a (Leave (number a) None ∷ undoing (number a) (changes a) (Aborted (number a))) b
+      → IsStep a
+      (Leave (number a) None ∷ undoing (number a) (changes_made a) (Aborted (number a))) b
   pub over : a.is_open ≡ false → b ≡ a
 
 -- One transaction that committed: the caller is b before it begins, t when the work begins, u when

@@ -1,10 +1,10 @@
 -- The pairs of several parts together.
 use Rattle.std.specs.Prelude.{ℕ, ◌+◌, ◌*◌, List, map, flat_map}
 use Rattle.txn_words.specs.Map.{count_of}
-use Rattle.striped_map.specs.Sound.{Held}
+use Rattle.striped_map.specs.Sound.{HeldPart}
 
 -- How many pairs a part has.
-abbrev pub count_at : Held → ℕ
+abbrev pub count_at : HeldPart → ℕ
 count_at h = count_of h.part.content
 
 -- A pair of a stripe's part, under its whole key.
@@ -12,9 +12,9 @@ abbrev pub whole : ℕ → ℕ → ℕ × ℕ → ℕ × ℕ
 whole stripes stripe pair = (pair.0 * stripes + stripe, pair.1)
 
 -- The pairs of a part, under their whole keys.
-abbrev pub pairs_at : ℕ → Held → List (ℕ × ℕ)
+abbrev pub pairs_at : ℕ → HeldPart → List (ℕ × ℕ)
 pairs_at stripes h = map (whole stripes h.stripe) h.part.content.rows
 
 -- The pairs of parts, one after the other.
-abbrev pub pairs_in : ℕ → List Held → List (ℕ × ℕ)
+abbrev pub pairs_in : ℕ → List HeldPart → List (ℕ × ℕ)
 pairs_in stripes held = flat_map (pairs_at stripes) held

@@ -16,7 +16,7 @@ use Rattle.map_answers.specs.declared.stop.Stop.{Stop}
 use Rattle.map_answers.specs.declared.stop.Stop.TheVariants.{Busy, Refused}
 
 -- A step of one hand: others may have added entries, and then the hand has added the entries `es`.
-pub record Moves (map : StripedMap) (a : Hand) (es : List Entry) (b : Hand) : Type 0 where
+pub record MovesHand (map : StripedMap) (a : Hand) (es : List Entry) (b : Hand) : Type 0 where
   pub number_is : (known b.seat).number ≡ (known a.seat).number
   pub retired_is : (known b.seat).retired ≡ (known a.seat).retired
   pub made_is : (known b.seat).made ≡ (known a.seat).made
@@ -28,33 +28,35 @@ pub record Moves (map : StripedMap) (a : Hand) (es : List Entry) (b : Hand) : Ty
 -- unchanged, but may hold more stripes.
 abbrev pub IsStopped : StripedMap → Hand → Op → Hand → Stop → Type 0
 IsStopped map a op b (Busy holder) = IsAt Closed (known b.seat) × ((known b.seat).held ≡ [])
-    × Moves map a (BusyEntry (known a.seat).number op holder
+    × MovesHand map a (BusyEntry (known a.seat).number op holder
     ∷ undoing (known a.seat).number (due (known a.seat)) (Aborted (known a.seat).number)) b
 IsStopped map a op b (Refused refusal) =
-    (refusal ≡ NoMemory) × IsAt Opened (known b.seat) × Moves map a [] b
+    (refusal ≡ NoMemory) × IsAt Opened (known b.seat) × MovesHand map a [] b
 
--- A call that takes every stripe was not done: it stopped as a get of some key stops.
+-- A call that takes every stripe was not done. Its outcome is the outcome of a failed get of some
+-- key (`IsStopped`).
 abbrev pub IsCut : StripedMap → Hand → Hand → Stop → Type 0
 IsCut map a b stop = (key : ℕ) × IsStopped map a (Get key) b stop
 
--- A transaction was begun to read the pairs. After Began, and before its next entry, the hand was
--- `left`, and had seen a legal history. In this history each caller that was taken in has exactly
--- the entries that its calls added, and only seats that were made have entries. The pairs are those
--- of this history's map. What the hand `c` has seen begins with this history.
-pub record AreLeft (map : StripedMap) (a c : Hand) (pairs : List (ℕ × ℕ)) : Type 0 where
+-- A transaction was begun to read the pairs. `left` is the hand after the entry Began and before
+-- the hand's next entry. The hand had then seen a legal history. In this history each caller that
+-- was taken in has exactly the entries that its calls added, and only seats that were made have
+-- entries. The pairs are those of this history's map. What the hand `c` has seen begins with this
+-- history.
+pub record ReadsPairs (map : StripedMap) (a c : Hand) (pairs : List (ℕ × ℕ)) : Type 0 where
   pub txn : ℕ
   pub during : Hand
-  pub begun : Moves map a (Began (known a.seat).number txn ∷ []) during
+  pub begun : MovesHand map a (Began (known a.seat).number txn ∷ []) during
   pub left : Hand
-  pub goes : Moves map during [] left
+  pub goes : MovesHand map during [] left
   pub all : HasAll (known a.seat) (known left.seat).seen
   pub others : HasNoOther (known a.seat) (known left.seat).seen
   pub pairs_are : pairs ≡ (now (known left.seat).seen).rows
   pub seen : (later : List Entry) × ((known c.seat).seen ≡ (known left.seat).seen ++ later)
 
--- The pairs were not read. Busy: a transaction was begun to read them, and stopped as a get of some
--- key stops. Refused: memory was refused.
+-- The pairs were not read. Busy: a transaction was begun to read them, and another caller held a
+-- stripe (`IsCut`). Refused: memory was refused.
 abbrev pub IsUnread : StripedMap → Hand → Hand → Stop → Type 0
 IsUnread map a c (Busy holder) = (txn : ℕ) × (b : Hand)
-    × Moves map a (Began (known a.seat).number txn ∷ []) b × IsCut map b c (Busy holder)
+    × MovesHand map a (Began (known a.seat).number txn ∷ []) b × IsCut map b c (Busy holder)
 IsUnread map a c (Refused refusal) = refusal ≡ NoMemory

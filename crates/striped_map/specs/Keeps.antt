@@ -1,4 +1,4 @@
--- The relation that each call of a transaction keeps, and so each work made of such calls.
+-- A relation that each call of a transaction keeps. So each work made of such calls keeps it too.
 use Rattle.std.specs.Prelude.{◌≡◌}
 use Rattle.striped_map.specs.declared.transaction.Transaction.{Transaction}
 use Rattle.striped_map.specs.Callers.{IsWithin}

@@ -9,9 +9,9 @@ use Rattle.txn_words.specs.Kinds.{is_commit}
 use Rattle.txn_trace.specs.Serial.{serial}
 use Rattle.txn_words.specs.Shape.{how_many}
 
--- A transaction of the caller commits at this place in the history: the place is one more than the
--- number of commits before it, and the transaction has the replies of running alone on the map that
--- these commits leave.
+-- A transaction of the caller commits at this place in the history. The place is one more than the
+-- number of earlier commits. The transaction has the same replies as if it ran alone on the map
+-- that the earlier commits leave.
 pub record RunsAlone (c place : ℕ) (log : List Entry) : Type 0 where
   pub txn : ℕ
   pub inner : List Entry

@@ -1,6 +1,7 @@
-//! The additions to the history: what a caller adds by one load. They are one type so that one step
-//! of `rule`, `Add`, serves them all; only the beginning and the commit of a transaction have other
-//! steps. No code reads an addition: it tells the proof which entries the load adds.
+//! The additions to the history: what a caller adds by one load. All additions are of one type, so
+//! that the step `Add` of `rule` serves them all. Only the beginning and the commit of a
+//! transaction have other steps. No code reads an addition: it tells the proof which entries the
+//! load adds.
 use txn_trace::{Op, Reply};
 
 /// An addition to the history by one load of a caller in a transaction.

@@ -50,7 +50,8 @@ impl Caller {
     ///
     /// # Cost
     ///
-    /// For each try, that of `begin` and the work, and of `commit`, or of `abort` if the try fails.
+    /// For each try the cost of `begin`, of the work, and of `commit`, or of `abort` if the try
+    /// fails.
     pub fn transact<T: Drop, F: Fn(&mut Transaction<'_>) -> Result<T, Stop>>(
         &mut self,
         tries: u64,

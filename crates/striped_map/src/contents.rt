@@ -2,13 +2,13 @@
 //! pairs under their whole keys.
 //!
 //! A part has the pairs of its stripe under sub-keys. The two functions read parts and change
-//! nothing. `count_of` takes constant time for each part, and `pairs_of` the time and memory of
+//! nothing. `count_of` takes constant time for each part. `pairs_of` takes the time and memory of
 //! `Part::pairs` for each part, and memory for all pairs.
 ghost use Rattle.std.specs.Prelude.{◌≡◌, ◌+◌, ◌*◌, ◌++◌, sum_by, IfOk, IfSome, OnOk};
 ghost use Rattle.striped_map.specs.Contents.{count_at, pairs_at, pairs_in};
 ghost use Rattle.striped_map.specs.Rule.{Holds};
 ghost use Rattle.striped_map.specs.Seats.{HoldsAll, IsOf, known, part_in, stripes_of};
-ghost use Rattle.striped_map.specs.Sound.{parts_of, with_part};
+ghost use Rattle.striped_map.specs.Sound.{held_parts, with_part};
 
 use crate::map::StripedMap;
 use crate::seat::MapSeat;
@@ -22,7 +22,7 @@ pub(crate) fn count_of(map: &StripedMap, seat: &mut MapSeat, held: &Vec<usize>) 
     ensures known { known seat.new ≡ known seat.old }
     ensures parts { part_in seat.new ≡ part_in seat.old }
     ensures count { IfSome result (λ count. count
-        ≡ sum_by count_at (parts_of seat.old held.now.items)) }
+        ≡ sum_by count_at (held_parts seat.old held.now.items)) }
 {
     let mut count: u64 = 0;
     for place in 0..held.len() {
@@ -79,7 +79,7 @@ pub(crate) fn pairs_of(
     ensures known { known seat.new ≡ known seat.old }
     ensures parts { part_in seat.new ≡ part_in seat.old }
     ensures pairs { IfOk result (λ pairs. pairs.items
-        ≡ pairs_in (stripes_of map.now) (parts_of seat.old held.now.items)) }
+        ≡ pairs_in (stripes_of map.now) (held_parts seat.old held.now.items)) }
 {
     let mut pairs = Vec::new(alloc);
     for place in 0..held.len() {

@@ -17,8 +17,8 @@ ghost use Rattle.striped_map.specs.Handling.{IsEnd, IsMiss, idle};
 ghost use Rattle.striped_map.specs.Lone.{RunsAlone};
 ghost use Rattle.striped_map.specs.Rule.{Holds};
 ghost use Rattle.striped_map.specs.Seats.{IsOf, known, part_in, stripes_of};
-ghost use Rattle.striped_map.specs.Sound.{AreHeld, AreLogged, IsIndexed, IsSound, parts_of};
-ghost use Rattle.striped_map.specs.Steps.{HasAll, HasNoOther, IsAt, SeesIn, seat_of, taken_in, undone, undoing};
+ghost use Rattle.striped_map.specs.Sound.{AreHeld, AreLogged, IsIndexed, IsSound, held_parts};
+ghost use Rattle.striped_map.specs.Steps.{HasAll, HasNoOther, IsAt, SeesIn, seat_of, taken_in, rolled_back, undoing};
 
 use crate::addition::Addition;
 use crate::contents;
@@ -39,7 +39,7 @@ pub(crate) struct Hand {
     index: Vec<u16>,
     order: Vec<Change>,
     levels: Vec<usize>,
-    ghost sound: { IsSound seat.seat.table_id.slots (known seat) (parts_of seat held.items)
+    ghost sound: { IsSound seat.seat.table_id.slots (known seat) (held_parts seat held.items)
         order.items levels.items },
     ghost indexed: { IsIndexed held.items index.items },
 }
@@ -76,7 +76,7 @@ fn widen(index: &mut Vec<u16>, stripes: usize) -> Result<(), AllocError>
     Ok(())
 }
 
-/// The number of changes that stood at a level.
+/// How many changes stood when the savepoint of a level was set; 0 for level 0.
 fn mark_of(levels: &Vec<usize>, level: usize) -> usize
     requires { level ≤ vec_len levels.now }
     ensures { result ≡ slice_index (0 ∷ levels.now.items) level }
@@ -108,15 +108,15 @@ fn take_back(
     requires map { IsOf seat.old map.now }
     requires mark { mark ≤ vec_len order.old }
     requires parts { AreHeld (stripes_of map.now) (known seat.old)
-        (parts_of seat.old held.now.items) (now (known seat.old).seen) }
-    requires logged { AreLogged (stripes_of map.now) (parts_of seat.old held.now.items)
+        (held_parts seat.old held.now.items) (now (known seat.old).seen) }
+    requires logged { AreLogged (stripes_of map.now) (held_parts seat.old held.now.items)
         order.old.items (due (known seat.old)) }
     ensures map { IsOf seat.new map.now }
     ensures known { known seat.new ≡ known seat.old }
     ensures parts { AreHeld (stripes_of map.now) (known seat.old)
-        (parts_of seat.new held.now.items) (undone (now (known seat.old).seen)
+        (held_parts seat.new held.now.items) (rolled_back (now (known seat.old).seen)
         (take (vec_len order.old - mark) (due (known seat.old)))) }
-    ensures logged { AreLogged (stripes_of map.now) (parts_of seat.new held.now.items)
+    ensures logged { AreLogged (stripes_of map.now) (held_parts seat.new held.now.items)
         order.new.items (drop (vec_len order.old - mark) (due (known seat.old))) }
     ensures len { vec_len order.new ≡ mark }
 {
@@ -133,7 +133,7 @@ fn give_all(map: &StripedMap, seat: &mut MapSeat, held: &mut Vec<usize>)
     requires map { IsOf seat.old map.now }
     requires over { IsAt Closed (known seat.old) }
     requires parts { AreHeld (stripes_of map.now) (known seat.old)
-        (parts_of seat.old held.old.items) (now (known seat.old).seen) }
+        (held_parts seat.old held.old.items) (now (known seat.old).seen) }
     ensures map { IsOf seat.new map.now }
     ensures idle { known seat.new ≡ idle (known seat.old) }
     ensures none { held.new.items ≡ [] }
@@ -144,7 +144,7 @@ fn give_all(map: &StripedMap, seat: &mut MapSeat, held: &mut Vec<usize>)
 }
 
 impl Hand {
-    ghost use Rattle.striped_map.specs.Hands.{AreLeft, IsCut, IsStopped, IsUnread, Moves};
+    ghost use Rattle.striped_map.specs.Hands.{ReadsPairs, IsCut, IsStopped, IsUnread, MovesHand};
 
     /// A hand that holds nothing, of a seat that has seen nothing.
     pub(crate) fn new(alloc: Global, seat: MapSeat) -> Hand
@@ -169,7 +169,7 @@ impl Hand {
         ensures map { IsOf self.new.seat map.now }
         ensures open { IsAt Opened (known self.new.seat) }
         ensures levels { self.new.levels.items ≡ [] }
-        ensures begun { (t : ℕ) × Moves map.now self.old
+        ensures begun { (t : ℕ) × MovesHand map.now self.old
             (Began (known self.old.seat).number t ∷ []) self.new }
     {
         self.order.clear();
@@ -185,7 +185,7 @@ impl Hand {
         requires stripe { stripe < stripes_of map.now }
         ensures map { IsOf self.new.seat map.now }
         ensures open { IsAt Opened (known self.new.seat) }
-        ensures moves { Moves map.now self.old [] self.new }
+        ensures moves { MovesHand map.now self.old [] self.new }
         ensures held { IfOk result (λ place. slice_get self.new.held.items place ≡ Some stripe) }
         ensures keeps { (other : ℕ) → Holds (known self.old.seat) other
             → Holds (known self.new.seat) other }
@@ -214,8 +214,8 @@ impl Hand {
         }
     }
 
-    /// Takes all stripes that the hand does not hold yet. A busy stripe ends the transaction, just
-    /// as a get of one of its keys would.
+    /// Takes all stripes that the hand does not hold yet. A busy stripe ends the transaction. The
+    /// history then has a Busy entry for a get of a key of this stripe.
     #[tactic(auto, using(crate::proofs::Ends::moved_still, crate::proofs::Ends::moved_on, crate::proofs::Ends::moved_busy))]
     fn hold_all(&mut self, map: &StripedMap) -> Result<(), Stop>
         requires map { IsOf self.old.seat map.now }
@@ -223,7 +223,7 @@ impl Hand {
         ensures map { IsOf self.new.seat map.now }
         ensures levels { OnOk result (self.new.levels ≡ self.old.levels) }
         ensures ok { OnOk result (IsAt Opened (known self.new.seat)
-            × Moves map.now self.old [] self.new) }
+            × MovesHand map.now self.old [] self.new) }
         ensures all { OnOk result ((stripe : ℕ) → stripe < stripes_of map.now
             → Holds (known self.new.seat) stripe) }
         ensures err { IfErr result (IsCut map.now self.old self.new) }
@@ -248,7 +248,7 @@ impl Hand {
         ensures map { IsOf self.new.seat map.now }
         ensures levels { OnOk result (self.new.levels ≡ self.old.levels) }
         ensures ok { IfOk result (λ count. IsAt Opened (known self.new.seat)
-            × Moves map.now self.old [] self.new
+            × MovesHand map.now self.old [] self.new
             × (count ≡ count_of (now (known self.new.seat).seen))) }
         ensures err { IfErr result (IsCut map.now self.old self.new) }
     {
@@ -266,7 +266,7 @@ impl Hand {
         ensures map { IsOf self.new.seat map.now }
         ensures levels { OnOk result (self.new.levels ≡ self.old.levels) }
         ensures ok { IfOk result (λ pairs. IsAt Opened (known self.new.seat)
-            × Moves map.now self.old [] self.new
+            × MovesHand map.now self.old [] self.new
             × (pairs.items ≡ (now (known self.new.seat).seen).rows)) }
         ensures all { OnOk result ((stripe : ℕ) → stripe < stripes_of map.now
             → Holds (known self.new.seat) stripe) }
@@ -332,7 +332,7 @@ impl Hand {
         ensures number { (known self.new.seat).number ≡ (known self.old.seat).number }
         ensures retired { (known self.new.seat).retired ≡ (known self.old.seat).retired }
         ensures made { (known self.new.seat).made ≡ (known self.old.seat).made }
-        ensures ok { IfOk result (λ pairs. AreLeft map.now self.old self.new pairs.items) }
+        ensures ok { IfOk result (λ pairs. ReadsPairs map.now self.old self.new pairs.items) }
         ensures err { IfErr result (IsUnread map.now self.old self.new) }
     {
         self.begin(map);
@@ -371,11 +371,11 @@ impl Hand {
         ensures map { IsOf self.new.seat map.now }
         ensures open { IsAt Opened (known self.new.seat) }
         ensures levels { self.new.levels ≡ self.old.levels }
-        ensures done { IfOk result (λ reply. Moves map.now self.old
+        ensures done { IfOk result (λ reply. MovesHand map.now self.old
             (Asked (known self.old.seat).number op ∷ Did (known self.old.seat).number reply ∷ [])
             self.new) }
         ensures refused { IfErr result (IsRefused op) }
-        ensures unmoved { OnErr result (Moves map.now self.old [] self.new) }
+        ensures unmoved { OnErr result (MovesHand map.now self.old [] self.new) }
     {
         let stripe = self.held[place];
         let reply = map.apply(&mut self.seat, alloc, stripe, under(op, sub_key))?;
@@ -395,7 +395,7 @@ impl Hand {
         ensures map { IsOf self.new.seat map.now }
         ensures levels { OnOk result (self.new.levels ≡ self.old.levels) }
         ensures ok { IfOk result (λ reply. IsAt Opened (known self.new.seat)
-            × Moves map.now self.old (Asked (known self.old.seat).number op
+            × MovesHand map.now self.old (Asked (known self.old.seat).number op
             ∷ Did (known self.old.seat).number reply ∷ []) self.new) }
         ensures err { IfErr result (IsStopped map.now self.old op self.new) }
     {
@@ -426,7 +426,7 @@ impl Hand {
         ensures open { IsAt Opened (known self.new.seat) }
         ensures levels { OnOk result (vec_len self.new.levels ≡ vec_len self.old.levels + 1) }
         ensures ok { IfOk result (λ level. (level + 1 ≡ length (seat_of (known self.new.seat)).kept)
-            × Moves map.now self.old (Saved (known self.old.seat).number ∷ []) self.new) }
+            × MovesHand map.now self.old (Saved (known self.old.seat).number ∷ []) self.new) }
         ensures refused { IfErr result (λ refusal. refusal ≡ NoMemory) }
         ensures unchanged { OnErr result (self.new.seat ≡ self.old.seat) }
     {
@@ -451,7 +451,7 @@ impl Hand {
         ensures map { IsOf self.new.seat map.now }
         ensures open { IsAt Opened (known self.new.seat) }
         ensures levels { vec_len self.new.levels ≡ level }
-        ensures moves { Moves map.now self.old
+        ensures moves { MovesHand map.now self.old
             (Leave (known self.old.seat).number (Some level) ∷ undoing (known self.old.seat).number
             (above level (known self.old.seat)) (Returned (known self.old.seat).number level))
             self.new }
@@ -476,7 +476,7 @@ impl Hand {
         ensures closed { IsAt Closed (known self.new.seat) }
         ensures idle { (known self.new.seat).held ≡ [] }
         ensures committed { (place : ℕ) × (result ≡ place % 2 ^ 64)
-            × Moves map.now self.old (Committed (known self.old.seat).number place ∷ [])
+            × MovesHand map.now self.old (Committed (known self.old.seat).number place ∷ [])
             self.new × RunsAlone (known self.old.seat).number place (known self.new.seat).seen }
     {
         let place = map.commit(&mut self.seat);
@@ -494,7 +494,8 @@ impl Hand {
         ensures map { IsOf self.new.seat map.now }
         ensures closed { IsAt Closed (known self.new.seat) }
         ensures idle { (known self.new.seat).held ≡ [] }
-        ensures moves { Moves map.now self.old (entries_of (known self.old.seat) what) self.new }
+        ensures moves { MovesHand map.now self.old
+            (entries_of (known self.old.seat) what) self.new }
     {
         take_back(map, &mut self.seat, &self.held, &mut self.order, 0);
         map.add(&mut self.seat, map.quiet(), what);

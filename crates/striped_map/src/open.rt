@@ -43,10 +43,10 @@ pub fn open_map(
     open_map_with_capacity(alloc, stripes, callers, 0)
 }
 
-/// Opens a map as `open_map` does, whose stripes have room for their shares of `keys` keys, rounded
+/// Opens a map as `open_map` does, and gives each stripe room for its share of `keys` keys, rounded
 /// up. So the stripes take no memory for the first `keys` keys, on two conditions: the keys are
 /// spread evenly over the stripes, as keys that rise by one are; and each transaction does at most
-/// one operation in a stripe, beside gets.
+/// one operation in a stripe, not counting gets.
 ///
 /// # Errors
 ///

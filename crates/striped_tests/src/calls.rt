@@ -1,6 +1,6 @@
-//! Calls of a caller as values, and tables of them: what is asked (`Ask`), what must be answered
-//! (`Told`), and the functions that play a table. All other modules use these; no test is here. The
-//! functions have no contracts, so a test that plays a table is proved within seconds.
+//! Requests to a caller (`Ask`), their answers (`Told`), tables of both, and the functions that
+//! play a table. All other modules use them; this module has no tests. The functions have no
+//! contracts, so a test that plays a table is proved within seconds.
 use std::alloc::Global;
 use std::process::Abort;
 use striped_map::{Caller, Host, Stop, open_map};
@@ -18,8 +18,8 @@ pub(crate) enum Ask {
     Abort,
 }
 
-/// The answer to a request: nothing, a reply, a number (a level, a count or a place), or that it
-/// was not done.
+/// The answer to a request: nothing, a reply, a number (a level, a count or a place), or the reason
+/// why the request was not carried out.
 #[derive(Clone, Copy, PartialEq, Eq)]
 pub(crate) enum Told {
     Done,
@@ -81,8 +81,8 @@ pub(crate) fn open<R: Abort>(rt: &R, alloc: Global, stripes: usize, callers: usi
     Home { host, callers }
 }
 
-/// Fails with the number of the row unless `is_so`. It is a separate function, since a message
-/// takes long to prove in a function that has much else.
+/// Fails with the number of the row unless `is_so`. It is a separate function, since an `assert!`
+/// with a message makes a longer function slow to prove.
 pub(crate) fn must<R: Abort>(rt: &R, row: usize, is_so: bool) {
     assert!(rt; is_so, "row {row}");
 }

@@ -1,12 +1,13 @@
 //! Callers in threads, whose calls are recorded, merged into one history and judged.
 //!
-//! All callers share one counter. Each caller notes its calls, and takes a stamp from the counter
-//! before and after each call. The entries of an operation are put at its later stamp, when the
-//! stripe is held. Those of an abort or a commit are put at its earlier stamp, since the call gives
-//! stripes back. Commits are put in the order of their places: each at its earlier stamp, or at the
-//! latest stamp at which a commit before it is put, whichever is later. Either stamp was taken
-//! before the atomic step of this commit. A Busy is put at its earlier stamp too, but not before
-//! the first beginning of the caller that it names.
+//! All callers share one counter. Each caller notes its calls. It takes a first stamp from the
+//! counter before each call, and a second stamp after it. The entries of an operation are put at
+//! its second stamp, when the stripe is held. The entries of an abort are put at its first stamp,
+//! since an abort gives stripes back. A commit gives stripes back too, and commits must be in the
+//! order of their places. So a commit is put at the greatest first stamp of this commit and of the
+//! commits with lower places. All these stamps were taken before the atomic step of this commit. A
+//! Busy is put at the first stamp of its call, but not before the first beginning of the caller
+//! that the Busy names.
 use crate::calls::{Ask, Home, NEW, Row, Told, answer, open};
 use crate::threads::{Work, in_threads, must_start};
 use history_check::{Checker, Verdict};
@@ -90,8 +91,7 @@ impl Recorder {
         }
     }
 
-    /// Makes a call and notes it. Answers whether it was not busy: a busy call loses the
-    /// transaction.
+    /// Makes a call and notes it. Answers false if the call was busy, which ends the transaction.
     fn ask(&mut self, clock: &AtomicU64, what: Ask) -> Result<bool, AllocError> {
         let before = clock.fetch_add(1, Ordering::SeqCst);
         let told = answer(&mut self.caller, what);
@@ -169,7 +169,7 @@ fn add<R: Abort>(rt: &R, all: &mut Vec<Recorder>, one: Recorder) {
     assert!(rt; added.is_ok());
 }
 
-/// A recorder of each caller of a map.
+/// Makes a recorder for each caller of a map.
 fn recorders<R: Abort>(rt: &R, alloc: Global, home: Home, seed: u64) -> Vec<Recorder> {
     let mut all = Vec::new(alloc);
     for (place, caller) in home.callers.into_iter().enumerate() {
@@ -255,8 +255,8 @@ impl Merge {
         Ok(())
     }
 
-    /// Puts the entry `first`, an Undone for each standing change except the `left` oldest changes,
-    /// and the entry `last`.
+    /// Puts the entry `first`, then the Undones, then the entry `last`. `left` is the number of
+    /// standing changes that stay. Each other standing change gets an Undone.
     fn put_undone(
         &mut self,
         stamp: u64,
@@ -353,7 +353,7 @@ impl Merge {
         }
     }
 
-    /// Notes when a caller began first, and its commits.
+    /// Notes a caller's first beginning and its commits.
     fn note(&mut self, one: &Recorder) -> Result<(), AllocError> {
         let first = match one.log.first() {
             Some(noted) => noted.after,
@@ -521,14 +521,14 @@ const PUTS: &[Row] = &[
     (0, Ask::Commit, Told::Number(1)),
 ];
 
-/// When that thread has ended, caller 2 gets the key in another thread.
+/// Caller 2 gets the key in another thread, after the thread of caller 1 has ended.
 const GETS: &[Row] = &[
     (1, Ask::Begin, Told::Done),
     (1, Ask::Do(Op::Get(6)), Told::Replied(Some(60))),
     (1, Ask::Commit, Told::Number(2)),
 ];
 
-/// Both threads, one after the other.
+/// Runs both threads, one after the other.
 fn play_in_turn<R: Threads + Wait + Abort + Sync>(rt: &R, callers: &mut [Caller]) {
     assert!(rt; callers.len() == 2);
     in_threads(rt, &mut callers[..1], Work::Calls(PUTS));

@@ -2,8 +2,8 @@
 //! contract says: that each call succeeds while there is memory. A worked run names each call with
 //! its answer, and the pairs that are left.
 //!
-//! They are not in the crates of the map, whose proofs would then be run twice. Most functions that
-//! make calls have no contract; `calls` says why.
+//! They are a separate crate, since a crate with tests is proved twice. Most functions that make
+//! calls have no contract; `calls` says why.
 #![tactic(auto)]
 
 #[cfg(test)]

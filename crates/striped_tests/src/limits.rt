@@ -1,7 +1,7 @@
-//! Callers at the limits of the map: stripes, callers, keys, values, savepoints, changes, and the
-//! order of the pairs. Unlike in `runs`, loops make most rows, up to a hundred thousand of them.
-//! The contracts let a call that takes memory give up; here a call may do so only if its row says
-//! so.
+//! Tests at the limits of the map: stripes, callers, keys, values, savepoints and changes. They
+//! also test the order of the pairs. Unlike in `runs`, loops make most rows, up to a hundred
+//! thousand of them. The contracts let a call be refused memory. Here a call is refused only if its
+//! row says so.
 use crate::calls::{
     Ask, Home, NEW, Row, Told, Worked, has_left, leaves, must, open, play, play_worked,
 };
@@ -127,8 +127,8 @@ fn play_roomy<R: Abort>(rt: &R, home: &mut Home, wanted: &[(u64, u64)]) {
     has_left(rt, &mut home.host, wanted);
 }
 
-/// A map that is opened with room for a thousand keys has no keys at first, and then takes 1,500:
-/// on one stripe, on 7, and on 4,096, when each stripe gets one key or none.
+/// A map that is opened with room for a thousand keys is empty at first, and then takes 1,500 keys.
+/// It has 1, 7 or 4,096 stripes; with 4,096, each stripe gets at most one key.
 #[test]
 fn a_roomy_map(rt: HostRuntime) -> Result<(), Fail> {
     let wanted = selves(rt.alloc(), 1_500)?;
@@ -364,7 +364,7 @@ fn play_scattered<R: Abort>(rt: &R, home: &mut Home, wanted: &[(u64, u64)]) {
     has_left(rt, &mut home.host, wanted);
 }
 
-/// Pairs are in the order of their keys, whatever the stripes.
+/// Pairs are in the order of their keys, on any number of stripes.
 #[test]
 fn pairs_rise(rt: HostRuntime) -> Result<(), Fail> {
     let wanted = rising(rt.alloc())?;

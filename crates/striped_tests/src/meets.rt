@@ -22,7 +22,7 @@ pub(crate) fn three<R: Abort>(rt: &R, alloc: Global) -> (Home, Caller, Caller)
     (Home { host, callers }, second, third)
 }
 
-/// Two transfers must be made.
+/// Both transfers must have been made.
 fn both_moved<R: Abort>(rt: &R, told: Result<(bool, bool), Stop>) {
     assert!(rt; matches!(told, Ok((true, true))));
 }

@@ -21,7 +21,7 @@ fn open_again(alloc: Global, keys: usize) -> Result<Home, Refusal> {
     Err(Refusal::NoMemory)
 }
 
-/// Makes a call, and once more if it is refused memory.
+/// Makes a call, and makes it once more if it is refused memory.
 fn answer_again(caller: &mut Caller, what: Ask) -> Result<Told, Refusal> {
     for _ in 0..2u64 {
         let told = answer(caller, what);
@@ -70,7 +70,8 @@ const CALLS: &[Row] = &[
     (0, Ask::Commit, Told::Number(1)),
 ];
 
-/// Puts twenty keys, and takes half of them. A part that has no room at first grows meanwhile.
+/// Puts twenty keys, and takes half of them. Parts of the map that have no room at first grow
+/// meanwhile.
 const GROWS: &[Row] = &[
     (0, Ask::Begin, Told::Done),
     (0, Ask::Do(Op::Put(10, 10)), NEW),
@@ -106,8 +107,8 @@ const GROWS: &[Row] = &[
     (0, Ask::Len, Told::Number(11)),
 ];
 
-/// Makes the calls of `CALLS` and `GROWS`, a transaction each. The drop of the caller takes the
-/// second one back.
+/// Makes the calls of `CALLS` in one transaction, and those of `GROWS` in another. The drop of the
+/// caller takes the second transaction back.
 fn call_and_grow<R: Abort>(rt: &R, home: &mut Home) -> Result<(), Refusal> {
     play_again(rt, home, CALLS)?;
     play_again(rt, home, GROWS)?;

@@ -7,7 +7,7 @@ use txn_words::{Op, Refusal};
 /// The reply to an operation on a key that had the value 10.
 const TEN: Told = Told::Replied(Some(10));
 
-/// A put of a key, commit, and what is left.
+/// A put of a key, and its commit.
 static FIRST_COMMIT: Worked<'static> = Worked {
     stripes: 8,
     callers: 2,
@@ -32,7 +32,7 @@ static ABORT_TAKES_BACK: Worked<'static> = Worked {
     left: &[],
 };
 
-/// A taken key, which no other caller can look up meanwhile, is there again after the abort.
+/// No other caller can look up a taken key before the abort. After it, the key is there again.
 static ABORTED_TAKE_RESTORES: Worked<'static> = Worked {
     stripes: 8,
     callers: 2,

@@ -1,6 +1,7 @@
 //! Callers with a side value of four words: their calls as values, tables that also name the side
-//! value after each call, and a test of each call. `sided_limits` plays its tables by this module.
-//! The tables were made by hand. No contract says that a call succeeds while there is memory.
+//! value after each call, and a test of each call. `sided_limits` uses this module to play its
+//! tables. The tables here were made by hand. No contract says that a call succeeds while there is
+//! memory.
 ghost use Rattle.std.specs.Prelude.{◌≡◌, OnOk};
 
 use crate::calls::{self, Ask, Home, NEW, Told, has_left, must, open};
@@ -322,9 +323,9 @@ fn refusals(rt: HostRuntime) {
     play_worked(&rt, rt.alloc(), &REFUSALS);
 }
 
-/// Caller 2 puts key 2 and sets its side value from 20 to 21 and 22. Then it finds that caller 1
-/// holds the stripe of key 1. Caller 1 gets key 2: the key is not there, and the key's stripe is
-/// free.
+/// Caller 2 sets its side value to 20 and begins. It sets the side value to 21, puts key 2, and
+/// sets the side value to 22. Then it finds that caller 1 holds the stripe of key 1. Caller 1 gets
+/// key 2: the key is not there, and the key's stripe is free.
 fn finds_busy(op: Op) -> [Row; 11] {
     [
         (0, Call::Begin, Told::Done, 0),
@@ -486,7 +487,7 @@ fn begins(caller: &mut Sided, key: u64) -> Result<(), Stop>
     Ok(())
 }
 
-/// Both callers put a key each, and one commits. Then they catch up with each other.
+/// Each caller puts a key, and `one` commits. Then both catch up with each other.
 fn meet(one: &mut Sided, other: &mut Sided) -> Result<(), Stop>
     requires same_map { one.old.caller.map.value ≡ other.old.caller.map.value }
 {
@@ -517,7 +518,7 @@ fn met<R: Abort>(rt: &R, alloc: Global, one: Caller, other: Caller) -> Vec<Sided
     listed(rt, alloc, one, other)
 }
 
-/// The side values of callers 2 and 3 and the transaction of caller 3 are as before they met.
+/// The meeting changed neither the side values of callers 2 and 3 nor the transaction of caller 3.
 const MET: &[Row] = &[
     (0, Call::Begin, Told::Done, 1),
     (0, Call::Do(Op::Get(2)), Told::Busy(3), 1),

@@ -1,6 +1,7 @@
-//! Threads for callers: `in_threads` does a `Work` with each caller, in a thread for each. No test
-//! is here; `histories` and `transfers` name their work as a value. The closure of a thread scope
-//! has no `assert!` in it, since an `assert!` is slow to prove there.
+//! Threads for callers: `in_threads` runs each caller in its own thread. The `Work` that it is
+//! given says what the callers do there. This module has no tests; `histories` and `transfers` call
+//! `in_threads`. The closure of a thread scope has no `assert!`, which would be slow to prove
+//! there.
 use crate::calls::{Row, ask_row};
 use crate::transfers::{move_many, take_part};
 use std::process::Abort;

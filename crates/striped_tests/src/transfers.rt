@@ -41,8 +41,8 @@ pub(crate) const FILLED: &[Row] = &[
     (0, Ask::Commit, Told::Number(1)),
 ];
 
-/// Transfers, and whether they are made: not if the first account has too little, or the second
-/// would have 2^64 or more. An account without a key has 0.
+/// Transfers, and whether each is made. A transfer is not made if the first account has too little,
+/// or if the second would then have 2^64 or more. An account without a key has 0.
 const TRANSFERS: &[(u64, u64, u64, bool)] = &[
     (1, 2, 11, false),
     (1, 2, 10, true),
@@ -112,7 +112,7 @@ pub(crate) fn take_part<R: Abort>(rt: &R, caller: &mut Caller, place: usize) {
     assert!(rt; told == Told::Number(1));
 }
 
-/// Caller 1 holds the stripe of account 1 when both take part.
+/// Caller 1 holds the stripe of account 1. Then both callers do `take_part` in their threads.
 fn play_waiting<R: Threads + Wait + Abort + Sync>(rt: &R, home: &mut Home) {
     holds(rt, home, 0);
     in_threads(rt, home.callers.as_mut_slice(), Work::TakesPart);
@@ -139,8 +139,7 @@ fn fill<R: Abort>(rt: &R, home: &mut Home) {
     play(rt, home, &[(0, Ask::Commit, Told::Number(1))]);
 }
 
-/// Moves sums between accounts; accounts and sums look random. Each transfer must be made, or
-/// refused for its sum.
+/// Moves sums between accounts; accounts and sums look random. No transfer may end in an error.
 pub(crate) fn move_many<R: Abort>(rt: &R, caller: &mut Caller, seed: u64) {
     let mut dice = seed;
     for _ in 0..1000u64 {

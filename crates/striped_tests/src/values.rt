@@ -260,7 +260,7 @@ fn begun_already(rt: HostRuntime) {
     play_begun(&rt, &mut open(&rt, rt.alloc(), 4, 1));
 }
 
-/// Puts 10 at key 1, and goes back to a level that is not there, so it returns early.
+/// Puts 10 at key 1, and then returns early, since there is no level 1 to go back to.
 fn goes_too_far(caller: &mut Caller) -> Result<u64, Stop> {
     let mut t = Transaction::begin(caller)?;
     t.put(1, 10)?;
@@ -290,8 +290,8 @@ fn returned_early(rt: HostRuntime) {
     play_returned(&rt, &mut open(&rt, rt.alloc(), 4, 2));
 }
 
-/// Calls of a caller that `Ask` lacks: whether the map is empty, whether key 1 is there, and two
-/// swaps, the second of which is never made.
+/// Makes calls for which there is no `Ask`: `is_empty`, `contains_key`, and `swap` twice. The
+/// second `swap` puts no value, since key 1 has a value by then.
 fn looks(caller: &mut Caller) -> Result<[bool; 4], Stop> {
     caller.begin()?;
     let is_empty = caller.is_empty()?;

@@ -160,8 +160,8 @@ fn is_filled(rt: &impl Abort, alloc: Global) -> bool {
     }
 }
 
-/// Meant to be run with allocations refused. If keys or the table are missing, memory must still be
-/// refused.
+/// Meant to be run with allocations refused. The table or a key may be missing only if memory is
+/// still refused at the end of the test.
 #[test]
 fn bucket_initialisation(rt: HostRuntime) {
     assert!(rt; is_filled(&rt, rt.alloc()) || is_refused(rt.alloc()));
@@ -266,7 +266,8 @@ fn limits_and_refusals_in_words(rt: HostRuntime) -> Result<(), Fail> {
     Ok(())
 }
 
-/// Keeps the places of this number of spares in a list.
+/// Takes this number of spares from the list and gives none of them back, so their places stay
+/// reserved.
 fn keep_spares(home: &mut Home, spares: u32) -> Result<(), SpareFault> {
     for _ in 0..spares {
         if home.keep_spare().is_err() {
@@ -294,8 +295,8 @@ fn initialise_1(rt: &impl Abort, home: &mut Home) -> Result<(), Fail> {
     Ok(())
 }
 
-/// Also run with each allocation refused in turn: buckets and list are then unchanged, and the call
-/// succeeds when it is repeated.
+/// This test is also run with each allocation refused in turn. After a refusal the buckets and the
+/// list are unchanged, and the call succeeds when it is repeated.
 #[test]
 fn refused_allocations(rt: HostRuntime) -> Result<(), Fail> {
     for spares in 0..9 {
@@ -304,7 +305,7 @@ fn refused_allocations(rt: HostRuntime) -> Result<(), Fail> {
     Ok(())
 }
 
-/// Initialises bucket 1 of two on a list that keeps the places of this number of spares.
+/// Keeps this number of spares (`keep_spares`), and then initialises bucket 1 of the two buckets.
 fn initialise_with(rt: &impl Abort, home: &mut Home, spares: u32) -> Result<(), Fail> {
     keep_spares(home, spares)?;
     assert!(rt; home.figures() == (2, 0, 0));

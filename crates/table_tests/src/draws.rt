@@ -1,6 +1,6 @@
-//! Numbers that look random, the same in each run, so a failure can be repeated. The tests
+//! Numbers that look random. They are the same in each run, so a failure can be repeated. The tests
 //! `probe_map_tests` and `stripe_part_tests` share them; no test is here. A draw takes the upper 31
-//! bits, since the lower ones of such a generator repeat after few numbers.
+//! bits, since the lower bits of such a generator repeat after few numbers.
 
 /// Drawn numbers, by a linear congruence (Knuth, "The Art of Computer Programming", volume 2,
 /// section 3.3.4, table 1, line 26).

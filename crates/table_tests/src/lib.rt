@@ -2,9 +2,9 @@
 //! `undo_log`, `map_ops`, `probe_map` and `stripe_part`, one module for each.
 //!
 //! They test what no contract says: that each call succeeds while there is memory, the state after
-//! a refused allocation, and worked runs with their values. They are one crate for all of these,
-//! since each crate with tests is proved twice. Many calls of a library are made by functions
-//! without clauses, which return the answers. So the tests that call them have little to prove.
+//! a refused allocation, and worked runs with their values. All of these tests are one crate, since
+//! each crate with tests is proved twice. Many calls of a library are made by functions without
+//! clauses, which return the answers. So the tests that call these functions have little to prove.
 #![tactic(auto)]
 
 #[cfg(test)]

@@ -219,9 +219,9 @@ fn take_there(list: &mut NodeList, number: u64) -> Result<Answer, Fail> {
     }
 }
 
-/// Writes the value of a key that is there and marks its node, both at one cursor, which fits until
-/// the mark. Answers the value before the write, the value after it, and the value that the mark
-/// answers.
+/// Writes the value of a key, and then marks the key's node. The key must be there. One cursor is
+/// used for both calls: it must fit until the mark, and must not fit after the mark. Answers the
+/// value before the write, the value after the write, and the value that the mark answers.
 fn write_and_take(list: &mut NodeList, number: u64, value: u64) -> Result<Answer, Fail> {
     let at = at(number);
     let cursor = seek_from_head(list, at);
@@ -258,7 +258,7 @@ fn ends_at_the_head(list: &mut NodeList) -> bool {
     look(list, &cursor) == Ok(None) && cursor.pred() == head && !is_followed(list, head)
 }
 
-/// A call on a list, by the key that it is about.
+/// A call on a list.
 #[derive(Clone, Copy)]
 enum Call {
     /// Makes a new list.
@@ -340,9 +340,9 @@ const HALF: u64 = 1 << 63;
 /// Runs of calls. Each row has a call, its answer, and the split key at which the marked nodes
 /// begin after the call, or `None` if no node is marked.
 ///
-/// The split keys of 3, 2, 5 and 2^52 begin with 0xc, 0x4, 0xa and 0x0. Each key is sought from the
-/// head, so the seek of key 5 unlinks the node of key 2. Two keys that differ by 2^63 share their
-/// split key, and are found by their sort keys.
+/// The split keys of 3, 2, 5 and 2^52 begin with 0xc, 0x4, 0xa and 0x0. Each seek begins at the
+/// head, and unlinks the marked nodes that it passes. The seek of key 5 unlinks the marked node of
+/// key 2. Two keys that differ by 2^63 share their split key, and are found by their sort keys.
 const CALLS: [(Call, Answer, Option<u64>); 58] = [
     (Call::PutBoth, Answer::Done, None),
     (Call::Node(0), Answer::Dummy, None),
@@ -449,7 +449,7 @@ fn marks_begin(list: &NodeList) -> Option<u64> {
     list.marks_begin()
 }
 
-/// A list of no key.
+/// A list without keys.
 fn new_list(rt: &impl Abort, alloc: Global) -> NodeList {
     NodeList::new(alloc, 0).expect(rt, "a list")
 }

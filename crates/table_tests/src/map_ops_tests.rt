@@ -1,6 +1,6 @@
-//! Tests of `map_ops`; here are the calls of a table that several of the modules share. `runs` has
-//! worked runs, `split_keys` has keys that share a split key, and `refused` has refused memory. By
-//! contract a call may be refused memory even if there is some.
+//! Tests of `map_ops`. This file has the calls of a table that several of the modules share. `runs`
+//! has worked runs, `split_keys` has keys that share a split key, and `refused` has refused memory.
+//! By contract a call may be refused memory even if there is some.
 ghost use Rattle.std.specs.Prelude.{IfOk, IfSome};
 ghost use Rattle.map_ops.specs.Changes.{OwnsIf, ShowsAfter};
 
@@ -77,7 +77,7 @@ fn has_each(content: &BTreeMap<u64, u64>, wanted: &[(u64, u64)]) -> bool {
 }
 
 /// Whether these are the pairs of a table, in their order. The table's content must be the same
-/// pairs, and its count their number.
+/// pairs, and its count must be their number.
 fn has_pairs(alloc: Global, table: &Table, wanted: &[(u64, u64)]) -> Result<bool, AllocError> {
     let is_whole = has_each(&content_of(alloc, table)?, wanted);
     let is_counted = figures(table).1 == wanted.len() as u64;

@@ -285,8 +285,8 @@ fn stamps_used_up(rt: HostRuntime) -> Result<(), Fail> {
     Ok(())
 }
 
-/// Also run with each allocation refused in turn: the list is then unchanged, and gives the spare
-/// at the next call.
+/// This test is also run with each allocation refused in turn. After a refusal the list is
+/// unchanged, and gives the spare at the next call.
 #[test]
 fn refused_allocations(rt: HostRuntime) -> Result<(), Fail> {
     keep_nine(&rt, &mut list_again(rt.alloc(), 0).expect(&rt, "a list"))

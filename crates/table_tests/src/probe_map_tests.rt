@@ -1,7 +1,7 @@
 //! Tests of `probe_map`: drawn calls compared with a plain list, keys that share a home, growth,
 //! removed keys, and refused allocations. By contract room may be refused even if there is memory.
-//! Contracts hide the slots, so keys are chosen here whose homes (the slots at which a probe
-//! begins) are the first slot and the last.
+//! Contracts hide the slots, so the tests cannot look at a slot. To test the first slot and the
+//! last, they choose keys whose homes (the slots at which a probe begins) are these two slots.
 use crate::draws::{Draws, draw};
 use probe_map::ProbeMap;
 use std::alloc::{AllocError, Global};
@@ -12,7 +12,8 @@ use std::test::Fail;
 /// of it is the first slot, and the home of the negative of a small multiple is the last slot.
 const APART: u64 = 0xf1de_83e1_9937_733d;
 
-/// Makes room for a key, and asks once more if memory is refused: the map is unchanged then.
+/// Makes room for a key. If memory is refused, the map must be unchanged, and the call is made once
+/// more.
 fn reserve_again(rt: &impl Abort, map: &mut ProbeMap, key: u64) -> Result<(), AllocError> {
     let seen = (map.len(), map.get(key));
     match map.reserve(1) {
@@ -69,8 +70,8 @@ fn plain_take(plain: &mut Vec<(u64, u64)>, key: u64) -> Option<u64> {
     before
 }
 
-/// Makes one drawn call on the map and the plain list: half of the calls are puts, a quarter takes
-/// and a quarter gets.
+/// Makes one drawn call on the map and the plain list: half of the calls are puts, a quarter are
+/// takes, and a quarter are gets.
 fn step_both(
     rt: &impl Abort,
     draws: &mut Draws,
@@ -160,7 +161,7 @@ fn drawn_calls_beside_a_plain_list(rt: HostRuntime) -> Result<(), Fail> {
     Ok(())
 }
 
-/// Puts a key that is not there, replaces and takes it, and puts it again.
+/// Puts a key that is not there, replaces its value, takes the key, and puts it again.
 fn put_anew(rt: &impl Abort, map: &mut ProbeMap, key: u64) -> Result<(), Fail> {
     let first = put(rt, map, key, 7)?;
     let second = put(rt, map, key, key)?;
@@ -194,7 +195,7 @@ fn put_outermost(rt: &impl Abort, alloc: Global, map: &mut ProbeMap) -> Result<(
     has_rows(rt, alloc, map, wanted.as_slice())
 }
 
-/// The first and the last key, and one in the middle: put, replaced, taken, and put again.
+/// The first key, the last key and one in the middle are put, replaced, taken, and put again.
 #[test]
 fn outermost_keys(rt: HostRuntime) -> Result<(), Fail> {
     put_outermost(&rt, rt.alloc(), &mut ProbeMap::new(rt.alloc()))
@@ -280,8 +281,8 @@ fn put_rising(rt: &impl Abort, map: &mut ProbeMap) -> Result<(), Fail> {
     Ok(())
 }
 
-/// With a million rising keys, the test ends within a test's time only if the map grows and the
-/// homes of consecutive keys are apart.
+/// The test puts a million rising keys. It ends in time only if the map grows and the homes of
+/// consecutive keys are apart.
 #[test]
 fn rising_keys(rt: HostRuntime) -> Result<(), Fail> {
     put_rising(&rt, &mut ProbeMap::new(rt.alloc()))

@@ -44,8 +44,8 @@ fn set(plain: &mut Plain, key: u64, value: Option<u64>) -> Result<(), Fail> {
     Ok(())
 }
 
-/// The value that an operation gives its key, which has the value `was`; `Some(None)` if it removes
-/// the key, and `None` if it changes nothing.
+/// The value that an operation gives its key, if the key has the value `was` before. `Some(None)`
+/// means that the operation removes the key, and `None` that it changes nothing.
 fn setting(op: Op, was: Option<u64>) -> Option<Option<u64>> {
     match op {
         Op::Put(_, value) => Some(Some(value)),
@@ -86,7 +86,7 @@ fn draw_op(draws: &mut Draws, keys: u64) -> Op {
     }
 }
 
-/// Does an operation; if memory is refused, the part is unchanged and the operation is tried once
+/// Does an operation. If memory is refused, the part is unchanged, and the operation is tried once
 /// more.
 fn try_again(rt: &impl Abort, alloc: Global, part: &mut Part, op: Op) -> Result<Reply, Fail> {
     let seen = (part.len(), part.changes());
@@ -132,7 +132,8 @@ fn are_plain(rt: &impl Abort, pairs: &[(u64, u64)], plain: &Plain) {
     }
 }
 
-/// Checks that the part has the pairs of the plain map, and as many changes to take back.
+/// Checks that the part has the pairs of the plain map, and as many changes to take back as the
+/// plain map.
 fn is_alike(rt: &impl Abort, alloc: Global, one: &Logged, plain: &Plain) -> Result<(), Fail> {
     assert!(rt; one.part.changes() == plain.log.len());
     assert!(rt; one.part.len() == plain.map.len() as u64);
@@ -184,7 +185,7 @@ fn step_both(
     Ok(())
 }
 
-/// A plain map of no key.
+/// A plain map without keys.
 fn fresh_plain(alloc: Global) -> Plain {
     Plain {
         map: BTreeMap::new(alloc),
@@ -321,7 +322,7 @@ fn rise_and_fall(rt: &impl Abort, alloc: Global, one: &mut Logged) -> Result<(),
 }
 
 /// A part that has grown by rising keys has all of them: each is taken, and then these takes are
-/// taken back. The test ends within a test's time only if the part grows.
+/// taken back. The test ends in time only if the part grows.
 #[test]
 fn rising_keys(rt: HostRuntime) -> Result<(), Fail> {
     rise_and_fall(&rt, rt.alloc(), &mut fresh(rt.alloc()))

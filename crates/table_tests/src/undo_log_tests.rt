@@ -1,6 +1,7 @@
 //! Tests of `undo_log`: jobs of a count, a side value of four words, and refused allocations. By
-//! contract room may be refused even if there is memory. The ninth job of a log is the first that
-//! may be refused, so no log here has more than nine jobs. The values were worked out by hand.
+//! contract room may be refused even if there is memory. The first eight jobs of a log are never
+//! refused, and the ninth may be. No log here has more than nine jobs. The values were worked out
+//! by hand.
 ghost use Rattle.std.specs.Prelude.{◌≡◌, length};
 
 use std::alloc::{AllocError, Global};
@@ -139,18 +140,18 @@ fn eight_jobs(alloc: Global) -> UndoLog<Raised>
     log
 }
 
-/// The log of `eight_jobs`, without the clauses of `eight_jobs`.
+/// Answers the log of `eight_jobs`. Unlike `eight_jobs`, this function has no contract.
 fn log_of_eight(alloc: Global) -> UndoLog<Raised> {
     eight_jobs(alloc)
 }
 
-/// Also run with allocations refused. The first allocation is that of the ninth job.
+/// This test is also run with allocations refused. The first allocation is that of the ninth job.
 #[test]
 fn nine_undone_newest_first(rt: HostRuntime) -> Result<(), Fail> {
     undo_nine(&rt, rt.alloc(), &mut log_of_eight(rt.alloc()))
 }
 
-/// Pushes the ninth job, if memory is not refused, and takes all back.
+/// Pushes the ninth job, if memory is not refused, and takes all jobs back.
 fn undo_nine(rt: &impl Abort, alloc: Global, log: &mut UndoLog<Raised>) -> Result<(), Fail> {
     if !is_pushed(rt, log, 9) {
         assert!(rt; is_refused(alloc));
@@ -192,7 +193,7 @@ fn return_to_1(rt: &impl Abort, log: &mut UndoLog<Raised>) -> Result<(), Fail> {
     Ok(())
 }
 
-/// Also run with allocations refused; only the savepoints allocate.
+/// This test is also run with allocations refused. Only the savepoints allocate.
 #[test]
 fn a_savepoint_keeps_its_jobs(rt: HostRuntime) -> Result<(), Fail> {
     save_and_return(&rt, rt.alloc(), &mut empty_log(rt.alloc()))
@@ -337,8 +338,7 @@ fn zeros(alloc: Global) -> SideValue<Register> {
     SideValue::new(alloc, a_register([0, 0, 0, 0]))
 }
 
-/// Also run with allocations refused. However many of the changes are made, all of them are taken
-/// back.
+/// This test is also run with allocations refused. All changes that were made are taken back.
 #[test]
 fn side_value_returns(rt: HostRuntime) {
     go_and_return(&rt, rt.alloc(), &mut zeros(rt.alloc()));
@@ -383,7 +383,7 @@ fn return_to_0(
     }
 }
 
-/// Also run with allocations refused.
+/// This test is also run with allocations refused.
 #[test]
 fn a_settled_value_stays(rt: HostRuntime) {
     let alloc = rt.alloc();

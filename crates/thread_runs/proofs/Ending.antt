@@ -1,23 +1,13 @@
 -- A script's course through its calls: the caller's phase, and the outcomes that are possible.
-use Rattle.std.proofs.Common.{◌≡◌, ℕ, ◌⊎◌, ◌+◌, nat_lt, Bool, true, false, zero, suc, ◌||◌, List, [], ◌∷◌, length, Option, Some, None, is_some, refl, sym, ap, subst, ◌∙◌, inl, inr, if◌then◌else◌, slice_get, nat_le, IsTrue}
-use Rattle.thread_runs.proofs.Vocabulary.{list_any, false≢true, or_right, Action, Entry, Refusal, BadKey, NoSuchLevel, NoMemory, StampsUsedUp, StaleWord, OutOfStep, Closed, Opened, Seat, seat_after, is_bad_key, Call, End, Progress, Next, Over, attempt_at, call_of, call_at, done_with, done_at, busy_at, refused_with, refused_in, refused_at, progress_at, Ran, Failed, Token, Heard, outcome_by, get_empty}
-use Rattle.std.specs.Option.{option_or}
-use Rattle.txn_words.specs.declared.action.Action.TheVariants as actions
-use Rattle.txn_words.specs.declared.answer.Answer.TheVariants as answers
-use Rattle.txn_words.specs.declared.seat.Phase.{Phase}
-use Rattle.txn_words.specs.Map.{key_of}
-use Rattle.txn_words.specs.Seats.{refusal_in}
-use Rattle.txn_drive.specs.declared.«end».End.TheVariants as ends
-use Rattle.txn_drive.specs.Drives.{first_step}
-use Rattle.script_worker.specs.declared.attempt.Stage.{Stage}
-use Rattle.script_worker.specs.declared.attempt.Stage.TheVariants.{Beginning, Acting, Leaving}
-use Rattle.script_worker.specs.declared.attempt.Finish.{Finish}
-use Rattle.script_worker.specs.declared.attempt.Finish.TheVariants as finishes
-use Rattle.core_tokens.specs.Holds.{is_out}
-use Rattle.core_tokens.specs.Ready.{refused_at as refused_token, refused_help}
-use Rattle.core_tokens.specs.Suits.{may_refuse}
-use Rattle.thread_runs.specs.Possible.{has_bad_key, is_back, is_abort, MayBeRefused, MayCome, is_op}
-use Rattle.thread_runs.specs.Runs.{HasPhase, IsIn, HasEnded, phase_at}
+use Rattle.std.proofs.Common.{◌≡◌, ◌∙◌, ℕ, ◌⊎◌, ◌+◌, nat_lt, Bool, true, false, zero, suc, List, [], ◌∷◌, length, Option, Some, None}
+use Rattle.std.proofs.Common.{is_some, refl, sym, ap, inl, inr, if◌then◌else◌, slice_get, nat_le, IsTrue}
+use Rattle.thread_runs.proofs.Vocabulary.{Acting, Beginning, Failed, Finish, get_empty, has_bad_key, HasEnded, HasPhase, is_abort, is_back}
+use Rattle.thread_runs.proofs.Vocabulary.{is_op, is_out, IsIn, Leaving, may_refuse, MayBeRefused, MayCome, Next, Over, Phase, phase_at}
+use Rattle.thread_runs.proofs.Vocabulary.{Progress, Ran, refusal_of_help, refused_token, Stage, Token}
+use Rattle.script_worker.proofs.Vocabulary.{Action, Answer, attempt_at, BadKey, busy_at, Call, call_at, call_of, Closed, done_at, done_with}
+use Rattle.script_worker.proofs.Vocabulary.{End, Entry, false≢true, first_step, Heard, is_bad_key, key_of, list_any, NoMemory, NoSuchLevel}
+use Rattle.script_worker.proofs.Vocabulary.{Opened, option_or, or_right, outcome_by, OutOfStep, progress_at, Refusal, refusal_in}
+use Rattle.script_worker.proofs.Vocabulary.{progress_refused, refused_in, refused_with, Seat, seat_after, StaleWord, StampsUsedUp}
 use Rattle.thread_runs.proofs.Seating.{is_refusal, phase_after, phase_by, made_landed}
 
 -- If the action at position `i` passes a test, some action of the script passes it.
@@ -25,7 +15,7 @@ pub any_at : (test : Action → Bool) (script : List Action) (i : ℕ) (action :
 any_at test [] i action is passes = absurd (cc (get_empty i, is))
 any_at test (first ∷ script) zero action is passes =
     let same : first ≡ action = cc is in
-    ap (λ a. test a || list_any test script) same ∙ ap (λ b. b || list_any test script) passes
+    rw (same, passes)
 any_at test (first ∷ script) (suc i) action is passes = or_right (test first) (list_any test script) (any_at test script i action is passes)
 
 -- If a script is leaving because of a refusal, it may have this refusal.
@@ -35,11 +25,12 @@ MayLeave half script stage = Unit {0}
 
 -- The ends of an attempt that the script allows.
 abbrev pub MayBeOver : Bool → List Action → Finish → Type 0
-MayBeOver half script finishes.Aborted = IsTrue (list_any is_abort script)
-MayBeOver half script (finishes.Refused refusal) = MayBeRefused half script refusal
+MayBeOver half script Finish.Aborted = IsTrue (list_any is_abort script)
+MayBeOver half script (Finish.Refused refusal) = MayBeRefused half script refusal
 MayBeOver half script over = Unit {0}
 
--- The caller's phase after a call, by the progress.
+-- After a call with this progress, the caller is in the phase that the progress needs (`IsIn`), and
+-- the script allows the refusal or the end that the progress names.
 abbrev pub Stands : Bool → List Action → Bool → List Entry → Progress → Type 0
 Stands half script broken seen (Next attempt) = IsIn (phase_at attempt.stage) broken seen × MayLeave half script attempt.stage
 Stands half script broken seen (Over over) = IsIn Closed broken seen × MayBeOver half script over
@@ -48,7 +39,7 @@ Stands half script broken seen (Over over) = IsIn Closed broken seen × MayBeOve
 -- commit, for which the action is `None`.
 abbrev pub IsGood : Bool → List Action → Refusal → Option Action → Type 0
 IsGood half script refusal None = ⊥
-IsGood half script refusal (Some actions.Abort) = ⊥
+IsGood half script refusal (Some Action.Abort) = ⊥
 IsGood half script refusal (Some action) = MayBeRefused half script refusal
 
 abbrev pub IsGoodAt : Bool → List Action → Refusal → Stage → Type 0
@@ -65,16 +56,14 @@ module _ (half : Bool) (script : List Action) (tries again : ℕ) (broken : Bool
     where
       by : (o : Option Action) → slice_get script i ≡ o → HasPhase (phase_after Opened (call_of o)) (seat_after seen)
           → Stands half script broken seen (done_with again i o)
-      by (Some actions.Abort) is at = (inr at, any_at is_abort script i actions.Abort is refl)
+      by (Some Action.Abort) is at = (inr at, any_at is_abort script i Action.Abort is refl)
       by o is at = (inr at, tt)
   done_stands (Leaving refusal) at may = (inr at, may)
 
   busy_stands : HasPhase Closed (seat_after seen) → Stands half script broken seen (busy_at tries again)
-  busy_stands at = by (nat_lt again tries)
-    where
-      by : (b : Bool) → Stands half script broken seen (if b then Next (attempt_at (again + 1) Beginning) else Over finishes.Busy)
-      by true = (inr at, tt)
-      by false = (inr at, tt)
+  busy_stands at =
+      let after : Bool → Progress = λ b. if b then Next (attempt_at (again + 1) Beginning) else Over Finish.Busy in
+      elim (nat_lt again tries) as (λ b. Stands half script broken seen (after b)) [ true ↦ (inr at, tt) | false ↦ (inr at, tt) ]
 
   -- A call that was refused, and has added nothing.
   leaves : (refusal : Refusal) (stage : Stage) → IsIn (phase_at stage) broken seen → IsGoodAt half script refusal stage → Stands half script broken seen (refused_in script again stage refusal)
@@ -83,20 +72,17 @@ module _ (half : Bool) (script : List Action) (tries again : ℕ) (broken : Bool
     where
       by : (o : Option Action) → IsGood half script refusal o → Stands half script broken seen (refused_with again o refusal)
       by None good = absurd good
-      by (Some actions.Abort) good = absurd good
+      by (Some Action.Abort) good = absurd good
       by (Some action) good = (at, good)
   leaves refusal (Leaving why) at good = absurd good
 
-  out_stands : (stage : Stage) → broken ≡ true → Stands half script broken seen (refused_at script again stage OutOfStep)
-  out_stands stage out = (inl out, tt)
-
-  refused_stands : (refusal : Refusal) (stage : Stage) → is_out (ends.Refused refusal) ≡ false → IsIn (phase_at stage) broken seen
-      → IsGoodAt half script refusal stage → Stands half script broken seen (refused_at script again stage refusal)
+  refused_stands : (refusal : Refusal) (stage : Stage) → is_out (End.Refused refusal) ≡ false → IsIn (phase_at stage) broken seen
+      → IsGoodAt half script refusal stage → Stands half script broken seen (progress_refused script again stage refusal)
   refused_stands OutOfStep stage plain at good = absurd (false≢true (sym plain))
   refused_stands refusal stage plain at good = leaves refusal stage at good
 
--- The refusals of a token that is not broken. If a refusal that has a condition is given, the
--- condition holds (`if_bad`, `or_bad`).
+-- The refusals of a token that is not broken. A refusal is given only if its condition holds
+-- (`if_bad`, `or_bad`).
 pub if_bad : (b : Bool) (why refusal : Refusal) → (if b then Some why else None) ≡ Some refusal → (b ≡ true) × (why ≡ refusal)
 if_bad true why refusal is = (refl, cc is)
 if_bad false why refusal is = absurd (cc is)
@@ -105,52 +91,40 @@ or_bad : (b : Bool) (why refusal : Refusal) → option_or (if b then Some why el
 or_bad true why refusal is = (refl, cc is)
 or_bad false why refusal is = absurd (cc is)
 
-seat_refused : (half : Bool) (script : List Action) (stage : Stage) (s : Seat) (refusal : Refusal) → option_or (refusal_in half (record s { phase = phase_at stage }) (first_step 0 (call_at script stage))) (refused_help half (call_at script stage)) ≡ Some refusal
-    → (is_out (ends.Refused refusal) ≡ false) × IsGoodAt half script refusal stage
-seat_refused half script Beginning s refusal is = absurd (cc is)
+seat_refused : (half : Bool) (script : List Action) (stage : Stage) (s : Seat) (refusal : Refusal) → option_or (refusal_in half (record s { phase = phase_at stage }) (first_step 0 (call_at script stage))) (refusal_of_help half (call_at script stage)) ≡ Some refusal
+    → (is_out (End.Refused refusal) ≡ false) × IsGoodAt half script refusal stage
 seat_refused half script (Acting i) s refusal is = by (slice_get script i) refl is
   where
     by : (o : Option Action) → slice_get script i ≡ o
-        → option_or (refusal_in half (record s { phase = Opened }) (first_step 0 (call_of o))) (refused_help half (call_of o)) ≡ Some refusal
-        → (is_out (ends.Refused refusal) ≡ false) × IsGood half script refusal o
-    by (Some (actions.Op op)) at is =
+        → option_or (refusal_in half (record s { phase = Opened }) (first_step 0 (call_of o))) (refusal_of_help half (call_of o)) ≡ Some refusal
+        → (is_out (End.Refused refusal) ≡ false) × IsGood half script refusal o
+    by (Some (Action.Op op)) at is =
         let bad = or_bad (is_bad_key half (key_of op)) BadKey refusal is in
-        rw (← bad.1) (refl, any_at (has_bad_key half) script i (actions.Op op) at bad.0)
-    by (Some (actions.Back n)) at is =
+        rw (← bad.1) (refl, any_at (has_bad_key half) script i (Action.Op op) at bad.0)
+    by (Some (Action.Back n)) at is =
         let bad = or_bad (nat_le (length s.kept) n) NoSuchLevel refusal is in
-        rw (← bad.1) (refl, any_at is_back script i (actions.Back n) at refl)
-    by (Some (actions.Help key)) at is =
+        rw (← bad.1) (refl, any_at is_back script i (Action.Back n) at refl)
+    by (Some (Action.Help key)) at is =
         let bad = if_bad (is_bad_key half key) BadKey refusal is in
-        rw (← bad.1) (refl, any_at (has_bad_key half) script i (actions.Help key) at bad.0)
+        rw (← bad.1) (refl, any_at (has_bad_key half) script i (Action.Help key) at bad.0)
     by o at is = absurd (cc is)
-seat_refused half script (Leaving why) s refusal is = absurd (cc is)
+seat_refused half script stage s refusal is = absurd (cc is)
 
-token_refused : (half : Bool) (script : List Action) (stage : Stage) (b : Bool) (o : Option Seat) (refusal : Refusal) → refused_token half b o (call_at script stage) ≡ Some refusal → (b ≡ true) ⊎ HasPhase (phase_at stage) o
-    → ((refusal ≡ OutOfStep) × (b ≡ true)) ⊎ ((is_out (ends.Refused refusal) ≡ false) × IsGoodAt half script refusal stage)
-token_refused half script stage true o refusal is at = inl (sym (cc is), refl)
-token_refused half script stage false o refusal is (inl broken) = absurd (false≢true broken)
-token_refused half script stage false None refusal is (inr at) = absurd (cc at.1)
-token_refused half script stage false (Some s) refusal is (inr at) =
-    let same : s ≡ at.0 = cc at.1 in
-    let phase : s.phase ≡ phase_at stage = ap (λ (t : Seat). t.phase) same ∙ at.2 in
-    inr (seat_refused half script stage s refusal (subst (λ (p : Phase). option_or (refusal_in half (record s { phase = p }) (first_step 0 (call_at script stage))) (refused_help half (call_at script stage)) ≡ Some refusal) phase is))
-
--- A lack of memory or of stamps is possible if the call may need them, and a stale word if it asks
--- for an operation.
+-- A script may have each refusal that one of its calls may have after the token let the call pass
+-- (`may_refuse`).
 want_good : (half : Bool) (script : List Action) (stage : Stage) (refusal : Refusal) → may_refuse (call_at script stage) refusal ≡ true → IsGoodAt half script refusal stage
 want_good half script Beginning NoMemory may = tt
-want_good half script Beginning refusal may = absurd (false≢true may)
 want_good half script (Acting i) refusal may = by (slice_get script i) refl refusal may
   where
     by : (o : Option Action) → slice_get script i ≡ o → (r : Refusal) → may_refuse (call_of o) r ≡ true → IsGood half script r o
-    by (Some (actions.Op op)) at StaleWord may = any_at is_op script i (actions.Op op) at refl
-    by (Some actions.Abort) at r may = absurd (false≢true may)
+    by (Some (Action.Op op)) at StaleWord may = any_at is_op script i (Action.Op op) at refl
+    by (Some Action.Abort) at r may = absurd (false≢true may)
     by (Some action) at NoMemory may = tt
     by (Some action) at StampsUsedUp may = tt
     by o at r may = absurd (false≢true may)
-want_good half script (Leaving why) refusal may = absurd (false≢true may)
+want_good half script stage refusal may = absurd (false≢true may)
 
--- A token that lets a call pass is not broken.
+-- A token that lets a call pass is not broken, so its seat has the phase.
 sound_in : (half b : Bool) (seen : List Entry) (call : Call) (phase : Phase) → refused_token half b (seat_after seen) call ≡ None → IsIn phase b seen → HasPhase phase (seat_after seen)
 sound_in half b seen call phase free (inr at) = at
 sound_in half b seen call phase free (inl broken) = absurd (cc (ap (λ (x : Bool). refused_token half x (seat_after seen) call) broken, free))
@@ -161,41 +135,48 @@ module _ {S : Type 0} (half : Bool) (script : List Action) (tries again : ℕ) (
 
   landed_by : (words : S → List ℕ) (outcome : End) → is_refusal outcome ≡ false → (ran : Ran words k call outcome l) → HasPhase (phase_by (phase_at stage) call outcome) (seat_after l.seen)
   landed_by words outcome plain ran =
-      made_landed k.number (phase_at stage) call outcome k.seen l.seen ran.added plain (sound_in k.limits.half k.broken k.seen call (phase_at stage) ran.free at) ran.entries ran.made (rows ran.sound)
+      made_landed k.number (phase_at stage) k.seen l.seen ran.added ran.entries (rows ran.sound) call outcome plain
+      (sound_in k.limits.half k.broken k.seen call (phase_at stage) ran.free at) ran.made
 
-  failed_stands : (refusal : Refusal) → refused_token k.limits.half k.broken (seat_after k.seen) call ≡ None → Failed k call refusal l → Stands half script l.broken l.seen (refused_at script again stage refusal)
-  failed_stands OutOfStep free fell = out_stands half script tries again l.broken l.seen stage fell.broken
+  failed_stands : (refusal : Refusal) → refused_token k.limits.half k.broken (seat_after k.seen) call ≡ None → Failed k call refusal l → Stands half script l.broken l.seen (progress_refused script again stage refusal)
+  failed_stands OutOfStep free fell = (inl fell.broken, tt)
   failed_stands refusal free none =
       let before = sound_in k.limits.half k.broken k.seen call (phase_at stage) free at in
       leaves half script tries again l.broken l.seen refusal stage (inr (rw none.seen before))
       (want_good half script stage refusal none.may)
 
-  token_stands : (refusal : Refusal) → refused_token k.limits.half k.broken (seat_after k.seen) call ≡ Some refusal → Stands half script k.broken k.seen (refused_at script again stage refusal)
-  token_stands refusal is = elim (token_refused half script stage k.broken (seat_after k.seen) refusal (rw halves at is) at) [
-    | inl out ↦ rw out.0 (out_stands half script tries again k.broken k.seen stage out.1)
-    | inr good ↦ refused_stands half script tries again k.broken k.seen refusal stage good.0 at good.1
-  ]
+  token_stands : (b : Bool) (o : Option Seat) (refusal : Refusal) → refused_token half b o call ≡ Some refusal
+      → (b ≡ true) ⊎ HasPhase (phase_at stage) o → IsIn (phase_at stage) b k.seen
+      → Stands half script b k.seen (progress_refused script again stage refusal)
+  token_stands true o refusal is at here = let same : OutOfStep ≡ refusal = cc is in rw (← same) (inl refl, tt)
+  token_stands false o refusal is (inl broken) here = absurd (false≢true broken)
+  token_stands false None refusal is (inr at) here = absurd (cc at.1)
+  token_stands false (Some s) refusal is (inr (t, seat_is, is_phase)) here =
+      let same : s ≡ t = cc seat_is in
+      let phase = ap (λ (q : Seat). q.phase) same ∙ is_phase in
+      let seat_at : s ≡ record s { phase = phase_at stage } = ap (λ (p : Phase). record s { phase = p }) phase in
+      let (plain, good) = seat_refused half script stage s refusal (rw seat_at at is) in
+      refused_stands half script tries again false k.seen refusal stage plain here good
 
   -- The caller's phase after a call of a script's attempt.
   pub stands_at : (outcome : End) → HasEnded k call outcome l
       → Stands half script l.broken l.seen (progress_at script tries again stage outcome)
-  stands_at (ends.Answered a) (inl ended) =
-      done_stands half script tries again l.broken l.seen stage (landed_by ended.0 (ends.Answered a) refl ended.1) may
-  stands_at ends.Helped (inl ended) =
-      done_stands half script tries again l.broken l.seen stage (landed_by ended.0 ends.Helped refl ended.1) may
-  stands_at (ends.Busy x) (inl ended) = busy_stands half script tries again l.broken l.seen (landed_by ended.0 (ends.Busy x) refl ended.1)
-  stands_at (ends.Refused refusal) (inl ended) = elim ended.1 [
-    | inl token ↦ rw token.1 (token_stands refusal token.0)
-    | inr later ↦ failed_stands refusal later.0 later.1
-  ]
-  stands_at (ends.Refused refusal) (inr none) =
+  stands_at (End.Answered a) (inl ended) =
+      done_stands half script tries again l.broken l.seen stage (landed_by ended.0 (End.Answered a) refl ended.1) may
+  stands_at End.Helped (inl ended) =
+      done_stands half script tries again l.broken l.seen stage (landed_by ended.0 End.Helped refl ended.1) may
+  stands_at (End.Busy x) (inl ended) = busy_stands half script tries again l.broken l.seen (landed_by ended.0 (End.Busy x) refl ended.1)
+  stands_at (End.Refused refusal) (inl (words, inl (refused, same))) =
+      rw same (token_stands k.broken (seat_after k.seen) refusal (rw halves at refused) at at)
+  stands_at (End.Refused refusal) (inl (words, inr (free, failed))) = failed_stands refusal free failed
+  stands_at (End.Refused refusal) (inr none) =
       let same : refusal ≡ NoMemory = cc none.0 in
       rw (none.2, same) (leaves half script tries again k.broken k.seen NoMemory stage at (want_good half script stage NoMemory none.1))
   stands_at outcome (inr none) = absurd (cc none.0)
 
 pub over_may : (half : Bool) (script : List Action) (finish : Finish) (outcome : End) (heard : Heard) → MayBeOver half script finish
     → MayCome half script (outcome_by finish outcome heard)
-over_may half script finishes.Committed (ends.Answered (answers.Committed place)) heard may = tt
-over_may half script finishes.Aborted outcome heard may = may
-over_may half script (finishes.Refused refusal) outcome heard may = may
+over_may half script Finish.Committed (End.Answered (Answer.Committed place)) heard may = tt
+over_may half script Finish.Aborted outcome heard may = may
+over_may half script (Finish.Refused refusal) outcome heard may = may
 over_may half script finish outcome heard may = tt

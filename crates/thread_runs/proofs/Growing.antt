@@ -1,18 +1,33 @@
--- A call for help between two calls of a script, which adds no entry unless it falls out of step.
-use Rattle.std.proofs.Common.{◌≡◌, ℕ, Bool, true, false, not, List, [], ◌++◌, append_assoc, Option, Some, None, is_some, refl, sym, ap, ◌∙◌, inl, inr, append-nil}
-use Rattle.thread_runs.proofs.Vocabulary.{false≢true, Action, Entry, Refusal, BadKey, OutOfStep, Closed, Seat, seat_after, is_bad_key, Call, End, IsMade, CommitNothing, Progress, Over, call_at, progress_of, Heard, first_heard, Ended, Failed, FellOut, Token}
-use Rattle.txn_words.specs.declared.answer.Answer.TheVariants as answers
-use Rattle.txn_drive.specs.declared.call.Call.TheVariants as calls
-use Rattle.txn_drive.specs.declared.«end».End.TheVariants as ends
-use Rattle.script_worker.specs.declared.attempt.Finish.TheVariants as finishes
-use Rattle.core_tokens.specs.Ready.{refused_at}
-use Rattle.core_tokens.specs.Holds.{is_out}
-use Rattle.script_worker.specs.Accounts as accounts
-use Rattle.thread_runs.specs.Runs.{Adds, Grows, HasEnded, HasRunTo, IsIn, phase_at}
-use Rattle.txn_drive.proofs.Quiet.{append_quiet}
-use Rattle.thread_runs.proofs.Ending.{MayLeave, Stands, stands_at, if_bad}
-use Rattle.script_worker.proofs.Chunks.{chunk_begun}
-use Rattle.thread_runs.proofs.Looping.{IsRunning, RunsOn, run_call}
+-- The loop over the calls of a script; and a call for help between two of them, which adds no entry
+-- unless it falls out of step.
+use Rattle.std.proofs.Common.{◌≡◌, ℕ, List, ◌++◌, append_assoc, ap, ◌∙◌, Bool, true, false, not, [], Option, Some, None, is_some, refl, sym}
+use Rattle.std.proofs.Common.{inl, inr, append-nil}
+use Rattle.thread_runs.proofs.Vocabulary.{Adds, after_call, chunk_begun, Ended, Finish, goes_quiet, IsAfterHelp, HasEnded, HasRunTo, is_out, IsIn}
+use Rattle.thread_runs.proofs.Vocabulary.{Next, Over, phase_at, Progress, refused_at, Token}
+use Rattle.script_worker.proofs.Vocabulary.{Action, Answer, append_quiet, BadKey, Call, call_at, Closed, CommitNothing, End, Entry}
+use Rattle.script_worker.proofs.Vocabulary.{false≢true, first_heard, Heard, heard_then, is_bad_key, IsChunk, IsMade, Outcome, outcome_by}
+use Rattle.script_worker.proofs.Vocabulary.{OutOfStep, progress_of, Seat, seat_after}
+use Rattle.thread_runs.proofs.{Adding.adds_of, Ending.MayLeave, Ending.Stands, Ending.stands_at, Ending.if_bad}
+
+-- The loop over the calls of a script; the entries `base` were seen before it.
+abbrev pub IsRunning : ℕ → List Action → Heard → List Entry → List Entry → Type 0
+IsRunning c script heard base seen = (chunk : List Entry) × (seen ≡ base ++ chunk) × IsChunk c script heard chunk
+
+-- After a call the loop goes on, or the script has its outcome.
+abbrev pub RunsOn : ℕ → ℕ → List Action → Heard → End → List Entry → List Entry → Progress → Type 0
+RunsOn c tries script heard end base seen (Next next) = IsRunning c script (heard_then heard end next) base seen
+RunsOn c tries script heard end base seen (Over finish) = HasRunTo c tries script (outcome_by finish end heard) base seen
+
+pub run_call : (c tries : ℕ) (script : List Action) (heard : Heard) (base seen seen' : List Entry) (end : End) (p : Progress) → Adds c (call_at script heard.attempt.stage) end seen seen' → progress_of script tries heard.attempt end ≡ p
+    → IsRunning c script heard base seen → RunsOn c tries script heard end base seen' p
+run_call c tries script heard base seen seen' end (Next next) adds is (chunk, seen_is, so_far) =
+    let grown : seen' ≡ base ++ (chunk ++ adds.added) = rw (adds.entries, seen_is, append_assoc) in
+    let quiet = goes_quiet script tries heard.attempt next end adds.added is in
+    (chunk ++ adds.added, grown, after_call c tries script heard chunk adds.added end (Next next) adds.made quiet so_far is)
+run_call c tries script heard base seen seen' end (Over finish) adds is (chunk, seen_is, so_far) =
+    let grown : seen' ≡ base ++ (chunk ++ adds.added) = rw (adds.entries, seen_is, append_assoc) in
+    let account = after_call c tries script heard chunk adds.added end (Over finish) adds.made in
+    (chunk ++ adds.added, grown, λ whole. account (adds.quiet whole) so_far is)
 
 -- A token that lets a call pass is not broken.
 sound_if_free : (half b : Bool) (seat : Option Seat) (call : Call) → refused_at half b seat call ≡ None → b ≡ false
@@ -21,90 +36,67 @@ sound_if_free half true seat call free = absurd (cc free)
 
 -- Help that did not fall out of step changes neither the entries that the token has seen nor
 -- whether the token is broken.
-helped_at : {S : Type 0} (words : S → List ℕ) (k : Token S) (key : ℕ) (outcome : End) (l : Token S) → is_out outcome ≡ false → Ended words k (calls.Help key) outcome l → (l.seen ≡ k.seen) × (l.broken ≡ k.broken)
-helped_at words k key ends.Helped l on ran =
-    (ran.entries ∙ ap (λ es. k.seen ++ es) ran.made ∙ append-nil k.seen, ran.sound ∙ sym (sound_if_free k.limits.half k.broken (seat_after k.seen) (calls.Help key) ran.free))
-helped_at {S} words k key (ends.Refused refusal) l on ended = elim ended [
-  | inl token ↦ (ap (λ (t : Token S). t.seen) token.1, ap (λ (t : Token S). t.broken) token.1)
-  | inr later ↦ failed refusal on later.0 later.1
-]
-  where
-    failed : (refusal : Refusal) → is_out (ends.Refused refusal) ≡ false → refused_at k.limits.half k.broken (seat_after k.seen) (calls.Help key) ≡ None → Failed k (calls.Help key) refusal l → (l.seen ≡ k.seen) × (l.broken ≡ k.broken)
-    failed OutOfStep on free fell = absurd (false≢true (sym on))
-    failed refusal on free none = (none.seen, none.sound ∙ sym (sound_if_free k.limits.half k.broken (seat_after k.seen) (calls.Help key) free))
-helped_at words k key outcome l on ran = absurd ran.made
+pub grown_by : {S : Type 0} (words : S → List ℕ) (k : Token S) (last : End) (key : ℕ) (outcome : End) (l : Token S)
+    → last ≡ End.Answered (Answer.Done None) → Ended words k (Call.Help key) outcome l → IsAfterHelp k last (not (is_out outcome)) l
+grown_by words k last key (End.Refused OutOfStep) l done ended = (done, key, words, ended)
+grown_by words k last key (End.Refused refusal) l done (inl (refused, same)) = rw same (refl, refl)
+grown_by words k last key (End.Refused refusal) l done (inr (free, none)) =
+    (none.seen, none.sound ∙ sym (sound_if_free k.limits.half k.broken (seat_after k.seen) (Call.Help key) free))
+grown_by words k last key End.Helped l done ran =
+    let sound = sound_if_free k.limits.half k.broken (seat_after k.seen) (Call.Help key) ran.free in
+    (rw (ran.made, append-nil) at ran.entries, ran.sound ∙ sym sound)
+grown_by words k last key outcome l done ran = absurd ran.made
 
-pub grown_by : {S : Type 0} (words : S → List ℕ) (k : Token S) (last : End) (key : ℕ) (outcome : End) (l : Token S) → last ≡ ends.Answered (answers.Done None) → Ended words k (calls.Help key) outcome l → Grows k last (not (is_out outcome)) l
-grown_by words k last key (ends.Refused OutOfStep) l done ended = (done, key, words, ended)
-grown_by words k last key outcome l done ended = helped_at words k key outcome l refl ended
-
--- The invariant of the loop over a script's calls: before a call, and after a call with this
--- progress.
+-- The invariant of the loop over a script's calls.
 abbrev pub IsBefore : ℕ → Bool → List Action → List Entry → Heard → Bool → List Entry → Type 0
 IsBefore c half script base heard broken seen = IsRunning c script heard base seen × (IsIn (phase_at heard.attempt.stage) broken seen × MayLeave half script heard.attempt.stage)
 
-abbrev pub IsAfter : ℕ → Bool → ℕ → List Action → List Entry → Heard → End → Bool → List Entry → Progress → Type 0
-IsAfter c half tries script base heard end broken seen p = RunsOn c tries script heard end base seen p × Stands half script broken seen p
-
 pub before_first : (c : ℕ) (half : Bool) (script : List Action) (base : List Entry) (heard : Heard) (broken : Bool) → heard ≡ first_heard
-    → IsIn Closed broken base
-    → IsBefore c half script base heard broken base
+    → IsIn Closed broken base → IsBefore c half script base heard broken base
 before_first c half script base heard broken is at = rw is (([], sym (append-nil base), chunk_begun c script), (at, tt))
 
 -- The invariant still holds after a call and the help that may follow it, unless this help falls
 -- out of step.
 pub called : {S : Type 0} (c : ℕ) (half : Bool) (tries : ℕ) (script : List Action) (base : List Entry) (heard heard' : Heard) (j k l : Token S) (call : Call) (end : End) (p : Progress)
     → j.number ≡ c → j.limits.half ≡ half → call ≡ call_at script heard.attempt.stage → heard' ≡ heard → p ≡ progress_of script tries heard'.attempt end
-    → Adds j.number call end j.seen k.seen → HasEnded j call end k → (k.broken ≡ false → is_some (seat_after k.seen) ≡ true) → Grows k end true l
-    → IsBefore c half script base heard j.broken j.seen → IsAfter c half tries script base heard' end l.broken l.seen p
+    → Adds j.number call end j.seen k.seen → HasEnded j call end k → (k.broken ≡ false → is_some (seat_after k.seen) ≡ true) → IsAfterHelp k end true l
+    → IsBefore c half script base heard j.broken j.seen
+    → RunsOn c tries script heard' end base l.seen p × Stands half script l.broken l.seen p
 called c half tries script base heard heard' j k l call end p mine halves call_is same p_is adds ended rows on before =
     rw (p_is, same, on.1, on.0) (
       run_call c tries script heard base j.seen k.seen end _ (rw (mine, call_is) at adds) refl before.0,
       stands_at half script tries heard.attempt.again heard.attempt.stage j k halves rows before.1.0 before.1.1 end (rw call_is at ended),
     )
 
--- Help that fell out of step: the token is broken now, and the entries that it has added commit
--- nothing.
-record Fell {S : Type 0} (k l : Token S) : Type 0 where
-  broken : l.broken ≡ true
-  added : List Entry
-  entries : l.seen ≡ k.seen ++ added
-  quiet : is_some (seat_after l.seen) ≡ true → CommitNothing added
-
-out_if_refused : (half b : Bool) (seat : Option Seat) (key : ℕ) → (b ≡ false → is_some seat ≡ true) → refused_at half b seat (calls.Help key) ≡ Some OutOfStep → b ≡ true
+out_if_refused : (half b : Bool) (seat : Option Seat) (key : ℕ) → (b ≡ false → is_some seat ≡ true) → refused_at half b seat (Call.Help key) ≡ Some OutOfStep → b ≡ true
 out_if_refused half true seat key rows is = refl
 out_if_refused half false None key rows is = absurd (false≢true (rows refl))
 out_if_refused half false (Some s) key rows is = absurd (cc (if_bad (is_bad_key half key) BadKey OutOfStep is).1)
 
-fell_by : {S : Type 0} (words : S → List ℕ) (k : Token S) (key : ℕ) (l : Token S) → (k.broken ≡ false → is_some (seat_after k.seen) ≡ true) → Ended words k (calls.Help key) (ends.Refused OutOfStep) l → Fell k l
-fell_by {S} words k key l rows ended = elim ended [
-  | inl token ↦ record {
-    broken = ap (λ (t : Token S). t.broken) token.1 ∙ out_if_refused k.limits.half k.broken (seat_after k.seen) key rows token.0;
-    added = [];
-    entries = ap (λ (t : Token S). t.seen) token.1 ∙ sym (append-nil k.seen);
-    quiet = λ whole. refl;
-  }
-  | inr later ↦ let fell : FellOut k (calls.Help key) l = later.1 in record { broken = fell.broken; added = fell.added; entries = fell.entries; quiet = fell.quiet }
-]
+-- If help fell out of step, the token is broken.
+broken_by : {S : Type 0} (words : S → List ℕ) (k : Token S) (key : ℕ) (l : Token S)
+    → (k.broken ≡ false → is_some (seat_after k.seen) ≡ true) → Ended words k (Call.Help key) (End.Refused OutOfStep) l → l.broken ≡ true
+broken_by words k key l rows (inl (refused, same)) =
+    rw same (out_if_refused k.limits.half k.broken (seat_after k.seen) key rows refused)
+broken_by words k key l rows (inr (free, fell)) = fell.broken
 
 -- Only an operation has a reply, and an operation commits nothing.
-done_quiet : (c : ℕ) (call : Call) (reply : Option ℕ) (added : List Entry) → IsMade c call (ends.Answered (answers.Done reply)) added → CommitNothing added
-done_quiet c (calls.Op op) reply added made = rw made
+done_quiet : (c : ℕ) (call : Call) (reply : Option ℕ) (added : List Entry) → IsMade c call (End.Answered (Answer.Done reply)) added → CommitNothing added
+done_quiet c (Call.Op op) reply added made = rw made
 done_quiet c call reply added made = absurd made
 
 -- A script whose caller fell out of step by a call for help after a put.
 pub fell_out : {S : Type 0} (c c' tries : ℕ) (script : List Action) (heard : Heard) (base seen : List Entry) (call : Call) (last : End)
-    (k l : Token S) → Adds c' call last seen k.seen → (k.broken ≡ false → is_some (seat_after k.seen) ≡ true) → Grows k last false l
-    → IsRunning c script heard base seen → HasRunTo c tries script (accounts.Refused OutOfStep) base l.seen × IsIn Closed l.broken l.seen
+    (k l : Token S) → Adds c' call last seen k.seen → (k.broken ≡ false → is_some (seat_after k.seen) ≡ true) → IsAfterHelp k last false l
+    → IsRunning c script heard base seen → HasRunTo c tries script (Outcome.Refused OutOfStep) base l.seen × IsIn Closed l.broken l.seen
 fell_out c c' tries script heard base seen call last k l adds rows (last_is, key, words, ended) running =
-    let fell : Fell k l = fell_by words k key l rows ended in
+    let fell = (adds_of words k (Call.Help key) (End.Refused OutOfStep) l ended).0 in
     let silent : CommitNothing adds.added = done_quiet c' call None adds.added (rw last_is at adds.made) in
-    let both : Adds c (call_at script heard.attempt.stage) (ends.Refused OutOfStep) seen l.seen = record {
+    let both : Adds c (call_at script heard.attempt.stage) (End.Refused OutOfStep) seen l.seen = record {
       added = adds.added ++ fell.added;
       entries = fell.entries ∙ ap (λ es. es ++ fell.added) adds.entries ∙ append_assoc seen adds.added fell.added;
       made = tt;
       quiet = λ whole. append_quiet adds.added fell.added silent (fell.quiet whole);
-    } in (
-      run_call c tries script heard base seen l.seen (ends.Refused OutOfStep) (Over (finishes.Refused OutOfStep)) both refl running,
-      inl fell.broken,
-    )
+    } in
+    let over = run_call c tries script heard base seen l.seen (End.Refused OutOfStep) (Over (Finish.Refused OutOfStep)) both refl running in
+    (over, inl (broken_by words k key l rows ended))

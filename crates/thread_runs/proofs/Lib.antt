@@ -1,6 +1,4 @@
 pub mod Vocabulary
-pub mod Looping
-pub mod Working
 pub mod Rounds
 pub mod Adding
 pub mod Seating

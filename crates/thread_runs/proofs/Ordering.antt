@@ -1,11 +1,14 @@
 -- Rows, each with its last element first, are merged into one list, which takes one element from
 -- each row in turn.
 use Rattle.std.proofs.Common.{◌≡◌, ℕ, ◌+◌, ◌*◌, ◌/◌, ◌%◌, ◌<◌, List, [], ◌∷◌, ◌++◌, append_assoc, length, length-append, reverse, set, Some, refl, sym, ap, ◌∙◌, inl, inr, arith, slice_get, slice_index_or, append-nil, length-set}
-use Rattle.thread_runs.proofs.Vocabulary.{cases_eq, length-reverse, nil_from_length, reverse-append, slice_get_within, slice_get_read, every, every-hit, every-miss, every-length, every-fewer, number_at, one_remainder, get_within}
-use Rattle.thread_runs.specs.Each.{Each}
-use Rattle.thread_runs.proofs.Lists.{get_set_same, get_set_other}
+use Rattle.thread_runs.proofs.Vocabulary.{Each, every-fewer, every-hit, every-length, every-miss, get_within, number_at, one_remainder}
+use Rattle.script_worker.proofs.Vocabulary.{cases_eq, every, length-reverse, nil_from_length, reverse-append, slice_get_read}
+use Rattle.script_worker.proofs.Vocabulary.{slice_get_within}
+use Rattle.boost_core.proofs.Refused.{set_here}
+use Rattle.thread_runs.proofs.Lists.{get_set_other}
 
--- The rest of a row: the elements that are not out yet.
+-- The rest of a row. An element is *out* once it is in the merged list `out`; the rest of the row
+-- has the others.
 abbrev pub HasLeft : {R X : Type 0} → (R → List X) → ℕ → List R → List X → ℕ → R → Type 0
 HasLeft {R} items n left out i was = (row : R) × (slice_get left i ≡ Some row) ×
     (reverse (items was) ≡ every n i out ++ reverse (items row))
@@ -19,47 +22,30 @@ pub record IsLeft {R X : Type 0} (items : R → List X) (n : ℕ) (rows left : L
 abbrev pub AreWholeRows : {R X Y : Type 0} → (R → List X) → ℕ → List R → List Y → Type 0
 AreWholeRows items n rows ys = Each (λ c row. length (items row) ≡ length (every n c ys)) rows
 
-pub left_none : {R X : Type 0} (items : R → List X) (n : ℕ) (rows : List R) (out : List X) → out ≡ [] → IsLeft items n rows rows out
-left_none items n rows out none = record { as_many = refl; each = λ i was is. (was, is, sym (ap (λ xs. every n i xs ++ reverse (items was)) none)) }
-
-same_row : {R : Type 0} (left : List R) (i : ℕ) (row old : R) → slice_get left i ≡ Some row → slice_get left i ≡ Some old → old ≡ row
-same_row left i row old is was = cc (is, was)
-
 -- One more element is out, taken from the next row.
 pub left_more : {R X : Type 0} (items : R → List X) (n : ℕ) (rows left : List R) (out : List X) (c : ℕ) (row row' : R) (x : X) → 0 < n → length rows ≡ n → c ≡ length out % n → slice_get left c ≡ Some row → items row ≡ items row' ++ x ∷ []
     → IsLeft items n rows left out → IsLeft items n rows (set left c row') (out ++ x ∷ [])
-left_more {R} {X} items n rows left out c row row' x some as_many turn is popped so_far = record {
-  as_many = length-set left c row' ∙ so_far.as_many;
-  each = by;
-}
+left_more items n rows left out c row row' x some as_many turn is popped so_far =
+    record { as_many = length-set left c row' ∙ so_far.as_many; each = by }
   where
-    k : ℕ
-    k = length out / n
-
-    at : length out ≡ c + k * n
-    at = number_at (length out) n ∙ ap (λ (m : ℕ). m + k * n) (sym turn)
-
-    low : c < n
-    low = omega (arith, turn, some)
-
-    here : (was : R) → HasLeft items n left out c was → HasLeft items n (set left c row') (out ++ x ∷ []) c was
-    here was (old, there, rest) =
-        let mine = rw (same_row left c row old is there, popped, reverse-append (items row') (x ∷ [])) at rest in
-        (row', get_set_same left c row' row is, rw (every-hit n some out x c k at, append_assoc) mine)
-
-    other : (i : ℕ) (was : R) → i < n → (c ≡ i → ⊥) → HasLeft items n left out i was
-        → HasLeft items n (set left c row') (out ++ x ∷ []) i was
-    other i was below apart (old, there, rest) = (
-      old,
-      get_set_other left c i row' apart ∙ there,
-      rw (every-miss n some out x i (λ j is_at. apart (one_remainder n c i k j low below (sym at ∙ is_at)))) rest,
-    )
-
     by : Each (HasLeft items n (set left c row') (out ++ x ∷ [])) rows
-    by i was in_rows = elim (cases_eq c i) [
-      | inl same ↦ rw (← same) (here was (rw (← same) at (so_far.each i was in_rows)))
-      | inr apart ↦ other i was (omega (arith, as_many, slice_get_within rows i was in_rows)) apart (so_far.each i was in_rows)
-    ]
+    by i was in_rows =
+        let k = length out / n in
+        let at : length out ≡ c + k * n = rw turn (number_at (length out) n) in
+        let low : c < n = omega (arith, turn, some) in
+        let below : i < n = omega (arith, as_many, slice_get_within rows i was in_rows) in
+        let (old, there, rest) = so_far.each i was in_rows in elim (cases_eq c i) [
+          | inl same ↦
+              let mine : old ≡ row = cc (is, there, same) in
+              let left_is = rw (mine, popped, reverse-append (items row') (x ∷ []), ← same) at rest in
+              let there' = set_here left c row' (slice_get_within left c row is) in
+              rw (← same) (row', there', rw (every-hit n some out x c k at, append_assoc) left_is)
+          | inr apart ↦ (
+            old,
+            get_set_other left c i row' apart ∙ there,
+            rw (every-miss n some out x i (λ j is_at. apart (one_remainder n c i k j low below (sym at ∙ is_at)))) rest,
+          )
+        ]
 
 -- While some element is not out yet, the next row has an element left.
 left_some : {R X Y : Type 0} (items : R → List X) (n : ℕ) (rows left : List R) (out : List X) (ys : List Y) (c : ℕ) (row : R) → 0 < n
@@ -68,7 +54,8 @@ left_some : {R X Y : Type 0} (items : R → List X) (n : ℕ) (rows left : List 
 left_some items n rows left out ys c row some as_many turn fewer whole is so_far =
     let (was, in_rows) = get_within rows c (omega (arith, as_many, turn, some)) in
     let (old, there, rest) = so_far.each c was in_rows in
-    let parts = simp (length-append, length-reverse) at (ap length (rw (same_row left c row old is there) at rest)) in
+    let same : old ≡ row = cc (is, there) in
+    let parts = simp (length-append, length-reverse) at (ap length (rw same at rest)) in
     let less : length (every n c out) < length (every n c ys) = rw turn (every-fewer n some out ys fewer) in
     omega (arith, parts, less, whole c was in_rows)
 

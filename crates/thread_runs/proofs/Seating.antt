@@ -1,14 +1,10 @@
--- The phase of a caller's seat after each call of a script, unless the call is refused. A call that
--- adds entries has a last entry that decides the phase.
+-- The phase of a caller's seat after each call of a script, unless the call is refused. If a call
+-- adds entries, the last of them decides the phase.
 use Rattle.std.proofs.Common.{◌≡◌, ℕ, ◌+◌, take, slice_index, ◌==◌, ◌&&◌, Bool, true, false, cond, List, [], ◌∷◌, ◌++◌, append_assoc, Option, Some, None, is_some, refl, sym, ap, ◌∙◌, option_and_then, append-nil}
-use Rattle.thread_runs.proofs.Vocabulary.{false≢true, Entry, Closed, Opened, Waiting, LeavingTo, LeavingToEnd, Seat, row, seat_after, closed_seat, Call, End, undone_by, IsUndone, IsMade}
-use Rattle.txn_words.specs.declared.answer.Answer.TheVariants as answers
-use Rattle.txn_words.specs.declared.entry.Entry.TheVariants.{Began, Asked, Did, Saved, Leave, Returned, Committed, Busy, Aborted}
-use Rattle.txn_words.specs.declared.seat.Phase.{Phase}
-use Rattle.txn_trace.proofs.Pushes.{seat_after-push}
-use Rattle.txn_drive.specs.declared.call.Call.TheVariants as calls
-use Rattle.txn_drive.specs.declared.«end».End.TheVariants as ends
-use Rattle.thread_runs.specs.Runs.{HasPhase}
+use Rattle.thread_runs.proofs.Vocabulary.{HasPhase, Phase}
+use Rattle.script_worker.proofs.Vocabulary.{Aborted, Answer, Asked, Began, Busy, Call, Closed, closed_seat, Committed, Did, End, Entry}
+use Rattle.script_worker.proofs.Vocabulary.{false≢true, IsMade, Leave, LeavingTo, LeavingToEnd, Opened, Returned, row, Saved, Seat}
+use Rattle.script_worker.proofs.Vocabulary.{seat_after, seat_after-push, undone_by, Waiting}
 
 -- The phase after an entry that ends a call's work.
 abbrev lands : Entry → Phase
@@ -42,42 +38,42 @@ landed e (Some s) w h = at e s.phase refl w h
     at (Aborted x) LeavingToEnd is w h = if_some (s.standing == 0) closed_seat Closed refl h
     at f q is w h = absurd (cc)
 
--- If the last of the added entries ends a call's work, the caller's phase is `lands` of this entry.
-added_landed : (seen seen' front : List Entry) (e : Entry) → ends_work e ≡ true → seen' ≡ seen ++ (front ++ e ∷ []) → is_some (seat_after seen') ≡ true → HasPhase (lands e) (seat_after seen')
-added_landed seen seen' front e w is some =
-    let pushed = ap seat_after (is ∙ sym (append_assoc seen front (e ∷ []))) ∙ seat_after-push (seen ++ front) e in
-    rw pushed (landed e (seat_after (seen ++ front)) w (sym (ap is_some pushed) ∙ some))
-
-undone_landed : (c : ℕ) (opening e : Entry) (seen seen' added : List Entry) → ends_work e ≡ true → seen' ≡ seen ++ added → IsUndone c opening added e → is_some (seat_after seen') ≡ true → HasPhase (lands e) (seat_after seen')
-undone_landed c opening e seen seen' added w is made some =
-    added_landed seen seen' (opening ∷ undone_by c made.0) e w (is ∙ ap (λ es. seen ++ es) made.1) some
-
 abbrev pub is_refusal : End → Bool
-is_refusal (ends.Refused refusal) = true
+is_refusal (End.Refused refusal) = true
 is_refusal outcome = false
 
--- The phase after a call that did what it was asked to do; and the phase after a call that may also
--- have found a stripe held.
+-- `phase_after` is the phase after a call that did what it was asked to do. `phase_by` is the phase
+-- after a call that did so or found a stripe held.
 abbrev pub phase_after : Phase → Call → Phase
-phase_after phase calls.Commit = Closed
-phase_after phase calls.Abort = Closed
-phase_after phase (calls.Help key) = phase
+phase_after phase Call.Commit = Closed
+phase_after phase Call.Abort = Closed
+phase_after phase (Call.Help key) = phase
 phase_after phase call = Opened
 
 abbrev pub phase_by : Phase → Call → End → Phase
-phase_by phase call (ends.Busy x) = Closed
+phase_by phase call (End.Busy x) = Closed
 phase_by phase call outcome = phase_after phase call
 
-pub made_landed : (c : ℕ) (phase : Phase) (call : Call) (outcome : End) (seen seen' added : List Entry) → is_refusal outcome ≡ false → HasPhase phase (seat_after seen) → seen' ≡ seen ++ added → IsMade c call outcome added → is_some (seat_after seen') ≡ true
-    → HasPhase (phase_by phase call outcome) (seat_after seen')
-made_landed c phase calls.Begin (ends.Answered (answers.Began t)) seen seen' added plain before is made some = added_landed seen seen' [] (Began c t) refl (is ∙ ap (λ es. seen ++ es) made) some
-made_landed c phase (calls.Op op) (ends.Answered (answers.Done reply)) seen seen' added plain before is made some = added_landed seen seen' (Asked c op ∷ []) (Did c reply) refl (is ∙ ap (λ es. seen ++ es) made) some
-made_landed c phase (calls.Op op) (ends.Busy x) seen seen' added plain before is made some = undone_landed c (Busy c op x) (Aborted c) seen seen' added refl is made some
-made_landed c phase calls.Save (ends.Answered (answers.Saved n)) seen seen' added plain before is made some = added_landed seen seen' [] (Saved c) refl (is ∙ ap (λ es. seen ++ es) made) some
-made_landed c phase (calls.Back n) (ends.Answered (answers.Returned m)) seen seen' added plain before is made some = undone_landed c (Leave c (Some n)) (Returned c n) seen seen' added refl is made.1 some
-made_landed c phase calls.Commit (ends.Answered (answers.Committed p)) seen seen' added plain before is made some = added_landed seen seen' [] (Committed c p) refl (is ∙ ap (λ es. seen ++ es) made) some
-made_landed c phase calls.Abort (ends.Answered answers.Aborted) seen seen' added plain before is made some = undone_landed c (Leave c None) (Aborted c) seen seen' added refl is made some
-made_landed c phase (calls.Help key) ends.Helped seen seen' added plain before is made some =
-    rw (is, made, append-nil) before
-made_landed c phase call (ends.Refused refusal) seen seen' added plain before is made some = absurd (false≢true (sym plain))
-made_landed c phase call outcome seen seen' added plain before is made some = absurd made
+module _ (c : ℕ) (phase : Phase) (seen seen' added : List Entry) (is : seen' ≡ seen ++ added)
+    (some : is_some (seat_after seen') ≡ true) where
+  -- If the last added entry ends a call's work, the caller's phase is `lands` of this entry.
+  by_last : (front : List Entry) (e : Entry) → ends_work e ≡ true → added ≡ front ++ e ∷ [] → HasPhase (lands e) (seat_after seen')
+  by_last front e w made =
+      let grown : seen' ≡ (seen ++ front) ++ e ∷ [] = rw (is, made, append_assoc) in
+      let pushed = ap seat_after grown ∙ seat_after-push (seen ++ front) e in
+      rw pushed (landed e (seat_after (seen ++ front)) w (sym (ap is_some pushed) ∙ some))
+
+  pub made_landed : (call : Call) (outcome : End) → is_refusal outcome ≡ false → HasPhase phase (seat_after seen)
+      → IsMade c call outcome added → HasPhase (phase_by phase call outcome) (seat_after seen')
+  made_landed Call.Begin (End.Answered (Answer.Began t)) plain before made = by_last [] (Began c t) refl made
+  made_landed (Call.Op op) (End.Answered (Answer.Done reply)) plain before made = by_last (Asked c op ∷ []) (Did c reply) refl made
+  made_landed (Call.Op op) (End.Busy x) plain before (k, made) = by_last (Busy c op x ∷ undone_by c k) (Aborted c) refl made
+  made_landed Call.Save (End.Answered (Answer.Saved n)) plain before made = by_last [] (Saved c) refl made
+  made_landed (Call.Back n) (End.Answered (Answer.Returned m)) plain before (same, (k, made)) =
+      by_last (Leave c (Some n) ∷ undone_by c k) (Returned c n) refl made
+  made_landed Call.Commit (End.Answered (Answer.Committed p)) plain before made = by_last [] (Committed c p) refl made
+  made_landed Call.Abort (End.Answered Answer.Aborted) plain before (k, made) =
+      by_last (Leave c None ∷ undone_by c k) (Aborted c) refl made
+  made_landed (Call.Help key) End.Helped plain before made = rw (is, made, append-nil) before
+  made_landed call (End.Refused refusal) plain before made = absurd (false≢true (sym plain))
+  made_landed call outcome plain before made = absurd made

@@ -28,8 +28,8 @@ abbrev pub is_abort : Action → Bool
 is_abort actions.Abort = true
 is_abort action = false
 
--- The refusals that a script may have: a bad key, a missing level or a stale word only if it has an
--- action that can be refused so; a lack of memory or of stamps, and a call out of step, always.
+-- The refusals that a script may have. `BadKey`, `NoSuchLevel` and `StaleWord` need an action that
+-- can be refused so. `NoMemory`, `StampsUsedUp` and `OutOfStep` are always possible.
 abbrev pub MayBeRefused : Bool → List Action → Refusal → Type 0
 MayBeRefused half script BadKey = IsTrue (list_any (has_bad_key half) script)
 MayBeRefused half script NoSuchLevel = IsTrue (list_any is_back script)

@@ -62,11 +62,11 @@ pub record Adds (c : ℕ) (call : Call) (outcome : End) (seen seen' : List Entry
   pub quiet : is_some (seat_after seen') ≡ true → IsQuiet outcome added
 
 -- The caller after a call with this end, and after the help that may have followed. If the caller
--- is still in step, its entries are unchanged. If not, the call was answered without a value, and
--- the help that followed fell out of step.
-abbrev pub Grows : {S : Type 0} → Token S → End → Bool → Token S → Type 0
-Grows k outcome true l = (l.seen ≡ k.seen) × (l.broken ≡ k.broken)
-Grows {S} k outcome false l =
+-- is still in step, its entries are unchanged. If not, the reply of the call was none, and the help
+-- that followed fell out of step.
+abbrev pub IsAfterHelp : {S : Type 0} → Token S → End → Bool → Token S → Type 0
+IsAfterHelp k outcome true l = (l.seen ≡ k.seen) × (l.broken ≡ k.broken)
+IsAfterHelp {S} k outcome false l =
     (outcome ≡ ends.Answered (answers.Done None)) × (key : ℕ) × (words : S → List ℕ)
     × Ended words k (calls.Help key) (ends.Refused OutOfStep) l
 
@@ -80,16 +80,16 @@ abbrev pub HasRoomAt : End → ℕ → Type 0
 HasRoomAt (ends.Answered (answers.Done reply)) room = 0 < room
 HasRoomAt outcome room = Unit {0}
 
--- An attempt with what its caller has been told, as accounts tell it.
+-- The `Heard` of the code as the `Heard` of the definitions.
 abbrev pub heard_of : kept.Heard → Heard
 heard_of heard = heard_at heard.attempt heard.txn heard.replies.items
 
--- The outcome, as accounts tell it.
-abbrev pub told_of : codes.Outcome → Outcome
-told_of (outcomes.Committed txn place replies) = accounts.Committed txn place replies.items
-told_of outcomes.Aborted = accounts.Aborted
-told_of outcomes.Busy = accounts.Busy
-told_of (outcomes.Refused refusal) = accounts.Refused refusal
+-- The `Outcome` of the code as the `Outcome` of accounts.
+abbrev pub outcome_told : codes.Outcome → Outcome
+outcome_told (outcomes.Committed txn place replies) = accounts.Committed txn place replies.items
+outcome_told outcomes.Aborted = accounts.Aborted
+outcome_told outcomes.Busy = accounts.Busy
+outcome_told (outcomes.Refused refusal) = accounts.Refused refusal
 
 -- A script was run to an outcome, and the added entries are its account, provided that the entries
 -- that were seen have rows.
@@ -120,7 +120,8 @@ pub record HasReported {L : Type 0} (half : Bool) (workers tries : ℕ)
     (scripts : List (List Action)) (c : ℕ) (report : WorkerReport L) : Type 0 where
   pub number_is : report.caller.number ≡ c
   pub ran :
-      HasRunAll half workers tries c scripts (map told_of report.outcomes.items) report.caller.seen
+      HasRunAll half workers tries c scripts
+      (map outcome_told report.outcomes.items) report.caller.seen
 
 -- A run of scripts on a map with these limits: its history is legal and has only entries of these
 -- workers; there is one outcome for each script; the outcomes are true of the history, so that each
@@ -137,10 +138,10 @@ pub record HasRunScripts (limits : Sizes) (workers tries : ℕ) (scripts : List 
       → slice_get scripts i ≡ Some script → slice_get outcomes i ≡ Some outcome
       → MayCome limits.half script outcome
 
--- The result has the outcomes and the history of a run as `HasRunScripts` says.
+-- The outcomes and the history of the result are those of a run (`HasRunScripts`).
 abbrev pub IsRunOf : Sizes → ℕ → ℕ → List (List Action) → Ran → Type 0
 IsRunOf limits workers tries scripts ran =
-    HasRunScripts limits workers tries scripts (map told_of ran.outcomes.items) ran.trace.items
+    HasRunScripts limits workers tries scripts (map outcome_told ran.outcomes.items) ran.trace.items
 
 -- The reason why a run has no result: no memory, no thread, or a history that is not what the
 -- workers saw.

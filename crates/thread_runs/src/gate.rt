@@ -1,10 +1,11 @@
-//! The trait of gates: a run tells its gate what the workers do, and the gate may hold them up. It
-//! is for tests that need an order between threads. `Open` holds up no one. No call of a gate is
-//! made under the lock, so a worker that waits in its gate keeps no other worker from the map. A
-//! run promises the same with every gate.
+//! The trait of gates: a run tells its gate what the workers do, and the gate may hold them up.
+//! Gates are for tests that need an order between threads. `Open` holds up no one. No call of a
+//! gate is made under the lock, so a worker that waits in its gate keeps no other worker from the
+//! map. A run promises the same with every gate.
 /// An observer of workers in threads. Each call may make its worker wait.
 pub trait Gate: Sync {
-    /// A worker is about to do an action of a script; the commit is the action after the last.
+    /// A worker is about to do an action of a script. The commit counts as one more action, after
+    /// the last.
     ///
     /// # Cost
     ///

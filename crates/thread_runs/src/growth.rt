@@ -7,7 +7,7 @@ ghost use Rattle.txn_words.specs.declared.answer.Answer.{Answer};
 ghost use Rattle.txn_drive.specs.declared.«end».End.{End};
 ghost use Rattle.core_tokens.specs.Holds.{is_out};
 ghost use Rattle.core_tokens.specs.Tokens.{IsSameCaller};
-ghost use Rattle.thread_runs.specs.Runs.{Grows};
+ghost use Rattle.thread_runs.specs.Runs.{IsAfterHelp};
 
 use boost_core::{Call, End};
 use locked_map::{Caller, NoSide, OnRelease, SharedMap};
@@ -64,7 +64,7 @@ impl Growth {
         hears: &H,
     ) -> bool
         ensures same { IsSameCaller me.old me.new }
-        ensures grown { Grows me.old end result me.new }
+        ensures grown { IsAfterHelp me.old end result me.new }
     {
         let Some(key) = self.key_due(call, end) else {
             return true;

@@ -1,6 +1,7 @@
-//! The outcomes of all workers, merged into the scripts' order. It works on lists, without map or
-//! thread, and its contract is about their lengths and order only. Each row has its last outcome
-//! first, so the next one is taken from its end, in constant time, and no outcome is copied.
+//! The outcomes of all workers, merged into the scripts' order. The merge works on lists and knows
+//! neither map nor threads; its contract is only about lengths and order. Each row has its last
+//! outcome first, so the next one is taken from the row's end, in constant time, and no outcome is
+//! copied.
 ghost use Rattle.std.specs.Prelude.{◌≡◌, ◌<◌, IfOk, length, reverse};
 ghost use Rattle.script_worker.specs.Accounts.{every};
 ghost use Rattle.thread_runs.specs.Each.{Each};
@@ -9,7 +10,7 @@ use crate::outcome::Outcome;
 use std::alloc::{AllocError, Global};
 use txn_trace::Script;
 
-/// The outcomes in the scripts' order, from a row for each worker with its last outcome first:
+/// The outcomes in the scripts' order. Each worker has a row, with its last outcome first, and
 /// script `i` belongs to worker `i` modulo the number of rows.
 pub(crate) fn in_order(
     alloc: Global,

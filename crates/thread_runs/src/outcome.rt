@@ -7,7 +7,7 @@ use txn_trace::{Refusal, Reply};
 /// The outcome of a script.
 #[derive(Debug, PartialEq, Eq, Drop)]
 pub enum Outcome {
-    /// A transaction that plays it is committed.
+    /// A transaction that plays the script is committed.
     Committed {
         /// The number of the transaction.
         txn: u64,
@@ -16,7 +16,7 @@ pub enum Outcome {
         /// The replies of its operations, in order.
         replies: Vec<Reply>,
     },
-    /// It has aborted its transaction itself.
+    /// The script has aborted its transaction itself.
     Aborted,
     /// Each attempt found a stripe held by another, and is aborted.
     Busy,

@@ -11,7 +11,7 @@ ghost use Rattle.core_tokens.specs.Tokens.{IsSameCaller};
 ghost use Rattle.thread_runs.specs.Possible.{MayCome};
 ghost use Rattle.script_worker.specs.Chunks.{first_heard, heard_then, outcome_by};
 ghost use Rattle.thread_runs.specs.Runs.{Adds, HasEnded, IsIn, HasRoomAt, HasRoomFor, HasRunTo};
-ghost use Rattle.thread_runs.specs.Runs.{heard_of, told_of};
+ghost use Rattle.thread_runs.specs.Runs.{heard_of, outcome_told};
 
 use crate::gate::Gate;
 use crate::growth::Growth;
@@ -94,7 +94,7 @@ impl Heard {
 
     /// The outcome of the script, given its finish and the end of its last call.
     fn outcome(self, finish: Finish, end: End) -> Outcome
-        ensures { told_of result ≡ outcome_by finish end (heard_of self) }
+        ensures { outcome_told result ≡ outcome_by finish end (heard_of self) }
     {
         let Heard { txn, replies, .. } = self;
         match finish {
@@ -135,7 +135,7 @@ impl Heard {
             return End::Refused(Refusal::NoMemory);
         }
         let end = map.run(rt, me, call, hears);
-        // The entries of a token that is not broken have rows.
+        // By the contract of `seen` the entries of a token that is not broken have rows.
         let _seen = me.seen();
         end
     }
@@ -164,9 +164,9 @@ pub(crate) fn run_script<L: Ledger, G: Gate, R: Wait>(
 ) -> Outcome
     requires closed { IsIn Phase.Closed me.old.broken me.old.seen }
     ensures same { IsSameCaller me.old me.new }
-    ensures may { MayCome me.old.limits.half script.now (told_of result) }
+    ensures may { MayCome me.old.limits.half script.now (outcome_told result) }
     ensures closed { IsIn Phase.Closed me.new.broken me.new.seen }
-    ensures told { HasRunTo me.old.number tries script.now (told_of result)
+    ensures told { HasRunTo me.old.number tries script.now (outcome_told result)
         me.old.seen me.new.seen }
 {
     let worker = me.number() as usize;

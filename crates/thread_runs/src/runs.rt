@@ -1,8 +1,9 @@
 //! A run of scripts, from a new map to the outcomes in the scripts' order; its parts are in the
 //! other modules. It chooses the types of its ledger and its terms, so its callers name neither.
-//! Before a thread starts, the map takes room for what the scripts add, so that history, table and
-//! logs need not grow under its lock; if that room is refused, or many attempts are repeated, they
-//! grow as they are used.
+//! Before a thread starts, the map takes room for what the scripts add, so that history, table,
+//! logs and seats need not grow under its lock. If many attempts are repeated, the history needs
+//! more room; with several workers the map makes it outside the lock (`growth.rt` of `locked_map`).
+//! If memory is refused for any of this room, the parts without room grow as they are used.
 ghost use Rattle.std.specs.Prelude.{◌≡◌, ◌<◌, ◌≤◌, IfOk, IfErr, map, reverse};
 ghost use Rattle.thread_runs.specs.Runs.{IsRunOf, IsRunRefusal};
 
@@ -13,13 +14,21 @@ use crate::ran::Ran;
 use crate::terms::Terms;
 use crate::threads::in_threads;
 use crate::worker::{Orders, WorkerReport};
-use locked_map::{Caller, NoSide, Room, SharedMap};
+use locked_map::{Caller, CallerRoom, NoSide, Room, SharedMap};
 use std::alloc::{AllocError, Global};
 use std::marker::{Brand, PhantomData};
 use std::sync::Wait;
 use std::sync::ledger::{Blank, Ledger};
 use std::thread::Threads;
 use txn_trace::{Action, Limits, Op, PackedAction, Refusal, Script};
+
+/// A run with several workers has room for one and a half times the entries that its scripts add,
+/// and for this many more, so that the history of a small run does not grow.
+const MORE: usize = 256;
+
+/// At least the number of entries that a worker may owe or make room for, besides one for each
+/// change of its transaction.
+const OWED: usize = 8;
 
 /// Runs each script in the thread of its worker, on a new map. There are as many workers as the
 /// limits have callers: script `i` belongs to worker `i` modulo the workers, and worker `w` is
@@ -32,9 +41,9 @@ use txn_trace::{Action, Limits, Op, PackedAction, Refusal, Script};
 /// a transaction; each of its entries is of one of these workers; and each script has one outcome,
 /// which is true of the history, so that each worker's committed transactions play its scripts:
 ///
-/// - `Committed` stands for a transaction of the script's worker, which plays the script, is
-///   committed with that number and has exactly those replies. Each Committed entry of the history
-///   belongs to exactly one outcome.
+/// - `Committed` stands for a transaction of the script's worker. The transaction plays the script,
+///   is committed with that number and has exactly those replies. Each Committed entry of the
+///   history belongs to exactly one outcome.
 /// - A worker with `b` outcomes `Busy` has at least `b * (tries + 1)` Busy entries.
 /// - Only a script with an abort is `Aborted`.
 /// - A script is `Refused` with `BadKey` only if it has a bad key, with `NoSuchLevel` only if it
@@ -49,9 +58,9 @@ use txn_trace::{Action, Limits, Op, PackedAction, Refusal, Script};
 ///
 /// # Cost
 ///
-/// That of `SharedMap::new` and of the calls; a thread for each worker; time in proportion to the
-/// scripts, and for each worker to the history; memory in proportion to scripts and history,
-/// besides that of the calls.
+/// That of `SharedMap::new` and of the calls, and a thread for each worker. In addition, time in
+/// proportion to the scripts and, for each worker, to the history, and memory in proportion to
+/// scripts and history.
 pub fn run_scripts<G: Gate, R: Threads + Wait + Sync>(
     rt: &R,
     alloc: Global,
@@ -91,14 +100,14 @@ fn run_under<L: Ledger + Send + Sync, T: Terms + Send + Sync, G: Gate, R: Thread
     ensures ran { IfOk result (IsRunOf limits workers tries scripts.now) }
     ensures err { IfErr result IsRunRefusal }
 {
-    let changes = most_changes(alloc, scripts, workers)?;
-    let room = room_for(scripts, limits, &changes);
+    let needs = needs_of(alloc, scripts, workers)?;
+    let room = room_for(scripts, limits, &needs);
     let (map, passes) = SharedMap::<L>::with_room(alloc, blank, limits, room)?;
     let orders = Orders::<L, G, T> {
         map: &map,
         scripts,
         workers,
-        entries: room.entries / workers,
+        entries: entries_each(room, workers),
         tries,
         gate,
         terms: PhantomData,
@@ -108,42 +117,85 @@ fn run_under<L: Ledger + Send + Sync, T: Terms + Send + Sync, G: Gate, R: Thread
     let Ok(closed) = map.close(callers) else {
         return Err(Refusal::OutOfStep);
     };
-    // The callers are dropped before the outcomes are merged, which frees the entries that they
-    // saw.
+    // Dropping the callers here, before the merge, frees the entries that they saw.
     drop(closed.callers);
     let trace = closed.core.into_trace();
     let outcomes = in_order(alloc, rows, scripts)?;
     Ok(Ran { outcomes, trace })
 }
 
-/// For each worker, the largest number of changes that one of its scripts may make.
-fn most_changes(alloc: Global, scripts: &[Script], workers: usize) -> Result<Vec<usize>, AllocError>
+/// The number of entries for which each worker makes room before its first script. This is the
+/// worker's part of the room for the history, and the most entries that it may owe besides.
+fn entries_each(room: Room<'_>, workers: usize) -> usize
     requires { 0 < workers }
 {
-    let mut most = vec![in alloc; 0; workers]?;
-    for (number, script) in scripts.iter().enumerate() {
-        let changes = changes_in(script.actions());
-        let worker = number % workers;
-        most[worker] = changes.max(most[worker]);
-    }
-    Ok(most)
+    let most = room
+        .callers
+        .iter()
+        .fold(0usize, |most, need| most.max(need.changes));
+    (room.entries / workers)
+        .saturating_add(most)
+        .saturating_add(OWED)
 }
 
-/// Room for what scripts add if no change is taken back. `changes` has for each worker the largest
-/// number of changes that one of its scripts may make.
+/// For each worker, the largest number of changes that one of its scripts may make, and the largest
+/// number of savepoints.
+fn needs_of(
+    alloc: Global,
+    scripts: &[Script],
+    workers: usize,
+) -> Result<Vec<CallerRoom>, AllocError>
+    requires { 0 < workers }
+{
+    let mut needs = vec![in alloc; CallerRoom::default(); workers]?;
+    for (number, script) in scripts.iter().enumerate() {
+        let need = need_of(script.actions());
+        let worker = number % workers;
+        needs[worker] = larger(need, needs[worker]);
+    }
+    Ok(needs)
+}
+
+/// The numbers of changes and of savepoints that a script may make.
+fn need_of(actions: &[PackedAction]) -> CallerRoom {
+    let mut need = CallerRoom::default();
+    for packed in actions {
+        match packed.action() {
+            Action::Op(Op::Put(..) | Op::PutIf(..) | Op::Take(_)) => {
+                need.changes = need.changes.saturating_add(1);
+            }
+            Action::Save => need.savepoints = need.savepoints.saturating_add(1),
+            _ => {}
+        }
+    }
+    need
+}
+
+/// The larger number of changes, and the larger number of savepoints.
+fn larger(one: CallerRoom, other: CallerRoom) -> CallerRoom {
+    CallerRoom {
+        changes: one.changes.max(other.changes),
+        savepoints: one.savepoints.max(other.savepoints),
+    }
+}
+
+/// Room for what scripts add if no change is taken back. `needs` has for each worker the largest
+/// numbers of changes and of savepoints that one of its scripts may make.
 ///
-/// - Entries: two for each action but a help, and a begin and an end for each script; with several
-///   workers, half as many more for attempts that are repeated.
-/// - Nodes: one for each put or put-if; as many again for the dummies of buckets, but at most the
-///   largest number of buckets; and for each worker as many spares as `changes` has for it.
-/// - Logs: each worker's log has room for as many changes as `changes` has for the worker.
+/// - Entries: two for each action but a help, and a begin and an end for each script. With several
+///   workers there is room for half as many more, and for `MORE`, since attempts are repeated. If
+///   that room runs out, the history grows; with several workers it does so outside the lock.
+/// - Nodes: one for each put or put-if, however often an attempt is repeated, since no two linked
+///   nodes have the same key. As many again for the dummies of buckets, but at least two and at
+///   most the largest number of buckets. For each worker, a spare for each change in `needs`.
+/// - Logs and seats: what `needs` has for the worker.
 ///
 /// With several workers the room is written before they start.
-fn room_for<'a>(scripts: &[Script], limits: Limits, changes: &'a [usize]) -> Room<'a> {
+fn room_for<'a>(scripts: &[Script], limits: Limits, needs: &'a [CallerRoom]) -> Room<'a> {
     let mut room = Room {
         entries: 0,
         nodes: 0,
-        changes,
+        callers: needs,
         is_written: limits.callers() > 1,
     };
     for script in scripts {
@@ -152,12 +204,13 @@ fn room_for<'a>(scripts: &[Script], limits: Limits, changes: &'a [usize]) -> Roo
         room.nodes = room.nodes.saturating_add(puts_in(actions));
     }
     if room.is_written {
-        room.entries = room.entries.saturating_add(room.entries / 2);
+        let more = room.entries / 2;
+        room.entries = room.entries.saturating_add(more).saturating_add(MORE);
     }
-    let dummies = room.nodes.min(limits.buckets() as usize);
-    let spares = changes
+    let dummies = room.nodes.max(2).min(limits.buckets() as usize);
+    let spares = needs
         .iter()
-        .fold(0usize, |sum, more| sum.saturating_add(*more));
+        .fold(0usize, |sum, need| sum.saturating_add(need.changes));
     room.nodes = room.nodes.saturating_add(dummies).saturating_add(spares);
     room
 }
@@ -169,17 +222,6 @@ fn entries_of(actions: &[PackedAction]) -> usize {
         .filter(|packed| !matches!(packed.action(), Action::Help(_)))
         .count();
     calls.saturating_mul(2).saturating_add(2)
-}
-
-/// The number of actions that may change a key.
-fn changes_in(actions: &[PackedAction]) -> usize {
-    actions
-        .iter()
-        .filter(|packed| matches!(
-            packed.action(),
-            Action::Op(Op::Put(..) | Op::PutIf(..) | Op::Take(_))
-        ))
-        .count()
 }
 
 /// The number of actions that may put a key.

@@ -1,7 +1,7 @@
 //! The terms of a run. A type names them, so that the promise of a worker's thread can refer to
-//! them; `Runs` and `Orders` share the name, so neither of their modules owns it. Invariant of
-//! `Orders`: its fields are these terms. They exist only in the proof, and cost nothing at run
-//! time.
+//! them. `Runs` and `Orders` are in two modules, and both have this type as a parameter. So the
+//! trait of the type is in a module of its own. Invariant of `Orders`: its fields are these terms.
+//! The terms exist only in the proof, and cost nothing at run time.
 use std::marker::Brand;
 
 /// The number of workers of a run, how often each tries a script again, and the scripts. A type

@@ -1,4 +1,4 @@
-//! The workers' threads: started, each with its pass, and joined in the order of their numbers.
+//! Starts the workers' threads, each with its pass, and joins them in the order of their numbers.
 //! Only this module starts and joins threads; `worker.rt` says what a thread does. If one cannot be
 //! started, those that were started finish before the run answers. Each has a stack of 256 KiB.
 ghost use Rattle.std.specs.Prelude.{◌≡◌, IfOk, IfErr, length, map};
@@ -25,8 +25,8 @@ use txn_trace::{Limits, Refusal};
 /// default size, often 8 MiB.
 const STACK: usize = 256 * 1024;
 
-/// The promise of the thread of a pass: unless memory is refused, it returns the caller of the
-/// pass, with its scripts run.
+/// The promise of a thread that gets a pass: unless memory is refused, the thread returns the
+/// caller of the pass, which has run its scripts.
 #[derive(Drop)]
 struct Runs<L: Ledger, T: Terms> {
     pass: Snapshot<Pass<L>>,
@@ -38,7 +38,7 @@ impl<L: Ledger, T: Terms> Promise<Result<WorkerReport<L>, AllocError>> for Runs<
         T.scripts p.pass.value.number) };
 }
 
-/// Runs each worker in its own thread, and answers what each returns, by their numbers.
+/// Runs each worker in its own thread, and answers what each returns, in the order of the workers.
 pub(crate) fn in_threads<
     L: Ledger + Send + Sync,
     T: Terms + Send + Sync,

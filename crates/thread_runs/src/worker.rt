@@ -1,10 +1,10 @@
-//! The course of one worker through its scripts, which is all that its thread does. It knows no
-//! other worker: it takes its scripts by their numbers, and shares only the map and the gate with
-//! the rest. Room for an outcome is made before its script runs, so no script runs whose outcome
-//! could not be kept.
+//! The course of one worker through its scripts, which is all that its thread does. A worker knows
+//! no other worker: it takes its scripts by their numbers, and shares only the map and the gate
+//! with the others. Room for an outcome is made before its script runs, so no script runs whose
+//! outcome could not be kept.
 ghost use Rattle.std.specs.Prelude.{◌≡◌, ◌<◌, ◌^◌, [], IfOk, map};
 ghost use Rattle.core_tokens.specs.Tokens.{IsSameCaller};
-ghost use Rattle.thread_runs.specs.Runs.{HasReported, HasRunAll, told_of};
+ghost use Rattle.thread_runs.specs.Runs.{HasReported, HasRunAll, outcome_told};
 
 use crate::gate::Gate;
 use crate::growth::Growth;
@@ -36,7 +36,7 @@ pub(crate) struct Orders<'a, L: Ledger, G: Gate, T: Terms> {
     pub(crate) scripts: &'a [Script],
     /// The number of workers.
     pub(crate) workers: usize,
-    /// For how many entries each worker makes room before its first script.
+    /// The number of entries for which each worker makes room before its first script.
     pub(crate) entries: usize,
     /// How often a script that found a stripe held is tried again.
     pub(crate) tries: u64,
@@ -80,7 +80,7 @@ impl<L: Ledger, G: Gate, T: Terms> Orders<'_, L, G, T> {
         requires fresh { me.old.seen ≡ [] }
         ensures same { IsSameCaller me.old me.new }
         ensures ran { IfOk result (λ outcomes. HasRunAll me.old.limits.half T.workers T.tries
-            me.old.number T.scripts (map told_of outcomes.items) me.new.seen) }
+            me.old.number T.scripts (map outcome_told outcomes.items) me.new.seen) }
     {
         let mut outcomes = Vec::new(alloc);
         let mut growth = Growth::new();

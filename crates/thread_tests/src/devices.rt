@@ -1,12 +1,15 @@
-//! Shared parts of the tests: a map under its own ledger, its calls and its end, each in one
-//! function. `Shared` keeps the number of its ledger's parts, which `close` requires, so a test
-//! closes a map without a clause. The functions for tests with refused memory ask for memory twice.
+//! Functions that the tests share: each opens a map under its own ledger, makes a call of the map,
+//! or closes it. `Shared` keeps the number of its ledger's parts, which `SharedMap::close`
+//! requires. So a test closes a map without a clause of its own. The functions for tests with
+//! refused memory ask for memory again, `TRIES` times in all or twice.
 ghost use Rattle.std.specs.Prelude.{◌≡◌, ◌<◌, true, All};
 ghost use Rattle.txn_words.specs.Kinds.{caller_of};
 
 use boost_core::{Call, Core, End};
 use history_check::{Verdict, check};
-use locked_map::{Caller, Closed, NoSide, OnRelease, Pass, Receipt, SharedMap, Stop, Unclosed};
+use locked_map::{
+    Caller, Closed, NoSide, OnRelease, Pass, Receipt, Room, SharedMap, Stop, Unclosed,
+};
 use std::alloc::{AllocError, Global};
 use std::marker::{Brand, PhantomData};
 use std::process::Abort;
@@ -24,7 +27,7 @@ struct Parts<L: Ledger> {
     ghost counted: { count ≡ L.parts },
 }
 
-/// A map, and the number of its ledger's parts, which it needs to close.
+/// A map, and the number of its ledger's parts. `SharedMap::close` requires this number.
 #[derive(Drop)]
 pub(crate) struct Shared<L: Ledger> {
     pub(crate) map: SharedMap<L>,
@@ -41,11 +44,25 @@ pub(crate) fn open<L: Ledger>(
     requires parts { blank.parts ≡ L.parts }
     requires one_each { blank.parts ≡ limits.callers }
 {
+    open_with::<L>(alloc, blank, limits, Room::default())
+}
+
+/// `open` with this room.
+fn open_with<L: Ledger>(
+    alloc: Global,
+    blank: Blank,
+    limits: Limits,
+    room: Room<'_>,
+) -> Option<(Shared<L>, Vec<Pass<L>>)>
+    requires name { blank.name ≡ L.name }
+    requires parts { blank.parts ≡ L.parts }
+    requires one_each { blank.parts ≡ limits.callers }
+{
     let parts = Parts {
         count: u64::from(limits.callers()),
         of: PhantomData,
     };
-    match SharedMap::<L>::new(alloc, blank, limits) {
+    match SharedMap::<L>::with_room(alloc, blank, limits, room) {
         Ok((map, passes)) => Some((Shared { map, parts }, passes)),
         Err(_) => None,
     }
@@ -70,22 +87,33 @@ pub(crate) fn play_with<P: Play, R: Wait + Abort>(
     callers: u64,
     what: &P,
 ) -> Result<(), Fail> {
-    if is_played(rt, alloc, callers, what)? {
+    play_with_room(rt, alloc, callers, Room::default(), what)
+}
+
+/// Runs the test on such a map with this room.
+pub(crate) fn play_with_room<P: Play, R: Wait + Abort>(
+    rt: &R,
+    alloc: Global,
+    callers: u64,
+    room: Room<'_>,
+    what: &P,
+) -> Result<(), Fail> {
+    if is_played(rt, alloc, callers, room, what)? {
         return Ok(());
     }
     Err("no memory for a map".into())
 }
 
-/// Runs the test on such a map. If memory for the map is refused, asks for it once more. If it is
-/// refused again, the test does not run.
+/// Like `play_with`, but asks again while memory for the map is refused. If it is refused for good, the
+/// test does not run.
 pub(crate) fn play_where_made<P: Play, R: Wait + Abort>(
     rt: &R,
     alloc: Global,
     callers: u64,
     what: &P,
 ) -> Result<(), Fail> {
-    for _ in 0..2 {
-        if is_played(rt, alloc, callers, what)? {
+    for _ in 0..TRIES {
+        if is_played(rt, alloc, callers, Room::default(), what)? {
             return Ok(());
         }
     }
@@ -93,16 +121,17 @@ pub(crate) fn play_where_made<P: Play, R: Wait + Abort>(
     Ok(())
 }
 
-/// Runs the test on a new map, unless memory is refused for that. Answers whether it ran.
+/// Runs the test on a new map, unless memory for the map is refused. Answers whether the test ran.
 fn is_played<P: Play, R: Wait + Abort>(
     rt: &R,
     alloc: Global,
     callers: u64,
+    room: Room<'_>,
     what: &P,
 ) -> Result<bool, Fail> {
     let limits = Limits::new(callers, 8, 8)?;
     let blank = Blank::new(u64::from(limits.callers()));
-    play_under::<Brand, P, R>(rt, alloc, blank, limits, what)
+    play_under::<Brand, P, R>(rt, alloc, blank, limits, room, what)
 }
 
 fn play_under<L: Ledger, P: Play, R: Wait + Abort>(
@@ -110,25 +139,31 @@ fn play_under<L: Ledger, P: Play, R: Wait + Abort>(
     alloc: Global,
     blank: Blank,
     limits: Limits,
+    room: Room<'_>,
     what: &P,
 ) -> Result<bool, Fail>
     requires name { blank.name ≡ L.name }
     requires parts { blank.parts ≡ L.parts }
     requires one_each { blank.parts ≡ limits.callers }
 {
-    let Some((shared, passes)) = open::<L>(alloc, blank, limits) else {
+    let Some((shared, passes)) = open_with::<L>(alloc, blank, limits, room) else {
         return Ok(false);
     };
     what.play(rt, alloc, shared, passes)?;
     Ok(true)
 }
 
+/// How often a test asks for memory before it gives up. `docs/tests/refused.py` refuses at most eight
+/// allocations in a row, or all from one on: so memory is refused for good after this number of
+/// attempts that each asked for it.
+pub(crate) const TRIES: u64 = 9;
+
 /// Whether memory is refused now.
 pub(crate) fn is_refused(alloc: Global) -> bool {
     Box::new(alloc, 0).is_err()
 }
 
-/// The callers of the passes, without side values. Tries twice if memory is refused once.
+/// The callers of the passes, without side values. If memory is refused, asks for it once more.
 pub(crate) fn callers_of<L: Ledger>(
     alloc: Global,
     passes: Vec<Pass<L>>,
@@ -162,7 +197,8 @@ pub(crate) fn seen_by<L: Ledger, S: Side>(me: &Caller<L, S>) -> usize {
     me.seen().len()
 }
 
-/// Whether the caller at a place has its number, and has seen these entries.
+/// Whether the caller at the index `place` of the list has the number `place`, and has seen exactly
+/// these entries.
 pub(crate) fn has_seen<L: Ledger>(
     callers: &[Caller<L, NoSide>],
     place: usize,
@@ -339,20 +375,37 @@ pub(crate) fn is_settled(
     Ok(matches!(verdict, Some(Verdict::Legal { running: 0, .. })))
 }
 
+/// Whether a history for 8 stripes is settled, as `is_settled` says. `None` if the checker is refused
+/// memory for good.
+pub(crate) fn find_settled(alloc: Global, trace: &[SmallEntry]) -> Option<bool> {
+    for _ in 0..TRIES {
+        if let Ok(settled) = is_settled(alloc, trace, 8) {
+            return Some(settled);
+        }
+    }
+    None
+}
+
+/// The list of a core. `None` if memory for it is refused for good.
+fn find_list(alloc: Global, core: &Core) -> Option<Vec<(u64, u64)>> {
+    for _ in 0..TRIES {
+        if let Ok(list) = core.regular_list(alloc) {
+            return Some(list);
+        }
+    }
+    None
+}
+
 /// Whether a closed core has this number of keys, and a history that is legal with no transaction
-/// open. If it has a key, the key must be 1, with the value 10. If the judge is refused memory
-/// twice, only the number of keys is compared. If the list is refused memory twice, the key and its
-/// value are not compared.
+/// open. If it has a key, the key must be 1, with the value 10. If the checker is refused memory for
+/// good, only the number of keys is compared. If the list is, the key and its value are not.
 pub(crate) fn has_left<R: Abort>(rt: &R, alloc: Global, core: &Core, keys: u64) -> bool {
     let trace = core.trace();
-    let Ok(settled) = is_settled(alloc, trace, 8).or_else(|_| is_settled(alloc, trace, 8)) else {
+    let Some(settled) = find_settled(alloc, trace) else {
         assert!(rt; is_refused(alloc));
         return core.count() == keys;
     };
-    let Ok(list) = core
-        .regular_list(alloc)
-        .or_else(|_| core.regular_list(alloc))
-    else {
+    let Some(list) = find_list(alloc, core) else {
         assert!(rt; is_refused(alloc));
         return core.count() == keys && settled;
     };

@@ -1,7 +1,7 @@
-//! The calls of a gate, all of them and in their order, compared with tables made by hand: no
-//! contract counts the calls on a type that the user of a library brings. `run_tests` has a gate
-//! that forces an order; the one here also notes what it is told. The calls of two workers are
-//! compared worker by worker.
+//! Tests that compare all calls of a gate, in their order, with tables made by hand. The library's
+//! user writes the gate, so no contract counts the calls on it. `run_tests` has a gate that forces
+//! an order; the gate here also notes its calls. If there are two workers, the calls of each are
+//! compared separately.
 use crate::run_tests::{await_flag, put, run, scripts_of};
 use std::alloc::{AllocError, Global};
 use std::process::Abort;
@@ -25,7 +25,7 @@ enum Heard {
 }
 
 impl Heard {
-    /// The worker whose call this is, for this number of workers.
+    /// The worker that made this call, in a run with this number of workers.
     fn worker(self, workers: usize) -> usize {
         match self {
             Heard::Before(worker, _, _) | Heard::Freed(worker) => worker,
@@ -36,8 +36,8 @@ impl Heard {
 }
 
 /// A gate that notes its calls. Worker 0 waits before its second action until worker 1 has done all
-/// its scripts, and worker 1 waits before its first action until worker 0 is there. So no worker's
-/// operation falls between the holds of another's.
+/// its scripts, and worker 1 waits before its first action until worker 0 is there. So no operation
+/// of one worker falls between two holds of an operation of the other.
 #[derive(Drop)]
 struct Listener<'a, R: Wait + Abort + Clock + Sync> {
     rt: &'a R,
@@ -76,8 +76,8 @@ impl<R: Wait + Abort + Clock + Sync> Gate for Listener<'_, R> {
     }
 }
 
-/// The calls that a gate gets in a run with this number of workers and of further tries. A single
-/// worker does not wait. With two workers, the last script must be worker 1's.
+/// The calls that a gate gets in a run with this number of workers and this number of further
+/// tries. A single worker does not wait. With two workers, the last script must be worker 1's.
 fn heard_of<R: Threads + Wait + Abort + Clock + Sync>(
     rt: &R,
     alloc: Global,
@@ -206,8 +206,8 @@ fn two_workers_are_heard(rt: HostRuntime) -> Result<(), Fail> {
 }
 
 /// Worker 0 has the stripe of key 1 until worker 1 has given up. An operation that finds a stripe
-/// held is three holds too: the question, a seek that finds no change to take back, and the abort.
-/// A script is done once, after its last try.
+/// held takes three holds too: the question, a seek that finds no change to take back, and the
+/// abort. A script is done once, after its last try.
 #[test]
 fn second_try_is_heard(rt: HostRuntime) -> Result<(), Fail> {
     let first = [put(1, 10)];

@@ -25,7 +25,7 @@ struct Stripes {
     ghost sized: { length locks ≡ count },
 }
 
-/// This number of free stripes; tries twice if memory is refused once.
+/// This number of free stripes. If memory is refused, asks for it once more.
 fn free_stripes(alloc: Global, count: usize) -> Result<Stripes, AllocError> {
     if let Ok(locks) = KeyLocks::new(alloc, count) {
         return Ok(Stripes { locks, count });

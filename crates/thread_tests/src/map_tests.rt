@@ -1,5 +1,5 @@
-//! Tests of `locked_map`: worked runs of callers of one map, by tables, by hand, in threads, and
-//! with memory refused. This file only names the modules. The parts that they share with other
+//! Tests of `locked_map`, in which callers make calls of one map: from tables, by hand, in threads,
+//! and with memory refused. This file only names the modules. The parts that they share with other
 //! tests are in `devices`.
 mod by_hand;
 mod cores;

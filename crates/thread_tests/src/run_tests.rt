@@ -2,7 +2,7 @@
 //! memory refused. The contract of `run_scripts` lets each script be busy or refused; here a script
 //! that shares no stripe with another must commit. If the order depends on the threads, the history
 //! is only judged.
-use crate::devices::{is_refused, is_settled, judge};
+use crate::devices::{find_settled, is_refused, is_settled, judge};
 use history_check::Verdict;
 use std::alloc::{AllocError, Global};
 use std::process::Abort;
@@ -114,12 +114,24 @@ impl<R: Abort + Clock + Sync> Gate for Meeting<'_, R> {
     }
 }
 
-/// The commit number of a script that is committed, and whose operations all found keys without a
-/// value; else 0.
+/// The commit number of a script, if the script is committed and all its operations found keys
+/// without a value; else 0.
 fn place_of(outcome: &Outcome) -> u64 {
     match outcome {
         Outcome::Committed { place, replies, .. } if replies.iter().all(|r| r.is_none()) => *place,
         _ => 0,
+    }
+}
+
+/// A gate before its run.
+fn gate_at<R: Abort + Clock + Sync>(rt: &R, place: Place, action: usize) -> Meeting<'_, R> {
+    Meeting {
+        rt,
+        place,
+        action,
+        releases: AtomicU64::new(0),
+        is_there: AtomicBool::new(false),
+        is_done: AtomicBool::new(false),
     }
 }
 
@@ -132,14 +144,7 @@ fn meet<R: Threads + Wait + Abort + Clock + Sync>(
     place: Place,
     action: usize,
 ) -> Result<Ran, Refusal> {
-    let gate = Meeting {
-        rt,
-        place,
-        action,
-        releases: AtomicU64::new(0),
-        is_there: AtomicBool::new(false),
-        is_done: AtomicBool::new(false),
-    };
+    let gate = gate_at(rt, place, action);
     let ran = run(rt, alloc, scripts, 2, 8, 0, &gate)?;
     assert!(rt; ran.outcomes.iter().map(place_of).eq([2, 1]));
     Ok(ran)
@@ -159,6 +164,28 @@ fn crossing_gate(rt: HostRuntime) -> Result<(), Fail> {
     let scripts = crossing_scripts(rt.alloc())?;
     meet(&rt, rt.alloc(), scripts.as_slice(), Place::Action(1), 1)?;
     Ok(())
+}
+
+/// Worker 0 keeps a stripe until worker 1 has found it held 1,001 times. Each of these attempts
+/// adds three entries, so the history needs far more room than was made before the run.
+#[test]
+fn many_attempts(rt: HostRuntime) -> Result<(), Fail> {
+    let alloc = rt.alloc();
+    let first = [put(1, 10)];
+    let second = [put(1, 11)];
+    let lists = [first.as_slice(), second.as_slice()];
+    let scripts = scripts_of(alloc, lists.as_slice())?;
+    let gate = gate_at(&rt, Place::Action(1), 0);
+    let ran = run(&rt, alloc, scripts.as_slice(), 2, 8, 1_000, &gate)?;
+    assert!(rt; is_done_then_busy(ran.outcomes.as_slice()));
+    assert_eq!(rt; ran.trace.len(), 3_007);
+    assert!(rt; is_settled(alloc, ran.trace.as_slice(), 8)?);
+    Ok(())
+}
+
+/// Whether the first script is committed and the second is busy.
+fn is_done_then_busy(outcomes: &[Outcome]) -> bool {
+    matches!(outcomes, [Outcome::Committed { .. }, Outcome::Busy])
 }
 
 fn is_began(entry: &Entry) -> bool {
@@ -318,17 +345,15 @@ fn counts(trace: &[SmallEntry]) -> (usize, usize, usize) {
     (began, committed, aborted)
 }
 
-/// Whether a history is legal, with no caller in a transaction. If the checker is refused memory
-/// twice, the history is taken as legal.
+/// Whether a history is legal, with no caller in a transaction. If the checker is refused memory for
+/// good, the history is taken as legal.
 fn is_legal<R: Abort>(rt: &R, alloc: Global, trace: &[SmallEntry]) -> bool {
     assert!(rt; trace.iter().all(|entry| entry.caller() < 64));
-    for _ in 0..2 {
-        if let Ok(settled) = is_settled(alloc, trace, 8) {
-            return settled;
-        }
-    }
-    assert!(rt; is_refused(alloc));
-    true
+    let Some(settled) = find_settled(alloc, trace) else {
+        assert!(rt; is_refused(alloc));
+        return true;
+    };
+    settled
 }
 
 fn is_done(outcome: &Outcome) -> bool {
@@ -358,8 +383,9 @@ fn is_whole<R: Abort>(rt: &R, alloc: Global, ran: &Ran) -> bool {
 }
 
 /// The state after a run that is refused memory, by `docs/tests/refused.sh`. One worker plays the
-/// scripts, until both are committed. Eight refusals in a row keep at most eight runs from
-/// committing both scripts. So if the ninth run does not do so either, memory is refused for good.
+/// scripts, until both are committed. `refused.sh` refuses at most eight allocations in a row, or
+/// all allocations after some point. Eight refusals make at most eight runs fail. If the ninth run
+/// fails too, every allocation is refused.
 #[test]
 fn refused_memory_for_crossing_scripts(rt: HostRuntime) {
     for _ in 0..9 {

@@ -193,8 +193,8 @@ enum Turn {
     GiveBack,
 }
 
-/// Plays a turn, and answers whether it went well. A take must get the answer in the turn, and the
-/// right at the position in this answer must be that of the stripe.
+/// Plays a turn, and answers whether it went well. A take must get the answer in the turn. If this
+/// answer is the position of a right, the right must be that of the stripe.
 fn is_answered(caller: &mut Keeping, turn: Turn) -> Result<bool, AllocError> {
     let Turn::Take(stripe, wanted) = turn else {
         caller.rights.give_back(&*caller.words);
@@ -236,7 +236,7 @@ fn rights_of_two_callers(rt: HostRuntime) -> Result<(), Fail> {
     Ok(())
 }
 
-/// The number of takes of each thread.
+/// How often each thread tries to take a stripe.
 const TRIES: usize = 100_000;
 
 /// Takes the 64 stripes in turn, and gives back each that is granted.
@@ -248,7 +248,7 @@ fn take_and_give_back<R: Abort>(rt: &R, seated: &mut Seated) {
     }
 }
 
-/// All seats take and give back, each in its thread, all of them beginning at the same stripe.
+/// Each seat takes stripes and gives them back, in its own thread. All begin at the same stripe.
 fn take_and_give_back_by_all<R: Threads + Wait + Abort + Sync>(rt: &R, seats: &mut [Seated]) {
     thread::scope(thread::scope_env(), rt, |scope| {
         for seated in seats {

@@ -28,7 +28,8 @@ pub(crate) enum Told {
 /// A call, and the answer that it must get.
 pub(crate) type Line = (Call, Told);
 
-/// The reply of an absent key. `ZERO` is that of a key with 0, `MOST` of a key with 2^64 - 1.
+/// The reply for an absent key. `ZERO` is the reply for a key with the value 0, and `MOST` is the
+/// reply for a key with the value 2^64 - 1.
 const NONE: Told = Told::Replied(None);
 
 const ZERO: Told = Told::Replied(Some(0));
@@ -36,7 +37,7 @@ const ZERO: Told = Told::Replied(Some(0));
 const MOST: Told = Told::Replied(Some(u64::MAX));
 
 /// Each call on a key that is absent at first, with the values 0 and 2^64 - 1. At the end the key
-/// has 2^64 - 1.
+/// has the value 2^64 - 1.
 fn each_call(key: u64) -> [Line; 21] {
     [
         (Call::Do(Op::Get(key)), NONE),

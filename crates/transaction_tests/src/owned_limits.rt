@@ -49,8 +49,8 @@ fn is_told(t: &mut Transaction<'_>, line: &Line) -> bool
     }
 }
 
-/// Makes the calls of the lines, up to the first that gets another answer than its line's. Answers
-/// how many got their line's answer.
+/// Makes the calls of the lines until one does not get its line's answer. Answers how many calls
+/// got their line's answer.
 #[tactic(auto, using(owned_map::proofs::Calls::keeps_stay, owned_map::proofs::Calls::keeps_on))]
 fn ask_all(t: &mut Transaction<'_>, lines: &[Line]) -> u64
     ensures { Keeps t.old t.new }

@@ -1,6 +1,7 @@
 //! Tests of maps of threads that begin with the pairs of a core, by `run_works_from` and `refill`.
-//! The contracts let both always answer that memory is refused; here they must not. The works look
-//! at keys by `looks`, which also counts the works that were started.
+//! The contracts allow both functions to answer `NoMemory` at any time. In these tests neither
+//! function may do so. The works look at keys by `looks`, which also counts the works that were
+//! started.
 ghost use Rattle.owned_map.specs.Keeps.{Keeps};
 
 use crate::looks::{go_on, have_same_pairs, looks};
@@ -57,8 +58,8 @@ fn is_made(rt: &impl Abort, alloc: Global, old: &Core, finished: Finished<bool>)
     finished.core
 }
 
-/// Does `works` looks on a new map that begins with the pairs of a core, which has the keys below
-/// `keys`. Checks that all works were started.
+/// Does looks on a new map that begins with the pairs of a core. `works` is the number of looks.
+/// The core has the keys below `keys`. Checks that all looks were started.
 fn restart<R: Threads + Wait + Sync + Abort>(
     rt: &R,
     alloc: Global,
@@ -76,9 +77,9 @@ fn restart<R: Threads + Wait + Sync + Abort>(
     }
 }
 
-/// Makes maps with no pairs and with a thousand pairs: with the smallest limits from cores of the
-/// largest limits, and the other way round. There are as many works as the callers allow. The
-/// history must begin with the puts of the pairs.
+/// Makes maps with no pairs and with a thousand pairs: maps of the smallest limits from cores of
+/// the largest limits, and maps of the largest limits from cores of the smallest limits. There are
+/// as many works as the callers allow. The history must begin with the puts of the pairs.
 #[test]
 fn every_restart_is_made(rt: HostRuntime) -> Result<(), Fail> {
     let least = Limits::new(1, 1, 2)?;

@@ -1,7 +1,7 @@
-//! Tests of transactions as values on a map of threads: its table grows, a key is looked for, a try
-//! is made again, and a new map begins with the pairs of a closed one, with works in threads. These
-//! are one test, which is also run while memory is refused: each allocation in turn, eight in a
-//! row, and all from one on. The other test closes a map without its callers.
+//! Tests of transactions as values on a map of threads. One test lets the table grow, looks for
+//! keys, tries a transaction again, and does a work in a thread on a new map that begins with the
+//! pairs of the closed one. It is also run while memory is refused: for one allocation, for eight
+//! in a row, or for all from one allocation on. The other test closes a map without its callers.
 ghost use Rattle.std.specs.Prelude.{◌≡◌};
 ghost use Rattle.shared_transactions.specs.Keeps.{Keeps};
 
@@ -111,7 +111,7 @@ fn begun_by<L: Ledger>(me: &Caller<L, NoSide>) -> u64 {
     count
 }
 
-/// Puts the keys, up to the first that is refused memory, and answers how many were put.
+/// Puts the keys until memory is refused for one, and answers how many were put.
 fn fill<L: Ledger, R: Wait + Abort>(rt: &R, t: &mut Transaction<'_, L, R>) -> u64 {
     for done in 0..KEYS {
         match put_by(t, done.wrapping_mul(3), done) {
@@ -171,8 +171,9 @@ fn try_again<L: Ledger, R: Wait + Abort>(
     }
 }
 
-/// A session in which a caller fills the map, and tries again beside another; then the map is
-/// closed. Answers its core and how many keys were put, if there was memory for the callers.
+/// A session in which a caller fills the map, and then tries to put a key that another caller's
+/// open transaction has put. Then the map is closed. Answers the map's core and how many keys were
+/// put, if there was memory for the callers.
 #[derive(Drop)]
 struct Works;
 

@@ -1,13 +1,16 @@
 -- Laws of drives: the entries that their steps add to a history, and the end of an ended drive.
-use Rattle.std.proofs.Common.{Bool, ◌≡◌, ℕ, nat_lt, true, false, if◌then◌else◌, [], Option, Some, None, refl, sym, ap, subst}
+use Rattle.std.proofs.Common.{Bool, ◌≡◌, ◌≢◌, ℕ, nat_lt, true, false, if◌then◌else◌, List, [], ◌∷◌, Option, Some, None}
+use Rattle.std.proofs.Common.{eq-eqb, ne_eqb, refl, sym, ap, subst, ◌∙◌}
 use Rattle.std.specs.Prelude.{IfSome}
 use Rattle.std.specs.List.{AllByRecursion}
 use Rattle.txn_words.specs.declared.step.Step.{Step}
 use Rattle.txn_words.specs.declared.step.Step.TheVariants.{Begin, Ask, Act, Save, Back, Commit, Abort}
 use Rattle.txn_words.specs.declared.answer.Answer.{Answer}
+use Rattle.txn_words.specs.declared.entry.Entry.{Entry}
 use Rattle.txn_words.specs.declared.answer.Answer.TheVariants as answers
 use Rattle.txn_words.specs.declared.refusal.Refusal.TheVariants.{BadKey}
 use Rattle.txn_words.specs.Kinds.{caller_of}
+use Rattle.txn_words.specs.Shape.{own}
 use Rattle.txn_words.specs.Entries.{entries_of}
 use Rattle.txn_words.specs.Sizes.{is_bad_key}
 use Rattle.txn_drive.specs.declared.call.Call.{Call}
@@ -112,3 +115,13 @@ entries_by c step answer by = tt
 
 pub entries_callers : (drive : Drive) (step : Step) (answer : Answer) → step_of drive ≡ Some step → AllByRecursion (λ e. caller_of e ≡ drive.caller) (entries_of step answer)
 entries_callers drive step answer is = entries_by drive.caller step answer (subst (IsByIfAny drive.caller) is (by_caller drive.caller drive.call drive.phase))
+
+-- If all entries of a list are of one caller, they are this caller's own entries, and another
+-- caller has no own entry among them.
+pub own_all : (c : ℕ) (es : List Entry) → AllByRecursion (λ e. caller_of e ≡ c) es → own c es ≡ es
+own_all c [] all = refl
+own_all c (e ∷ es) all = rw (eq-eqb (caller_of e) c all.0, own_all c es all.1)
+
+pub own_none : (c d : ℕ) (es : List Entry) → d ≢ c → AllByRecursion (λ e. caller_of e ≡ c) es → own d es ≡ []
+own_none c d [] other all = refl
+own_none c d (e ∷ es) other all = rw (ne_eqb (caller_of e) d (λ is. other (sym is ∙ all.0))) (own_none c d es other all.1)

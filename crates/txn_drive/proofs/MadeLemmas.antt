@@ -25,7 +25,7 @@ use Rattle.txn_drive.specs.declared.way.Way.{Way}
 use Rattle.txn_drive.specs.Ways.{child_towards}
 use Rattle.txn_drive.specs.Drives.{first_step, step_in, step_of, end_first, end_returned, end_last, end_helped, paired, turn_in, turn_of, told_first, told_seek, counted, undone_more, told_act, towards, heading, refused_help, told_help, told_double, told_init_seek, told_link, told_store, told_in, told_of}
 use Rattle.txn_words.specs.Entries.{entries_of}
-use Rattle.txn_drive.specs.Made.{undone_by, entered_by, made_by, made_in, made, IsRefused, IsMade, HasMade}
+use Rattle.txn_drive.specs.Made.{undone_by, entered_by, made_by, made_in, made, MakesNone, IsMade, HasMade}
 
 -- After the answer to the first step, a call has the entry of that step.
 made-told_first : (c : ℕ) (call : Call) (a : Answer) → made_in c call (told_first call a) ≡ entries_of (first_step c call) a
@@ -45,7 +45,7 @@ made-told_seek c call Operation again (answers.Refused r) = refl
 made-told_seek c call work again (answers.Refused NothingToSeek) = refl
 made-told_seek c call work again a = refl
 
--- One more change is taken back, which adds its entry.
+-- Taking back one more change adds its entry.
 made-counted : (c : ℕ) (call : Call) (undone : ℕ) (more work : Work) → made_by c call more ≡ made_by c call work ++ entries.Undone c ∷ []
     → made_in c call (counted undone more work) ≡ made_by c call work ++ entries.Undone c ∷ []
 made-counted c call undone more work is =
@@ -127,7 +127,7 @@ made-told_store c call way answers.Stored = made-towards c call way.bucket way.t
 made-told_store c call way (answers.Refused r) = made-refused_help c call r
 made-told_store c call way a = refl
 
--- The entries that the step of a phase, if there is one, adds with this answer.
+-- The entries that a phase's step adds with this answer. A phase without a step adds none.
 abbrev added : Option Step → Answer → List Entry
 added (Some step) a = entries_of step a
 added None a = []
@@ -153,7 +153,7 @@ pub made-told_of : (d : Drive) (step : Step) (a : Answer) → step_of d ≡ Some
 made-told_of d step a is = made-told_in d.caller d.call d.phase step a is
 
 -- The entries of an ended drive are those that belong to its end.
-ended-refused : (r : Refusal) → IsRefused r []
+ended-refused : (r : Refusal) → MakesNone r []
 ended-refused OutOfStep = tt
 ended-refused r = refl
 

@@ -47,7 +47,8 @@ module _ {X : Type 0} (may : X → Step → Type 0) (takes : X → Step → Answ
   TakesLeft x (Some step) None z = TakesTurn takes x (One step) z
   TakesLeft x (Some step) (Some then) z = TakesTurn takes x (Two step then) z
 
-  -- Some steps of a turn are taken. The steps that are left may be taken, and end the turn.
+  -- Some steps of a turn are taken. The steps that are left may be taken. After them the turn is
+  -- over.
   pub record Rest (start : X) (turn : Turn) (now : X) (next second : Option Step) : Type 0 where
     pub may_take : MayLeft now next second
     pub ends : (last : X) → TakesLeft now next second last → TakesTurn takes start turn last

@@ -85,7 +85,7 @@ ancestor_of-root (suc steps) bucket small below =
 pub IsAncestor-root : (bucket : ℕ) → bucket < 2 ^ 32 → IsAncestor 0 bucket
 IsAncestor-root bucket small = record { steps = 32; reached = sym (ancestor_of-root 32 bucket small small) }
 
--- An ancestor other than the bucket is one to 32 steps away.
+-- An ancestor other than the bucket itself is 1 to 32 steps away.
 ancestor_steps : (last bucket : ℕ) → bucket < 2 ^ 32 → IsAncestor last bucket → last ≢ bucket → (steps : ℕ) × (steps < 32) × (ancestor_of (suc steps) bucket ≡ last)
 unfolding ancestor_of
 ancestor_steps last bucket small is other = counted is.steps is.reached

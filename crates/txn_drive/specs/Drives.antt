@@ -38,7 +38,8 @@ sized_in size phase = phase
 abbrev pub sized_of : ℕ → Drive → Drive
 sized_of size drive = record drive { phase = sized_in size drive.phase }
 
--- The step of a fresh drive of a call. No drive of a help begins fresh.
+-- The step of a drive in the phase `Fresh`. The drive of a call `Help` begins in another phase
+-- (`first_phase`).
 abbrev pub first_step : ℕ → Call → Step
 first_step c calls.Begin = steps.Begin c
 first_step c (calls.Op op) = steps.Ask c op
@@ -90,8 +91,8 @@ abbrev pub end_helped : Call → End
 end_helped (calls.Help key) = ends.Helped
 end_helped call = ends.Refused OutOfStep
 
--- A step that seeks and the step that acts at the position found: one turn after eight `again` in a
--- row, else two.
+-- The turn for a step that seeks, given the step that acts at the position found: both steps after
+-- eight `again` in a row, else the seek alone.
 abbrev pub paired : ℕ → Step → Step → Turn
 paired again seeking acting = if nat_lt again 8 then One seeking else Two seeking acting
 
@@ -115,8 +116,8 @@ abbrev pub turn_of : Drive → Turn
 turn_of drive = turn_in drive.caller drive.call drive.phase
 
 -- One more `again` in a row; at most eight are counted.
-abbrev pub one_more : ℕ → ℕ
-one_more again = if nat_lt again 8 then again + 1 else again
+abbrev pub one_more_again : ℕ → ℕ
+one_more_again again = if nat_lt again 8 then again + 1 else again
 
 -- The phase after the first step. After `Asked`, the position of the operation is sought. After
 -- `Busy` or `Leaving`, changes are taken back. Any other answer ends the call.
@@ -127,8 +128,8 @@ told_first (calls.Back level) answers.Leaving = Seeking (Leaving 0) 0
 told_first calls.Abort answers.Leaving = Seeking (Leaving 0) 0
 told_first call answer = First answer
 
--- The phase after a seek: the position is found; or no change is left to take back, in which case
--- the act ends the call; any other answer ends it at once.
+-- The phase after a seek. If the position is found, or no change is left to take back, the next
+-- step is an act. In the second case the act ends the call. Any other answer ends the call at once.
 abbrev pub told_seek : Work → ℕ → Answer → Phase
 told_seek work again answers.Placed = Acting work again
 told_seek (Busy holder undone) again (answers.Refused NothingToSeek) =
@@ -152,12 +153,12 @@ undone_more (Leaving undone) = counted undone (Leaving (undone + 1)) (Leaving un
 -- The phase after an act: the position did not fit and is sought again; or one more change is taken
 -- back; or the call has ended.
 abbrev pub told_act : Work → ℕ → Answer → Phase
-told_act work again answers.Again = Seeking work (one_more again)
+told_act work again answers.Again = Seeking work (one_more_again again)
 told_act work again answers.Undone = undone_more work
 told_act work again answer = Last work answer
 
--- The phase once the bucket `last`, on the way to a bucket, is initialised: that of the next bucket
--- on the way, or the end.
+-- The phase once the bucket `last`, on the way to `bucket`, is initialised. It begins the next
+-- bucket on the way, or ends the help.
 abbrev pub towards : ℕ → ℕ → Phase
 towards last bucket =
     if last == bucket then Helped
@@ -176,8 +177,8 @@ refused_help NoMemory = Refused NoMemory
 refused_help StampsUsedUp = Refused StampsUsedUp
 refused_help refusal = Refused OutOfStep
 
--- The phase after the step that doubles the table, which named the size `seen`: the way to the
--- key's bucket begins, for the size that the table now has.
+-- The phase after the step that doubles the table: the way to the key's bucket begins, for the size
+-- that the table now has. `seen` is the size that the step named.
 abbrev pub told_help : ℕ → ℕ → Answer → Phase
 told_help key seen (answers.Moved size) = heading key size
 told_help key seen (answers.Doubled size) = heading key size
@@ -199,7 +200,7 @@ told_init_seek way again answer = Refused OutOfStep
 
 -- The phase after the answer to linking a bucket's dummy.
 abbrev pub told_link : Way → ℕ → Answer → Phase
-told_link way again answers.Again = Initialising way (one_more again)
+told_link way again answers.Again = Initialising way (one_more_again again)
 told_link way again answers.Present = Storing way
 told_link way again answers.Linked = Storing way
 told_link way again (answers.Refused refusal) = refused_help refusal

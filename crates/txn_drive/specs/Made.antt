@@ -63,31 +63,31 @@ made_in c call phase = []
 abbrev pub made : Drive → List Entry
 made drive = made_in drive.caller drive.call drive.phase
 
--- The entries of a refused call: none. `OutOfStep` is excepted: nothing is said of a call that got
--- an answer which no rule foresees.
-abbrev pub IsRefused : Refusal → List Entry → Type 0
-IsRefused OutOfStep h = Unit {0}
-IsRefused refusal h = h ≡ []
+-- A refused call has no entries. The refusal `OutOfStep` is an exception: nothing is said of a call
+-- that got an answer that no rule foresees.
+abbrev pub MakesNone : Refusal → List Entry → Type 0
+MakesNone OutOfStep h = Unit {0}
+MakesNone refusal h = h ≡ []
 
 -- The entries are the opening entry, then one entry for each change that was taken back, then the
 -- closing entry.
-abbrev pub IsUndone : ℕ → Entry → List Entry → Entry → Type 0
-IsUndone c opening h closing = (undone : ℕ) × (h ≡ opening ∷ undone_by c undone ++ closing ∷ [])
+abbrev pub IsUndoing : ℕ → Entry → List Entry → Entry → Type 0
+IsUndoing c opening h closing = (undone : ℕ) × (h ≡ opening ∷ undone_by c undone ++ closing ∷ [])
 
 -- The entries that a caller's call has added to the history, for each end that the call can have.
 abbrev pub IsMade : ℕ → Call → End → List Entry → Type 0
-IsMade c call (ends.Refused refusal) h = IsRefused refusal h
+IsMade c call (ends.Refused refusal) h = MakesNone refusal h
 IsMade c calls.Begin (ends.Answered (answers.Began t)) h = h ≡ entries.Began c t ∷ []
 IsMade c (calls.Op op) (ends.Answered (answers.Done reply)) h =
     h ≡ entries.Asked c op ∷ entries.Did c reply ∷ []
 IsMade c (calls.Op op) (ends.Busy holder) h =
-    IsUndone c (entries.Busy c op holder) h (entries.Aborted c)
+    IsUndoing c (entries.Busy c op holder) h (entries.Aborted c)
 IsMade c calls.Save (ends.Answered (answers.Saved n)) h = h ≡ entries.Saved c ∷ []
 IsMade c (calls.Back level) (ends.Answered (answers.Returned reached)) h =
-    (reached ≡ level) × IsUndone c (entries.Leave c (Some level)) h (entries.Returned c level)
+    (reached ≡ level) × IsUndoing c (entries.Leave c (Some level)) h (entries.Returned c level)
 IsMade c calls.Commit (ends.Answered (answers.Committed p)) h = h ≡ entries.Committed c p ∷ []
 IsMade c calls.Abort (ends.Answered answers.Aborted) h =
-    IsUndone c (entries.Leave c None) h (entries.Aborted c)
+    IsUndoing c (entries.Leave c None) h (entries.Aborted c)
 IsMade c (calls.Help key) ends.Helped h = h ≡ []
 IsMade c call outcome h = ⊥
 

@@ -20,12 +20,13 @@ TakesTurn {X} takes old (Two first second) new =
     × TakesSecond takes between second answer new
 TakesTurn takes old (Ended outcome) new = new ≡ old
 
--- A turn that was taken, as a record, so that a proof finds the states and the relation.
+-- The turn is taken. This is a record, so that a proof finds the states and the relation in its
+-- type.
 pub record HasTaken {X : Type 0} (takes : X → Step → Answer → X → Type 0) (old : X) (turn : Turn)
     (new : X) : Type 0 where
   pub steps : TakesTurn takes old turn new
 
--- The steps of a turn may be taken, the second of two after the answer `placed`.
+-- The first step of a turn may be taken, and its second step after the answer `placed`.
 abbrev pub MayTake : {X : Type 0} → (X → Step → Type 0) → (X → Step → Answer → X → Type 0) → X
     → Turn → Type 0
 MayTake may takes old (One step) = may old step

@@ -1,7 +1,8 @@
 //! Calls on the map: an operation, begin, save, back, commit, abort or help. A call names no caller
-//! and has no state: the drive that turns it into steps adds both. The call fixes the first phase
-//! and the first step, but the first step of a help also names the table's size. Only a help whose
-//! key the limits refuse ends before any step.
+//! and has no state: the drive that turns it into steps adds both. The call and the limits fix the
+//! first phase. The first step of a help names the table's size. Any other first step is fixed by
+//! the call and the caller. If the limits refuse the key of a help, the help ends without a step.
+//! All other calls take at least one step.
 ghost use Rattle.std.specs.Prelude.{◌≡◌};
 ghost use Rattle.txn_drive.specs.Drives.{first_phase, first_step};
 
@@ -39,7 +40,8 @@ impl Call {
         }
     }
 
-    /// The step of a fresh drive of the call. No drive of a help begins fresh.
+    /// The step of a drive in the phase `Fresh`. The drive of a call `Help` begins in another phase
+    /// (`first_phase`).
     pub(crate) fn first_step(self, caller: u64) -> Step
         ensures { result ≡ first_step caller self }
     {

@@ -23,15 +23,15 @@ pub struct Drive {
     pub caller: u64,
     /// The call itself.
     pub call: Call,
-    /// How far the call is.
+    /// The progress of the call.
     pub phase: Phase,
 }
 
 impl Drive {
     /// The drive of a caller's call on a map of these limits, before its first step.
     ///
-    /// If the limits take only half keys, a call `Help` for a key of 2^63 or more has ended with
-    /// `Refusal::BadKey`, before any step.
+    /// If the limits take only half keys, a call `Help` for a key of 2^63 or more has already ended
+    /// with `Refusal::BadKey`, without any step.
     pub fn new(caller: u64, call: Call, limits: Limits) -> Drive
         ensures drive { result ≡ new_drive limits.half caller call }
         ensures made { made result ≡ [] }
@@ -46,7 +46,7 @@ impl Drive {
     /// The next turn, for a table that has this size in buckets now.
     ///
     /// Only a helper that is about to double the table notes the size. A drive whose turn is
-    /// `Ended` answers the same at each later turn, unless it is told a further answer.
+    /// `Ended` gives this turn again each time, unless it is told a further answer.
     #[inline(always)]
     pub fn turn(&mut self, size: u32) -> Turn
         ensures drive { self.new ≡ sized_of size self.old }

@@ -1,13 +1,13 @@
-//! The law of a helper's way: a function that does nothing, whose contract is the theorem, so that
-//! a crate above can cite it without naming a lemma of this crate. The law is the reason why a
-//! drive foresees no `ParentMissing`: each bucket on the way follows its parent.
+//! The law of a helper's way, as the contract of a function that does nothing. So a crate above can
+//! cite the law without naming a lemma of this crate. The law is the reason why a drive foresees no
+//! `ParentMissing`: each bucket on the way follows its parent.
 
 ghost use Rattle.std.specs.Prelude.{◌≡◌, ◌≢◌, ℕ, ◌^◌, ◌<◌, ◌≤◌};
 ghost use Rattle.split_key.specs.Split.{parent_of, IsAncestor};
 ghost use Rattle.txn_drive.specs.Ways.{child_towards};
 
-/// A helper's way to a bucket below 2^32 begins at bucket 0, goes from each bucket to a child of
-/// it, and stays on the bucket's ancestors. So each bucket on the way follows its parent.
+/// A helper's way leads from bucket 0 to a target bucket below 2^32. Each bucket on the way is the
+/// target or an ancestor of the target. Each bucket except bucket 0 comes right after its parent.
 ///
 /// The contract is the law; the function does nothing.
 pub fn ways()

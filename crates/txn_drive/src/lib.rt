@@ -1,13 +1,13 @@
 //! The steps of a caller's calls, one after the other: the work between the request for a call and
 //! its end.
 //!
-//! A call on a transactional map is a list of steps, taken in turns of one step or two; on the map
+//! A call on a transactional map is a list of steps, taken in turns of one step or two. On the map
 //! of threads, each turn takes the lock and frees it. A drive says which step is next, is told the
 //! answer, and at last says how the call ended. It takes no lock, no memory and no step itself. An
-//! operation is asked for, its position is sought, and a step acts there; if the position no longer
-//! fits, it is sought again; a call that goes back takes back one change after the other; and a
-//! helper initialises a bucket after its ancestors, as `initialize_bucket` does in Shalev and
-//! Shavit, "Split-Ordered Lists: Lock-Free Extensible Hash Tables" (Journal of the ACM 53, 2006).
+//! operation is asked for, its position is sought, and a step acts there. If the position no longer
+//! fits, it is sought again. A call that goes back takes back one change after the other. A helper
+//! initialises a bucket after its ancestors, as `initialize_bucket` does in Shalev and Shavit,
+//! "Split-Ordered Lists: Lock-Free Extensible Hash Tables" (Journal of the ACM 53, 2006).
 //!
 //! A contract sees a drive as a caller, a call and a phase; the phases follow `turn_of` and
 //! `told_of` of `specs/Drives.antt`. Proved: `turn` and `told` follow these; the entries that a

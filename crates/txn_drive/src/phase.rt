@@ -2,14 +2,14 @@
 //! (`specs/Drives.antt`). A phase holds all that a call remembers between two steps: its work, its
 //! helper's way, and the number of `again` in a row.
 ghost use Rattle.std.specs.Prelude.{◌≡◌};
-ghost use Rattle.txn_drive.specs.Drives.{one_more, towards, heading, told_first, told_seek, told_act, told_double, told_init_seek, told_link, told_store, refused_help, undone_more, told_in};
+ghost use Rattle.txn_drive.specs.Drives.{one_more_again, towards, heading, told_first, told_seek, told_act, told_double, told_init_seek, told_link, told_store, refused_help, undone_more, told_in};
 
 use crate::call::Call;
 use crate::turn::PATIENCE;
 use crate::way::{Way, next_towards};
 use txn_words::{Answer, Refusal};
 
-/// The object of a caller's seek.
+/// What a caller seeks a position for.
 #[derive(Clone, Copy, Debug, PartialEq, Eq)]
 pub enum Work {
     /// The operation that was asked for.
@@ -25,7 +25,7 @@ pub enum Work {
 /// The progress of a call. A number beside a work or a way counts the `again` in a row, up to 8.
 #[derive(Clone, Copy, Debug, PartialEq, Eq)]
 pub enum Phase {
-    /// No step was answered.
+    /// No step has been answered yet.
     Fresh,
     /// The next step seeks the position of a work.
     Seeking(Work, u8),
@@ -44,7 +44,7 @@ pub enum Phase {
     First(Answer),
     /// This answer to an act has ended the call.
     Last(Work, Answer),
-    /// An answer to a seek that no rule foresees has ended the call.
+    /// A seek got an answer that no rule foresees. This answer has ended the call.
     Lost(Work),
     /// All buckets on the way are initialised.
     Helped,
@@ -75,12 +75,13 @@ impl Phase {
 
 /// One more `again` in a row; at most eight are counted.
 fn one_more(again: u8) -> u8
-    ensures { result ≡ one_more again }
+    ensures { result ≡ one_more_again again }
 {
     if again < PATIENCE { again + 1 } else { again }
 }
 
-/// After the first step: an operation is sought, or changes are taken back, or the call has ended.
+/// After the first step: the position of an operation is sought, or changes are taken back, or the
+/// call has ended.
 #[inline(always)]
 fn told_first(call: Call, answer: Answer) -> Phase
     ensures { result ≡ told_first call answer }
@@ -99,8 +100,8 @@ fn told_first(call: Call, answer: Answer) -> Phase
     }
 }
 
-/// After a seek: the position is found, or no change is left to take back, in which case the act
-/// ends the call. Any other answer ends it at once.
+/// After a seek: an act is next if the position is found, or if no change is left to take back. Any
+/// other answer ends the call.
 #[inline(always)]
 fn told_seek(work: Work, again: u8, answer: Answer) -> Phase
     ensures { result ≡ told_seek work again answer }
@@ -115,7 +116,8 @@ fn told_seek(work: Work, again: u8, answer: Answer) -> Phase
     }
 }
 
-/// After an act: the position did not fit, or one more change is taken back, or the call has ended.
+/// After an act: the position did not fit and is sought again, or one more change is taken back, or
+/// the call has ended.
 #[inline(always)]
 fn told_act(work: Work, again: u8, answer: Answer) -> Phase
     ensures { result ≡ told_act work again answer }

@@ -26,8 +26,8 @@ pub enum Turn {
 }
 
 impl Turn {
-    /// Takes the turn's steps by `step`, which answers each; the second of two only if the first
-    /// was answered `placed`. `step` must tell the drive each answer.
+    /// Takes the turn's steps by `step`, which answers each. The second of two steps is taken only
+    /// if the first was answered `placed`. `step` must tell the drive each answer.
     ///
     /// # Cost
     ///
@@ -52,8 +52,8 @@ impl Turn {
     }
 }
 
-/// A step that seeks and the step that acts at the position found: two turns, or one after enough
-/// `again` in a row.
+/// The turn for a step that seeks, given the step that acts at the position found: the seek alone,
+/// or both steps after enough `again` in a row.
 #[inline(always)]
 pub(crate) fn one_or_two(again: u8, seeking: Step, acting: Step) -> Turn
     ensures { result ≡ paired again seeking acting }

@@ -211,6 +211,6 @@ same_history bytes =
     ap (λ r. r >>= λ file. entries_from file.0 file.1 file.2) (json_kept (json_of bytes))
     ∙ then_entries (contents history_file bytes)
 
--- An array with elements that are not plain is no entry, so nothing is kept of it.
+-- An array with elements that are not plain is not an entry, so nothing is kept of it.
 pub none_kept : (ds : List Data) → are_plain 7 ds ≡ false → kept_of ds ≡ None
 none_kept ds e = same_new ds ∙ ap (option_map kept) (no_entry ds e)

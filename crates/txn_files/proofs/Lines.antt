@@ -1,5 +1,5 @@
--- A text that is written right before a position. From the text's start on, the list then is the
--- text, followed by the elements from that position on.
+-- A text is written right before a position of a list. From the start of the text on, the list is
+-- then the text, followed by the elements from that position on.
 use Rattle.std.proofs.Common.{◌≡◌, ℕ, ◌+◌, ◌-◌, ◌≤◌, List, ◌++◌, length, take, drop, arith, ap, ◌∙◌, length-take-le}
 use Rattle.std.proofs.lemmas.List.{drop_at, drop-drop}
 use borrow.Rule.Slice.PartMut.{put_mid, post_of}

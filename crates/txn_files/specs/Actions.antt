@@ -1,4 +1,4 @@
--- The action that an array in JSON is, and the script that an array of such arrays is.
+-- Actions as arrays in JSON, and scripts as arrays of such arrays.
 use Rattle.std.specs.Prelude.{Bool, true, List, Option, Some, if◌then◌else◌, codes}
 use Rattle.std.specs.List.{list_all}
 use Rattle.std.specs.Result.{result_ok}
@@ -6,20 +6,20 @@ use Rattle.std.specs.Str.{bytes_eq}
 use Rattle.serde_json.specs.Data.{Data}
 use Rattle.txn_words.specs.declared.action.Action.{Action}
 use Rattle.txn_words.specs.declared.action.Action.TheVariants.{Op, Save, Back, Help, Abort}
-use Rattle.piece_files.specs.Elements.{◌>>=◌, word_at, one_of, end_of}
+use Rattle.piece_files.specs.Elements.{◌>>=◌, leading_text, one_of, ends_here}
 use Rattle.txn_files.specs.Operations.{is_old_op, op_of}
 use Rattle.piece_files.specs.declared.part.Part.TheVariants as parts
 use Rattle.piece_files.specs.Pieces.{pieces_from}
 
--- The action with these elements. Its name is the first element; any name other than these four
--- has to be that of an operation.
+-- The action with these elements. The first element is the action's name. Any name other than
+-- "save", "back", "help" and "abort" has to be that of an operation.
 unfoldable pub action_of : List Data → Option Action
 action_of ds = do
-  name ← word_at ds
-  if bytes_eq name.0 (codes "save") then (end_of name.1 >>= λ none. Some Save)
+  name ← leading_text ds
+  if bytes_eq name.0 (codes "save") then (ends_here name.1 >>= λ none. Some Save)
       else if bytes_eq name.0 (codes "back") then (one_of name.1 >>= λ n. Some (Back n))
       else if bytes_eq name.0 (codes "help") then (one_of name.1 >>= λ k. Some (Help k))
-      else if bytes_eq name.0 (codes "abort") then (end_of name.1 >>= λ none. Some Abort)
+      else if bytes_eq name.0 (codes "abort") then (ends_here name.1 >>= λ none. Some Abort)
       else (op_of ds >>= λ op. Some (Op op))
 
 -- The script with these elements: the list of its actions, if each element is an action.

@@ -1,4 +1,4 @@
--- The history file that bytes are, or its first fault.
+-- Bytes as a history file: its content, or the first fault.
 use Rattle.std.specs.Prelude.{ℕ, List, [], ◌∷◌, Bool, ◌-◌, ◌&&◌, nat_le, Option, None, option_map, Result, Ok, Err, if◌then◌else◌, codes}
 use Rattle.std.specs.List.{list_all}
 use Rattle.txn_words.specs.declared.entry.Entry.{Entry}
@@ -52,14 +52,14 @@ entries_from version (stripes ∷ []) entries =
     if is_history stripes entries then Ok (stripes, entries, version) else Err Limit
 entries_from version other entries = Err Member
 
--- The history file that the bytes are: its stripes, its entries and its version.
+-- The bytes as a history file: its stripes, its entries and its version, or the first fault.
 abbrev pub history_of : List ℕ → Result (ℕ × List Entry × ℕ) FileFault
 history_of bytes = contents history_file bytes >>= λ file. entries_from file.0 file.1 file.2
 
 -- The rule for the caller that a Busy names in a history file of this version: in versions 1 and 2
--- the caller holds the stripe, in later versions it has begun a transaction.
-abbrev pub holder_in : ℕ → Holder
-holder_in version = if nat_le version 2 then Now else Begun
+-- the caller holds the stripe, and in later versions it has begun a transaction.
+abbrev pub holder_rule : ℕ → Holder
+holder_rule version = if nat_le version 2 then Now else Begun
 
 -- The entry that is kept for an entry while a file is read. An entry that is small enough to be
 -- packed is kept itself. Any other entry is out of range, and a substitute is kept in its place.
@@ -85,7 +85,8 @@ kept_file = record {
   most = max_entries;
 }
 
--- The history file that bytes are, read with the entries that are kept. It equals `history_of`.
+-- The bytes as a history file, read with the entries that are kept. The result equals that of
+-- `history_of`.
 abbrev pub kept_history_of : List ℕ → Result (ℕ × List Entry × ℕ) FileFault
 kept_history_of bytes =
     contents kept_file bytes >>= λ file. entries_from file.0 file.1 file.2

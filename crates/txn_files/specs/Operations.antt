@@ -4,10 +4,10 @@ use Rattle.std.specs.Str.{bytes_eq}
 use Rattle.serde_json.specs.Data.{Data}
 use Rattle.txn_words.specs.declared.op.Op.{Op}
 use Rattle.txn_words.specs.declared.op.Op.TheVariants.{Put, Take, Get, PutIf}
-use Rattle.piece_files.specs.Elements.{◌>>=◌, number_at, optional_at, word_at}
+use Rattle.piece_files.specs.Elements.{◌>>=◌, number_at, optional_at, leading_text}
 
--- The "put_if" of this key, and the elements after it. The elements begin with the expected value
--- (null or a number) and the new value.
+-- The first two elements are the expected value (null or a number) and the new value of a "put_if"
+-- of this key. The result is this "put_if", and the elements after the two.
 unfoldable pub put_if_at : ℕ → List Data → Option (Op × List Data)
 put_if_at k ds = do
   expected ← optional_at ds
@@ -18,7 +18,7 @@ put_if_at k ds = do
 -- "take" or "get" and a key; "put_if", a key, the expected value (null or a number) and a value.
 unfoldable pub op_at : List Data → Option (Op × List Data)
 op_at ds = do
-  name ← word_at ds
+  name ← leading_text ds
   k ← number_at name.1
   if bytes_eq name.0 (codes "put") then (number_at k.1 >>= λ v. Some (Put k.0 v.0, v.1))
       else if bytes_eq name.0 (codes "take") then Some (Take k.0, k.1)
@@ -26,7 +26,7 @@ op_at ds = do
       else if bytes_eq name.0 (codes "put_if") then put_if_at k.0 k.1
       else None
 
--- An operation, with no elements after it.
+-- The operation with exactly these elements.
 unfoldable pub op_of : List Data → Option Op
 op_of ds = do
   op ← op_at ds

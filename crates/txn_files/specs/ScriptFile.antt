@@ -1,4 +1,4 @@
--- The script file that bytes are, or its first fault.
+-- Bytes as a script file: its content, or the first fault.
 use Rattle.std.specs.Prelude.{ℕ, List, [], ◌∷◌, length, Bool, ◌&&◌, nat_le, Result, Ok, Err, if◌then◌else◌, codes}
 use Rattle.std.specs.List.{list_all}
 use Rattle.txn_words.specs.declared.action.Action.{Action}
@@ -34,7 +34,7 @@ script_file = record {
   most = max_scripts;
 }
 
--- Whether a script is no longer than it may be.
+-- Whether a script has at most as many actions as a script may have.
 abbrev pub is_short : List Action → Bool
 is_short script = nat_le (length script) max_actions
 
@@ -51,6 +51,6 @@ work_from version (workers ∷ stripes ∷ buckets ∷ tries ∷ []) scripts = d
       else Err Limit
 work_from version other scripts = Err Member
 
--- The script file that the bytes are.
+-- The bytes as a script file: its work, or the first fault.
 abbrev pub scripts_of : List ℕ → Result Work FileFault
 scripts_of bytes = contents script_file bytes >>= λ file. work_from file.0 file.1 file.2

@@ -1,4 +1,4 @@
--- The step file that bytes are, or its first fault.
+-- Bytes as a step file: its content, or the first fault.
 use Rattle.std.specs.Prelude.{ℕ, true, List, [], ◌∷◌, nat_le, Result, Ok, Err, if◌then◌else◌, codes}
 use Rattle.txn_words.specs.Sizes.{Sizes, limits_of}
 use Rattle.txn_words.specs.declared.refusal.Refusal.{Refusal}
@@ -51,6 +51,6 @@ steps_from version (callers ∷ stripes ∷ buckets ∷ []) steps =
     sizes_at version callers stripes buckets >>= λ sizes. Ok (sizes, steps)
 steps_from version other steps = Err Member
 
--- The step file that the bytes are.
+-- The bytes as a step file: its limits and its steps, or the first fault.
 abbrev pub file_of : List ℕ → Result (Sizes × List Step) FileFault
 file_of bytes = contents step_file bytes >>= λ file. steps_from file.0 file.1 file.2

@@ -1,20 +1,20 @@
--- The step that an array in JSON is: its name, and the elements after the name.
+-- Steps as arrays in JSON: the name of a step, and the elements after the name.
 use Rattle.std.specs.Prelude.{ℕ, ◌==◌, Bool, true, List, length, Option, Some, None, if◌then◌else◌, codes}
 use Rattle.std.specs.Str.{bytes_eq}
 use Rattle.serde_json.specs.Data.{Data}
 use Rattle.txn_words.specs.declared.step.Step.{Step}
 use Rattle.txn_words.specs.declared.step.Step.TheVariants.{Begin, Ask, Seek, Act, Save, Back, Commit, Abort, Sweep, InitSeek, InitLink, InitStore, Double}
-use Rattle.piece_files.specs.Elements.{◌>>=◌, number_at, word_at, one_of, two_of}
+use Rattle.piece_files.specs.Elements.{◌>>=◌, number_at, leading_text, one_of, two_of}
 use Rattle.txn_files.specs.Operations.{is_old_op, op_of}
 
--- A caller and the operation that it asks for.
+-- The step that asks for an operation: these elements are its caller and the operation.
 unfoldable pub ask_of : List Data → Option Step
 ask_of ds = do
   c ← number_at ds
   op ← op_of c.1
   Some (Ask c.0 op)
 
--- The step that has this name and, besides it, only this number.
+-- The step that has this name and, as its only other element, this number.
 unfoldable pub numbered_of : List ℕ → ℕ → Option Step
 numbered_of name n =
     if bytes_eq name (codes "begin") then Some (Begin n)
@@ -28,10 +28,10 @@ numbered_of name n =
     else if bytes_eq name (codes "double") then Some (Double n)
     else None
 
--- A step by its name and the elements after the name.
+-- The step with these elements: its name, and the elements after the name.
 unfoldable pub step_of : List Data → Option Step
 step_of ds = do
-  name ← word_at ds
+  name ← leading_text ds
   if bytes_eq name.0 (codes "ask") then ask_of name.1
       else if bytes_eq name.0 (codes "back") then (two_of name.1 >>= λ cn. Some (Back cn.0 cn.1))
       else if bytes_eq name.0 (codes "init_seek")

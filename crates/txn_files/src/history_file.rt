@@ -1,13 +1,14 @@
 //! History files: entries as pieces, which are kept packed, and the numbers around them. The loops
 //! over tokens are those of `piece_files`; this module says which shapes and ranges entries have.
-//! An entry whose callers are too large to be packed is replaced by one that is out of range as
-//! well.
+//! An entry with too large a caller cannot be packed. It is out of range, and a substitute is kept
+//! in its place. The substitute can be packed, and is out of range too. So the substitute does not
+//! change the fault of the file.
 ghost use Rattle.std.specs.Prelude.{◌≡◌, map, true, false, IfOk};
 ghost use Rattle.std.specs.List.{list_all};
 ghost use Rattle.piece_files.specs.Plain.{data_of};
 ghost use Rattle.piece_files.specs.Faults.{Gives};
 ghost use Rattle.txn_files.specs.Entries.{busy_of, entry_named, entry_of, is_old_entry, transaction_entry};
-ghost use Rattle.txn_files.specs.HistoryFile.{max_entries, is_in_range, is_history, entries_from, history_of, kept, kept_of, kept_history_of, holder_in};
+ghost use Rattle.txn_files.specs.HistoryFile.{max_entries, is_in_range, is_history, entries_from, history_of, kept, kept_of, kept_history_of, holder_rule};
 
 use crate::operation::{is_old_op, leading_op_in, op_in};
 use arrayvec::ArrayVec;
@@ -22,8 +23,7 @@ use txn_words::{Entry, Holder, Limits, Op, SmallEntry};
 /// The largest number that a caller may have.
 const MAX_CALLER: u64 = Limits::MAX_CALLERS - 1;
 
-/// The caller of the entry that replaces an entry whose callers are too large to be packed. It is
-/// out of range too, but small enough to be packed.
+/// The caller of a substitute (`kept`). It is out of range, but small enough to be packed.
 const TOO_LARGE: u64 = 65_535;
 
 /// The most entries that a file may have.
@@ -107,8 +107,8 @@ fn is_old_entry(entry: Entry) -> bool
     }
 }
 
-/// The entry, packed. An entry that is too large to be packed is replaced by one that is out of
-/// range as well.
+/// The entry, packed. An entry with too large a caller cannot be packed, and is out of range. For
+/// such an entry the answer is a substitute that is out of range too.
 fn kept(entry: Entry) -> SmallEntry
     ensures { result ≡ kept entry }
 {
@@ -134,7 +134,7 @@ fn kept_entry_in(values: &[Plain<'_>]) -> Option<SmallEntry>
     Some(kept(entry_in(values)?))
 }
 
-/// Entries, as pieces of a history file, packed as they are kept.
+/// Entries, as pieces of a history file. They are kept packed.
 struct EntryKind;
 
 impl PieceKind for EntryKind {
@@ -248,9 +248,10 @@ fn entries_in(
 /// `{"version":V,"stripes":S,"entries":[..]}`. Each entry is an array, such as
 /// `["asked",0,"put",1,10]` or `["did",0,null]`. Version 1 has no `put_if`.
 ///
-/// Other members of the object are skipped, and the last of several with one name counts. A number
-/// is written without a sign, a fraction or an exponent, and is below 2^64.
-/// Whether the history is legal is not tested.
+/// Other members of the object are skipped. If several members have the same name, the last one
+/// counts. A number is written without a sign, a fraction or an exponent, and is below 2^64.
+///
+/// It is not tested whether the history is legal.
 ///
 /// # Errors
 ///
@@ -258,9 +259,9 @@ fn entries_in(
 ///
 /// - `Limit` if there are more than 16,777,216 bytes.
 /// - `NotJson` if they are not JSON that `piece_files::read_file` takes.
-/// - `Member` if the value is no object or one of the three members, in the order above, is
-///   missing or of the wrong kind.
-/// - `Piece` for the first piece that is no entry, or in version 1 has a `put_if`.
+/// - `Member` if the value is no object, or if one of the three members is missing or of the wrong
+///   kind; the members are tested in the order above.
+/// - `Piece`, with the index of the first piece that is no entry or, in version 1, has a `put_if`.
 /// - `Limit` if the version is not 1 to 3, the stripes are not 1 to 4,096, a caller or the
 ///   holder that an entry names is above 63, or there are more than 1,000,000 entries.
 ///
@@ -294,7 +295,7 @@ fn unpacked(alloc: Global, packed: &[SmallEntry]) -> Result<Vec<Entry>, AllocErr
 }
 
 /// The number of stripes, the packed entries and the version of a history file, as `read_history`
-/// reads it. Packed entries take half of the memory.
+/// reads it. Packed entries take half of the memory that unpacked entries take.
 ///
 /// # Errors
 ///
@@ -332,9 +333,9 @@ pub fn into_packed_history(
     read_packed_history(alloc, &bytes)
 }
 
-/// Reads the history file that the bytes are, and keeps each entry as `kept` packs it. Only an
-/// entry that is out of range is replaced, and its replacement is out of range too. So the faults
-/// are the same as without replacements.
+/// Reads a history file, and keeps each entry as `kept` packs it. Only an entry that is out of
+/// range is replaced, and its replacement is out of range too. So the faults are the same as
+/// without replacements.
 fn kept_history(alloc: Global, bytes: &[u8]) -> Result<(u32, Vec<SmallEntry>, u64), FileFault>
     ensures { Gives (λ file. (file.0, file.1.items, file.2)) result (kept_history_of bytes.now) }
 {
@@ -348,9 +349,9 @@ fn kept_history(alloc: Global, bytes: &[u8]) -> Result<(u32, Vec<SmallEntry>, u6
 }
 
 /// The caller that a Busy may name in a history file of this version: in versions 1 and 2 a caller
-/// that holds the stripe, in later versions a caller that has begun a transaction.
+/// that holds the stripe, and in later versions a caller that has begun a transaction.
 pub fn holder_in(version: u64) -> Holder
-    ensures { result ≡ holder_in version }
+    ensures { result ≡ holder_rule version }
 {
     if version <= LAST_OF_NOW {
         Holder::Now

@@ -1,15 +1,15 @@
 //! Step files, script files and history files, in JSON.
 //!
-//! The model is three functions of the bytes, `file_of`, `scripts_of` and `history_of` of `specs/`:
-//! the content of a file, or its first fault in a fixed order: too long, not JSON, a member of the
-//! wrong shape, a piece of the wrong shape, out of range. `piece_files` says what bytes are as
-//! JSON, and has the loop over the pieces of a file. This crate says what a step, an entry, an
-//! action and a script are, and which members each kind of file has.
+//! The model is three functions of the bytes: `file_of`, `scripts_of` and `history_of` of `specs/`.
+//! Each gives the content of a file, or its first fault in a fixed order: too long, not JSON, a
+//! member of the wrong shape, a piece of the wrong shape, out of range. `piece_files` says what
+//! bytes are as JSON, and has the loop over the pieces of a file. This crate says what a step, an
+//! entry, an action and a script are, and which members each kind of file has.
 //!
-//! There are two versions of each kind of file, and a third of history files, with the shapes of
-//! version 2. Version 1 has no `put_if`, and the limits of its step and script files take only half
-//! keys, which are those below 2^63. A file of any other version is tested for the shapes of
-//! version 2, and is then refused.
+//! There are two versions of each kind of file, and a third version of history files, which has the
+//! shapes of version 2. Version 1 has no `put_if`, and the limits of its step and script files take
+//! only half keys, which are those below 2^63. A file of any other version is tested for the shapes
+//! of version 2, and is then refused.
 //!
 //! Proved: `read_steps`, `read_scripts`, `read_history` and the packed readers compute these
 //! functions, or say that memory was refused. `history_text` makes the text of a history, as

@@ -12,8 +12,8 @@ use crate::line::Line;
 use piece_files::{Plain, leading_optional_in, number_in, word_in};
 use txn_words::Op;
 
-/// The `put_if` of this key, whose expected value and new value are the first two elements, and the
-/// elements after these two.
+/// The first two elements are the expected value and the new value of a `put_if` of this key.
+/// Answers this `put_if`, and the elements after the two.
 #[tactic(auto, unfolding(crate::specs::Operations::put_if_at))]
 fn leading_put_if_in<'v, 'a>(key: u64, values: &'v [Plain<'a>]) -> Option<(Op, &'v [Plain<'a>])>
     ensures { option_map (λ x. (x.0, map data_of x.1.now)) result
@@ -50,7 +50,7 @@ pub fn leading_op_in<'v, 'a>(values: &'v [Plain<'a>]) -> Option<(Op, &'v [Plain<
     }
 }
 
-/// The operation that the elements are.
+/// The operation with exactly these elements.
 ///
 /// # Cost
 ///

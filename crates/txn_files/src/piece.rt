@@ -7,7 +7,7 @@ ghost use Rattle.std.specs.Prelude.{◌≡◌, ◌↔◌, ◌+◌, ◌<◌, ◌�
 use std::alloc::{AllocError, Global};
 use std::marker::Model;
 
-/// The bytes that a piece has room for.
+/// The number of bytes that a piece has room for.
 const SIZE: usize = 65_536;
 
 /// A piece with at most this number of bytes surely has room for a line of 160 bytes.

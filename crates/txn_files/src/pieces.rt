@@ -1,6 +1,6 @@
 //! The line of a history in pieces, so that a long line need not be in memory as a whole. `text`
 //! makes the text as a whole; both modules write entries by `set_entry`. Invariant: the text put so
-//! far, followed by the text that is left, is the whole line. Takes no memory.
+//! far, followed by the text that is left, is the whole line. This module takes no memory.
 ghost use Rattle.std.specs.Prelude.{◌≡◌, ◌⊎◌, ◌↔◌, ◌+◌, ◌<◌, ◌≤◌, [], ◌∷◌, ◌++◌, false, IsTrue, length};
 ghost use Rattle.txn_files.specs.HistoryText.{text_of_history};
 ghost use Rattle.txn_files.specs.HistoryLine.{end_text, entries_text, further_text};
@@ -45,8 +45,8 @@ fn put_start<'a>(piece: &mut Piece, entries: &'a [SmallEntry]) -> &'a [SmallEntr
     rest
 }
 
-/// Puts what is left of the line up to its last entry into an empty piece, until there is no room,
-/// and answers the rest.
+/// Puts the rest of the line, up to the last entry, into an empty piece. Stops when there is no
+/// room, and answers the entries that are left.
 fn put_entries<'a>(piece: &mut Piece, is_begun: bool, entries: &'a [SmallEntry]) -> &'a [SmallEntry]
     requires { piece.old ≡ [] }
     ensures whole { piece.new ++ further_text result.now ≡ entries_text is_begun entries.now }
@@ -112,8 +112,7 @@ impl<'a> HistoryPieces<'a> {
     }
 
     /// Empties a piece, and fills it with the next part of the text. Answers whether there was a
-    /// part left; if not, the piece stays empty. Each part but the last is of more than 65,376
-    /// bytes.
+    /// part left; if not, the piece stays empty. Each part but the last has more than 65,376 bytes.
     ///
     /// # Cost
     ///

@@ -134,8 +134,8 @@ impl PieceKind for ActionKind {
     }
 }
 
-/// The script that an array is, given the actions that the array begins with. Answers `None` unless
-/// all elements of the array are actions.
+/// The script that an array holds, given the actions at the start of the array. Answers `None`
+/// unless all elements of the array are actions.
 fn script_in(found: Pieces<PackedAction>) -> Option<Script>
     requires { found.count < 2 ^ 64 }
     ensures { (old all : Result (List Action) FileFault)
@@ -199,7 +199,7 @@ impl PieceKind for ScriptKind {
     }
 }
 
-/// Whether all scripts are no longer than they may be.
+/// Whether each script has at most as many actions as a script may have.
 fn are_short(scripts: &[Script]) -> bool
     ensures { result ≡ list_all is_short scripts.now }
 {

@@ -251,7 +251,7 @@ fn unpacked(alloc: Global, packed: &[PackedStep]) -> Result<Vec<Step>, AllocErro
 }
 
 /// The limits and the packed steps of a step file, as `read_steps` reads it. Packed steps take five
-/// sevenths of the memory.
+/// sevenths of the memory that unpacked steps take.
 ///
 /// # Errors
 ///

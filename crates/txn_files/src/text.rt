@@ -1,9 +1,9 @@
 //! Histories as compact JSON: each entry as an array, and the object around them. The text is a
-//! function of the version, the stripes and the entries, `text_of_history`. Takes time and memory
-//! in proportion to the text.
+//! function of the version, the stripes and the entries, `text_of_history`. Making the text takes
+//! time and memory in proportion to its length.
 //!
 //! An entry is written into a `Line`, from its end to its start, and then added to the text as a
-//! whole: so each entry needs one test for room.
+//! whole, so each entry needs one test for room.
 ghost use Rattle.std.specs.Prelude.{◌≡◌, ◌≤◌, ◌∷◌, ◌++◌, codes, decimal, length, map};
 ghost use Rattle.std.specs.Prelude.{OnOk, IfOk, string_bytes};
 ghost use Rattle.std.specs.List.{join_with_byte};
@@ -17,7 +17,7 @@ use crate::operation::put_op;
 use std::alloc::{AllocError, Global};
 use txn_words::{Entry, Op};
 
-/// Makes a line the array of a name and a caller. The head is the array up to the caller.
+/// Sets a line to the array of a name and a caller. The head is the array up to the caller.
 #[inline(always)]
 fn set_short(line: &mut Line, head: &str, caller: u64)
     requires { length head.now ≤ 30 }
@@ -30,7 +30,7 @@ fn set_short(line: &mut Line, head: &str, caller: u64)
     line.put(head);
 }
 
-/// Makes a line the array of a name, a caller and a number.
+/// Sets a line to the array of a name, a caller and a number.
 #[inline(always)]
 fn set_numbered(line: &mut Line, head: &str, caller: u64, number: u64)
     requires { length head.now ≤ 30 }
@@ -46,7 +46,7 @@ fn set_numbered(line: &mut Line, head: &str, caller: u64, number: u64)
     line.put(head);
 }
 
-/// Makes a line the array of a name, a caller, and a number or null.
+/// Sets a line to the array of a name, a caller, and a number or null.
 #[inline(always)]
 fn set_optional(line: &mut Line, head: &str, caller: u64, number: Option<u64>)
     requires { length head.now ≤ 30 }
@@ -65,7 +65,7 @@ fn set_optional(line: &mut Line, head: &str, caller: u64, number: Option<u64>)
     }
 }
 
-/// Makes a line an Asked entry: the operation that a caller asked for.
+/// Sets a line to an Asked entry: the operation that a caller asked for.
 #[inline(always)]
 fn set_asked(line: &mut Line, caller: u64, op: Op)
     ensures text { line.new ≡ entry_text (entries.Asked caller op) }
@@ -79,7 +79,8 @@ fn set_asked(line: &mut Line, caller: u64, op: Op)
     line.put("[\"asked\",");
 }
 
-/// Makes a line a Busy entry: the operation that a caller asked for, and the holder of its stripe.
+/// Sets a line to a Busy entry: the operation that a caller asked for, and the holder of its
+/// stripe.
 #[inline(always)]
 fn set_busy(line: &mut Line, caller: u64, op: Op, holder: u64)
     ensures text { line.new ≡ entry_text (entries.Busy caller op holder) }
@@ -95,7 +96,7 @@ fn set_busy(line: &mut Line, caller: u64, op: Op, holder: u64)
     line.put("[\"busy\",");
 }
 
-/// Makes a line an entry, as an array.
+/// Sets a line to an entry, as an array.
 #[inline(always)]
 pub(crate) fn set_entry(line: &mut Line, entry: Entry)
     ensures text { line.new ≡ entry_text entry }
@@ -148,9 +149,9 @@ fn put_entries(text: &mut String, entries: &[Entry]) -> Result<(), AllocError>
 
 /// A history as compact JSON: an object with its entries, its stripes and the version of the file,
 /// in this order, such as `{"entries":[["began",0,1]],"stripes":8,"version":1}`, without a line
-/// feed. `read_history` reads it again if it has at most 16,777,216 bytes, is in range, and in
-/// version 1 has no `put_if`. `HistoryPieces` hands out the same text, and a line feed, piece by
-/// piece.
+/// feed. `read_history` can read the text back if the text has at most 16,777,216 bytes, is in
+/// range and, in version 1, has no `put_if`. `HistoryPieces` hands out the same text, and a line
+/// feed, piece by piece.
 ///
 /// # Errors
 ///

@@ -1,5 +1,5 @@
--- Did: after a legal history a reply is right exactly if it is that of the map now, and the map
--- then changes by the operation.
+-- Did: after a legal history, a reply is right exactly if it is the reply of the map `now`. The
+-- operation then changes the map `now`.
 use Rattle.std.proofs.Common.{◌≡◌, ℕ, true, false, cond, List, [], ◌∷◌, ◌++◌, refl, ap, sym, subst, ◌∙◌, Some, None, Option, is_some}
 use Rattle.std.specs.Option.{option_and_then}
 use Rattle.std.proofs.lemmas.Bool.{false≢true}
@@ -11,7 +11,7 @@ use Rattle.txn_words.specs.declared.holder.Holder.{Holder}
 use Rattle.txn_words.specs.declared.entry.Entry.TheVariants.{Did}
 use Rattle.txn_words.specs.Map.{Map, get, after, reply_of, key_of, is_change}
 use Rattle.txn_trace.specs.History.{of}
-use Rattle.txn_trace.specs.Alone.{Run, with_op, act_did, act, alone, last_map, map_after}
+use Rattle.txn_trace.specs.Alone.{AloneRun, with_op, act_did, act, alone, last_map, map_after}
 use Rattle.txn_trace.specs.Serial.{serial}
 use Rattle.txn_trace.specs.Now.{now}
 use Rattle.txn_words.specs.declared.seat.Phase.TheVariants.{Waiting}
@@ -30,7 +30,7 @@ use Rattle.txn_trace.proofs.Seated.{are_seated, the_some}
 use Rattle.txn_trace.proofs.Judging.{legal_push, shape_push, locks_push}
 use Rattle.txn_trace.proofs.Others.{replies-push_other, now_at-push}
 
-added : (r : Run) (op : Op) → (with_op r op).last ≡ after r.last op
+added : (r : AloneRun) (op : Op) → (with_op r op).last ≡ after r.last op
 added r op = (elim (is_change r.last op) as (λ b. is_change r.last op ≡ b → (cond b (record r { last = after r.last op; earlier = r.last ∷ r.earlier }) r).last ≡ after r.last op) [
   | true ↦ λ is. refl
   | false ↦ λ is. sym (after_unchanged r.last op is)
@@ -38,7 +38,7 @@ added r op = (elim (is_change r.last op) as (λ b. is_change r.last op ≡ b →
 
 -- If an operation waits for its reply after the entries of a run, these entries ask for a key of
 -- the operation's stripe.
-waits_in : (stripes : ℕ) (es : List Entry) (m : Map) (r : Run) (op : Op) → alone m es ≡ Some r → r.pending ≡ Some op → keys_in stripes es (key_of op) ≡ true
+waits_in : (stripes : ℕ) (es : List Entry) (m : Map) (r : AloneRun) (op : Op) → alone m es ≡ Some r → r.pending ≡ Some op → keys_in stripes es (key_of op) ≡ true
 waits_in stripes es m r op run waits =
     let alike : RunsAlike (keys_in stripes es) m m (alone m es) (alone m es) = alone_alike (keys_in stripes es) m m es (asks_own stripes es) (λ k is. refl) in
     let alike' : RunsAlike (keys_in stripes es) m m (Some r) (Some r) = subst (λ o. RunsAlike (keys_in stripes es) m m o o) run alike in
@@ -48,10 +48,10 @@ waits_in stripes es m r op run waits =
 module _ {holder : Holder} (stripes : ℕ) (g : List Entry) (legal : IsLegal holder stripes g) (c t : ℕ) (op : Op) (x : Option ℕ) (seat : Seat)
     (in_t : txn_in g c ≡ Some t) (going : ended t g ≡ false) (seat_is : seat_after (own c g) ≡ Some seat) (waiting : seat.phase ≡ Waiting op)
     (right : x ≡ reply_of (now g) op) (shaped : is_shaped g (Did c x) ≡ true) where
-  the_run : (r : Run) × (alone (serial g) (of t g) ≡ Some r)
+  the_run : (r : AloneRun) × (alone (serial g) (of t g) ≡ Some r)
   the_run = the_some (alone (serial g) (of t g)) (legal.replies g ([], append-nil g) t (open_going t g going))
 
-  run : Run
+  run : AloneRun
   run = the_run.0
 
   run_is : alone (serial g) (of t g) ≡ Some run

@@ -11,7 +11,7 @@ use Rattle.txn_words.specs.declared.holder.Holder.{Holder}
 use Rattle.txn_words.specs.declared.entry.Entry.TheVariants.{Began, Asked, Did, Undone, Returned, Aborted}
 use Rattle.txn_words.specs.Map.{Map, get, after, reply_of, is_change}
 use Rattle.txn_trace.specs.History.{of}
-use Rattle.txn_trace.specs.Alone.{Run, start, with_op, act_did, act_undone, act, alone, map_after}
+use Rattle.txn_trace.specs.Alone.{AloneRun, start, with_op, act_did, act_undone, act, alone, map_after}
 use Rattle.txn_trace.specs.Serial.{serial}
 use Rattle.txn_trace.specs.Now.{now, now_at}
 use Rattle.txn_trace.specs.Locks.{stripe_of}
@@ -33,11 +33,11 @@ abbrev pub first_map : Map → List Map → Map
 first_map last [] = last
 first_map last (m ∷ ms) = first_map m ms
 
-abbrev pub StartsAt : Map → Option Run → Type 0
+abbrev pub StartsAt : Map → Option AloneRun → Type 0
 StartsAt m None = Unit {0}
 StartsAt m (Some r) = first_map r.last r.earlier ≡ m
 
-act_starts : (m : Map) (r : Run) (e : Entry) → first_map r.last r.earlier ≡ m → StartsAt m (act r e)
+act_starts : (m : Map) (r : AloneRun) (e : Entry) → first_map r.last r.earlier ≡ m → StartsAt m (act r e)
 act_starts m r (Asked c op) is = is
 act_starts m r (Did c x) is = at r.pending
   where
@@ -55,16 +55,16 @@ act_starts m r (Undone c) is = at r.earlier is
 act_starts m r (Returned c k) is = (elim (option_eq nat_eq (slice_get r.notes k) (Some (length r.earlier + 1))) as (λ b. StartsAt m (cond b (Some (record r { notes = take (k + 1) r.notes })) None)) [ true ↦ is | false ↦ tt ])
 act_starts m r _ is = is
 
-fold_starts : (m : Map) (es : List Entry) (o : Option Run) → StartsAt m o → StartsAt m (fold (λ run e. option_and_then (λ r. act r e) run) o es)
+fold_starts : (m : Map) (es : List Entry) (o : Option AloneRun) → StartsAt m o → StartsAt m (fold (λ run e. option_and_then (λ r. act r e) run) o es)
 fold_starts m [] o is = is
 fold_starts m (e ∷ es) None is = fold_starts m es None tt
 fold_starts m (e ∷ es) (Some r) is = fold_starts m es (act r e) (act_starts m r e is)
 
--- A run in which no change stands is at its first map.
+-- A run starts at the map that it is given. If no change stands, it is still at that map.
 pub alone_starts : (m : Map) (es : List Entry) → StartsAt m (alone m es)
 alone_starts m es = fold_starts m es (Some (start m)) refl
 
-pub unchanged_run : (m : Map) (es : List Entry) (r : Run) → alone m es ≡ Some r → r.earlier ≡ [] → r.last ≡ m
+pub unchanged_run : (m : Map) (es : List Entry) (r : AloneRun) → alone m es ≡ Some r → r.earlier ≡ [] → r.last ≡ m
 unchanged_run m es r run none =
     let is : StartsAt m (Some r) = subst (StartsAt m) run (alone_starts m es) in
     subst (λ ms. first_map r.last ms ≡ m) none is

@@ -12,7 +12,7 @@ use Rattle.txn_words.specs.declared.entry.Entry.TheVariants.{Began, Asked, Did, 
 use Rattle.txn_words.specs.Map.{get, key_of, reply_of}
 use Rattle.txn_trace.specs.History.{of}
 use Rattle.txn_words.specs.Kinds.{caller_of, is_began, is_commit}
-use Rattle.txn_trace.specs.Alone.{Run, with_op, act, act_did, alone}
+use Rattle.txn_trace.specs.Alone.{AloneRun, with_op, act, act_did, alone}
 use Rattle.txn_trace.specs.Serial.{serial}
 use Rattle.txn_trace.specs.Now.{now}
 use Rattle.txn_trace.specs.Replies.{RepliesHoldAt}
@@ -36,7 +36,7 @@ use Rattle.txn_trace.proofs.Running.{has_seat}
 use Rattle.txn_trace.proofs.Next.{txn, going, at_txn, run, run_is, run_fits, run_logs, last_is}
 use Rattle.txn_trace.proofs.Entries.{began, did}
 
--- A closed caller only begins.
+-- If an entry that is no Began has a row in the table, its caller is not closed.
 pub row_active : (s : Seat) (q : Phase) (e : Entry) → is_began e ≡ false → is_some (row s q e) ≡ true → runs q ≡ true
 row_active s Closed (Began c t) b h = absurd (false≢true (sym b))
 row_active s Closed _ b h = absurd (false≢true h)
@@ -52,7 +52,8 @@ abbrev pub is_right : List Entry → Entry → Bool
 is_right g (Did c x) = elim (seat_after (own c g)) [ None ↦ true | Some s ↦ is_right_in g s.phase x ]
 is_right g _ = true
 
--- Consequences of the right shape of an entry after a legal history.
+-- What the right shape of an entry tells: the caller's seats before and after the entry, and that
+-- the entry's number is right.
 record Shaped (g : List Entry) (e : Entry) : Type 0 where
   before : Seat
   is : seat_after (own (caller_of e) g) ≡ Some before
@@ -71,7 +72,7 @@ abbrev is_did : Entry → Bool
 is_did (Did c x) = true
 is_did _ = false
 
-no_reply : (r : Run) (e : Entry) → is_did e ≡ false → IsReply r e
+no_reply : (r : AloneRun) (e : Entry) → is_did e ≡ false → IsReply r e
 no_reply r (Did c x) d = absurd (false≢true (sym d))
 no_reply r _ d = tt
 
@@ -85,8 +86,8 @@ module _ {holder : Holder} (stripes : ℕ) (g : List Entry) (legal : IsLegal hol
   hold_now : RepliesHoldAt g
   hold_now = legal.replies g ([], append-nil g)
 
-  -- If the entry begins no transaction: the transaction that the entry belongs to, and the run of
-  -- this transaction before and after the entry.
+  -- Lemmas for an entry that begins no transaction. They give the transaction `t` that the entry
+  -- belongs to, and the run of `t` before and after the entry.
   module _ (not_began : is_began e ≡ false) where
     active : runs parts.before.phase ≡ true
     active = row_active parts.before parts.before.phase e not_began (ap is_some parts.goes)
@@ -100,13 +101,13 @@ module _ {holder : Holder} (stripes : ℕ) (g : List Entry) (legal : IsLegal hol
     not_ended : ended t g ≡ false
     not_ended = going stripes g legal e parts.before parts.next parts.is parts.goes parts.numbered active
 
-    abbrev the_run : Run
+    abbrev the_run : AloneRun
     the_run = run stripes g legal e parts.before parts.next parts.is parts.goes parts.numbered active
 
     fits : Fits parts.before the_run
     fits = run_fits stripes g legal e parts.before parts.next parts.is parts.goes parts.numbered active
 
-    run_after : (o : Option Run) → act the_run e ≡ o → alone (serial g) (of t g ++ e ∷ []) ≡ o
+    run_after : (o : Option AloneRun) → act the_run e ≡ o → alone (serial g) (of t g ++ e ∷ []) ≡ o
     run_after o acts = alone-push (serial g) (of t g) e ∙ ap (option_and_then (λ q. act q e)) (run_is stripes g legal e parts.before parts.next parts.is parts.goes parts.numbered active) ∙ acts
 
     holds_if : is_commit e ≡ false → is_some (act the_run e) ≡ true → RepliesHoldAt (g ++ e ∷ [])
@@ -118,7 +119,7 @@ module _ {holder : Holder} (stripes : ℕ) (g : List Entry) (legal : IsLegal hol
         (fits_act parts.before the_run e parts.before.phase refl not_began goes_on fits (no_reply the_run e other) (ap is_some parts.goes)) in
         some (act the_run e) after
       where
-        some : (o : Option Run) → FitsAfter (Some parts.next) o → is_some o ≡ true
+        some : (o : Option AloneRun) → FitsAfter (Some parts.next) o → is_some o ≡ true
         some None is = absurd is
         some (Some r) is = refl
 
@@ -168,7 +169,7 @@ did_holds {holder} stripes g legal c x shaped op waits = elim (cases_Bool (optio
     at_t : txn_at g e ≡ Some txn_t
     at_t = at stripes g legal e shaped refl
 
-    last : Run
+    last : AloneRun
     last = the_run stripes g legal e shaped refl
 
     pending : last.pending ≡ Some op
@@ -212,8 +213,8 @@ replies_hold-push stripes g legal (Committed c p) shaped = replies_hold_from (g 
 replies_hold-push stripes g legal (Busy c op x) shaped = replies_hold_from (g ++ Busy c op x ∷ []) (holds_after stripes g legal (Busy c op x) shaped refl)
 replies_hold-push stripes g legal (Aborted c) shaped = replies_hold_from (g ++ Aborted c ∷ []) (holds_after stripes g legal (Aborted c) shaped refl)
 
--- The rule that an entry breaks after a legal history, from its shape, the map now and the holders
--- of stripes.
+-- The rule that an entry breaks after a legal history follows from its shape, the map now and the
+-- holders of stripes.
 pub broken_is : {holder : Holder} (stripes : ℕ) (g : List Entry) → IsLegal holder stripes g → (e : Entry)
     → broken holder stripes g e ≡ cond {A = Option ℕ} (not (is_shaped g e)) (Some 3) (cond {A = Option ℕ} (not (is_right g e)) (Some 1) (cond {A = Option ℕ} (not (is_locked holder stripes g e)) (Some 2) None))
 broken_is {holder} stripes g legal e = elim (cases_Bool (is_shaped g e)) [

@@ -30,7 +30,7 @@ ends_either (e ∷ es) a b = ends_either es (is_commit e) (is_abort e)
 pub is_open-ended : (t : ℕ) (g : List Entry) → is_open t g ≡ not (ended t g)
 is_open-ended t g = ap not (sym (ends_either (of t g) false false))
 
--- A line of a transaction that has not ended belongs to the caller that is in it.
+-- If the transaction of a line has not ended, the line's caller is in that transaction.
 abbrev pub IsOwned : List Entry → Line → Type 0
 IsOwned g line = (t : ℕ) → line.txn ≡ Some t → ended t g ≡ false → txn_in g (caller_of line.entry) ≡ Some t
 
@@ -52,8 +52,8 @@ callers_none = record {
   owned = tt;
 }
 
--- `t` is the transaction of an entry that follows `g`: the one that a Began begins; for any other
--- entry, the one that its caller is in after `g`.
+-- `t` is the transaction of an entry that follows `g`. If the entry is a Began, `t` is the
+-- transaction that it begins. Otherwise `t` is the one that its caller is in after `g`.
 abbrev pub IsIn : List Entry → Entry → ℕ → Type 0
 IsIn g (Began c u) t = u ≡ t
 IsIn g e t = txn_in g (caller_of e) ≡ Some t
@@ -77,7 +77,7 @@ after_is g e x t is = elim (cases_eq x (caller_of e)) [
     from (Began c u) other got = subst (λ b. cond b (Some u) (txn_in g x) ≡ Some t) (ne_eqb c x (λ k. other (sym k))) got
     from _ other got = got
 
--- A closed caller may only begin.
+-- The only entry that a closed caller may add is a Began.
 pub closed_begins : (e : Entry) → is_some (row closed_seat closed_seat.phase e) ≡ true → is_began e ≡ true
 closed_begins (Began c t) h = refl
 closed_begins _ h = absurd (false≢true h)
@@ -190,7 +190,7 @@ began_was_closed e (Some s) b h = at e s.phase b h
 pub not_equal : (a b : ℕ) → (a ≡ b → ⊥) → (b == a) ≡ false
 not_equal a b h = ne_eqb b a (λ k. h (sym k))
 
--- A caller stays in its transaction unless it begins one.
+-- A caller stays in its transaction until it begins another.
 pub txn_stays : (g : List Entry) (e : Entry) (x t : ℕ) → (is_began e ≡ true → x ≡ caller_of e → ⊥) → txn_in g x ≡ Some t → txn_in (g ++ e ∷ []) x ≡ Some t
 txn_stays g e x t other is = ap (λ f. f x) (txn_in-push g e) ∙ at e other
   where

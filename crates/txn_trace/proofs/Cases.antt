@@ -1,5 +1,5 @@
--- Worked histories, by computing: their verdicts, their maps, and the histories without their
--- aborted transactions.
+-- Worked histories, checked by computation: their verdicts, their maps, and the histories without
+-- their aborted transactions.
 use Rattle.std.proofs.Common.{[], ◌≡◌, ℕ, ◌^◌, ◌-◌, List, ◌∷◌, ◌++◌, Some, None, Option, refl, take, map}
 use Rattle.split_key.specs.Split.{split, reversed, reversed_low}
 use Rattle.txn_words.specs.declared.op.Op.{Op}
@@ -103,15 +103,15 @@ aborted_take_restores_now = refl
 aborted_take_restores_erased : erase aborted_take_restores ≡ Began 0 1 ∷ Asked 0 (Put 3 30) ∷ Did 0 None ∷ Committed 0 1 ∷ Began 1 4 ∷ Asked 1 (Get 3) ∷ Did 1 (Some 30) ∷ Committed 1 2 ∷ []
 aborted_take_restores_erased = refl
 
--- The entries that both callers owe: before the take has its reply, and after caller 1 found the
--- stripe held.
+-- The number of entries that the callers owe together, at two moments: while the take waits for its
+-- reply, and after caller 1 has found the stripe held.
 aborted_take_restores_owed : owed 2 (take 6 aborted_take_restores) ≡ 4
 aborted_take_restores_owed = refl
 
 aborted_take_restores_owed_busy : owed 2 (take 9 aborted_take_restores) ≡ 4
 aborted_take_restores_owed_busy = refl
 
--- A caller aborts while its operation has no reply, which withdraws the operation.
+-- A caller aborts before its operation has a reply. This withdraws the operation.
 abbrev withdrawn_put : List Entry
 withdrawn_put = Began 0 1 ∷ Asked 0 (Put 1 10) ∷ Leave 0 None ∷ Aborted 0 ∷ []
 
@@ -176,7 +176,7 @@ crossed_ordered : ordered (now crossed) ≡ (4, 40) ∷ (2, 20) ∷ []
 unfolding split reversed reversed_low
 crossed_ordered = refl
 
--- Transaction 1 changes a key that transaction 2 has put, and commits after it.
+-- Transaction 1 changes a key that transaction 2 has put, and commits after transaction 2.
 abbrev handed_on : List Entry
 handed_on = Began 1 1 ∷ Began 0 2 ∷ Asked 0 (Put 1 10) ∷ Did 0 None ∷ Committed 0 1 ∷ Asked 1 (Put 1 11) ∷ Did 1 (Some 10) ∷ Committed 1 2 ∷ []
 
@@ -208,7 +208,7 @@ checker_replies_right_verdict = refl
 checker_replies_not_undone_verdict : verdict Now 8 checker_replies_not_undone ≡ Illegal 8 3
 checker_replies_not_undone_verdict = refl
 
--- The verdicts on the beginnings of `checker_replies`.
+-- The verdicts on prefixes of `checker_replies`.
 fed_entry_by_entry_10 : verdict Now 8 (take 10 checker_replies) ≡ Legal 1 0
 fed_entry_by_entry_10 = refl
 
@@ -224,8 +224,8 @@ fed_entry_by_entry_13 = refl
 fed_entry_by_entry_14 : verdict Now 8 (take 14 checker_replies) ≡ Illegal 12 1
 fed_entry_by_entry_14 = refl
 
--- An Asked for a stripe that another caller holds, a Busy that names a caller that holds no stripe,
--- and a Busy that names its own caller.
+-- Entries that break the rule of locks: an Asked for a stripe of another caller, a Busy that names
+-- a caller without stripes, and a Busy that names its own caller.
 checker_locks_asked : verdict Now 8 (Began 0 1 ∷ Asked 0 (Put 1 10) ∷ Did 0 None ∷ Began 1 2 ∷ Asked 1 (Get 9) ∷ []) ≡ Illegal 4 2
 checker_locks_asked = refl
 
@@ -254,7 +254,7 @@ forged_level = refl
 forged_reply : verdict Now 8 (Began 0 1 ∷ Asked 0 (Get 5) ∷ Did 0 (Some 7) ∷ Leave 0 None ∷ []) ≡ Illegal 2 1
 forged_reply = refl
 
--- Two keys that share a stripe of eight, but not one of sixteen.
+-- Two keys that share a stripe if there are eight stripes, but not if there are sixteen.
 abbrev forged_stripes : List Entry
 forged_stripes = Began 0 1 ∷ Asked 0 (Get 1) ∷ Began 1 2 ∷ Asked 1 (Get 9) ∷ []
 
@@ -264,7 +264,7 @@ forged_stripes_verdict = refl
 forged_stripes_more_stripes_verdict : verdict Now 16 forged_stripes ≡ Legal 0 2
 forged_stripes_more_stripes_verdict = refl
 
--- Split keys, and maps in their order.
+-- Split keys, and the pairs of maps in the order of their split keys.
 split_keys : map split (0 ∷ 4 ∷ 2 ∷ 10 ∷ 6 ∷ 1 ∷ 5 ∷ 3 ∷ 7 ∷ (2 ^ 63 - 1) ∷ []) ≡ 0x0000000000000001 ∷ 0x2000000000000001 ∷ 0x4000000000000001 ∷ 0x5000000000000001 ∷ 0x6000000000000001
     ∷ 0x8000000000000001 ∷ 0xa000000000000001 ∷ 0xc000000000000001 ∷ 0xe000000000000001 ∷ 0xffffffffffffffff ∷ []
 unfolding split reversed reversed_low

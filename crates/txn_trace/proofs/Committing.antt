@@ -1,4 +1,4 @@
--- A committed transaction, found in its caller's own entries, whatever the other callers do.
+-- A committed transaction is found in its caller's own entries, whatever the other callers do.
 use Rattle.std.proofs.Common.{◌≡◌, ℕ, ◌+◌, ◌==◌, Bool, true, false, cond, List, [], ◌∷◌, ◌++◌, append_assoc, Some, None, Option, is_some, IsSome, refl, sym, ap, subst, ◌∙◌, inl, inr}
 use Rattle.std.specs.List.{filter}
 use Rattle.std.specs.Option.{option_and_then}
@@ -9,7 +9,7 @@ use Rattle.txn_words.specs.declared.entry.Entry.{Entry}
 use Rattle.txn_words.specs.declared.entry.Entry.TheVariants.{Began, Committed}
 use Rattle.txn_trace.specs.History.{txn_after, of}
 use Rattle.txn_words.specs.Kinds.{caller_of, is_began, is_commit}
-use Rattle.txn_trace.specs.Alone.{Run, act, alone}
+use Rattle.txn_trace.specs.Alone.{AloneRun, act, alone}
 use Rattle.txn_trace.specs.Serial.{serial}
 use Rattle.txn_trace.specs.Replies.{RepliesHold}
 use Rattle.txn_words.specs.Shape.{own, how_many, is_shaped, IsShaped}
@@ -57,7 +57,8 @@ cut p (y ∷ h) xs x ys is =
         let (g, rest, h_is, front, back) = shorter xs (cc here) in
         (y ∷ g, rest, ap (λ zs. y ∷ zs) h_is, ap (λ b. cond b (y ∷ filter p g) (filter p g)) passes ∙ (λ i. first i ∷ front i), back)
 
--- If no entry of a list begins a transaction, neither its first nor one of the rest does.
+-- If no entry of a list begins a transaction, the first entry does not, and no entry of the rest
+-- does.
 begins_not : (e : Entry) (es : List Entry) → filter is_began (e ∷ es) ≡ [] → (is_began e ≡ false) × (filter is_began es ≡ [])
 begins_not e es =
     elim (is_began e) as (λ b. cond b (e ∷ filter is_began es) (filter is_began es) ≡ [] → (b ≡ false) × (filter is_began es ≡ [])) [
@@ -65,7 +66,8 @@ begins_not e es =
       | false ↦ λ none. (refl, none)
     ]
 
--- While a caller begins no further transaction, its further entries are those of its transaction.
+-- While a caller begins no other transaction, its new entries belong to the transaction that it is
+-- in.
 pub own_goes : (c t : ℕ) (g rest : List Entry) → Callers g → IsShaped (g ++ rest) → txn_in g c ≡ Some t → filter is_began (own c rest) ≡ []
     → (of t (g ++ rest) ≡ of t g ++ own c rest) × (txn_in (g ++ rest) c ≡ Some t)
 own_goes c t g [] callers shape in_it quiet = (ap (of t) (append-nil g) ∙ sym (append-nil (of t g)), ap (λ h. txn_in h c) (append-nil g) ∙ in_it)
@@ -90,7 +92,7 @@ own_goes c t g (e ∷ rest) callers shape in_it quiet =
     ]
 
 -- A run that is defined is still defined after a commit.
-pub commits_so : (c p : ℕ) (o : Option Run) → is_some o ≡ true → is_some (option_and_then (λ r. act r (Committed c p)) o) ≡ true
+pub commits_so : (c p : ℕ) (o : Option AloneRun) → is_some o ≡ true → is_some (option_and_then (λ r. act r (Committed c p)) o) ≡ true
 commits_so c p None some = some
 commits_so c p (Some r) some = refl
 

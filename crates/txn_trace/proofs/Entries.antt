@@ -42,8 +42,8 @@ use Rattle.txn_trace.proofs.Settled.{settled, settled_out, settled_in, same_as_f
 abbrev is_active : Seat → Type 0
 is_active seat = runs seat.phase ≡ true
 
--- Asked: an open caller may ask if no other caller holds the stripe, which is the caller's from
--- then on.
+-- Asked: an open caller may ask if no other caller holds the stripe. From then on the caller holds
+-- it.
 pub asked : {holder : Holder} (stripes : ℕ) (g : List Entry) → IsLegal holder stripes g → (c : ℕ) (op : Op) (seat : Seat) → seat_after (own c g) ≡ Some seat → seat.phase ≡ Opened → is_locked holder stripes g (Asked c op) ≡ true
     → Next holder stripes g (Asked c op) (record seat { phase = Waiting op }) (log_of c g) (serial g) (now g) (λ s. cond (stripe_of stripes (key_of op) == s) (Some c) (holder_of stripes s g))
 asked {holder} stripes g legal c op seat seat_is opened locked =
@@ -215,8 +215,8 @@ undone_by {holder} stripes g legal c seat seat_is active goes job jobs log_is =
       holder_is = λ s. holder_of-other holder stripes g e (callers_of g legal.shape) shaped legal.shape legal.locks s refl refl;
     }
 
--- Undone to a level: if more changes stand than at the level, the newest is taken back. Its key
--- gets the value before the change, and every other key is unchanged.
+-- Undone to a level: if more changes stand than the level keeps, the newest change is taken back.
+-- Its key gets the value before the change, and every other key is unchanged.
 pub undone_to : {holder : Holder} (stripes : ℕ) (g : List Entry) → IsLegal holder stripes g → (c n : ℕ) (seat : Seat) → seat_after (own c g) ≡ Some seat → seat.phase ≡ LeavingTo n → slice_index seat.kept n < seat.standing
     → (job : ℕ × Option ℕ) (jobs : List (ℕ × Option ℕ)) → log_of c g ≡ job ∷ jobs
     → Next holder stripes g (Undone c) (record seat { standing = seat.standing - 1 }) jobs (serial g) (set_at (now g) job.0 job.1) (λ s. holder_of stripes s g)

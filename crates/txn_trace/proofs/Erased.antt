@@ -1,5 +1,4 @@
--- A legal history without its aborted transactions: it has the same map now and the same committed
--- map.
+-- Without its aborted transactions a legal history has the same map now and the same committed map.
 use Rattle.std.proofs.Common.{◌≡◌, ℕ, Bool, true, false, cond, not, ◌||◌, List, [], ◌∷◌, map, refl, ap, sym, subst, ◌∙◌, Some, None, Option, IsTrue, IsSome}
 use Rattle.std.specs.List.{filter, fold}
 use Rattle.std.proofs.lemmas.Bool.{cases_Bool}

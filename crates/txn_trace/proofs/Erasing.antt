@@ -99,8 +99,8 @@ of-kept_in keep t h is = of-kept keep t h ∙ ap (λ b. cond b (of t h) []) is
 pub of-kept_out : (keep : Option ℕ → Bool) (t : ℕ) (h : List Entry) → keep (Some t) ≡ false → of t (kept_of keep h) ≡ []
 of-kept_out keep t h is = of-kept keep t h ∙ ap (λ b. cond b (of t h) []) is
 
--- The transactions of the entries that pass a test. Of those in the whole history, the kept history
--- has exactly the transactions that are kept.
+-- The transactions of the entries that pass a test. The kept history has those transactions of the
+-- whole history that are kept.
 abbrev picked : (Entry → Bool) → List Line → List ℕ
 picked test ls = filter_map (λ l. cond (test l.entry) l.txn None) ls
 
@@ -149,7 +149,7 @@ not_both (e ∷ es) a b apart is = not_both es (is_commit e) (is_abort e) (λ c.
 pub committed_not_aborted : (t : ℕ) (h : List Entry) → is_committed t h ≡ true → is_aborted t h ≡ false
 committed_not_aborted t h is = not_both (of t h) false false (λ x. refl) is
 
--- For a test that keeps every transaction that is not aborted.
+-- Lemmas for a test that keeps every transaction that is not aborted.
 module _ (keep : Option ℕ → Bool) (h : List Entry) (lasting : (t : ℕ) → is_aborted t h ≡ false → keep (Some t) ≡ true) where
   kept_committed : (t : ℕ) → keep (Some t) ≡ true → is_committed t (kept_of keep h) ≡ is_committed t h
   kept_committed t is = ap (ends_in is_commit) (of-kept_in keep t h is)

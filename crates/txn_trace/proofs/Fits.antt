@@ -1,5 +1,5 @@
--- In right shape a caller's seat and its transaction's run agree, and an entry can fail only by its
--- reply.
+-- In right shape a caller's seat agrees with the run of its transaction. An entry can then fail
+-- only by its reply.
 use Rattle.std.proofs.Common.{◌≡◌, ℕ, zero, suc, ◌+◌, ◌-◌, ◌<◌, ◌==◌, Bool, true, false, cond, ◌&&◌, List, [], ◌∷◌, ◌++◌, map, length, take, slice_get, slice_index, refl, ap, sym, subst, ◌∙◌, Some, None, Option, is_some, arith}
 use Rattle.std.specs.Prelude.{nat_lt}
 use Rattle.std.proofs.lemmas.Bool.{false≢true, eqb-true, ltb-true, and_parts}
@@ -8,7 +8,7 @@ use Rattle.txn_words.specs.declared.entry.Entry.{Entry}
 use Rattle.txn_words.specs.declared.entry.Entry.TheVariants.{Began, Asked, Did, Saved, Leave, Undone, Returned, Committed, Busy, Aborted}
 use Rattle.txn_words.specs.Map.{Map, reply_of, after, is_change}
 use Rattle.txn_words.specs.Kinds.{is_began}
-use Rattle.txn_trace.specs.Alone.{Run, start, number_of_maps, with_op, act_did, act_undone, act_returned, act}
+use Rattle.txn_trace.specs.Alone.{AloneRun, start, number_of_maps, with_op, act_did, act_undone, act_returned, act}
 use Rattle.txn_words.specs.declared.seat.Phase.{Phase}
 use Rattle.txn_words.specs.declared.seat.Phase.TheVariants.{Opened, Waiting, LeavingTo, LeavingToEnd}
 use Rattle.txn_words.specs.Shape.{Seat, row, changes, closed_seat}
@@ -16,31 +16,31 @@ use Rattle.txn_words.proofs.Effects.{changes-reply}
 use Rattle.txn_trace.proofs.Callers.{is_end}
 use Rattle.txn_trace.proofs.Now.{same_is}
 
--- A phase, as a statement about the run.
-abbrev pub PhaseFits : Phase → Seat → Run → Type 0
+-- What a phase says about the run.
+abbrev pub PhaseFits : Phase → Seat → AloneRun → Type 0
 PhaseFits (Waiting op) s r = r.pending ≡ Some op
 PhaseFits (LeavingTo n) s r = n < length s.kept
 PhaseFits _ s r = Unit {0}
 
-pub record Fits (s : Seat) (r : Run) : Type 0 where
+pub record Fits (s : Seat) (r : AloneRun) : Type 0 where
   pub standing : s.standing ≡ length r.earlier
   pub notes : r.notes ≡ map (λ n. n + 1) s.kept
   pub phase : PhaseFits s.phase s r
 
-abbrev pub FitsAfter : Option Seat → Option Run → Type 0
+abbrev pub FitsAfter : Option Seat → Option AloneRun → Type 0
 FitsAfter None r = Unit {0}
 FitsAfter (Some s) None = ⊥
 FitsAfter (Some s) (Some r) = Fits s r
 
--- The reply is that of the last map.
-abbrev pub IsReply : Run → Entry → Type 0
+-- If the entry is a Did, its reply is the one that the run's last map gives.
+abbrev pub IsReply : AloneRun → Entry → Type 0
 IsReply r (Did c x) = (op : Op) → r.pending ≡ Some op → x ≡ reply_of r.last op
 IsReply r _ = Unit {0}
 
 pub fits_start : (m : Map) → Fits (record closed_seat { phase = Opened }) (start m)
 fits_start m = record { standing = refl; notes = refl; phase = tt }
 
-did_fits : (s : Seat) (r : Run) (x : Option ℕ) (op : Op) → Fits s r → x ≡ reply_of r.last op
+did_fits : (s : Seat) (r : AloneRun) (x : Option ℕ) (op : Op) → Fits s r → x ≡ reply_of r.last op
     → FitsAfter (Some (record s { phase = Opened; standing = cond (changes op x) (s.standing + 1) s.standing })) (act_did r (Some op) x)
 did_fits s r x op fits right =
     let P : Bool → Type 0 = λ t. FitsAfter (Some (record s { phase = Opened; standing = cond (changes op x) (s.standing + 1) s.standing })) (cond t (Some (record (with_op r op) { pending = None })) None) in
@@ -53,7 +53,7 @@ did_fits s r x op fits right =
       | false ↦ record { standing = fits.standing; notes = fits.notes; phase = tt }
     ]))
 
-undone_fits : (s s' : Seat) (r : Run) (ms : List Map) → 0 < s.standing → s'.standing ≡ s.standing - 1 → s'.kept ≡ s.kept → s.standing ≡ length ms → r.notes ≡ map (λ n. n + 1) s.kept → ((q : Run) → q.pending ≡ r.pending → PhaseFits s'.phase s' q) → FitsAfter (Some s') (act_undone r ms)
+undone_fits : (s s' : Seat) (r : AloneRun) (ms : List Map) → 0 < s.standing → s'.standing ≡ s.standing - 1 → s'.kept ≡ s.kept → s.standing ≡ length ms → r.notes ≡ map (λ n. n + 1) s.kept → ((q : AloneRun) → q.pending ≡ r.pending → PhaseFits s'.phase s' q) → FitsAfter (Some s') (act_undone r ms)
 undone_fits s s' r [] some less kept is notes phase = absurd (omega arith)
 undone_fits s s' r (m ∷ ms) some less kept is notes phase = record {
   standing = omega arith;
@@ -75,7 +75,7 @@ map-push : (xs : List ℕ) (y : ℕ) → map (λ n. n + 1) (xs ++ y ∷ []) ≡ 
 map-push [] y = refl
 map-push (x ∷ xs) y = ap (λ ys. (x + 1) ∷ ys) (map-push xs y)
 
-returned_fits : (s : Seat) (r : Run) (n m : ℕ) → Fits s r → n < length s.kept → n ≡ m → slice_index s.kept n ≡ s.standing → FitsAfter (Some (record s { phase = Opened; kept = take (n + 1) s.kept })) (act_returned r m)
+returned_fits : (s : Seat) (r : AloneRun) (n m : ℕ) → Fits s r → n < length s.kept → n ≡ m → slice_index s.kept n ≡ s.standing → FitsAfter (Some (record s { phase = Opened; kept = take (n + 1) s.kept })) (act_returned r m)
 returned_fits s r n m fits within level kept =
     let noted : slice_get r.notes m ≡ Some (number_of_maps r) =
     ap (λ l. slice_get l m) fits.notes ∙ ap (slice_get (map (λ n. n + 1) s.kept)) (sym level) ∙ noted_at n s.kept within ∙ ap (λ x. Some (x + 1)) (kept ∙ fits.standing) in
@@ -88,7 +88,7 @@ when false x h = absurd (false≢true h)
 
 -- If an entry has a row in the table and its reply is right, the run goes on and still agrees with
 -- the seat.
-pub fits_act : (s : Seat) (r : Run) (e : Entry) (q : Phase) → s.phase ≡ q → is_began e ≡ false → is_end e ≡ false → Fits s r → IsReply r e → is_some (row s q e) ≡ true → FitsAfter (row s q e) (act r e)
+pub fits_act : (s : Seat) (r : AloneRun) (e : Entry) (q : Phase) → s.phase ≡ q → is_began e ≡ false → is_end e ≡ false → Fits s r → IsReply r e → is_some (row s q e) ≡ true → FitsAfter (row s q e) (act r e)
 fits_act s r (Began c t) q at b n fits right h = absurd (false≢true (sym b))
 fits_act s r (Committed c p) q at b n fits right h = absurd (false≢true (sym n))
 fits_act s r (Aborted c) q at b n fits right h = absurd (false≢true (sym n))

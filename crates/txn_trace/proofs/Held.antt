@@ -14,7 +14,7 @@ use Rattle.txn_words.specs.Map.{Map, get, key_of}
 use Rattle.txn_trace.specs.Now.{now, now_at}
 use Rattle.txn_trace.specs.History.{is_open, Line, lines_of, is_of, of}
 use Rattle.txn_words.specs.Kinds.{is_commit, caller_of}
-use Rattle.txn_trace.specs.Alone.{map_after, Run, alone}
+use Rattle.txn_trace.specs.Alone.{map_after, AloneRun, alone}
 use Rattle.txn_trace.specs.Serial.{serial}
 use Rattle.txn_trace.specs.Locks.{stripe_of, asks_in, is_in_open, holders, holder_of, LocksHold}
 use Rattle.txn_words.specs.declared.seat.Phase.TheVariants.{Waiting}
@@ -82,7 +82,7 @@ module _ {holder : Holder} (stripes : ℕ) (g : List Entry) (legal : IsLegal hol
   there : Running g c
   there = running_txn g legal.shape c active
 
-  log_and_run : (r : Run) × Logs (keys_in stripes (of there.txn g)) (log_after (own c g)) r
+  log_and_run : (r : AloneRun) × Logs (keys_in stripes (of there.txn g)) (log_after (own c g)) r
   log_and_run =
       let found = the_some (alone (serial g) (of there.txn g)) (legal.replies g ([], append-nil g) there.txn (open_going there.txn g there.going)) in
       (found.0, are_logged stripes g legal.shape c there.txn there.in_it there.going (serial g) found.0 found.1)
@@ -165,8 +165,8 @@ holder_txn stripes g shape s c held = first_line stripes s g c (lines_of g) [] r
 pub holder_running : (stripes : ℕ) (g : List Entry) → IsShaped g → (s c : ℕ) → holder_of stripes s g ≡ Some c → is_running (seat_after (own c g)) ≡ true
 holder_running stripes g shape s c held = let there = holder_txn stripes g shape s c held in (callers_of g shape).running c there.txn there.in_it there.going
 
--- An entry leaves the value now of a key unchanged if the key's stripe is held by a caller other
--- than the entry's.
+-- If a caller other than the entry's caller holds the stripe of a key, the entry does not change
+-- the key's value in the map `now`.
 pub get-now_held : {holder : Holder} (stripes : ℕ) (g : List Entry) (e : Entry) → IsLegal holder stripes g → IsLegal holder stripes (g ++ e ∷ []) → (k d : ℕ) → holder_of stripes (stripe_of stripes k) g ≡ Some d → d ≢ caller_of e
     → get (now (g ++ e ∷ [])) k ≡ get (now g) k
 get-now_held {holder} stripes g e legal after k d held other = get-now (g ++ e ∷ []) k ∙ at_key ∙ sym (get-now g k)

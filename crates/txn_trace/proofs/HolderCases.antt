@@ -1,4 +1,5 @@
--- Worked histories, by computing: the callers that a Busy may name by each of the two rules.
+-- Worked histories, checked by computation: the callers that a Busy may name by each of the two
+-- rules.
 use Rattle.std.proofs.Common.{◌≡◌, List, [], ◌∷◌, refl, None}
 use Rattle.txn_words.specs.declared.op.Op.TheVariants.{Put, Get}
 use Rattle.txn_words.specs.declared.entry.Entry.{Entry}
@@ -24,6 +25,6 @@ none_has_begun = refl
 begun_itself : verdict Begun 8 (Began 0 1 ∷ Asked 0 (Put 1 10) ∷ Did 0 None ∷ Busy 0 (Get 9) 0 ∷ []) ≡ Illegal 3 2
 begun_itself = refl
 
--- An Asked is tested against the holders now, by either rule.
+-- Both rules test an Asked against the callers that hold the stripe at that moment.
 begun_asked : verdict Begun 8 (Began 0 1 ∷ Asked 0 (Put 1 10) ∷ Did 0 None ∷ Began 1 2 ∷ Asked 1 (Get 9) ∷ []) ≡ Illegal 4 2
 begun_asked = refl

@@ -35,8 +35,10 @@ filter_same : {X : Type 0} (p q : X → Bool) (xs : List X) → ((x : X) → p x
 filter_same p q xs same i = filter (λ x. same x i) xs
 
 module _ (stripes s : ℕ) (g : List Entry) (e : Entry) where
-  -- After one more entry the holders are the callers of those earlier lines that hold the stripe
-  -- after the entry, and the entry's caller if the entry's own line holds the stripe.
+  -- By `holds_it`, a line holds the stripe if it asks for a key of the stripe and its transaction
+  -- is open. One more entry is added. The holders are then the callers of those earlier lines that
+  -- still hold the stripe. If the line of the new entry holds the stripe, its caller is added at
+  -- the end.
   holders-split : holders stripes s (g ++ e ∷ []) ≡ map caller_on (filter (holds_it stripes s (g ++ e ∷ [])) (lines_of g)) ++ cond (holds_it stripes s (g ++ e ∷ []) (record { txn = txn_at g e; entry = e })) (caller_of e ∷ []) []
   holders-split =
       let line : Line = record { txn = txn_at g e; entry = e } in
@@ -136,7 +138,7 @@ module _ (stripes : ℕ) (g : List Entry) (e : Entry) (callers : Callers g) (sha
           ]
         ]
 
-    -- The end of a transaction removes its caller from the holders, and no other.
+    -- The end of a transaction removes its caller from the holders, and no other caller.
     pub holders-end : holders stripes s (g ++ e ∷ []) ≡ filter (λ x. not (x == caller_of e)) (holders stripes s g)
     holders-end =
         holders-split stripes s g e
@@ -164,7 +166,7 @@ pub first_any : (xs : List ℕ) (d : ℕ) → slice_get xs 0 ≡ Some d → list
 first_any [] d is = absurd (cc (is))
 first_any (x ∷ xs) d is = or_left _ _ (eq-eqb x d (some_same x d is))
 
--- In right shape, with the rule of locks, no two callers hold a stripe.
+-- In right shape, with the rule of locks, a stripe has at most one holder.
 pub one_holder : (holder : Holder) (stripes : ℕ) (g : List Entry) → IsShaped g → LocksHold holder stripes g → (s : ℕ) → AreSame (holders stripes s g)
 one_holder holder stripes g shape locks s = by_locked_entries holder stripes (λ h. AreSame (holders stripes s h)) step (λ c d there also. absurd (false≢true there)) g shape locks
   where
@@ -224,8 +226,8 @@ is_locked-asked holder stripes g c op shape locks = at (holders stripes (stripe_
       | inr other ↦ ap (λ b. b && list_all (λ x. x == c) xs) (ne_eqb x c other) ∙ sym (ne_eqb x c other)
     ]
 
--- The rule of locks allows a Busy exactly if it names another caller which, by `Now`, holds the
--- stripe or, by `Begun`, has begun a transaction.
+-- The rule of locks allows a Busy exactly if it names another caller that it may name. By `Now`
+-- that caller must hold the stripe. By `Begun` it must have begun a transaction.
 pub is_locked-busy : (holder : Holder) (stripes : ℕ) (g : List Entry) (c : ℕ) (op : Op) (x : ℕ) → IsShaped g → LocksHold holder stripes g
     → is_locked holder stripes g (Busy c op x) ≡ (not (x == c) && elim holder [ Now ↦ option_eq nat_eq (holder_of stripes (stripe_of stripes (key_of op)) g) (Some x) | Begun ↦ has_begun x g ])
 is_locked-busy Begun stripes g c op x shape locks = refl

@@ -10,7 +10,7 @@ use Rattle.txn_words.specs.declared.op.Op.TheVariants.{Put, Take, Get, PutIf}
 use Rattle.txn_words.specs.declared.entry.Entry.{Entry}
 use Rattle.txn_words.specs.declared.entry.Entry.TheVariants.{Asked, Did, Saved, Undone, Returned}
 use Rattle.txn_words.specs.Map.{Map, get, insert, remove, key_of, reply_of, after, is_change, keys}
-use Rattle.txn_trace.specs.Alone.{Run, start, number_of_maps, with_op, act_did, act_undone, act_returned, act, alone}
+use Rattle.txn_trace.specs.Alone.{AloneRun, start, number_of_maps, with_op, act_did, act_undone, act_returned, act, alone}
 use Rattle.txn_words.proofs.Maps.{get-insert, get-remove}
 
 -- The maps a and b agree at each key that passes the test. At every other key a agrees with m, and
@@ -30,20 +30,20 @@ abbrev pub WaitsFor : (ℕ → Bool) → Option Op → Type 0
 WaitsFor keys None = Unit {0}
 WaitsFor keys (Some op) = keys (key_of op) ≡ true
 
-pub record RunAlike (keys : ℕ → Bool) (m n : Map) (r s : Run) : Type 0 where
+pub record RunAlike (keys : ℕ → Bool) (m n : Map) (r s : AloneRun) : Type 0 where
   pub last : Alike keys m n r.last s.last
   pub earlier : AllAlike keys m n r.earlier s.earlier
   pub pending : r.pending ≡ s.pending
   pub waits : WaitsFor keys r.pending
   pub notes : r.notes ≡ s.notes
 
-abbrev pub RunsAlike : (ℕ → Bool) → Map → Map → Option Run → Option Run → Type 0
+abbrev pub RunsAlike : (ℕ → Bool) → Map → Map → Option AloneRun → Option AloneRun → Type 0
 RunsAlike keys m n None None = Unit {0}
 RunsAlike keys m n (Some r) (Some s) = RunAlike keys m n r s
 RunsAlike keys m n None (Some s) = ⊥
 RunsAlike keys m n (Some r) None = ⊥
 
--- The key that the entry asks for, if it asks for one, passes the test.
+-- If the entry asks for a key, the key passes the test.
 abbrev pub AsksFor : (ℕ → Bool) → Entry → Type 0
 AsksFor keys (Asked c op) = keys (key_of op) ≡ true
 AsksFor keys _ = Unit {0}
@@ -55,7 +55,7 @@ AllAskFor keys (e ∷ es) = AsksFor keys e × AllAskFor keys es
 apart_from : (keys : ℕ → Bool) (k q : ℕ) → keys k ≡ true → keys q ≡ false → (q == k) ≡ false
 apart_from keys k q in_keys out = ne_eqb q k (λ same. false≢true (sym out ∙ ap keys same ∙ in_keys))
 
--- A change at a key that passes the test.
+-- A change at a key that passes the test keeps the maps alike.
 module _ (keys : ℕ → Bool) (m n a b : Map) (alike : Alike keys m n a b) (k : ℕ) (in_keys : keys k ≡ true) where
   insert_alike : (v : ℕ) → Alike keys m n (insert a k v) (insert b k v)
   insert_alike v = record {
@@ -89,7 +89,7 @@ is_change_alike keys m n a b (Get k) alike is = refl
 is_change_alike keys m n a b (PutIf k expected v) alike is = ap (λ o. option_eq nat_eq o expected) (alike.inside k is)
 
 module _ (keys : ℕ → Bool) (m n : Map) where
-  add_alike : (r s : Run) (op : Op) → RunAlike keys m n r s → keys (key_of op) ≡ true → RunAlike keys m n (record (with_op r op) { pending = None }) (record (with_op s op) { pending = None })
+  add_alike : (r s : AloneRun) (op : Op) → RunAlike keys m n r s → keys (key_of op) ≡ true → RunAlike keys m n (record (with_op r op) { pending = None }) (record (with_op s op) { pending = None })
   add_alike r s op alike is =
       let P : Bool → Bool → Type 0 = λ x y. RunAlike keys m n
       (record (cond x (record r { last = after r.last op; earlier = r.last ∷ r.earlier }) r) { pending = None })
@@ -100,14 +100,14 @@ module _ (keys : ℕ → Bool) (m n : Map) where
         | false ↦ record { last = alike.last; earlier = alike.earlier; pending = refl; waits = tt; notes = alike.notes }
       ])
 
-  did_alike : (r s : Run) (x : Option ℕ) (p : Option Op) → RunAlike keys m n r s → WaitsFor keys p → RunsAlike keys m n (act_did r p x) (act_did s p x)
+  did_alike : (r s : AloneRun) (x : Option ℕ) (p : Option Op) → RunAlike keys m n r s → WaitsFor keys p → RunsAlike keys m n (act_did r p x) (act_did s p x)
   did_alike r s x None alike is = tt
   did_alike r s x (Some op) alike is =
       let P : Bool → Bool → Type 0 = λ t u. RunsAlike keys m n (cond t (Some (record (with_op r op) { pending = None })) None) (cond u (Some (record (with_op s op) { pending = None })) None) in
       subst (P (option_eq nat_eq x (reply_of r.last op))) (ap (option_eq nat_eq x) (alike.last.inside (key_of op) is))
       (elim (option_eq nat_eq x (reply_of r.last op)) as (λ t. P t t) [ true ↦ add_alike r s op alike is | false ↦ tt ])
 
-  undone_alike : (r s : Run) (rs ss : List Map) → RunAlike keys m n r s → AllAlike keys m n rs ss → RunsAlike keys m n (act_undone r rs) (act_undone s ss)
+  undone_alike : (r s : AloneRun) (rs ss : List Map) → RunAlike keys m n r s → AllAlike keys m n rs ss → RunsAlike keys m n (act_undone r rs) (act_undone s ss)
   undone_alike r s [] [] alike is = tt
   undone_alike r s [] (b ∷ ss) alike is = is
   undone_alike r s (a ∷ rs) [] alike is = is
@@ -119,10 +119,10 @@ module _ (keys : ℕ → Bool) (m n : Map) where
   length_alike (a ∷ rs) [] is = absurd is
   length_alike (a ∷ rs) (b ∷ ss) is = ap suc (length_alike rs ss is.1)
 
-  number_alike : (r s : Run) → RunAlike keys m n r s → number_of_maps r ≡ number_of_maps s
+  number_alike : (r s : AloneRun) → RunAlike keys m n r s → number_of_maps r ≡ number_of_maps s
   number_alike r s alike = ap (λ k. k + 1) (length_alike r.earlier s.earlier alike.earlier)
 
-  returned_alike : (r s : Run) (k : ℕ) → RunAlike keys m n r s → RunsAlike keys m n (act_returned r k) (act_returned s k)
+  returned_alike : (r s : AloneRun) (k : ℕ) → RunAlike keys m n r s → RunsAlike keys m n (act_returned r k) (act_returned s k)
   returned_alike r s k alike =
       let P : Bool → Bool → Type 0 = λ t u. RunsAlike keys m n (cond t (Some (record r { notes = take (k + 1) r.notes })) None) (cond u (Some (record s { notes = take (k + 1) s.notes })) None) in
       let same : option_eq nat_eq (slice_get r.notes k) (Some (number_of_maps r)) ≡ option_eq nat_eq (slice_get s.notes k) (Some (number_of_maps s)) =
@@ -133,7 +133,7 @@ module _ (keys : ℕ → Bool) (m n : Map) where
         | false ↦ tt
       ])
 
-  act_alike : (e : Entry) (r s : Run) → AsksFor keys e → RunAlike keys m n r s → RunsAlike keys m n (act r e) (act s e)
+  act_alike : (e : Entry) (r s : AloneRun) → AsksFor keys e → RunAlike keys m n r s → RunsAlike keys m n (act r e) (act s e)
   act_alike (Asked c op) r s is alike = record { last = alike.last; earlier = alike.earlier; pending = refl; waits = is; notes = alike.notes }
   act_alike (Did c x) r s is alike =
       subst (λ p. RunsAlike keys m n (act_did r r.pending x) (act_did s p x)) alike.pending (did_alike r s x r.pending alike alike.waits)
@@ -148,7 +148,7 @@ module _ (keys : ℕ → Bool) (m n : Map) where
   act_alike (Returned c k) r s is alike = returned_alike r s k alike
   act_alike _ r s is alike = alike
 
-  fold_alike : (es : List Entry) (r s : Option Run) → AllAskFor keys es → RunsAlike keys m n r s
+  fold_alike : (es : List Entry) (r s : Option AloneRun) → AllAskFor keys es → RunsAlike keys m n r s
       → RunsAlike keys m n (fold (λ run e. option_and_then (λ r. act r e) run) r es) (fold (λ run e. option_and_then (λ r. act r e) run) s es)
   fold_alike [] r s asks alike = alike
   fold_alike (e ∷ es) None None asks alike = fold_alike es None None asks.1 tt

@@ -12,7 +12,7 @@ use Rattle.txn_words.specs.declared.entry.Entry.TheVariants.{Began, Asked, Did, 
 use Rattle.txn_words.specs.Map.{Map, key_of, reply_of, after, is_change}
 use Rattle.txn_trace.specs.History.{of}
 use Rattle.txn_words.specs.Kinds.{caller_of, is_began}
-use Rattle.txn_trace.specs.Alone.{Run, start, number_of_maps, with_op, act_did, act_undone, act, alone}
+use Rattle.txn_trace.specs.Alone.{AloneRun, start, number_of_maps, with_op, act_did, act_undone, act, alone}
 use Rattle.txn_trace.specs.Locks.{asks_in, stripe_of}
 use Rattle.txn_words.specs.declared.seat.Phase.{Phase}
 use Rattle.txn_words.specs.declared.seat.Phase.TheVariants.{Closed, Opened, Waiting, LeavingTo, LeavingToEnd}
@@ -39,7 +39,7 @@ log_after-own g e = ap log_after (own-push_in (caller_of e) g e refl) ∙ log_af
 pub log_after-other : (c : ℕ) (g : List Entry) (e : Entry) → c ≢ caller_of e → log_after (own c (g ++ e ∷ [])) ≡ log_after (own c g)
 log_after-other c g e other = ap log_after (own-push_out c g e (not_equal c (caller_of e) other))
 
--- A phase, as a statement about the log.
+-- What a phase says about the log.
 abbrev pub PhaseLogged : Phase → Log → Type 0
 PhaseLogged (Waiting op) log = log.pending ≡ Some op
 PhaseLogged _ log = Unit {0}
@@ -99,15 +99,15 @@ fold_logged (e ∷ es) (Some s) log is = fold_logged es (row s s.phase e) (log_s
 pub seat_logged : (es : List Entry) (s : Seat) → seat_after es ≡ Some s → SeatLogged s (log_after es)
 seat_logged es s is = subst (λ o. LoggedAfter o (log_after es)) is (fold_logged es (Some closed_seat) no_log (record { count = refl; phase = tt }))
 
--- The log agrees with the run: the same operation waits in both, and for each map of the run but
--- the first the log has the change that made this map. The keys of the waiting operation and of the
+-- The log agrees with the run. The same operation waits in both. For each map of the run except the
+-- first, the log has the change that made this map. The keys of the waiting operation and of the
 -- changes pass the test.
-pub record Logs (keys : ℕ → Bool) (log : Log) (r : Run) : Type 0 where
+pub record Logs (keys : ℕ → Bool) (log : Log) (r : AloneRun) : Type 0 where
   pub pending : log.pending ≡ r.pending
   pub waits : WaitsFor keys r.pending
   pub standing : IsLogged keys log.standing r.last r.earlier
 
--- A log that fits a test of keys fits a wider one.
+-- A log that fits a test of keys fits a wider test.
 wider_waits : (keys wide : ℕ → Bool) → ((k : ℕ) → keys k ≡ true → wide k ≡ true) → (p : Option Op) → WaitsFor keys p → WaitsFor wide p
 wider_waits keys wide to None is = tt
 wider_waits keys wide to (Some op) is = to (key_of op) is
@@ -118,12 +118,12 @@ wider_jobs keys wide to (job ∷ jobs) last (m ∷ ms) is = (to job.0 is.0, is.1
 wider_jobs keys wide to [] last (m ∷ ms) is = is
 wider_jobs keys wide to (job ∷ jobs) last [] is = is
 
-wider : (keys wide : ℕ → Bool) → ((k : ℕ) → keys k ≡ true → wide k ≡ true) → (log : Log) (r : Run) → Logs keys log r → Logs wide log r
+wider : (keys wide : ℕ → Bool) → ((k : ℕ) → keys k ≡ true → wide k ≡ true) → (log : Log) (r : AloneRun) → Logs keys log r → Logs wide log r
 wider keys wide to log r is = record { pending = is.pending; waits = wider_waits keys wide to r.pending is.waits; standing = wider_jobs keys wide to log.standing r.last r.earlier is.standing }
 
 -- After one more entry of the transaction the log still agrees with the run, if the run is still
 -- defined.
-did_logs : (keys : ℕ → Bool) (log : Log) (r r' : Run) (x : Option ℕ) (p : Option Op) → log.pending ≡ p → WaitsFor keys p → IsLogged keys log.standing r.last r.earlier → act_did r p x ≡ Some r' → Logs keys (log_did log p x) r'
+did_logs : (keys : ℕ → Bool) (log : Log) (r r' : AloneRun) (x : Option ℕ) (p : Option Op) → log.pending ≡ p → WaitsFor keys p → IsLogged keys log.standing r.last r.earlier → act_did r p x ≡ Some r' → Logs keys (log_did log p x) r'
 did_logs keys log r r' x None at waits is goes = absurd (cc (goes))
 did_logs keys log r r' x (Some op) at waits is goes =
     (elim (option_eq nat_eq x (reply_of r.last op)) as (λ b. option_eq nat_eq x (reply_of r.last op) ≡ b → cond b (Some (record (with_op r op) { pending = None })) None ≡ Some r' → Logs keys (log_did log (Some op) x) r') [
@@ -142,7 +142,7 @@ did_logs keys log r r' x (Some op) at waits is goes =
           ]) refl)))
     ]) refl goes
 
-undone_logs : (keys : ℕ → Bool) (log : Log) (r r' : Run) (jobs : List (ℕ × Option ℕ)) (ms : List Map) → log.pending ≡ r.pending → WaitsFor keys r.pending → IsLogged keys jobs r.last ms → act_undone r ms ≡ Some r'
+undone_logs : (keys : ℕ → Bool) (log : Log) (r r' : AloneRun) (jobs : List (ℕ × Option ℕ)) (ms : List Map) → log.pending ≡ r.pending → WaitsFor keys r.pending → IsLogged keys jobs r.last ms → act_undone r ms ≡ Some r'
     → Logs keys (record log { standing = drop 1 jobs }) r'
 undone_logs keys log r r' jobs [] at waits is goes = absurd (cc (goes))
 undone_logs keys log r r' [] (m ∷ ms) at waits is goes = absurd is
@@ -150,7 +150,7 @@ undone_logs keys log r r' (job ∷ jobs) (m ∷ ms) at waits is goes =
     let is_r' : record r { last = m; earlier = ms } ≡ r' = cc (goes) in
     subst (Logs keys (record log { standing = jobs })) is_r' (record { pending = at; waits = waits; standing = is.3 })
 
-act_logs : (keys : ℕ → Bool) (log : Log) (r r' : Run) (e : Entry) → is_began e ≡ false → is_end e ≡ false → AsksFor keys e → Logs keys log r → act r e ≡ Some r' → Logs keys (log_step log e) r'
+act_logs : (keys : ℕ → Bool) (log : Log) (r r' : AloneRun) (e : Entry) → is_began e ≡ false → is_end e ≡ false → AsksFor keys e → Logs keys log r → act r e ≡ Some r' → Logs keys (log_step log e) r'
 act_logs keys log r r' (Began c t) b n asks is goes = absurd (false≢true (sym b))
 act_logs keys log r r' (Committed c p) b n asks is goes = absurd (false≢true (sym n))
 act_logs keys log r r' (Aborted c) b n asks is goes = absurd (false≢true (sym n))
@@ -175,7 +175,7 @@ act_logs keys log r r' (Busy c op x) b n asks is goes = subst (Logs keys log) (c
 
 -- On whatever map a transaction runs, its caller's log agrees with the run.
 abbrev pub AreLogged : ℕ → List Entry → Type 0
-AreLogged stripes g = (c t : ℕ) → txn_in g c ≡ Some t → ended t g ≡ false → (m : Map) (r : Run) → alone m (of t g) ≡ Some r → Logs (keys_in stripes (of t g)) (log_after (own c g)) r
+AreLogged stripes g = (c t : ℕ) → txn_in g c ≡ Some t → ended t g ≡ false → (m : Map) (r : AloneRun) → alone m (of t g) ≡ Some r → Logs (keys_in stripes (of t g)) (log_after (own c g)) r
 
 keys_in-more : (stripes : ℕ) (es : List Entry) (e : Entry) (k : ℕ) → keys_in stripes es k ≡ true → keys_in stripes (es ++ e ∷ []) k ≡ true
 keys_in-more stripes [] e k is = absurd (false≢true is)
@@ -196,12 +196,12 @@ began_logs : (stripes : ℕ) (log : Log) (m : Map) (e : Entry) → is_began e �
 began_logs stripes log m (Began c t) b = record { pending = refl; waits = tt; standing = tt }
 began_logs stripes log m _ b = absurd (false≢true b)
 
-some_before : (o : Option Run) (e : Entry) (r : Run) → option_and_then (λ q. act q e) o ≡ Some r → (q : Run) × (o ≡ Some q) × (act q e ≡ Some r)
+some_before : (o : Option AloneRun) (e : Entry) (r : AloneRun) → option_and_then (λ q. act q e) o ≡ Some r → (q : AloneRun) × (o ≡ Some q) × (act q e ≡ Some r)
 some_before None e r is = absurd (cc (is))
 some_before (Some q) e r is = (q, refl, is)
 
 module _ (stripes : ℕ) (g : List Entry) (e : Entry) (callers : Callers g) (shaped : is_shaped g e ≡ true) (seated : AreSeated g) (logged : AreLogged stripes g) where
-  logged_began : (c t : ℕ) → c ≡ caller_of e → txn_at g e ≡ Some t → is_began e ≡ true → (m : Map) (r : Run) → alone m (of t (g ++ e ∷ [])) ≡ Some r → Logs (keys_in stripes (of t (g ++ e ∷ []))) (log_after (own c (g ++ e ∷ []))) r
+  logged_began : (c t : ℕ) → c ≡ caller_of e → txn_at g e ≡ Some t → is_began e ≡ true → (m : Map) (r : AloneRun) → alone m (of t (g ++ e ∷ [])) ≡ Some r → Logs (keys_in stripes (of t (g ++ e ∷ []))) (log_after (own c (g ++ e ∷ []))) r
   logged_began c t mine at b m r run =
       let entries : of t (g ++ e ∷ []) ≡ e ∷ [] = of-push_in t g e at ∙ ap (λ xs. xs ++ e ∷ []) (none_before g e callers shaped seated t b at) in
       let same_run : start m ≡ r = cc (sym (alone_began m e b) ∙ ap (alone m) (sym entries) ∙ run) in
@@ -210,7 +210,7 @@ module _ (stripes : ℕ) (g : List Entry) (e : Entry) (callers : Callers g) (sha
       (subst (λ l. Logs (keys_in stripes (e ∷ [])) l r) (sym log)
       (subst (Logs (keys_in stripes (e ∷ [])) (log_step (log_after (own (caller_of e) g)) e)) same_run (began_logs stripes (log_after (own (caller_of e) g)) m e b)))
 
-  logged_on : (c t : ℕ) → c ≡ caller_of e → txn_at g e ≡ Some t → is_began e ≡ false → ended t (g ++ e ∷ []) ≡ false → (m : Map) (r : Run) → alone m (of t (g ++ e ∷ [])) ≡ Some r → Logs (keys_in stripes (of t (g ++ e ∷ []))) (log_after (own c (g ++ e ∷ []))) r
+  logged_on : (c t : ℕ) → c ≡ caller_of e → txn_at g e ≡ Some t → is_began e ≡ false → ended t (g ++ e ∷ []) ≡ false → (m : Map) (r : AloneRun) → alone m (of t (g ++ e ∷ [])) ≡ Some r → Logs (keys_in stripes (of t (g ++ e ∷ []))) (log_after (own c (g ++ e ∷ []))) r
   logged_on c t mine at b going m r run =
       let goes : is_end e ≡ false = sym (ended_in g e callers shaped t at) ∙ going in
       let entries : of t (g ++ e ∷ []) ≡ of t g ++ e ∷ [] = of-push_in t g e at in

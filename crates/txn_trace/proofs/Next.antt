@@ -10,7 +10,7 @@ use Rattle.txn_words.specs.declared.entry.Entry.TheVariants.{Began, Asked, Did, 
 use Rattle.txn_words.specs.Map.{Map}
 use Rattle.txn_trace.specs.History.{of}
 use Rattle.txn_words.specs.Kinds.{caller_of, is_began, is_commit}
-use Rattle.txn_trace.specs.Alone.{Run, number_of_maps, act, alone, last_map, map_after}
+use Rattle.txn_trace.specs.Alone.{AloneRun, number_of_maps, act, alone, last_map, map_after}
 use Rattle.txn_trace.specs.Serial.{serial}
 use Rattle.txn_trace.specs.Now.{now}
 use Rattle.txn_trace.specs.Locks.{holder_of, asks_in, is_locked}
@@ -30,9 +30,9 @@ use Rattle.txn_trace.proofs.Seated.{are_seated, the_some}
 use Rattle.txn_trace.proofs.Logs.{Logs, are_logged, log_after-own, log_after-other}
 use Rattle.txn_trace.proofs.Holders.{holder_of-other}
 
--- The state of a history after one more entry: it is legal; the entry's caller has this seat and
--- this log, and every other caller's are unchanged; the committed map and the map now are these,
--- and these are the holders of the stripes.
+-- The state after one more entry. The history is legal. The entry's caller has this seat and this
+-- log, and the seats and logs of all other callers are unchanged. The committed map, the map now
+-- and the holders of the stripes are these.
 pub record Next (holder : Holder) (stripes : ℕ) (g : List Entry) (e : Entry) (seat : Seat) (log : List (ℕ × Option ℕ)) (committed current : Map) (held : ℕ → Option ℕ) : Type 0 where
   pub legal : IsLegal holder stripes (g ++ e ∷ [])
   pub seat_is : seat_after (own (caller_of e) (g ++ e ∷ [])) ≡ Some seat
@@ -43,7 +43,7 @@ pub record Next (holder : Holder) (stripes : ℕ) (g : List Entry) (e : Entry) (
   pub now_is : now (g ++ e ∷ []) ≡ current
   pub holder_is : (s : ℕ) → holder_of stripes s (g ++ e ∷ []) ≡ held s
 
--- An entry of another caller changes neither a caller's own entries nor its seat nor its log.
+-- An entry of another caller leaves a caller's own entries, its seat and its log unchanged.
 pub own-other : (d : ℕ) (g : List Entry) (e : Entry) → d ≢ caller_of e → own d (g ++ e ∷ []) ≡ own d g
 own-other d g e other = own-push_out d g e (not_equal d (caller_of e) other)
 
@@ -74,19 +74,19 @@ is_quiet (Returned c n) = true
 is_quiet (Busy c op x) = true
 is_quiet _ = false
 
-pub quiet_reply : (r : Run) (e : Entry) → is_quiet e ≡ true → IsReply r e
+pub quiet_reply : (r : AloneRun) (e : Entry) → is_quiet e ≡ true → IsReply r e
 quiet_reply r (Did c x) quiet = absurd (false≢true quiet)
 quiet_reply r _ quiet = tt
 
-pub quiet_last : (r r' : Run) (e : Entry) → is_quiet e ≡ true → act r e ≡ Some r' → r'.last ≡ r.last
-quiet_last r r' (Asked c op) quiet goes = let same : record r { pending = Some op } ≡ r' = cc (goes) in ap (λ (q : Run). q.last) (sym same)
-quiet_last r r' (Saved c) quiet goes = let same : record r { notes = r.notes ++ number_of_maps r ∷ [] } ≡ r' = cc (goes) in ap (λ (q : Run). q.last) (sym same)
-quiet_last r r' (Leave c n) quiet goes = let same : r ≡ r' = cc (goes) in ap (λ (q : Run). q.last) (sym same)
-quiet_last r r' (Busy c op x) quiet goes = let same : r ≡ r' = cc (goes) in ap (λ (q : Run). q.last) (sym same)
+pub quiet_last : (r r' : AloneRun) (e : Entry) → is_quiet e ≡ true → act r e ≡ Some r' → r'.last ≡ r.last
+quiet_last r r' (Asked c op) quiet goes = let same : record r { pending = Some op } ≡ r' = cc (goes) in ap (λ (q : AloneRun). q.last) (sym same)
+quiet_last r r' (Saved c) quiet goes = let same : record r { notes = r.notes ++ number_of_maps r ∷ [] } ≡ r' = cc (goes) in ap (λ (q : AloneRun). q.last) (sym same)
+quiet_last r r' (Leave c n) quiet goes = let same : r ≡ r' = cc (goes) in ap (λ (q : AloneRun). q.last) (sym same)
+quiet_last r r' (Busy c op x) quiet goes = let same : r ≡ r' = cc (goes) in ap (λ (q : AloneRun). q.last) (sym same)
 quiet_last r r' (Returned c k) quiet goes =
     (elim (option_eq nat_eq (slice_get r.notes k) (Some (number_of_maps r))) as (λ b. cond b (Some (record r { notes = take (k + 1) r.notes })) None ≡ Some r' → r'.last ≡ r.last) [
       | false ↦ λ h. absurd (cc (h))
-      | true ↦ λ h. let same : record r { notes = take (k + 1) r.notes } ≡ r' = cc (h) in ap (λ (q : Run). q.last) (sym same)
+      | true ↦ λ h. let same : record r { notes = take (k + 1) r.notes } ≡ r' = cc (h) in ap (λ (q : AloneRun). q.last) (sym same)
     ]) goes
 quiet_last r r' _ quiet goes = absurd (false≢true quiet)
 
@@ -106,7 +106,7 @@ quiet_goes (Returned c n) quiet = (refl, refl, refl)
 quiet_goes (Busy c op x) quiet = (refl, refl, refl)
 quiet_goes _ quiet = absurd (false≢true quiet)
 
-pub some_fits : (s : Seat) (o : Option Run) → FitsAfter (Some s) o → is_some o ≡ true
+pub some_fits : (s : Seat) (o : Option AloneRun) → FitsAfter (Some s) o → is_some o ≡ true
 some_fits s None fits = absurd fits
 some_fits s (Some r) fits = refl
 
@@ -127,7 +127,7 @@ module _ {holder : Holder} (stripes : ℕ) (g : List Entry) (legal : IsLegal hol
   pub next_log : (log_of (caller_of e) (g ++ e ∷ [])) ≡ (log_step (log_after (own (caller_of e) g)) e).standing
   next_log = log_of-own g e
 
-  -- If the caller is in a transaction.
+  -- Lemmas for a caller that is in a transaction.
   module _ (active : runs seat.phase ≡ true) where
     pub there : Running g (caller_of e)
     there = running_txn g legal.shape (caller_of e) (ap is_running seat_is ∙ active)
@@ -149,10 +149,10 @@ module _ {holder : Holder} (stripes : ℕ) (g : List Entry) (legal : IsLegal hol
     pub at_txn : is_began e ≡ false → txn_at g e ≡ Some txn
     at_txn began = txn_at-not_began g e began ∙ in_txn
 
-    the_run : (r : Run) × (alone (serial g) (of txn g) ≡ Some r)
+    the_run : (r : AloneRun) × (alone (serial g) (of txn g) ≡ Some r)
     the_run = the_some (alone (serial g) (of txn g)) (legal.replies g ([], append-nil g) txn (open_going txn g going))
 
-    pub run : Run
+    pub run : AloneRun
     run = the_run.0
 
     pub run_is : alone (serial g) (of txn g) ≡ Some run
@@ -168,14 +168,15 @@ module _ {holder : Holder} (stripes : ℕ) (g : List Entry) (legal : IsLegal hol
     pub run_logs : Logs (keys_in stripes (of txn g)) (log_after (own (caller_of e) g)) run
     run_logs = are_logged stripes g legal.shape (caller_of e) txn in_txn going (serial g) run run_is
 
-    pub run_next : (r : Run) → act run e ≡ Some r → alone (serial g) (of txn g ++ e ∷ []) ≡ Some r
+    pub run_next : (r : AloneRun) → act run e ≡ Some r → alone (serial g) (of txn g ++ e ∷ []) ≡ Some r
     run_next r acts = alone-push (serial g) (of txn g) e ∙ ap (option_and_then (λ q. act q e)) run_is ∙ acts
 
     pub last_is : map_after (serial g) (of txn g) ≡ run.last
     last_is = ap (last_map (serial g)) run_is
 
-    -- An entry that commits nothing is legal if the run is defined after it.
-    pub legal_next : (r : Run) → act run e ≡ Some r → is_began e ≡ false → is_commit e ≡ false → is_locked holder stripes g e ≡ true → IsLegal holder stripes (g ++ e ∷ [])
+    -- An entry that neither begins nor commits a transaction is legal if the run is defined after
+    -- it.
+    pub legal_next : (r : AloneRun) → act run e ≡ Some r → is_began e ≡ false → is_commit e ≡ false → is_locked holder stripes g e ≡ true → IsLegal holder stripes (g ++ e ∷ [])
     legal_next r acts began commit locked = legal_push stripes g e legal shaped_by_row locked
         (replies-push_other g e txn legal.shape shape_next shaped_by_row commit (at_txn began)
         (legal.replies g ([], append-nil g)) (ap is_some (run_next r acts)))
@@ -208,8 +209,8 @@ module _ {holder : Holder} (stripes : ℕ) (g : List Entry) (legal : IsLegal hol
     pub still_next : is_quiet e ≡ true → is_locked holder stripes g e ≡ true → ((s : ℕ) → asks_in stripes s e ≡ false) → Next holder stripes g e next (log_of (caller_of e) g) (serial g) (now g) (λ s. holder_of stripes s g)
     still_next quiet locked asks = quiet_next (λ s. holder_of stripes s g) quiet locked (λ s. holder_of-other holder stripes g e callers shaped_by_row legal.shape legal.locks s (quiet_goes e quiet).1 (asks s))
 
--- An entry that commits nothing leaves the runs of other transactions unchanged, and acts on the
--- run of its transaction.
+-- An entry that commits nothing leaves the runs of other transactions unchanged. It acts on the run
+-- of its own transaction.
 pub run-other : {holder : Holder} (stripes : ℕ) (g : List Entry) → IsLegal holder stripes g → (e : Entry) (t u : ℕ) → is_shaped g e ≡ true → is_commit e ≡ false → txn_at g e ≡ Some t → u ≢ t
     → alone (serial (g ++ e ∷ [])) (of u (g ++ e ∷ [])) ≡ alone (serial g) (of u g)
 run-other stripes g legal e t u shaped commit at away =

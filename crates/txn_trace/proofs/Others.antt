@@ -77,7 +77,7 @@ module _ (holder : Holder) (stripes : ℕ) (g : List Entry) (e : Entry) (t : ℕ
       ∙ ap (λ m. get (map_after m (of t (g ++ e ∷ []))) k) same_committed
       ∙ ap (λ es. get (map_after (serial g) es) k) (of-push_in t g e at)
 
-  -- The map now changes exactly as the last map of the transaction does.
+  -- The map `now` changes exactly as the last map of the transaction does.
   pub now_at-push : (k : ℕ) → is_end e ≡ false → IsRunning g t
       → ((now_at (g ++ e ∷ []) k ≡ now_at g k) × (keys_in stripes (of t g) k ≡ false))
       ⊎ ((now_at (g ++ e ∷ []) k ≡ get (map_after (serial g) (of t g ++ e ∷ [])) k) × (now_at g k ≡ get (map_after (serial g) (of t g)) k))
@@ -95,6 +95,6 @@ module _ (holder : Holder) (stripes : ℕ) (g : List Entry) (e : Entry) (t : ℕ
     | inr none ↦ inr (now_at-push_mine k goes (λ u going away. none u going), now_at-mine stripes g k t running (λ u going away. none u going))
   ]
 
-  -- An entry that leaves the transaction's last map unchanged leaves the map now unchanged.
+  -- An entry that does not change the transaction's last map does not change the map `now`.
   pub now-push_same : is_end e ≡ false → IsRunning g t → map_after (serial g) (of t g ++ e ∷ []) ≡ map_after (serial g) (of t g) → now (g ++ e ∷ []) ≡ now g
   now-push_same goes running same = same_map (now (g ++ e ∷ [])) (now g) (λ k. get-now (g ++ e ∷ []) k ∙ elim (now_at-push k goes running) [ inl w ↦ w.0 | inr w ↦ w.0 ∙ ap (λ m. get m k) same ∙ sym w.1 ] ∙ sym (get-now g k))

@@ -1,4 +1,4 @@
--- Worked histories of workers, by computing: the scripts that they play.
+-- Worked histories of workers, checked by computation: the scripts that they play.
 use Rattle.std.proofs.Common.{[], ◌≡◌, ℕ, List, ◌∷◌, Some, None, refl, sym, subst, arith, lit≤, lit<}
 use Rattle.txn_words.specs.declared.op.Op.TheVariants.{Put, Take, Get}
 use Rattle.txn_words.specs.declared.action.Action.{Action}
@@ -9,7 +9,7 @@ use Rattle.txn_words.specs.declared.entry.Entry.TheVariants.{Began, Asked, Did, 
 use Rattle.txn_trace.specs.Legal.{verdict, Legal}
 use Rattle.txn_trace.specs.Plays.{Plays, commits_of, PlayRising, PlayScripts}
 
--- One worker plays a script, and then aborts another.
+-- One worker plays its first script. The worker's second script aborts.
 abbrev one_worker : List Entry
 one_worker = Began 0 1 ∷ Asked 0 (Put 1 10) ∷ Did 0 None ∷ Saved 0 ∷ Asked 0 (Take 1) ∷ Did 0 (Some 10) ∷ Leave 0 (Some 1) ∷ Undone 0 ∷ Returned 0 1 ∷ Committed 0 1
     ∷ Began 0 2 ∷ Asked 0 (Get 1) ∷ Did 0 (Some 10) ∷ Leave 0 None ∷ Aborted 0 ∷ []

@@ -55,7 +55,8 @@ pub of_is : (t : ℕ) (o : Option ℕ) → option_eq nat_eq o (Some t) ≡ true 
 of_is t None is = absurd (false≢true is)
 of_is t (Some u) is = ap Some (eqb-true u t is)
 
--- The entries of a transaction, after one more entry of it or of another.
+-- One more entry is added to the entries of its transaction. The entries of every other transaction
+-- are unchanged.
 pub of-push_in : (t : ℕ) (g : List Entry) (e : Entry) → txn_at g e ≡ Some t → of t (g ++ e ∷ []) ≡ of t g ++ e ∷ []
 of-push_in t g e is = of-push t g e ∙ ap (λ b. of t g ++ cond b (e ∷ []) []) (some_itself t _ is)
 

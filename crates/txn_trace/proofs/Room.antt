@@ -89,8 +89,9 @@ row_fits s q e at = tt
 pub owed_by-row : (s next : Seat) (e : Entry) → row s s.phase e ≡ Some next → owed_by (Some next) + 1 ≤ owed_by (Some s) + reserved_for e
 owed_by-row s next e is = subst (FitsIn (owed_in s.standing s.phase + reserved_for e)) is (row_fits s s.phase e refl)
 
--- The same for all callers together: the places for the entries owed before an entry, and those
--- reserved for the entry, are enough for the entry and for the entries owed after it.
+-- For all callers together: one more entry takes one place, and each entry that is owed after it
+-- takes one place. The places for the entries that were owed before it and the places that are
+-- reserved for it are enough.
 pub owed-push : (callers : ℕ) (g : List Entry) (e : Entry) → IsShaped g → is_shaped g e ≡ true → caller_of e < callers → owed callers (g ++ e ∷ []) + 1 ≤ owed callers g + reserved_for e
 owed-push callers g e shape shaped within =
     let c : ℕ = caller_of e in

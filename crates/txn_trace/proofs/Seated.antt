@@ -11,7 +11,7 @@ use Rattle.txn_words.specs.declared.entry.Entry.TheVariants.{Began, Did}
 use Rattle.txn_words.specs.Map.{Map, reply_of}
 use Rattle.txn_trace.specs.History.{lines_of, of}
 use Rattle.txn_words.specs.Kinds.{caller_of, is_began}
-use Rattle.txn_trace.specs.Alone.{Run, start, with_op, act_did, act, alone}
+use Rattle.txn_trace.specs.Alone.{AloneRun, start, with_op, act_did, act, alone}
 use Rattle.txn_words.specs.declared.seat.Phase.{Phase}
 use Rattle.txn_words.specs.declared.seat.Phase.TheVariants.{Closed, Opened}
 use Rattle.txn_words.specs.Shape.{Seat, row, seat_after, closed_seat, own, is_shaped, IsShaped}
@@ -26,13 +26,13 @@ use Rattle.txn_trace.proofs.Fits.{Fits, FitsAfter, IsReply, fits_act, fits_start
 pub record Seated (g : List Entry) (c t : ℕ) : Type 0 where
   pub seat : Seat
   pub is : seat_after (own c g) ≡ Some seat
-  pub fits : (m : Map) (r : Run) → alone m (of t g) ≡ Some r → Fits seat r
+  pub fits : (m : Map) (r : AloneRun) → alone m (of t g) ≡ Some r → Fits seat r
 
 abbrev pub AreSeated : List Entry → Type 0
 AreSeated g = (c t : ℕ) → txn_in g c ≡ Some t → ended t g ≡ false → Seated g c t
 
 -- If a run is defined after an entry, the entry's reply is right.
-pub reply_of_act : (r r' : Run) (e : Entry) → act r e ≡ Some r' → IsReply r e
+pub reply_of_act : (r r' : AloneRun) (e : Entry) → act r e ≡ Some r' → IsReply r e
 reply_of_act r r' (Did c x) is = λ op waits.
     let goes : act_did r (Some op) x ≡ Some r' = ap (λ p. act_did r p x) (sym waits) ∙ is in
     same_option x (reply_of r.last op)
@@ -74,8 +74,8 @@ module _ (g : List Entry) (e : Entry) (callers : Callers g) (shaped : is_shaped 
 
   -- If the seat before the entry agrees with the run before it, the seat after the entry agrees
   -- with the run after it.
-  goes_on : (s s' : Seat) (m : Map) (t : ℕ) → is_began e ≡ false → is_end e ≡ false → ((r : Run) → alone m (of t g) ≡ Some r → Fits s r) → is_some (row s s.phase e) ≡ true → row s s.phase e ≡ Some s'
-      → (o : Option Run) → alone m (of t g) ≡ o → (r : Run) → option_and_then (λ q. act q e) o ≡ Some r → Fits s' r
+  goes_on : (s s' : Seat) (m : Map) (t : ℕ) → is_began e ≡ false → is_end e ≡ false → ((r : AloneRun) → alone m (of t g) ≡ Some r → Fits s r) → is_some (row s s.phase e) ≡ true → row s s.phase e ≡ Some s'
+      → (o : Option AloneRun) → alone m (of t g) ≡ o → (r : AloneRun) → option_and_then (λ q. act q e) o ≡ Some r → Fits s' r
   goes_on s s' m t b n fits h is None was r goes = absurd (cc (goes))
   goes_on s s' m t b n fits h is (Some q) was r goes =
       let both : FitsAfter (row s s.phase e) (act q e) = fits_act s q e s.phase refl b n (fits q was) (reply_of_act q r e goes) h in

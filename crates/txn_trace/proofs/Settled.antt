@@ -1,4 +1,4 @@
--- The map with the changes of a log: each key of the log has the value of another map.
+-- A map that takes the values of another map at the keys of a log.
 use Rattle.std.proofs.Common.{[], ◌≡◌, ℕ, ◌==◌, Bool, true, false, cond, List, ◌∷◌, refl, ap, sym, ◌∙◌, Option}
 use Rattle.std.specs.List.{fold, list_any}
 use Rattle.std.proofs.lemmas.Bool.{or_parts, or_cases, cases_Bool, eqb-true, false≢true, eq-eqb}

@@ -1,5 +1,5 @@
--- Each entry of the right shape keeps the properties of callers, and an ended transaction has all
--- its entries.
+-- Each entry of the right shape keeps the properties of callers. A transaction that has ended gets
+-- no more entries.
 use Rattle.std.proofs.Common.{[], ◌≡◌, ℕ, true, false, List, ◌∷◌, ◌++◌, refl, ap, sym, subst, ◌∙◌, Some, arith, append_assoc}
 use Rattle.std.specs.Option.{option_and_then}
 use Rattle.std.specs.List.{AllByRecursion}
@@ -125,7 +125,7 @@ callers_all g (e ∷ rest) callers shape =
 pub callers_of : (h : List Entry) → IsShaped h → Callers h
 callers_of h shape = callers_all [] h callers_none shape
 
--- A transaction that has ended has all its entries.
+-- A transaction that has ended gets no more entries.
 pub ended_whole : (t : ℕ) (g rest : List Entry) → Callers g → IsShaped (g ++ rest) → ended t g ≡ true → of t (g ++ rest) ≡ of t g
 ended_whole t g [] callers shape done = ap (of t) (append-nil g)
 ended_whole t g (e ∷ rest) callers shape done =

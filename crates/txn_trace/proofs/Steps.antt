@@ -12,7 +12,7 @@ use Rattle.txn_words.specs.declared.entry.Entry.TheVariants.{Committed}
 use Rattle.txn_words.specs.Map.{Map, empty}
 use Rattle.txn_trace.specs.History.{Line, lines_of, of, txns_of, ends_in, is_committed, commits}
 use Rattle.txn_words.specs.Kinds.{caller_of, is_began, is_commit}
-use Rattle.txn_trace.specs.Alone.{Run, act, alone, last_map, map_after}
+use Rattle.txn_trace.specs.Alone.{AloneRun, act, alone, last_map, map_after}
 use Rattle.txn_trace.specs.Serial.{serial}
 use Rattle.txn_words.specs.Shape.{is_shaped, IsShaped}
 use Rattle.txn_trace.proofs.Lists.{fold_filter}
@@ -75,8 +75,8 @@ module _ (g : List Entry) (e : Entry) (callers : Callers g) (shape : IsShaped g)
       ap (fold (λ m t. map_after m (of t (g ++ e ∷ []))) empty) (commits-push ∙ ap (λ b. commits g ++ cons_option (cond b (txn_at g e) None) []) is ∙ append-nil (commits g))
       ∙ same_fold
 
-  -- After a commit the committed map is the last map of the transaction, run alone on the committed
-  -- map before it.
+  -- After a commit the committed map is the last map of the transaction when it runs alone on the
+  -- committed map before the commit.
   pub serial-push_commit : (t : ℕ) → is_commit e ≡ true → txn_at g e ≡ Some t → serial (g ++ e ∷ []) ≡ map_after (serial g) (of t (g ++ e ∷ []))
   serial-push_commit t is at =
       let f : Map → ℕ → Map = λ m t. map_after m (of t (g ++ e ∷ [])) in
@@ -84,7 +84,7 @@ module _ (g : List Entry) (e : Entry) (callers : Callers g) (shape : IsShaped g)
       ∙ fold-append f empty (commits g) (t ∷ [])
       ∙ ap (λ m. f m t) same_fold
 
-same_run : (e : Entry) → is_commit e ≡ true → (o : Option Run) → option_and_then (λ r. act r e) o ≡ o
+same_run : (e : Entry) → is_commit e ≡ true → (o : Option AloneRun) → option_and_then (λ r. act r e) o ≡ o
 same_run (Committed c p) is None = refl
 same_run (Committed c p) is (Some r) = refl
 same_run _ is o = absurd (false≢true is)

@@ -11,7 +11,7 @@ use Rattle.txn_words.specs.declared.entry.Entry.TheVariants.{Asked}
 use Rattle.txn_words.specs.Map.{Map, get, key_of, keys}
 use Rattle.txn_trace.specs.History.{Line, lines_of, is_of, of}
 use Rattle.txn_words.specs.Kinds.{caller_of}
-use Rattle.txn_trace.specs.Alone.{Run, alone, map_after, last_map}
+use Rattle.txn_trace.specs.Alone.{AloneRun, alone, map_after, last_map}
 use Rattle.txn_trace.specs.Locks.{stripe_of, asks_in, is_in_open, is_locked, LocksHold}
 use Rattle.txn_words.specs.Shape.{is_shaped, IsShaped}
 use Rattle.txn_trace.proofs.Pushes.{txn_in, txn_at, of_is, of-push_in, of-push_out}
@@ -26,7 +26,8 @@ holds stripes s es = list_any (asks_in stripes s) es
 abbrev pub keys_in : ℕ → List Entry → ℕ → Bool
 keys_in stripes es k = holds stripes (stripe_of stripes k) es
 
--- If caller c is a stripe's only holder, an open transaction that holds the stripe is that of c.
+-- If caller c is a stripe's only holder, an open transaction that holds the stripe is the one that
+-- c is in.
 holder_is : (stripes s c u : ℕ) (g : List Entry) → ended u g ≡ false → (ls : List Line) → AllByRecursion (IsOwned g) ls
     → list_any (asks_in stripes s) (map (λ l. l.entry) (filter (is_of u) ls)) ≡ true
     → list_all (λ x. x == c) (map (λ l. caller_of l.entry) (filter (λ l. asks_in stripes s l.entry && is_in_open g l) ls)) ≡ true → txn_in g c ≡ Some u
@@ -129,18 +130,18 @@ asks_own stripes (e ∷ es) = (at e, asks_more (keys_in stripes es) (keys_in str
     at (Asked c op) = or_left _ _ (eq-eqb (stripe_of stripes (key_of op)) _ refl)
     at _ = tt
 
-left_of : (keys : ℕ → Bool) (m n : Map) (o p : Option Run) → RunsAlike keys m n o p → (k : ℕ) → keys k ≡ false → get (last_map m o) k ≡ get m k
+left_of : (keys : ℕ → Bool) (m n : Map) (o p : Option AloneRun) → RunsAlike keys m n o p → (k : ℕ) → keys k ≡ false → get (last_map m o) k ≡ get m k
 left_of keys m n None p alike k out = refl
 left_of keys m n (Some r) None alike k out = absurd alike
 left_of keys m n (Some r) (Some s) alike k out = alike.last.left k out
 
-inside_of : (keys : ℕ → Bool) (m n : Map) (o p : Option Run) → RunsAlike keys m n o p → (k : ℕ) → get m k ≡ get n k → keys k ≡ true → get (last_map m o) k ≡ get (last_map n p) k
+inside_of : (keys : ℕ → Bool) (m n : Map) (o p : Option AloneRun) → RunsAlike keys m n o p → (k : ℕ) → get m k ≡ get n k → keys k ≡ true → get (last_map m o) k ≡ get (last_map n p) k
 inside_of keys m n None None alike k same is = same
 inside_of keys m n None (Some s) alike k same is = absurd alike
 inside_of keys m n (Some r) None alike k same is = absurd alike
 inside_of keys m n (Some r) (Some s) alike k same is = alike.last.inside k is
 
-runs_too : (keys : ℕ → Bool) (m n : Map) (o p : Option Run) → RunsAlike keys m n o p → IsSome o → IsSome p
+runs_too : (keys : ℕ → Bool) (m n : Map) (o p : Option AloneRun) → RunsAlike keys m n o p → IsSome o → IsSome p
 runs_too keys m n None p alike is = absurd (false≢true is)
 runs_too keys m n (Some r) None alike is = absurd alike
 runs_too keys m n (Some r) (Some s) alike is = refl
@@ -151,7 +152,7 @@ module _ (stripes : ℕ) (es : List Entry) (m n : Map) where
   untouched k out = left_of (keys_in stripes es) m m (alone m es) (alone m es) (alone_alike (keys_in stripes es) m m es (asks_own stripes es) (λ q is. refl)) k out
 
   -- If two maps agree at the keys of the stripes that the entries hold, they agree at these keys
-  -- after the entries; and if the entries run on one of the maps, they run on the other.
+  -- after the entries. If the entries run on one of two such maps, they run on the other.
   pub touched : ((k : ℕ) → keys_in stripes es k ≡ true → get m k ≡ get n k) → (k : ℕ) → keys_in stripes es k ≡ true → get (map_after m es) k ≡ get (map_after n es) k
   touched same k is = inside_of (keys_in stripes es) m n (alone m es) (alone n es) (alone_alike (keys_in stripes es) m n es (asks_own stripes es) same) k (same k is) is
 

@@ -10,14 +10,14 @@ use mathlib.Core.Logic.{inl, inr}
 use Rattle.txn_words.specs.declared.entry.Entry.{Entry}
 use Rattle.txn_words.specs.Map.{Map, empty, get, keys, set_at}
 use Rattle.txn_trace.specs.Serial.{serial}
-use Rattle.txn_trace.specs.Now.{first_differing, map_of, open_maps, now, now_at}
+use Rattle.txn_trace.specs.Now.{first_differing, tabulated, open_maps, now, now_at}
 use Rattle.txn_words.proofs.Maps.{none_is, get-set_at}
 use Rattle.txn_trace.proofs.Now.{same_is}
 
--- The map whose value at each key is that of the first map that differs from the base at the key,
--- or that of the base if no map differs there.
+-- The base with the other maps laid over it. At each key it has the value of the first map that
+-- differs there from the base, or the value of the base if no map differs.
 abbrev pub overlaid : Map → List Map → Map
-overlaid base ms = map_of (flat_map keys (base ∷ ms)) (first_differing base ms)
+overlaid base ms = tabulated (flat_map keys (base ∷ ms)) (first_differing base ms)
 
 module _ (f : ℕ → Option ℕ) (k : ℕ) where
   table_out : (ks : List ℕ) (m : Map) → list_any (λ j. k == j) ks ≡ false → get (fold (λ m k. set_at m k (f k)) m ks) k ≡ get m k

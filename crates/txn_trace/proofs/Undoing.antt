@@ -12,7 +12,7 @@ use Rattle.txn_words.specs.declared.holder.Holder.{Holder}
 use Rattle.txn_words.specs.declared.entry.Entry.TheVariants.{Undone}
 use Rattle.txn_words.specs.Map.{Map, get, after, reply_of, key_of, is_change, keys}
 use Rattle.txn_trace.specs.History.{of}
-use Rattle.txn_trace.specs.Alone.{Run, act, act_undone, alone, last_map, map_after}
+use Rattle.txn_trace.specs.Alone.{AloneRun, act, act_undone, alone, last_map, map_after}
 use Rattle.txn_trace.specs.Serial.{serial}
 use Rattle.txn_trace.specs.Now.{now, now_at}
 use Rattle.txn_words.specs.Shape.{is_shaped}
@@ -26,8 +26,8 @@ use Rattle.txn_trace.proofs.Judging.{legal_push, shape_push, locks_push}
 use Rattle.txn_trace.proofs.Others.{replies-push_other, now_at-push}
 use Rattle.txn_words.proofs.Effects.{get-after_other}
 
--- Each job names a key of a held stripe and the key's value before the change, which left every
--- other key unchanged.
+-- Each job names a key that passes the test, and the key's value before the change. The change left
+-- every other key unchanged.
 abbrev pub IsLogged : (ℕ → Bool) → List (ℕ × Option ℕ) → Map → List Map → Type 0
 IsLogged keys [] last [] = Unit {0}
 IsLogged keys (job ∷ jobs) last (m ∷ ms) = (keys job.0 ≡ true) × (get m job.0 ≡ job.1) × ((q : ℕ) → q ≢ job.0 → get m q ≡ get last q) × IsLogged keys jobs m ms
@@ -35,7 +35,7 @@ IsLogged keys [] last (m ∷ ms) = ⊥
 IsLogged keys (job ∷ jobs) last [] = ⊥
 
 -- A change adds its key and its reply to the log.
-pub logged_add : (keys : ℕ → Bool) (jobs : List (ℕ × Option ℕ)) (r : Run) (op : Op) → keys (key_of op) ≡ true → IsLogged keys jobs r.last r.earlier → is_change r.last op ≡ true
+pub logged_add : (keys : ℕ → Bool) (jobs : List (ℕ × Option ℕ)) (r : AloneRun) (op : Op) → keys (key_of op) ≡ true → IsLogged keys jobs r.last r.earlier → is_change r.last op ≡ true
     → IsLogged keys ((key_of op, reply_of r.last op) ∷ jobs) (after r.last op) (r.last ∷ r.earlier)
 logged_add keys jobs r op in_keys logged is = (in_keys, refl, λ q other. sym (get-after_other r.last op q other), logged)
 
@@ -44,7 +44,7 @@ any-push_same p [] e is = ap (λ b. b || false) is
 any-push_same p (x ∷ es) e is = ap (λ b. p x || b) (any-push_same p es e is)
 
 -- A caller that leaves takes back its newest change.
-module _ {holder : Holder} (stripes : ℕ) (g : List Entry) (legal : IsLegal holder stripes g) (c t : ℕ) (run : Run) (job : ℕ × Option ℕ) (jobs : List (ℕ × Option ℕ)) (m : Map) (ms : List Map)
+module _ {holder : Holder} (stripes : ℕ) (g : List Entry) (legal : IsLegal holder stripes g) (c t : ℕ) (run : AloneRun) (job : ℕ × Option ℕ) (jobs : List (ℕ × Option ℕ)) (m : Map) (ms : List Map)
     (in_t : txn_in g c ≡ Some t) (going : ended t g ≡ false) (run_is : alone (serial g) (of t g) ≡ Some run) (earlier : run.earlier ≡ m ∷ ms)
     (logged : IsLogged (keys_in stripes (of t g)) (job ∷ jobs) run.last (m ∷ ms)) (shaped : is_shaped g (Undone c) ≡ true) where
   goes : alone (serial g) (of t g ++ Undone c ∷ []) ≡ Some (record run { last = m; earlier = ms })

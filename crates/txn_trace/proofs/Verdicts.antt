@@ -10,8 +10,8 @@ use Rattle.txn_words.specs.Shape.{how_many}
 use Rattle.txn_trace.specs.Legal.{IsLegal, broken, first_bad, callers_in, running, Legal, Illegal, verdict}
 use Rattle.txn_trace.proofs.Judging.{legal_iff, legal_from, legal_none, none_bad}
 
--- The i-th entry is the first bad one: the entries before it are a legal history, and after them
--- the entry breaks the rule of this number.
+-- Entry i is the first bad one. The entries before it are a legal history. After them entry i
+-- breaks the rule with this number.
 pub record IsFirstBad (holder : Holder) (stripes : ℕ) (h : List Entry) (i rule : ℕ) : Type 0 where
   pub front : List Entry
   pub entry : Entry

@@ -1,4 +1,4 @@
--- Worked histories of keys of 64 bits and of put_if, by computing.
+-- Worked histories with keys of 64 bits and with put_if, checked by computation.
 use Rattle.std.proofs.Common.{[], ◌≡◌, List, ◌∷◌, ◌++◌, Some, None, refl}
 use Rattle.split_key.specs.Split.{split, reversed, reversed_low}
 use Rattle.txn_words.specs.declared.op.Op.TheVariants.{Put, PutIf}
@@ -11,7 +11,7 @@ use Rattle.txn_trace.specs.Legal.{verdict, Legal, Illegal}
 use Rattle.txn_trace.specs.Erase.{erase}
 use Rattle.txn_trace.proofs.Cases.{asked_and_done}
 
--- Two keys that share a split key, and a put_if that changes and one that does not.
+-- Two of the keys share a split key. Two of the put_ifs change their keys, and two do not.
 abbrev two_of_one_split_key : List Entry
 two_of_one_split_key =
     Began 0 1 ∷ asked_and_done 0 (Put 9223372036854775809 11) None ++ asked_and_done 0 (Put 1 10) None ++ asked_and_done 0 (PutIf 1 None 12) (Some 10)

@@ -10,29 +10,30 @@ use Rattle.txn_words.specs.Map.{Map, reply_of, after, is_change}
 -- A run has its last map; its earlier maps, newest first; the operation that waits for its reply,
 -- if there is one; and for each level the number of maps that the run had when the level was set,
 -- which is 1 for level 0.
-pub record Run : Type 0 where
+pub record AloneRun : Type 0 where
   pub last : Map
   pub earlier : List Map
   pub pending : Option Op
   pub notes : List ℕ
 
 -- The run that has only this map.
-abbrev pub start : Map → Run
+abbrev pub start : Map → AloneRun
 start m = record { last = m; earlier = []; pending = None; notes = 1 ∷ [] }
 
 -- How many maps a run has.
-abbrev pub number_of_maps : Run → ℕ
+abbrev pub number_of_maps : AloneRun → ℕ
 number_of_maps run = length run.earlier + 1
 
--- An operation that is a change adds the map that it leaves.
-abbrev pub with_op : Run → Op → Run
+-- The run after an operation. If the operation is a change, the map after the operation becomes the
+-- last map, and the old last map is added to the earlier maps. Otherwise the run is unchanged.
+abbrev pub with_op : AloneRun → Op → AloneRun
 with_op run op =
     if is_change run.last op
     then record run { last = after run.last op; earlier = run.last ∷ run.earlier }
     else run
 
 -- Did: an operation must be waiting, and the reply must be its reply on the last map.
-abbrev pub act_did : Run → Option Op → Option ℕ → Option Run
+abbrev pub act_did : AloneRun → Option Op → Option ℕ → Option AloneRun
 act_did run None r = None
 act_did run (Some op) r =
     if option_eq nat_eq r (reply_of run.last op)
@@ -40,19 +41,19 @@ act_did run (Some op) r =
     else None
 
 -- Undone: the last map is dropped. A run that has only its first map allows no Undone.
-abbrev pub act_undone : Run → List Map → Option Run
+abbrev pub act_undone : AloneRun → List Map → Option AloneRun
 act_undone run [] = None
 act_undone run (m ∷ ms) = Some (record run { last = m; earlier = ms })
 
 -- Returned: the number of maps must be the one noted at the level. Later notes are dropped.
-abbrev pub act_returned : Run → ℕ → Option Run
+abbrev pub act_returned : AloneRun → ℕ → Option AloneRun
 act_returned run n =
     if option_eq nat_eq (slice_get run.notes n) (Some (number_of_maps run))
     then Some (record run { notes = take (n + 1) run.notes })
     else None
 
 -- The run after an entry, or None if the entry is not allowed there.
-abbrev pub act : Run → Entry → Option Run
+abbrev pub act : AloneRun → Entry → Option AloneRun
 act run (Asked c op) = Some (record run { pending = Some op })
 act run (Did c r) = act_did run run.pending r
 act run (Undone c) = act_undone run run.earlier
@@ -61,11 +62,11 @@ act run (Returned c n) = act_returned run n
 act run _ = Some run
 
 -- The run of a list of entries from a map, or None if it is undefined.
-abbrev pub alone : Map → List Entry → Option Run
+abbrev pub alone : Map → List Entry → Option AloneRun
 alone m es = fold (λ run e. option_and_then (λ r. act r e) run) (Some (start m)) es
 
 -- The last map of a run, or the map that it began with if the run is undefined.
-abbrev pub last_map : Map → Option Run → Map
+abbrev pub last_map : Map → Option AloneRun → Map
 last_map m None = m
 last_map m (Some run) = run.last
 

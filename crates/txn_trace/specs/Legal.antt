@@ -13,14 +13,15 @@ use Rattle.txn_words.specs.declared.seat.Phase.{Phase}
 use Rattle.txn_words.specs.declared.seat.Phase.TheVariants.{Closed}
 use Rattle.txn_words.specs.Shape.{Seat, seat_after, own, how_many, is_shaped, IsShaped}
 
--- A history is legal if its replies hold, its locks hold by this rule for Busy entries, and it has
--- the right shape.
+-- A history is legal if its replies hold, its locks hold by the rule `holder` for Busy entries, and
+-- it has the right shape.
 pub record IsLegal (holder : Holder) (stripes : ℕ) (h : List Entry) : Type 0 where
   pub replies : RepliesHold h
   pub locks : LocksHold holder stripes h
   pub shape : IsShaped h
 
--- Whether each open transaction has the replies of running alone.
+-- Whether each open transaction has the same replies as if it ran alone on the map that the
+-- committed transactions leave.
 abbrev pub replies_hold : List Entry → Bool
 replies_hold g = list_all (λ t. is_some (alone (serial g) (of t g))) (open_txns g)
 

@@ -38,8 +38,8 @@ holder_of stripes s h = slice_get (holders stripes s h) 0
 abbrev pub has_begun : ℕ → List Entry → Bool
 has_begun c g = list_any (λ e. is_began e && caller_of e == c) g
 
--- Whether a Busy on a key of the stripe may name x after g: by one rule x holds the stripe now, by
--- the other x has begun a transaction.
+-- Whether a Busy on a key of the stripe may name x after g. By the rule `Now`, x must hold the
+-- stripe. By the rule `Begun`, x must have begun a transaction.
 abbrev pub may_name : Holder → ℕ → ℕ → List Entry → ℕ → Bool
 may_name Now stripes s g x = list_any (λ y. y == x) (holders stripes s g)
 may_name Begun stripes s g x = has_begun x g

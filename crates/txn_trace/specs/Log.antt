@@ -7,8 +7,8 @@ use Rattle.txn_words.specs.declared.entry.Entry.TheVariants.{Began, Asked, Did, 
 use Rattle.txn_words.specs.Map.{key_of}
 use Rattle.txn_words.specs.Shape.{changes, own}
 
--- The operation that waits for its reply; and the changes that stand, newest first, each with its
--- key and the value before it.
+-- A log has the operation that waits for its reply, and the changes that stand, newest first. Each
+-- change has its key and the value before it.
 pub record Log : Type 0 where
   pub pending : Option Op
   pub standing : List (ℕ × Option ℕ)
@@ -17,7 +17,7 @@ pub record Log : Type 0 where
 abbrev pub no_log : Log
 no_log = record { pending = None; standing = [] }
 
--- Did: a change is noted with its key and its reply.
+-- The log after a Did. A change is noted with its key and its reply.
 abbrev pub log_did : Log → Option Op → Option ℕ → Log
 log_did log None r = log
 log_did log (Some op) r = record {

@@ -8,25 +8,27 @@ use Rattle.txn_trace.specs.History.{of, open_txns}
 use Rattle.txn_trace.specs.Alone.{map_after}
 use Rattle.txn_trace.specs.Serial.{serial}
 
--- The last map of each open transaction, run alone on the map of the committed ones.
+-- The last map of each open transaction when it runs alone on the map of the committed
+-- transactions.
 abbrev pub open_maps : List Entry → List Map
 open_maps h = map (λ t. map_after (serial h) (of t h)) (open_txns h)
 
--- The value at a key in the first of the maps that differs there from the base, or in the base if
--- none differs.
+-- The value at a key in the first of the maps that differs there from the base. If no map differs,
+-- it is the value in the base.
 abbrev pub first_differing : Map → List Map → ℕ → Option ℕ
 first_differing base [] k = get base k
 first_differing base (m ∷ ms) k =
     if option_eq nat_eq (get m k) (get base k) then first_differing base ms k else get m k
 
--- The value now at a key: that of the open transaction that changed it, else the committed one.
+-- The value now at a key. It is the value from the open transaction that changed the key, or the
+-- committed value if no open transaction did.
 abbrev pub now_at : List Entry → ℕ → Option ℕ
 now_at h k = first_differing (serial h) (open_maps h) k
 
 -- The map that has the values of a function at these keys, and has no other keys.
-abbrev pub map_of : List ℕ → (ℕ → Option ℕ) → Map
-map_of ks f = fold (λ m k. set_at m k (f k)) empty ks
+abbrev pub tabulated : List ℕ → (ℕ → Option ℕ) → Map
+tabulated ks f = fold (λ m k. set_at m k (f k)) empty ks
 
 -- The map now: it has at each key the value of now_at.
 abbrev pub now : List Entry → Map
-now h = map_of (flat_map keys (serial h ∷ open_maps h)) (now_at h)
+now h = tabulated (flat_map keys (serial h ∷ open_maps h)) (now_at h)

@@ -31,13 +31,13 @@ ArePlayed (actions.Back n ∷ script) (Leave c (Some level) ∷ Returned d reach
 ArePlayed (actions.Help k ∷ script) es = ArePlayed script es
 ArePlayed _ _ = ⊥
 
--- The entries are Began, those of the script's actions, and Committed.
+-- The entries are a Began, then those of the script's actions, and then a Committed.
 abbrev pub IsPlayed : List Action → List Entry → Type 0
 IsPlayed script (Began c t ∷ es) = ArePlayed script es
 IsPlayed script _ = ⊥
 
--- A transaction plays a script if its entries, without those that take changes back, are Began,
--- those of each action in order, and Committed.
+-- A transaction plays a script if its entries are a Began, those of each action in order, and a
+-- Committed. Entries that take changes back do not count.
 abbrev pub Plays : ℕ → List Action → List Entry → Type 0
 Plays t script h = IsPlayed script (without_undone (of t h))
 
@@ -56,8 +56,8 @@ pub record IsScriptOf (callers : ℕ) (scripts : List (List Action)) (c n : ℕ)
   pub mine : n % callers ≡ c
   pub there : slice_get scripts n ≡ Some script
 
--- Each of these transactions plays one of the caller's scripts. The scripts' numbers rise, from
--- `low` on and below `high`.
+-- Each of these transactions plays one of the caller's scripts. The scripts' numbers rise. Each is
+-- at least `low` and below `high`.
 abbrev pub PlayRising : ℕ → List (List Action) → ℕ → List Entry → ℕ → ℕ → List ℕ → Type 0
 PlayRising callers scripts c h low high [] = Unit {0}
 PlayRising callers scripts c h low high (t ∷ ts) =
@@ -70,8 +70,9 @@ abbrev pub PlayScripts : ℕ → List (List Action) → List Entry → Type 0
 PlayScripts callers scripts h =
     (c : ℕ) → c < callers → PlayRising callers scripts c h 0 (length scripts) (commits_of c h)
 
--- The parts of one caller's entries, the newest transaction's first, after one more entry: a Began
--- begins a part; any other entry is added to the newest part, or dropped if there is none.
+-- The parts of one caller's entries after one more entry. The part of the newest transaction is the
+-- first of the list. A Began begins a new part. Any other entry is added to the newest part, or
+-- dropped if there is no part.
 abbrev pub part_after : List (List Entry) → Entry → List (List Entry)
 part_after [] e = if is_began e then (e ∷ []) ∷ [] else []
 part_after (part ∷ parts) e =

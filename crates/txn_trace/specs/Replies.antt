@@ -6,7 +6,8 @@ use Rattle.txn_trace.specs.History.{is_open, of}
 use Rattle.txn_trace.specs.Alone.{alone}
 use Rattle.txn_trace.specs.Serial.{serial}
 
--- Each open transaction has the replies of running alone on the map of the committed ones.
+-- Each open transaction has the same replies as if it ran alone on the map that the committed
+-- transactions leave.
 abbrev pub RepliesHoldAt : List Entry → Type 0
 RepliesHoldAt g = (t : ℕ) → IsTrue (is_open t g) → IsSome (alone (serial g) (of t g))
 

@@ -11,8 +11,8 @@ ghost use Rattle.txn_trace.specs.Serial.{serial};
 ghost use Rattle.txn_words.specs.declared.entry.Entry.{Entry};
 ghost use Rattle.txn_words.specs.declared.holder.Holder.{Holder};
 
-/// Leaving out the entries of aborted transactions from a legal history changes neither the map
-/// now nor the committed map, and the replies in the entries that are left still hold.
+/// Leaving the entries of aborted transactions out of a legal history changes neither its map
+/// (`now`) nor its committed map (`serial`). The replies in the entries that are left still hold.
 ///
 /// The contract is the law; the function does nothing.
 pub fn erased()

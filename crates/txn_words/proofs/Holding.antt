@@ -24,7 +24,7 @@ own_word n word many e h = dite (ℕ_discrete word (n + 1)) (λ y. y) (λ ne. ab
 pub times_same : (k : ℕ) (ks : List ℕ) → times k (k ∷ ks) ≡ 1 + times k ks
 times_same k ks = ap (λ b. cond b 1 0 + times k ks) (eq-eqb k k refl)
 
--- With another stripe in front of a list, a stripe occurs as often as before.
+-- If another stripe is put in front of a list, a stripe occurs as often as before.
 pub times_other : (k j : ℕ) (ks : List ℕ) → j ≢ k → times k (j ∷ ks) ≡ times k ks
 times_other k j ks ne = ap (λ b. cond b 1 0 + times k ks) (ne_eqb j k ne) ∙ (omega arith)
 
@@ -37,13 +37,13 @@ pub times_reverse : (k : ℕ) (ks : List ℕ) → times k (reverse ks) ≡ times
 times_reverse k [] = refl
 times_reverse k (x ∷ ks) = ap (times k) (reverse-append (x ∷ []) ks) ∙ times_append k (reverse ks) (x ∷ []) ∙ omega (arith, times_reverse k ks)
 
--- A stripe at some position occurs.
+-- A stripe at some position of a list occurs in the list.
 pub times_at : (ks : List ℕ) (i k : ℕ) → slice_get ks i ≡ Some k → 0 < times k ks
 times_at [] i k e = absurd (none-some k e)
 times_at (x ∷ ks) zero k e = subst (λ (j : ℕ). 0 < times k (j ∷ ks)) (sym (same_Some x k e)) (omega (arith, times_same k ks))
 times_at (x ∷ ks) (suc i) k e = omega (arith, times_at ks i k e)
 
--- A stripe that occurs is at some position.
+-- A stripe that occurs in a list is at some position of the list.
 pub at_times : (ks : List ℕ) (k : ℕ) → 0 < times k ks → (i : ℕ) × (slice_get ks i ≡ Some k)
 at_times [] k h = absurd (omega arith)
 at_times (x ∷ ks) k h = dite (ℕ_discrete x k) (λ (e : x ≡ k). (0, ap (λ (y : ℕ). Some y) e))
@@ -57,14 +57,14 @@ removed_same k ks = ap (λ b. cond b ks (k ∷ removed k ks)) (eq-eqb k k refl)
 pub removed_other : (k x : ℕ) (ks : List ℕ) → x ≢ k → removed k (x ∷ ks) ≡ x ∷ removed k ks
 removed_other k x ks ne = ap (λ b. cond b ks (x ∷ removed k ks)) (ne_eqb x k ne)
 
--- The stripe that was removed occurs once less.
+-- Removing a stripe lowers the number of its occurrences by one, unless there are none.
 pub times_removed_same : (k : ℕ) (ks : List ℕ) → times k (removed k ks) ≡ times k ks - 1
 times_removed_same k [] = refl
 times_removed_same k (x ∷ ks) = dite (ℕ_discrete x k)
     (λ (e : x ≡ k). subst (λ (y : ℕ). times k (removed k (y ∷ ks)) ≡ times k (y ∷ ks) - 1) (sym e) (let a : times k (removed k (k ∷ ks)) ≡ times k ks = ap (times k) (removed_same k ks) in omega (arith, times_same k ks)))
     (λ ne. ap (times k) (removed_other k x ks ne) ∙ times_other k x (removed k ks) ne ∙ times_removed_same k ks ∙ ap (λ (n : ℕ). n - 1) (sym (times_other k x ks ne)))
 
--- Every other stripe occurs as often as before.
+-- Every other stripe occurs as often as before the removal.
 pub times_removed_other : (k j : ℕ) (ks : List ℕ) → j ≢ k → times j (removed k ks) ≡ times j ks
 times_removed_other k j [] ne = refl
 times_removed_other k j (x ∷ ks) ne = dite (ℕ_discrete x k)
@@ -79,8 +79,8 @@ times_removed_le k j ks = dite (ℕ_discrete j k)
 -- f and g are the words of the stripes before and after a step that changes at most the word of
 -- stripe i.
 module _ (f g : ℕ → ℕ) (i : ℕ) (other : (k : ℕ) → k ≢ i → g k ≡ f k) where
-  -- If the word of stripe i does not name a seat before or after the step, the step does not change
-  -- which words name this seat.
+  -- If the word of stripe i names seat a neither before nor after the step, the step does not
+  -- change which words name seat a.
   pub once_kept : (a : ℕ) → f i ≢ a + 1 → g i ≢ a + 1 → (k : ℕ) → once_for a (g k) ≡ once_for a (f k)
   once_kept a was is k = dite (ℕ_discrete k i)
       (λ (y : k ≡ i). subst (λ (j : ℕ). once_for a (g j) ≡ once_for a (f j)) (sym y) (once_no a (g i) is ∙ sym (once_no a (f i) was)))
@@ -100,7 +100,7 @@ module _ (f g : ℕ → ℕ) (i : ℕ) (other : (k : ℕ) → k ≢ i → g k �
       (λ at. omega (arith, at, times_removed_same i ks, once_yes n (f i) mine, once_no n (g i) (λ q. omega arith))) old)
       (λ ne. times_removed_other i k ks ne ∙ old ∙ ap (once_for n) (sym (other k ne)))
 
--- Each number of a list of zeros is 0, and so is what is read past its end.
+-- Every read from a list of zeros gives 0, also past the end of the list.
 pub zeros : (n k : ℕ) → ◌≡◌ {A = ℕ} (get_or (replicate n 0) k 0) 0
 zeros zero k = refl
 zeros (suc n) zero = refl

@@ -1,5 +1,5 @@
--- The savepoints of a seat: they rise, and no level that a caller may go back to keeps more changes
--- than stand.
+-- The levels of a seat: no level keeps fewer changes than the levels before it, and no level that a
+-- caller may go back to keeps more changes than stand.
 use Rattle.std.proofs.Common.{◌≡◌, ℕ, ◌+◌, ◌-◌, ◌<◌, ◌≤◌, ◌==◌, ◌&&◌, Bool, true, false, cond, List, [], ◌∷◌, ◌++◌, length, take, get_or, slice_index, refl, sym, subst, Some, None, Option, arith}
 use Rattle.std.specs.Prelude.{nat_lt}
 use Rattle.std.specs.Option.{option_and_then}
@@ -13,7 +13,7 @@ use Rattle.txn_words.specs.declared.seat.Phase.{Phase}
 use Rattle.txn_words.specs.declared.seat.Phase.TheVariants.{Closed, Opened, Waiting, LeavingTo, LeavingToEnd}
 use Rattle.txn_words.specs.Shape.{Seat, closed_seat, changes, row, seat_after}
 
--- Later levels keep at least as many changes.
+-- Each level keeps at least as many changes as the levels before it.
 abbrev pub IsRisingList : List ℕ → Type 0
 IsRisingList kept = (i j : ℕ) → i ≤ j → j < length kept → get_or kept i 0 ≤ get_or kept j 0
 
@@ -21,7 +21,7 @@ IsRisingList kept = (i j : ℕ) → i ≤ j → j < length kept → get_or kept 
 abbrev pub AreWithin : ℕ → List ℕ → Type 0
 AreWithin standing kept = (i : ℕ) → i < length kept → get_or kept i 0 ≤ standing
 
--- The statement about the standing changes and the levels that holds in a phase.
+-- What holds of the standing changes and the levels in a phase.
 abbrev pub IsLevelIn : Phase → ℕ → List ℕ → Type 0
 IsLevelIn Closed standing kept = (standing ≡ 0) × (kept ≡ 0 ∷ [])
 IsLevelIn Opened standing kept = AreWithin standing kept

@@ -149,7 +149,7 @@ length-puts (row ∷ rows) es rows_rise es_rise fresh =
 pub length-ordered : (m : Map) → length (ordered m) ≡ count_of m
 length-ordered m = let same : length (puts [] m.rows) ≡ 0 + length m.rows = length-puts m.rows [] m.rising tt (λ k there. refl) in omega arith
 
--- Each pair's sort key is before those of all that follow it.
+-- Each pair's sort key is before the sort keys of all later pairs.
 abbrev pub Rises : List (ℕ × ℕ) → Type 0
 Rises [] = Unit {0}
 Rises (pair ∷ rest) = AllByRecursion (λ (other : ℕ × ℕ). IsBefore (regular_at pair.0) (regular_at other.0)) rest × Rises rest

@@ -10,7 +10,7 @@ use Rattle.txn_words.specs.declared.seat.Phase.{Phase}
 use Rattle.txn_words.specs.declared.seat.Phase.TheVariants.{Closed, Opened, Waiting, LeavingTo, LeavingToEnd}
 use Rattle.txn_words.specs.Shape.{Seat, seat_after, own}
 
--- Whether an operation is a change on some map.
+-- Whether there is a map on which the operation is a change. For a `Get` there is none.
 abbrev pub may_change : Op → Bool
 may_change (Put k v) = true
 may_change (Take k) = true
@@ -38,7 +38,7 @@ abbrev pub owed_by : Option Seat → ℕ
 owed_by None = 0
 owed_by (Some s) = owed_in s.standing s.phase
 
--- The entries owed by all callers together, whose numbers begin at 0.
+-- The entries owed by all callers together. Callers are numbered from 0.
 abbrev pub owed : ℕ → List Entry → ℕ
 owed callers h = sum_by (λ c. owed_by (seat_after (own c h))) (range_with_len 0 callers)
 

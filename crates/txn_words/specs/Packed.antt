@@ -60,7 +60,7 @@ abbrev pub holder_in : Entry → ℕ
 holder_in (entries.Busy c op x) = x
 holder_in e = 0
 
--- Whether the caller of an entry and the holder that it names take 16 bits each.
+-- Whether the caller of an entry and the holder that the entry names both fit in 16 bits.
 abbrev pub is_small : Entry → Bool
 is_small e = nat_lt (caller_of e) 65536 && nat_lt (holder_in e) 65536
 

@@ -13,8 +13,8 @@ pub enum Action {
     Save,
     /// Goes back to the savepoint of this number; 0 is the start of the transaction.
     Back(u64),
-    /// Helps the table along for this key: doubles it if that is due, and initialises the key's
-    /// bucket.
+    /// Helps the table along for this key: doubles the table if that is due, and initialises the
+    /// key's bucket.
     Help(u64),
     /// Aborts the transaction and ends the script.
     Abort,

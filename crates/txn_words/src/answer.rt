@@ -1,6 +1,6 @@
 //! The answers to steps, and the text of an answer as a report prints it. The steps of callers, of
-//! helpers and of the table share this type, and an answer does not say who took the step. So the
-//! history's entry of a step is determined by the step and its answer together, not by one of them.
+//! helpers and of the table share this type, and an answer does not say who took the step. So only
+//! a step and its answer together determine the entry that the step adds to the history.
 ghost use Rattle.std.specs.Prelude.{◌≡◌, ◌++◌, IfOk, string_bytes};
 ghost use Rattle.txn_words.specs.Text.{rest_text, text_of};
 
@@ -32,7 +32,7 @@ pub enum Answer {
     Aborted,
     /// The savepoint of this number is set.
     Saved(u64),
-    /// The caller takes changes back from here.
+    /// From now on the caller takes changes back.
     Leaving,
     /// The transaction is committed, with this commit number.
     Committed(u64),

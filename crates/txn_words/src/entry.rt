@@ -1,6 +1,7 @@
-//! The entries of a history, which tell what happened to each transaction. They are apart from
-//! steps and answers, since many steps add none and a judge of a history sees only entries. Their
-//! meaning as a list is in `txn_trace`; long lists keep them packed, as `SmallEntry`.
+//! The entries of a history, which tell what happened to each transaction. `Entry` is a type apart
+//! from `Step` and `Answer`, since many steps add no entry and a judge of a history sees only
+//! entries. The meaning of a list of entries is in `txn_trace`. A long list keeps its entries
+//! packed, as `SmallEntry`.
 ghost use Rattle.std.specs.Prelude.{◌≡◌};
 ghost use Rattle.txn_words.specs.Kinds.{caller_of};
 
@@ -19,7 +20,7 @@ pub enum Entry {
     Did(u64, Reply),
     /// A savepoint was set.
     Saved(u64),
-    /// The caller goes back to a level, or, if there is none, aborts its transaction.
+    /// The caller goes back to this level, or aborts its transaction if no level is given.
     Leave(u64, Option<u64>),
     /// The newest change that stood was taken back.
     Undone(u64),

@@ -1,9 +1,9 @@
-//! The two rules for the caller that a Busy entry names. The rule is a parameter of the rule of
-//! locks, so that one definition of legal histories serves maps that record an entry when they test
-//! the stripe and maps that record it later.
+//! The two rules for the caller that a Busy entry names. The rule of locks takes one of them as a
+//! parameter. So one definition of legal histories serves maps that record an entry when they test
+//! the stripe, and maps that record it later.
 
-/// The caller that a Busy entry may name, in the rule of locks: another caller, which holds the
-/// stripe of the operation now, or at least has begun a transaction before.
+/// The rule that says which caller a Busy entry may name. By both rules it is another caller than
+/// the entry's own.
 #[derive(Clone, Copy, Debug, PartialEq, Eq)]
 pub enum Holder {
     /// A caller whose open transaction has asked for a key of the stripe. Use this rule if the

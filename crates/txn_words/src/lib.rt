@@ -1,6 +1,5 @@
-//! The words of transactions on a map: operations, scripts, steps and their answers, refusals,
-//! limits, the entries of a history, and a caller's seat, with the finite map that an operation is
-//! about.
+//! The vocabulary of transactions on a map: operations, scripts, steps and their answers, refusals,
+//! limits, the entries of a history, a caller's seat, and the finite maps that operations act on.
 //!
 //! The meaning of a history is in `txn_trace`, which uses this crate. So a crate that only names
 //! operations, entries or refusals needs none of the laws of histories.

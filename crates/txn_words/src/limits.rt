@@ -1,5 +1,5 @@
-//! The limits of a map: its callers, stripes and buckets, and whether keys of the upper half are
-//! taken. Files, cores and the C library share the type, so all have the same ranges; only a
+//! The limits of a map: its callers, stripes and buckets, and whether the map allows keys of the
+//! upper half. Files, cores and the C library share the type, so all have the same ranges; only a
 //! striped map has other ranges. The type keeps the numbers in range, so no call tests them again.
 ghost use Rattle.std.specs.Prelude.{◌≡◌, true, IsTrue};
 ghost use Rattle.txn_words.specs.Sizes.{Sizes, are_limits, is_bad_key, limits_of};
@@ -9,7 +9,7 @@ use split_key::Key;
 use std::marker::Model;
 
 /// The numbers of callers and of stripes, and the largest size of the table, in buckets; and
-/// whether every key is taken or only half keys, those below 2^63.
+/// whether the map allows every key or only half keys. A half key is below 2^63.
 #[derive(Clone, Copy, Debug, PartialEq, Eq)]
 pub struct Limits {
     callers: u32,
@@ -48,8 +48,9 @@ impl Limits {
     /// The greatest number of buckets, a power of two.
     pub const MAX_BUCKETS: u64 = 65536;
 
-    /// Limits that take every key: 1 to `MAX_CALLERS` callers, 1 to `MAX_STRIPES` stripes, and as
-    /// the largest size a power of two from 2 to `MAX_BUCKETS` buckets.
+    /// The limits with these numbers, which take every key. There may be 1 to `MAX_CALLERS` callers
+    /// and 1 to `MAX_STRIPES` stripes. The largest size of the table is a power of two from 2 to
+    /// `MAX_BUCKETS` buckets.
     ///
     /// # Errors
     ///
@@ -80,7 +81,7 @@ impl Limits {
         self.callers
     }
 
-    /// The number of stripes to which the keys are distributed.
+    /// The number of stripes over which the keys are distributed.
     pub fn stripes(self) -> u32
         ensures value { result ≡ self.stripes }
         ensures limits { IsTrue (are_limits self.callers self.stripes self.buckets) }

@@ -1,6 +1,6 @@
-//! The operations on one key; each replies the value that the key had before. Actions, steps and
-//! entries all carry an operation, so the rules of operations are here: whether an operation may
-//! change the key, whether it did, and how many entries are owed for it. These rules need the
+//! The operations on one key. Each replies with the value that the key had before. Actions, steps
+//! and entries all carry an operation, so the rules of operations are here: whether an operation
+//! may change the key, whether it did, and how many entries are owed for it. These rules need the
 //! operation and its reply, and no map.
 ghost use Rattle.std.specs.Prelude.{◌≡◌};
 ghost use Rattle.txn_words.specs.Map.{key_of};
@@ -10,7 +10,7 @@ ghost use Rattle.txn_words.specs.Owed.{may_change, owed_for};
 /// An operation on one key of a map.
 #[derive(Clone, Copy, Debug, PartialEq, Eq)]
 pub enum Op {
-    /// Puts a value at a key: the key, the value.
+    /// Puts a value at a key. The fields are the key and the value.
     Put(u64, u64),
     /// Takes a key out.
     Take(u64),
@@ -30,7 +30,7 @@ impl Op {
         key
     }
 
-    /// Whether the operation is a change on some map: all but `Get`.
+    /// Whether there is a map on which the operation is a change. For a `Get` there is none.
     pub fn may_change(self) -> bool
         ensures { result ≡ may_change self }
     {

@@ -19,8 +19,8 @@ enum ActionKind {
     Abort,
 }
 
-/// An action in 32 bytes, for those who keep many; an `Action` takes 48. A contract sees it as the
-/// action.
+/// An action in 32 bytes, for those who keep many; an `Action` takes 48. A contract sees a packed
+/// action as the action.
 #[derive(Debug, Drop)]
 pub struct PackedAction {
     kind: ActionKind,

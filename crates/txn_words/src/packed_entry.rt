@@ -36,8 +36,8 @@ pub(crate) enum Kind {
     Aborted,
 }
 
-/// An entry in 48 bytes, for those who keep many; an `Entry` takes 64. A contract sees it as the
-/// entry.
+/// An entry in 48 bytes, for those who keep many; an `Entry` takes 64. A contract sees a packed
+/// entry as the entry.
 #[derive(Drop)]
 pub struct PackedEntry {
     pub(crate) kind: Kind,

@@ -1,6 +1,6 @@
-//! A step in 40 bytes instead of 56; the size is proved. A step file may have a million of them, so
-//! its reader packs each as soon as it is read. The model is the step, so a contract reads a list
-//! of packed steps as a list of steps, and packing loses nothing.
+//! A step in 40 bytes instead of 56; the size is proved. A step file may have a million steps, so
+//! its reader packs each step as soon as it is read. The model is the step, so a contract reads a
+//! list of packed steps as a list of steps, and packing loses nothing.
 ghost use Rattle.std.specs.Prelude.{◌≡◌};
 ghost use Rattle.txn_words.specs.Packed.{packed_op, packed_step};
 
@@ -27,7 +27,8 @@ enum StepKind {
     Double,
 }
 
-/// A step in 40 bytes, for those who keep many; a `Step` takes 56. A contract sees it as the step.
+/// A step in 40 bytes, for those who keep many; a `Step` takes 56. A contract sees a packed step as
+/// the step.
 #[derive(Debug, Drop)]
 pub struct PackedStep {
     kind: StepKind,

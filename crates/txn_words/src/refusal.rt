@@ -10,9 +10,9 @@ use std::alloc::AllocError;
 use std::error::Error;
 use std::fmt;
 
-/// The reason why a call was refused. Each has a number, by which answers and programs name it;
-/// `Display` writes the number, as reports and error messages show it. `text` is for a person to
-/// read.
+/// The reason why a call was refused. Each refusal has a number, by which answers and programs name
+/// it. `Display` writes the number, as reports and error messages show it. `text` is a sentence for
+/// a person to read.
 #[derive(Clone, Copy, Debug, PartialEq, Eq)]
 pub enum Refusal {
     /// 1: the key is 2^63 or more, and the limits take only half keys.
@@ -30,7 +30,7 @@ pub enum Refusal {
     Leaving,
     /// 7: there is no cursor to act on.
     Unplaced,
-    /// 8: there is nothing to seek: no operation, and no change above the level.
+    /// 8: there is nothing to seek: no operation waits, and no change is left to take back.
     NothingToSeek,
     /// 9: the level is above the number of savepoints.
     NoSuchLevel,
@@ -53,8 +53,9 @@ pub enum Refusal {
     CallersMissing,
     /// 18: a worker could not be started.
     NoThread,
-    /// 19: a right is shown, and by the core's record another caller holds its stripe; or a word is
-    /// shown, and it names the caller itself or a caller that has never begun a transaction.
+    /// 19: the claim to a stripe is stale. A right is stale if by the core's record another caller
+    /// holds the stripe. A word is stale if it names the caller itself, or a caller that has never
+    /// begun a transaction.
     StaleWord,
     /// 20: a file is not JSON.
     NotJson,
@@ -108,8 +109,8 @@ impl Refusal {
         }
     }
 
-    /// The refusal as a sentence in English, without a capital letter at the front and without a
-    /// full stop, as the `Display` of most errors.
+    /// The refusal as an English sentence. Like the `Display` of most errors, it begins with a
+    /// small letter and has no full stop.
     pub fn text(self) -> &'static str
         ensures { result.now ≡ sentence_of self }
     {

@@ -1,6 +1,6 @@
-//! Room in a list of small entries. It is a separate module, since two lists take room in this way
-//! before a run: a core's history, and the list of the history's entries that a caller has seen.
-//! Invariant: the entries of the list stay the same, whether the list's room is written or not.
+//! Room in a list, made before the list needs it. Three lists take room in this way: a core's
+//! history, the list of the history's entries that a caller has seen, and the savepoints of a seat.
+//! Invariant: the elements of the list stay the same, whether the list's room is written or not.
 ghost use Rattle.std.specs.Prelude.{◌≡◌, ◌+◌, ◌≤◌, ◌<◌, OnErr, OnOk, vec_capacity, vec_len};
 
 use crate::entry::Entry;
@@ -30,12 +30,30 @@ pub fn make_room(
     ensures capacity { vec_capacity entries.old ≤ vec_capacity entries.new }
     ensures full { OnErr result (vec_capacity entries.old < vec_len entries.old + more) }
 {
-    entries.reserve(more)?;
+    make_room_of(entries, more, is_written, || blank())
+}
+
+/// `make_room` for a list with elements of any type. The room is filled with elements that `blank`
+/// makes.
+pub(crate) fn make_room_of<T: Drop, F: Fn() -> T>(
+    list: &mut Vec<T>,
+    more: usize,
+    is_written: bool,
+    blank: F,
+) -> Result<(), AllocError>
+    requires { F.IsAlwaysCallable blank }
+    ensures items { list.new.items ≡ list.old.items }
+    ensures len { vec_len list.new ≡ vec_len list.old }
+    ensures ok { OnOk result (vec_len list.new + more ≤ vec_capacity list.new) }
+    ensures capacity { vec_capacity list.old ≤ vec_capacity list.new }
+    ensures full { OnErr result (vec_capacity list.old < vec_len list.old + more) }
+{
+    list.reserve(more)?;
     if is_written {
-        let len = entries.len();
-        let room = entries.capacity();
-        entries.resize_with(room, || blank())?;
-        entries.truncate(len);
+        let len = list.len();
+        let room = list.capacity();
+        list.resize_with(room, || blank())?;
+        list.truncate(len);
     }
     Ok(())
 }

@@ -1,9 +1,9 @@
-//! The seat of a caller: the state of the rule of shape after the caller's own entries, which
-//! decides most refusals of its next step.
+//! The seat of a caller: the state of the rule of shape after the caller's own entries. This state
+//! decides most refusals of the caller's next step.
 //!
-//! The tests of the seat are compiled into each step (`inline(always)`), where the kind of step is
-//! known, so that most of them take no instruction.
-ghost use Rattle.std.specs.Prelude.{◌≡◌, ℕ, ◌+◌, ◌-◌, ◌<◌, ◌≤◌, ◌^◌, true, false, is_some, length, slice_get, slice_index, Some, OnOk, OnErr};
+//! The tests of the seat are compiled into each step (`inline(always)`). There the kind of step is
+//! known, so most tests take no instruction.
+ghost use Rattle.std.specs.Prelude.{◌≡◌, ℕ, ◌+◌, ◌-◌, ◌<◌, ◌≤◌, ◌^◌, true, false, is_some, length, slice_get, slice_index, Some, IfOk, OnOk, OnErr};
 ghost use Rattle.txn_words.specs.declared.seat.Phase.TheVariants.{Opened};
 ghost use Rattle.txn_words.specs.Shape.{row, capacity, closed_seat};
 ghost use Rattle.txn_words.specs.Seats.{first_of, has_job, has_target, is_saved, refusal_in, unready_tests};
@@ -13,6 +13,7 @@ use crate::entry::Entry;
 use crate::limits::Limits;
 use crate::op::{Op, Reply};
 use crate::refusal::Refusal;
+use crate::room::make_room_of;
 use crate::step::Step;
 use std::alloc::{AllocError, Global};
 use std::marker::Model;
@@ -66,6 +67,31 @@ impl Seat {
             standing: 0,
             savepoints: Vec::new(alloc),
         }
+    }
+
+    /// The seat of a caller without a transaction, with room for this many savepoints. If
+    /// `is_written`, the room is written, so that no later savepoint is the first to touch a page
+    /// of it.
+    ///
+    /// # Errors
+    ///
+    /// `AllocError` if memory is refused, which never happens if no savepoints are asked for.
+    ///
+    /// # Cost
+    ///
+    /// One allocation if there are savepoints, none otherwise; if the room is written, time in
+    /// proportion to it.
+    pub fn with_capacity(
+        alloc: Global,
+        savepoints: usize,
+        is_written: bool,
+    ) -> Result<Seat, AllocError>
+        ensures seat { IfOk result (λ seat. seat.seat ≡ closed_seat) }
+        ensures room { IfOk result (λ seat. savepoints ≤ seat.room) }
+    {
+        let mut seat = Seat::new(alloc);
+        seat.make_room(savepoints, is_written)?;
+        Ok(seat)
     }
 
     /// The caller's phase.
@@ -180,10 +206,12 @@ impl Seat {
         self.kept(level).unwrap_or(0)
     }
 
-    /// The number of entries that its caller may add without a new reservation: the reply to an
-    /// operation that waits, and its undoing if it may change the map; the `Returned` of a return
-    /// to a level; and the entries of an abort, which are a `Leave` unless the abort has begun, an
-    /// `Undone` for each change that stands, and `Aborted`.
+    /// The number of entries that the seat's caller may add without a new reservation. These are:
+    ///
+    /// - the reply to an operation that waits, and its undoing if it may change the map;
+    /// - the `Returned` of a return to a level;
+    /// - the entries of an abort: a `Leave` unless the abort has begun, an `Undone` for each change
+    ///   that stands, and `Aborted`.
     #[inline(always)]
     pub fn owed(&self) -> u64
         requires { owed_in self.now.seat.standing self.now.seat.phase < 2 ^ 64 }
@@ -217,7 +245,31 @@ impl Seat {
         self.savepoints.reserve(1)
     }
 
-    /// Whether an entry may follow: the rule of shape has a row for it here.
+    /// Makes room for this many more savepoints, unless there is room already. If `is_written`, the
+    /// room that is made is also written, so that no later savepoint is the first to touch a page
+    /// of it. The seat is unchanged, and the room never shrinks.
+    ///
+    /// # Errors
+    ///
+    /// `AllocError` if there is too little room and memory is refused.
+    ///
+    /// # Cost
+    ///
+    /// At most one allocation, with a copy of the savepoints; if the room is written, time in
+    /// proportion to it.
+    pub fn make_room(&mut self, savepoints: usize, is_written: bool) -> Result<(), AllocError>
+        ensures seat { self.new.seat ≡ self.old.seat }
+        ensures room { self.old.room ≤ self.new.room }
+        ensures ok { OnOk result (savepoints ≤ self.new.room) }
+        ensures err { OnErr result (self.old.room < savepoints) }
+    {
+        if savepoints <= self.savepoints.capacity() - self.savepoints.len() {
+            return Ok(());
+        }
+        make_room_of(&mut self.savepoints, savepoints, is_written, || 0)
+    }
+
+    /// Whether an entry may follow: whether the rule of shape has a row for it in this seat.
     #[inline(always)]
     pub fn allows(&self, entry: &Entry) -> bool
         ensures { result ≡ is_some (row self.now.seat self.now.seat.phase entry.now) }
@@ -254,8 +306,9 @@ impl Seat {
         }
     }
 
-    /// Moves on by an entry if it may follow, and answers whether it may; if not, nothing changes.
-    /// A `Saved` takes one place of the room, and a savepoint that is dropped gives one back.
+    /// Moves the seat on by an entry if the entry may follow, and answers whether it may. If it may
+    /// not, the seat is unchanged. A `Saved` takes one place of the room, and a savepoint that is
+    /// dropped gives one back.
     ///
     /// # Cost
     ///
@@ -290,7 +343,7 @@ impl Seat {
         true
     }
 
-    /// The operation that waits has its reply.
+    /// Moves the seat on by the reply to the operation that waits.
     #[inline(always)]
     fn reply(&mut self, reply: Reply)
         requires { self.old.seat.standing < 2 ^ 64 - 1 }
@@ -307,7 +360,7 @@ impl Seat {
         }
     }
 
-    /// The transaction is over.
+    /// Ends the transaction.
     fn close(&mut self)
         ensures seat { self.new.seat ≡ closed_seat }
         ensures room { capacity self.new ≡ capacity self.old }
@@ -317,7 +370,7 @@ impl Seat {
         self.savepoints.clear();
     }
 
-    /// A transaction begins.
+    /// Begins a transaction.
     fn open(&mut self)
         ensures seat { self.new.seat ≡ record closed_seat { phase = Opened } }
         ensures room { capacity self.new ≡ capacity self.old }

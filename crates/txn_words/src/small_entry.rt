@@ -1,7 +1,7 @@
-//! An entry of a history in 32 bytes, half of an `Entry`. The caller, and the holder that the entry
-//! names, must be below 65,536; the callers of every map are. The model is the entry, so a contract
-//! reads a list of small entries as a history; `Unpacked` goes through such a list. All calls take
-//! constant time and no memory.
+//! An entry of a history in 32 bytes, half the size of an `Entry`. The caller and the holder that
+//! the entry names must be below 65,536. Every caller of a map is below this bound. The model is
+//! the entry, so a contract reads a list of small entries as a history; `Unpacked` goes through
+//! such a list. All calls take constant time and no memory.
 ghost use Rattle.std.specs.Prelude.{◌≡◌, ◌↔◌, true, IsTrue};
 ghost use Rattle.txn_words.specs.Kinds.{caller_of};
 ghost use Rattle.txn_words.specs.Packed.{holder_part, packed_entry, small_entry};
@@ -14,8 +14,9 @@ use std::mem::size_of;
 /// The callers and the holders of small entries are below this number.
 const CALLERS: u64 = 65_536;
 
-/// An entry in 32 bytes, with caller and holder below 65,536, for those who keep many, as a core
-/// does. A `PackedEntry` takes 48, and has no such bound. A contract sees it as the entry.
+/// An entry in 32 bytes, for those who keep many, as a core does. Its caller and the holder that it
+/// names are below 65,536. A `PackedEntry` takes 48 bytes and has no such bound. A contract sees a
+/// small entry as the entry.
 #[derive(Debug, Drop)]
 pub struct SmallEntry {
     kind: Kind,
@@ -130,7 +131,7 @@ fn holder_part(kind: Kind, holder: u64) -> u64
     }
 }
 
-/// The entries of a list of small ones, in their order.
+/// An iterator over the entries of a list of small entries, in order.
 #[derive(Drop)]
 pub struct Unpacked<'a> {
     rest: &'a [SmallEntry],

@@ -1,6 +1,6 @@
 //! The steps of callers, of helpers and of the table, and the entries that they add to a history.
-//! These rules need no core: a step and its answer determine the entry, at most one, and the step
-//! determines how many entries the history must have room for before the step is taken.
+//! These rules need no core. A step and its answer determine the entry that they add, if they add
+//! one. The step determines how many entries the history must have room for before it is taken.
 ghost use Rattle.std.specs.Prelude.{◌≡◌, option_to_list};
 ghost use Rattle.txn_words.specs.Entries.{entries_of};
 ghost use Rattle.txn_words.specs.Owed.{reserved};
@@ -9,7 +9,7 @@ use crate::answer::Answer;
 use crate::entry::Entry;
 use crate::op::Op;
 
-/// One step: of a caller or a helper, which is named by its number, or of the table.
+/// A step of a caller, of a helper or of the table. A step names its caller or helper by number.
 ///
 /// Each kind lists the `Refusal`s with which a core answers it, in the order of their tests: the
 /// first that fits is the answer.
@@ -39,8 +39,8 @@ pub enum Step {
     /// Refused, in this order: `NoSuchCaller`, `NotOpen`, `Leaving`, `OperationUnfinished`,
     /// `NoMemory`.
     Save(u64),
-    /// Goes back to a level, 0 or the number of a savepoint: the later changes are taken back from
-    /// here on.
+    /// Goes back to a level, which is 0 or the number of a savepoint. From now on the caller takes
+    /// back the changes made since that level.
     ///
     /// Refused, in this order: `NoSuchCaller`, `NotOpen`, `Leaving`, `OperationUnfinished`,
     /// `NoSuchLevel`, `NoMemory`.
@@ -49,7 +49,7 @@ pub enum Step {
     ///
     /// Refused, in this order: `NoSuchCaller`, `NotOpen`, `Leaving`, `OperationUnfinished`.
     Commit(u64),
-    /// Aborts the transaction: from here its changes are taken back.
+    /// Aborts the transaction. From now on the caller takes all its changes back.
     ///
     /// Refused, in this order: `NoSuchCaller`, `NotOpen`, `Leaving`.
     Abort(u64),
@@ -57,7 +57,7 @@ pub enum Step {
     ///
     /// Never refused.
     Sweep,
-    /// A helper seeks the position of a bucket's dummy: the helper, the bucket.
+    /// A helper seeks the position of a bucket's dummy. The fields are the helper and the bucket.
     ///
     /// Refused, in this order: `NoSuchHelper`, `NoSuchBucket`, `ParentMissing`.
     InitSeek(u64, u64),
@@ -69,7 +69,7 @@ pub enum Step {
     /// A helper stores its dummy, which initialises the bucket.
     ///
     /// Refused, in this order: `NoSuchHelper`, `HelperOutOfOrder`; then, if no bucket of the
-    /// bucket's segment of 64 is stored, `NoMemory`: the helper keeps its dummy.
+    /// bucket's segment of 64 is stored, `NoMemory`. After `NoMemory` the helper keeps its dummy.
     InitStore(u64),
     /// Doubles the table's size if three conditions hold: the size is still the one that the step
     /// names, it is below the largest size allowed, and there are more than twice as many keys as

@@ -3,8 +3,8 @@ use Rattle.std.proofs.Common.{◌≡◌, ℕ, zero, suc, ◌+◌, ◌<◌, ◌�
 use Rattle.std.specs.Option.{option_map}
 use Rattle.std.proofs.lemmas.List.{map-append, take-map, length_push}
 use Rattle.std.proofs.lemmas.Option.{slice_get-map, slice_get-get_or}
-use Rattle.undo_log.specs.UndoLog.{Log, kept_at}
-use Rattle.undo_log.specs.SideValue.{words_at, levels_of, IsChain, IsRising, IsUndoable}
+use Rattle.undo_log.specs.UndoLog.{LogAt, kept_at}
+use Rattle.undo_log.specs.SideValue.{words_at, levels_of, AreConnected, IsRising, IsUndoable}
 
 -- A higher bound is a bound too.
 IsRising-more : (low : ℕ) (ks : List ℕ) (high higher : ℕ) → high ≤ higher → IsRising low ks high → IsRising low ks higher
@@ -29,7 +29,7 @@ rising_within low [] high (suc n) there rising = absurd (omega (arith, there))
 rising_within low (k ∷ ks) high zero there rising = omega (arith, rising.0, rising_within k ks high 0 (omega arith) rising.1)
 rising_within low (k ∷ ks) high (suc n) there rising = rising_within k ks high n (omega (arith, there)) rising.1
 
--- If two functions agree up to the bound `high`, mapping the numbers by either gives one list.
+-- If two functions agree up to the bound `high`, they map the numbers to the same list.
 map_rising : {A : Type 0} (f g : ℕ → A) (low : ℕ) (ks : List ℕ) (high : ℕ) → IsRising low ks high → ((n : ℕ) → n ≤ high → f n ≡ g n) → map f (low ∷ ks) ≡ map g (low ∷ ks)
 map_rising f g low [] high rising same = ap (λ y. y ∷ []) (same low rising)
 map_rising f g low (k ∷ ks) high rising same =
@@ -43,8 +43,8 @@ module _ {J : Type 0} (before after : J → List ℕ) where
   words_at_end now (job ∷ jobs) zero past = absurd (omega (arith, past))
   words_at_end now (job ∷ jobs) (suc k) past = words_at_end now jobs k (omega (arith, past))
 
-  -- If the newest job is removed, and the words before it become the current words, the words with
-  -- only the first k of the other jobs left do not change.
+  -- Remove the newest job, and make the words before it the current words. Then `words_at` is the
+  -- same as before, for each number of jobs that are left.
   words_at-push : (now : List ℕ) (jobs : List J) (job : J) (k : ℕ) → k ≤ length jobs → words_at before now (jobs ++ job ∷ []) k ≡ words_at before (before job) jobs k
   words_at-push now [] job zero within = refl
   words_at-push now [] job (suc k) within = absurd (omega (arith, within))
@@ -52,49 +52,50 @@ module _ {J : Type 0} (before after : J → List ℕ) where
   words_at-push now (first ∷ jobs) job (suc k) within = words_at-push now jobs job k (omega (arith, within))
 
   -- A chain goes on with one more job if the words before this job are the current words.
-  IsChain-push : (jobs : List J) (job : J) → IsChain before after (before job) jobs → IsChain before after (after job) (jobs ++ job ∷ [])
+  IsChain-push : (jobs : List J) (job : J) → AreConnected before after (before job) jobs
+      → AreConnected before after (after job) (jobs ++ job ∷ [])
   IsChain-push [] job chain = (refl, tt)
   IsChain-push (first ∷ jobs) job chain =
       (chain.0 ∙ sym (words_at-push (after job) jobs job 0 (omega arith)), IsChain-push jobs job chain.1)
 
   -- The words after the newest job are the current words.
-  newest_fits : (now : List ℕ) (jobs : List J) (job : J) → IsChain before after now (jobs ++ job ∷ []) → now ≡ after job
+  newest_fits : (now : List ℕ) (jobs : List J) (job : J) → AreConnected before after now (jobs ++ job ∷ []) → now ≡ after job
   newest_fits now [] job chain = sym chain.0
   newest_fits now (first ∷ jobs) job chain = newest_fits now jobs job chain.1
 
   -- Without its newest job the chain leads to the words before that job.
-  IsChain_pop : (now : List ℕ) (jobs : List J) (job : J) → IsChain before after now (jobs ++ job ∷ []) → IsChain before after (before job) jobs
+  IsChain_pop : (now : List ℕ) (jobs : List J) (job : J) → AreConnected before after now (jobs ++ job ∷ []) → AreConnected before after (before job) jobs
   IsChain_pop now [] job chain = tt
   IsChain_pop now (first ∷ jobs) job chain =
       (chain.0 ∙ words_at-push now jobs job 0 (omega arith), IsChain_pop now jobs job chain.1)
 
   -- A log stays undoable with one more job, whose change led from the words `was` to `now`.
-  pub IsUndoable-push : (was now : List ℕ) (log pushed : Log J) (job : J) → was ≡ before job → now ≡ after job → pushed.jobs ≡ log.jobs ++ job ∷ [] → pushed.kept ≡ log.kept → IsUndoable before after was log → IsUndoable before after now pushed
+  pub IsUndoable-push : (was now : List ℕ) (log pushed : LogAt J) (job : J) → was ≡ before job → now ≡ after job → pushed.jobs ≡ log.jobs ++ job ∷ [] → pushed.kept ≡ log.kept → IsUndoable before after was log → IsUndoable before after now pushed
   IsUndoable-push was now log pushed job fits gives jobs kept undoable =
-      let chain : IsChain before after (before job) log.jobs = subst (λ w. IsChain before after w log.jobs) fits undoable.chain in
-      let pushed_chain : IsChain before after now (log.jobs ++ job ∷ []) = subst (λ w. IsChain before after w (log.jobs ++ job ∷ [])) (sym gives) (IsChain-push log.jobs job chain) in
+      let chain : AreConnected before after (before job) log.jobs = subst (λ w. AreConnected before after w log.jobs) fits undoable.chain in
+      let pushed_chain : AreConnected before after now (log.jobs ++ job ∷ []) = subst (λ w. AreConnected before after w (log.jobs ++ job ∷ [])) (sym gives) (IsChain-push log.jobs job chain) in
       let more : length log.jobs ≤ length pushed.jobs = omega (arith, ap length jobs, length_push log.jobs job) in
       record {
-        chain = subst (IsChain before after now) (sym jobs) pushed_chain;
+        chain = subst (AreConnected before after now) (sym jobs) pushed_chain;
         nested = subst (λ ks. IsRising 0 ks (length pushed.jobs)) (sym kept) (IsRising-more 0 log.kept (length log.jobs) (length pushed.jobs) more undoable.nested);
       }
 
   -- A change leaves the words of each level unchanged.
-  pub levels_of-push : (was now : List ℕ) (log pushed : Log J) (job : J) → was ≡ before job → pushed.jobs ≡ log.jobs ++ job ∷ [] → pushed.kept ≡ log.kept → IsRising 0 log.kept (length log.jobs) → levels_of before now pushed ≡ levels_of before was log
+  pub levels_of-push : (was now : List ℕ) (log pushed : LogAt J) (job : J) → was ≡ before job → pushed.jobs ≡ log.jobs ++ job ∷ [] → pushed.kept ≡ log.kept → IsRising 0 log.kept (length log.jobs) → levels_of before now pushed ≡ levels_of before was log
   levels_of-push was now log pushed job fits jobs kept nested =
       let same : (k : ℕ) → k ≤ length log.jobs → words_at before now pushed.jobs k ≡ words_at before was log.jobs k =
       λ k within. ap (λ js. words_at before now js k) jobs ∙ words_at-push now log.jobs job k within ∙ ap (λ w. words_at before w log.jobs k) (sym fits) in
       ap (λ ks. map (words_at before now pushed.jobs) (0 ∷ ks)) kept ∙ map_rising (words_at before now pushed.jobs) (words_at before was log.jobs) 0 log.kept (length log.jobs) nested same
 
   -- A log stays undoable with one more savepoint, which keeps all jobs.
-  IsUndoable-save : (now : List ℕ) (log saved : Log J) → saved.jobs ≡ log.jobs → saved.kept ≡ log.kept ++ length log.jobs ∷ [] → IsUndoable before after now log → IsUndoable before after now saved
+  IsUndoable-save : (now : List ℕ) (log saved : LogAt J) → saved.jobs ≡ log.jobs → saved.kept ≡ log.kept ++ length log.jobs ∷ [] → IsUndoable before after now log → IsUndoable before after now saved
   IsUndoable-save now log saved jobs kept undoable = record {
-    chain = subst (IsChain before after now) (sym jobs) undoable.chain;
+    chain = subst (AreConnected before after now) (sym jobs) undoable.chain;
     nested = subst (λ ks. IsRising 0 ks (length saved.jobs)) (sym kept) (subst (λ js. IsRising 0 (log.kept ++ length log.jobs ∷ []) (length js)) (sym jobs) (IsRising-push 0 log.kept (length log.jobs) undoable.nested));
   }
 
   -- The level of one more savepoint, which keeps all jobs, has the current words.
-  pub levels_of-save : (now : List ℕ) (log saved : Log J) → saved.jobs ≡ log.jobs → saved.kept ≡ log.kept ++ length log.jobs ∷ [] → levels_of before now saved ≡ levels_of before now log ++ now ∷ []
+  pub levels_of-save : (now : List ℕ) (log saved : LogAt J) → saved.jobs ≡ log.jobs → saved.kept ≡ log.kept ++ length log.jobs ∷ [] → levels_of before now saved ≡ levels_of before now log ++ now ∷ []
   levels_of-save now log saved jobs kept =
       ap (λ js. map (words_at before now js) (0 ∷ saved.kept)) jobs
       ∙ ap (λ ks. map (words_at before now log.jobs) (0 ∷ ks)) kept
@@ -102,20 +103,20 @@ module _ {J : Type 0} (before after : J → List ℕ) where
       ∙ ap (λ w. levels_of before now log ++ w ∷ []) (words_at_end now log.jobs (length log.jobs) (omega arith))
 
   -- The log stays undoable, whether or not there was memory for the savepoint.
-  pub IsUndoable-saved : {T E : Type 0} (now : List ℕ) (log saved : Log J) (r : Result T E) → saved.jobs ≡ log.jobs → OnOk r (saved.kept ≡ log.kept ++ length log.jobs ∷ []) → OnErr r (saved ≡ log) → IsUndoable before after now log → IsUndoable before after now saved
+  pub IsUndoable-saved : {T E : Type 0} (now : List ℕ) (log saved : LogAt J) (r : Result T E) → saved.jobs ≡ log.jobs → OnOk r (saved.kept ≡ log.kept ++ length log.jobs ∷ []) → OnErr r (saved ≡ log) → IsUndoable before after now log → IsUndoable before after now saved
   IsUndoable-saved now log saved (Ok x) jobs kept err undoable = IsUndoable-save now log saved jobs kept undoable
   IsUndoable-saved now log saved (Err e) jobs kept err undoable = subst (IsUndoable before after now) (sym err) undoable
 
   -- Some of the newest jobs have been run, but no job that the level keeps; these runs led from the
   -- words `start` to the words `now`.
-  pub record IsOnTheWay (start now : List ℕ) (old new : Log J) (level : ℕ) : Type 0 where
+  pub record IsOnTheWay (start now : List ℕ) (old new : LogAt J) (level : ℕ) : Type 0 where
     pub kept : new.kept ≡ old.kept
-    pub chain : IsChain before after now new.jobs
+    pub chain : AreConnected before after now new.jobs
     pub enough : kept_at old.kept level ≤ length new.jobs
     pub words : (k : ℕ) → k ≤ length new.jobs → words_at before now new.jobs k ≡ words_at before start old.jobs k
 
   -- At the start of the way, no job has been run.
-  pub on_the_way_start : (start : List ℕ) (log : Log J) (level : ℕ) → level ≤ length log.kept → IsUndoable before after start log → IsOnTheWay start start log log level
+  pub on_the_way_start : (start : List ℕ) (log : LogAt J) (level : ℕ) → level ≤ length log.kept → IsUndoable before after start log → IsOnTheWay start start log log level
   on_the_way_start start log level there undoable = record {
     kept = refl;
     chain = undoable.chain;
@@ -124,13 +125,13 @@ module _ {J : Type 0} (before after : J → List ℕ) where
   }
 
   -- The run of one more job leads to the words before that job.
-  pub on_the_way_step : (start now next : List ℕ) (old log popped : Log J) (job : J) (level : ℕ) → IsOnTheWay start now old log level → kept_at log.kept level < length log.jobs → log.jobs ≡ popped.jobs ++ job ∷ [] → popped.kept ≡ log.kept → next ≡ before job → IsOnTheWay start next old popped level
+  pub on_the_way_step : (start now next : List ℕ) (old log popped : LogAt J) (job : J) (level : ℕ) → IsOnTheWay start now old log level → kept_at log.kept level < length log.jobs → log.jobs ≡ popped.jobs ++ job ∷ [] → popped.kept ≡ log.kept → next ≡ before job → IsOnTheWay start next old popped level
   on_the_way_step start now next old log popped job level way above jobs kept gives =
       let shorter : length log.jobs ≡ length popped.jobs + 1 = ap length jobs ∙ length_push popped.jobs job in
       let above_old : kept_at old.kept level < length log.jobs = subst (λ ks. kept_at ks level < length log.jobs) way.kept above in
       record {
         kept = kept ∙ way.kept;
-        chain = subst (λ w. IsChain before after w popped.jobs) (sym gives) (IsChain_pop now popped.jobs job (subst (IsChain before after now) jobs way.chain));
+        chain = subst (λ w. AreConnected before after w popped.jobs) (sym gives) (IsChain_pop now popped.jobs job (subst (AreConnected before after now) jobs way.chain));
         enough = omega (arith, shorter, above_old);
         words = λ k within.
             ap (λ w. words_at before w popped.jobs k) gives
@@ -140,18 +141,18 @@ module _ {J : Type 0} (before after : J → List ℕ) where
       }
 
   -- The words after the job that is taken out are the current words.
-  pub on_the_way_fits : (start now : List ℕ) (old log : Log J) (jobs : List J) (job : J) (level : ℕ) → IsOnTheWay start now old log level → log.jobs ≡ jobs ++ job ∷ [] → now ≡ after job
-  on_the_way_fits start now old log jobs job level way is = newest_fits now jobs job (subst (IsChain before after now) is way.chain)
+  pub on_the_way_fits : (start now : List ℕ) (old log : LogAt J) (jobs : List J) (job : J) (level : ℕ) → IsOnTheWay start now old log level → log.jobs ≡ jobs ++ job ∷ [] → now ≡ after job
+  on_the_way_fits start now old log jobs job level way is = newest_fits now jobs job (subst (AreConnected before after now) is way.chain)
 
   -- A log that was cut at the level to which the way has led.
-  pub record IsCutAt (start now : List ℕ) (old cut : Log J) (level : ℕ) : Type 0 where
+  pub record IsCutAt (start now : List ℕ) (old cut : LogAt J) (level : ℕ) : Type 0 where
     pub undoable : IsUndoable before after now cut
     pub kept : 0 ∷ cut.kept ≡ take (level + 1) (0 ∷ old.kept)
     pub levels : levels_of before now cut ≡ take (level + 1) (levels_of before start old)
     pub words : slice_get (levels_of before start old) level ≡ Some now
 
   -- If no job above the level is left, the way is at its end.
-  pub on_the_way_end : (start now : List ℕ) (old log cut : Log J) (level : ℕ) → level ≤ length old.kept → IsUndoable before after start old → IsOnTheWay start now old log level → length log.jobs ≤ kept_at log.kept level → log.jobs ≡ cut.jobs → cut.kept ≡ take level log.kept → IsCutAt start now old cut level
+  pub on_the_way_end : (start now : List ℕ) (old log cut : LogAt J) (level : ℕ) → level ≤ length old.kept → IsUndoable before after start old → IsOnTheWay start now old log level → length log.jobs ≤ kept_at log.kept level → log.jobs ≡ cut.jobs → cut.kept ≡ take level log.kept → IsCutAt start now old cut level
   on_the_way_end start now old log cut level there undoable way none_above jobs kept =
       let all_kept : length cut.jobs ≡ kept_at old.kept level =
       omega (arith, ap length jobs, way.enough, subst (λ ks. length log.jobs ≤ kept_at ks level) way.kept none_above) in
@@ -163,7 +164,7 @@ module _ {J : Type 0} (before after : J → List ℕ) where
       λ k within. ap (λ js. words_at before now js k) (sym jobs) ∙ way.words k (omega (arith, within, ap length jobs)) in
       record {
         undoable = record {
-          chain = subst (IsChain before after now) jobs way.chain;
+          chain = subst (AreConnected before after now) jobs way.chain;
           nested = subst (λ ks. IsRising 0 ks (length cut.jobs)) (sym kept_old) nested;
         };
         kept = ap (λ ks. 0 ∷ ks) kept_old ∙ ap (λ n. take n (0 ∷ old.kept)) (sym (add-one level));

@@ -3,7 +3,7 @@ use Rattle.std.specs.Prelude.{ℕ, ◌∷◌, ◌-◌, nat_lt, List, length, sli
 
 -- The jobs, oldest first; how many there were at each savepoint, savepoint 1 first; and how many
 -- jobs and how many savepoints can be added before memory is taken.
-pub record Log (J : Type 0) : Type 0 where
+pub record LogAt (J : Type 0) : Type 0 where
   pub jobs : List J
   pub kept : List ℕ
   pub room : ℕ
@@ -14,7 +14,7 @@ abbrev pub kept_at : List ℕ → ℕ → ℕ
 kept_at kept level = slice_index (0 ∷ kept) level
 
 -- The newest job, if there are more jobs than the level keeps.
-abbrev pub newest_above : {J : Type 0} → Log J → ℕ → Option J
+abbrev pub newest_above : {J : Type 0} → LogAt J → ℕ → Option J
 newest_above log level =
     if nat_lt (kept_at log.kept level) (length log.jobs)
     then slice_get log.jobs (length log.jobs - 1)

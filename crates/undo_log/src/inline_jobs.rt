@@ -7,11 +7,10 @@ use smallvec::SmallVec;
 use std::alloc::{AllocError, Global};
 use std::marker::Model;
 
-/// Jobs in places; up to `INLINE` places are in the value itself, and more than these take an
-/// allocation.
+/// Jobs in places. Up to `INLINE` places are in the value itself; more places take an allocation.
 #[derive(Drop)]
 pub struct InlineJobs<J: UndoJob, const INLINE: usize> {
-    // Each is `Some`: `None` fills only unused inline places.
+    // Each place in use holds `Some`. Each unused inline place holds `None`.
     places: SmallVec<Option<J>, INLINE>,
 }
 

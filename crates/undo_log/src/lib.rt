@@ -13,13 +13,13 @@
 //!   a job. Contracts see its words at each level, and a return to a level restores exactly those,
 //!   for every side type and every list of changes.
 //!
-//! Room is reserved before a change is made, so that a log needs no memory to go back: apart from a
-//! side type's code, only `reserve_one`, `save`, `save_room` and `change` take any, and
-//! `reserve_one` takes none for the first eight jobs. A savepoint costs one word. Calls take
-//! constant time and no memory unless they say otherwise.
+//! Room is reserved before a change is made, so that a log needs no memory to go back. Apart from a
+//! side type's code, only `with_capacity`, `reserve_one`, `save`, `save_room` and `change` take
+//! memory, and `reserve_one` takes none for the first eight jobs. A savepoint costs one word. Calls
+//! take constant time and no memory unless they say otherwise.
 //!
-//! `UndoLog` and `SideValue` keep their jobs in different stores, each below a `JobLog` (`log.rt`).
-//! A side value's jobs are all in a `Vec`, since their size is the caller's choice.
+//! An `UndoLog` and the log of a `SideValue` are each a `JobLog` (`log.rt`), but have different
+//! stores. A side value's jobs are all in a `Vec`, since their size is the caller's choice.
 #![tactic(auto)]
 
 mod inline_jobs;

@@ -1,6 +1,6 @@
 //! The log of a transaction: its jobs, oldest first, and how many of them each savepoint keeps. It
 //! runs no job, and the same log serves both kinds of job store. Room for a job is reserved first,
-//! so to add it, to take it out and to drop savepoints takes no memory.
+//! so no memory is taken when the job is added or taken out, or when savepoints are dropped.
 ghost use Rattle.std.specs.Prelude.{◌≡◌, ◌+◌, ◌-◌, ◌<◌, ◌≤◌, ◌↔◌, [], ◌∷◌, ◌++◌, length, take, IsTrue, IsOk, IsSome, IfOk, OnOk, OnErr, option_to_list, option_copied};
 ghost use Rattle.undo_log.specs.UndoLog.{kept_at, newest_above};
 
@@ -12,10 +12,10 @@ use std::marker::Model;
 
 /// The inverses of a transaction's changes, and its savepoints.
 ///
-/// Contracts see the `jobs`, oldest first; in `kept` how many jobs there were at each savepoint,
-/// savepoint 1 first; and the `room` for jobs and the `save_room` for savepoints that is reserved.
-/// A level is the number of a savepoint, or 0, the beginning; a call that takes a level requires
-/// one that exists.
+/// Contracts see the `jobs`, oldest first. `kept` says how many jobs there were at each savepoint,
+/// savepoint 1 first. `room` is the room that is reserved for jobs, and `save_room` the room for
+/// savepoints. A level is the number of a savepoint, or 0, the beginning; a call that takes a level
+/// requires one that exists.
 ///
 /// `S` is the store of the jobs, and its `inline` says how many of them take no memory.
 #[derive(Drop)]
@@ -35,9 +35,9 @@ pub type UndoLog<J> = JobLog<InlineJobs<J, 8>>;
 
 impl<S: JobStore> Model for JobLog<S> {
     ghost use Rattle.std.specs.Prelude.{◌-◌, vec_len, vec_capacity};
-    ghost use Rattle.undo_log.specs.UndoLog.{Log};
+    ghost use Rattle.undo_log.specs.UndoLog.{LogAt};
 
-    ghost Value = { Log S.Job };
+    ghost Value = { LogAt S.Job };
 
     ghost view = { λ log. record {
       jobs = S.jobs_of log.jobs;
@@ -48,32 +48,39 @@ impl<S: JobStore> Model for JobLog<S> {
 }
 
 impl<J: UndoJob, const INLINE: usize> JobLog<InlineJobs<J, INLINE>> {
-    /// An empty log at level 0, with room for this many jobs. If `is_written`, the room is written,
-    /// so that no later job is the first to touch a page of it.
+    /// An empty log at level 0, with room for this many jobs and savepoints. If `is_written`, the
+    /// room is written, so that no later job and no later savepoint is the first to touch a page of
+    /// it.
     ///
     /// # Errors
     ///
-    /// `AllocError` if memory is refused, which never happens for at most `INLINE` jobs.
+    /// `AllocError` if memory is refused, which never happens for at most `INLINE` jobs and no
+    /// savepoint.
     ///
     /// # Cost
     ///
-    /// One allocation if there are more than `INLINE` jobs, none otherwise; if the room is written,
-    /// time in proportion to it.
+    /// One allocation if there are more than `INLINE` jobs, and one if there are savepoints; if the
+    /// room is written, time in proportion to it.
     pub fn with_capacity(
         alloc: Global,
         jobs: usize,
+        savepoints: usize,
         is_written: bool,
     ) -> Result<JobLog<InlineJobs<J, INLINE>>, AllocError>
         ensures jobs { IfOk result (λ log. log.jobs ≡ []) }
         ensures kept { IfOk result (λ log. log.kept ≡ []) }
         ensures room { IfOk result (λ log. jobs ≤ log.room) }
-        ensures save_room { IfOk result (λ log. log.save_room ≡ 0) }
-        ensures inline { jobs ≤ INLINE → IsOk result }
+        ensures save_room { IfOk result (λ log. savepoints ≤ log.save_room) }
+        ensures inline { savepoints ≡ 0 → jobs ≤ INLINE → IsOk result }
     {
-        Ok(JobLog {
-            jobs: InlineJobs::with_capacity(alloc, jobs, is_written)?,
-            kept: Vec::new(alloc),
-        })
+        let jobs = InlineJobs::with_capacity(alloc, jobs, is_written)?;
+        let mut kept = Vec::with_capacity(alloc, savepoints)?;
+        if is_written {
+            let room = kept.capacity();
+            kept.resize(room, 0)?;
+            kept.clear();
+        }
+        Ok(JobLog { jobs, kept })
     }
 }
 

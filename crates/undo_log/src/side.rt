@@ -17,10 +17,10 @@ pub trait Side: Drop + Send {
     /// The words of a value.
     ghost words_of: { Self → List ℕ };
 
-    /// The words that a job names as before its change.
+    /// The words that a job names as those before its change.
     ghost before: { Self.Job → List ℕ };
 
-    /// The words that a job names as after its change.
+    /// The words that a job names as those after its change.
     ghost after: { Self.Job → List ℕ };
 
     /// The four words of the value. The side type determines the cost.

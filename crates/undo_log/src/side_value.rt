@@ -12,10 +12,10 @@ use std::marker::Model;
 
 /// A side value with the jobs of its changes and its savepoints.
 ///
-/// Contracts see the `value`; in `levels` the words that it had at the beginning and at each
-/// savepoint, level 0 first; in `changes` how many changes can be taken back, and in `kept` how
-/// many of them each level keeps; and the `room` for changes and the `save_room` for savepoints
-/// that is reserved. No words are stored: each job names those that it restores.
+/// Contracts see the `value`. `levels` has the words that it had at the beginning and at each
+/// savepoint, level 0 first. `changes` says how many changes can be taken back, and `kept` how many
+/// of them each level keeps. `room` is the room that is reserved for changes, and `save_room` the
+/// room for savepoints. No words are stored: each job names those that it restores.
 #[derive(Drop)]
 pub struct SideValue<S: Side> {
     value: S,
@@ -77,9 +77,9 @@ impl<S: Side> SideValue<S> {
 
     /// Changes the value, and logs the job that takes the change back.
     ///
-    /// The current value must meet what `change` requires. The words that the job names as before
-    /// its change must be those of the current value, and the words that it names as after its
-    /// change must be those of the value that `change` answers.
+    /// The current value must meet what `change` requires, and have the words that the job names as
+    /// those before its change. The value that `change` answers must have the words that the job
+    /// names as those after its change.
     ///
     /// # Errors
     ///

@@ -11,7 +11,7 @@ use Rattle.command_line.specs.declared.no_call.NoCall.TheVariants as reasons
 use Rattle.command_line.specs.Words.{asked, asked_of}
 
 -- The words ask for this command on a file with these bytes, as far as words and bytes are known.
-pub record IsOpened (spoken : Option (List (List ℕ))) (bytes_of : List ℕ → Option (List ℕ))
+pub record SpellsCommand (spoken : Option (List (List ℕ))) (bytes_of : List ℕ → Option (List ℕ))
     (command : Command) (bytes : Option (List ℕ)) : Type 0 where
   pub call : Call
   pub commands : command ≡ call.command

@@ -2,7 +2,7 @@
 //! here, whatever ran before, so a status means the same in both. The status does not depend on
 //! whether standard error takes the line.
 ghost use Rattle.std.specs.Prelude.{◌≡◌};
-ghost use Rattle.unthreaded_program.specs.Runs.{Tells, status_after};
+ghost use Rattle.unthreaded_program.specs.Runs.{TellsError, status_after};
 
 use boostmap_engine::Fault;
 use std::io::Write;
@@ -27,15 +27,15 @@ fn status_of(outcome: &Result<bool, Fault>) -> u8
     }
 }
 
-/// Writes the line of a fault, if the outcome is one, to `errors`. Answers the exit status, and
-/// whether `errors` took the line. The status does not depend on that.
+/// If the outcome is a fault, writes the line of the fault to `errors`. Answers the exit status,
+/// and whether `errors` took the line. The status does not depend on that.
 ///
 /// # Cost
 ///
 /// That of the writer.
 pub fn end<E: Write>(outcome: &Result<bool, Fault>, errors: &mut E) -> Ending
     ensures status { result.status ≡ status_after outcome.now }
-    ensures told { Tells (E.contents errors.old) (E.contents errors.new) result.is_told
+    ensures told { TellsError (E.contents errors.old) (E.contents errors.new) result.is_told
         outcome.now }
 {
     let is_told = match outcome {

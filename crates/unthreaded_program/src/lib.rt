@@ -2,17 +2,19 @@
 //!
 //! A program opens the file that the words name (`open`), runs the command on it (`run_command`),
 //! and ends with the line of a fault and a status (`end`). `boostmap_program` does so with an
-//! engine of `run` in threads. `run` here does so without one: it is the whole program
-//! `unthreaded`, in which the command `run` answers that no thread could be started.
+//! engine of `run` in threads. The function `run` of this crate does so without one. It is the
+//! whole program `unthreaded`, in which the command `run` answers that no thread could be started.
 //!
-//! It is a separate crate, since none of it needs the proofs about threads: a program that only
-//! replays, mixes and judges is proved in two thirds of the time.
+//! This is a separate crate, since nothing in it needs the proofs about threads. The proof of a
+//! program that only replays, mixes and judges takes two thirds of the time of the proof of
+//! `boostmap`.
 //!
-//! Proved (`specs/Runs.antt`): the engine of the command that the words ask for ran on the file
-//! that they name, and standard output has exactly what that engine wrote; or no engine ran, since
-//! the words are no call, their file was not opened or memory was refused, and standard output is
-//! unchanged. Standard error has the line of the fault, if there is one, and nothing else, unless a
-//! write of it fails; and the status is that of the outcome.
+//! Proved (`specs/Runs.antt`): one of two things has happened. Either an engine ran on the file
+//! that the words name. It is the engine of the command that the words ask for, and standard output
+//! has exactly what this engine wrote. Or no engine ran, and standard output is unchanged: the
+//! words are no call, their file was not opened, or memory was refused. Standard error has the line
+//! of the fault, if there is one, and nothing else, unless writing the line failed. The status is
+//! that of the outcome.
 #![tactic(auto)]
 
 mod ending;

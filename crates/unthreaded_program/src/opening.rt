@@ -3,7 +3,7 @@
 //! here, only `end` writes, and only to standard error.
 ghost use Rattle.std.specs.Prelude.{◌≡◌, IfOk, IfErr};
 ghost use Rattle.std.specs.IoError.{error_kind};
-ghost use Rattle.unthreaded_program.specs.Opening.{IsOpened, IsUnopened, memory_or, of_words};
+ghost use Rattle.unthreaded_program.specs.Opening.{SpellsCommand, IsUnopened, memory_or, of_words};
 
 use boostmap_engine::Fault;
 use command_line::{Command, NoCall, call_in};
@@ -53,7 +53,7 @@ fn fault_of(reason: NoCall) -> Fault
 ///
 /// That of the system, and time and memory in proportion to the words.
 pub fn open<S: System>(alloc: Global, system: &S) -> Result<Opened<S::Input>, Fault>
-    ensures ok { IfOk result (λ opened. IsOpened (S.spoken system.now) (S.bytes system.now)
+    ensures ok { IfOk result (λ opened. SpellsCommand (S.spoken system.now) (S.bytes system.now)
         opened.command (S.Input.remaining opened.input)) }
     ensures err { IfErr result (IsUnopened (S.spoken system.now)) }
 {

@@ -1,9 +1,9 @@
 //! The commands on an open file, and the whole call of the program without threads: words, file,
 //! engine, the line of a fault, exit status. The system and both outputs are type parameters, so
-//! that contracts and tests reach all of it. `boostmap_program` runs all commands but `run` by
-//! `run_command`.
+//! that contracts and tests reach all of it. `boostmap_program` calls `run_command` for every
+//! command except `run`.
 ghost use Rattle.std.specs.Prelude.{◌≡◌};
-ghost use Rattle.unthreaded_program.specs.Runs.{Does, HasEnded, Runs, StartsNone, Tells};
+ghost use Rattle.unthreaded_program.specs.Runs.{RunsCommand, HasExited, Runs, StartsNone, TellsError};
 
 use crate::ending::{Ending, end};
 use crate::opening::open;
@@ -29,7 +29,7 @@ pub fn run_command<R: Read, W: Write>(
     input: &mut R,
     output: &mut W,
 ) -> Result<bool, Fault>
-    ensures { Does StartsNone command (R.remaining input.old) (W.contents output.old)
+    ensures { RunsCommand StartsNone command (R.remaining input.old) (W.contents output.old)
         (W.contents output.new) result }
 {
     match command {
@@ -55,9 +55,9 @@ fn run_words<S: System, W: Write>(alloc: Global, system: &S, output: &mut W) -> 
     run_command(alloc, opened.command, &mut opened.input, output)
 }
 
-/// Does all that the program without threads does: reads the words of the call, opens the file
-/// that they name, runs the engine of the command on it, which writes to `output`, and writes the
-/// line of a fault to `errors`. The command `run` ends with `NoThread`.
+/// Does all that the program without threads does: reads the words of the call, opens the file that
+/// they name, and runs the engine of the command on this file. The engine writes to `output`; the
+/// line of a fault is written to `errors`. The command `run` ends with `NoThread`.
 ///
 /// # Cost
 ///
@@ -68,9 +68,9 @@ pub fn run<S: System, W: Write, E: Write>(
     output: &mut W,
     errors: &mut E,
 ) -> Ending
-    ensures { HasEnded (Runs StartsNone (S.spoken system.now) (S.bytes system.now)
+    ensures { HasExited (Runs StartsNone (S.spoken system.now) (S.bytes system.now)
         (W.contents output.old) (W.contents output.new))
-        (Tells (E.contents errors.old) (E.contents errors.new)) result }
+        (TellsError (E.contents errors.old) (E.contents errors.new)) result }
 {
     let outcome = run_words(alloc, system, output);
     end(&outcome, errors)

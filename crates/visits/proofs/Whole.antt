@@ -18,7 +18,7 @@ use Rattle.shared_transactions.specs.Keeps.{Keeps}
 use Rattle.shared_transactions.specs.Within.{IsRun}
 use Rattle.shared_transactions.specs.Works.{AreDone}
 use Rattle.txn_words.specs.Map.{Map, get, insert}
-use Rattle.txn_trace.specs.Alone.{Run, act, alone}
+use Rattle.txn_trace.specs.Alone.{AloneRun, act, alone}
 use Rattle.txn_trace.specs.Serial.{serial}
 use Rattle.txn_trace.specs.Legal.{IsLegal}
 use Rattle.txn_words.proofs.Maps.{get-insert-here}
@@ -32,7 +32,7 @@ use Rattle.visits.specs.declared.visit.Visit.{Visit}
 use Rattle.visits.specs.Visits.{visiting, HasDone, HasVisited, IsAnswered, AreAnswered}
 
 -- A run goes on to its commit only if its reply was right.
-tested : (c place : ℕ) (b : Bool) (run : Run) → IsSome (option_and_then (λ r. act r (Committed c place)) (cond b (Some run) None)) → b ≡ true
+tested : (c place : ℕ) (b : Bool) (run : AloneRun) → IsSome (option_and_then (λ r. act r (Committed c place)) (cond b (Some run) None)) → b ≡ true
 tested c place true run there = refl
 tested c place false run there = absurd (false≢true there)
 
@@ -40,14 +40,14 @@ tested c place false run there = absurd (false≢true there)
 got_alone : (m : Map) (c : ℕ) (visit : Visit) (txn : ℕ) (before reply : Option ℕ) (place : ℕ) → IsSome (alone m (visiting c visit txn before reply place)) → reply ≡ Some visit.value
 got_alone m c visit txn before reply place =
     let put : Map = insert m visit.key visit.value in
-    let run : Run = record { last = put; earlier = m ∷ []; pending = None; notes = 1 ∷ [] } in
+    let run : AloneRun = record { last = put; earlier = m ∷ []; pending = None; notes = 1 ∷ [] } in
     elim (option_eq nat_eq before (get m visit.key)) as (λ b. IsSome (fold (λ o e. option_and_then (λ r. act r e) o) (cond b (Some run) None) (Asked c (Get visit.key) ∷ Did c reply ∷ Committed c place ∷ [])) → reply ≡ Some visit.value) [
       | true ↦ λ there. same_option reply (get put visit.key) (tested c place (option_eq nat_eq reply (get put visit.key)) _ there) ∙ get-insert-here m visit.key visit.value
       | false ↦ λ there. absurd (false≢true there)
     ]
 
--- A visit got what it put in every legal history that has the visitor's entries, whatever the other
--- callers do.
+-- In every legal history that has the visitor's entries, the visit got what it put, whatever the
+-- other callers do.
 pub got_at_close : {S : Type 0} (visit : Visit) (reply : Option ℕ) (me : Token S) (stripes : ℕ) (h : List Entry) → HasVisited visit reply me → IsLegal Begun stripes h → IsOwn h me → IsAnswered h visit reply
 got_at_close visit reply me stripes h visited legal own_is =
     let c : ℕ = me.number in

@@ -30,7 +30,7 @@ pub struct Visit {
 pub type Answer = Result<Reply, Stop>;
 
 impl Visit {
-    /// Puts the value and gets it, and answers what it got.
+    /// Puts the value at the key, then gets the key, and answers the reply.
     ///
     /// # Errors
     ///
@@ -76,9 +76,9 @@ impl<R: Wait> Work<R> for Visit {
     }
 }
 
-/// Makes a map, has each visitor visit it in its own thread, and closes it. Answers the map's core,
-/// and an answer to each visit, in their order. Each visitor that has a reply got what it put,
-/// whatever the others did: the core's history has its transaction, committed.
+/// Makes a map, has each visitor visit it in its own thread, and closes the map. Answers the map's
+/// core, and an answer to each visit, in the order of the visits. Each visitor that has a reply got
+/// what it put, whatever the others did, and its transaction is committed in the core's history.
 ///
 /// # Errors
 ///
@@ -87,8 +87,8 @@ impl<R: Wait> Work<R> for Visit {
 ///
 /// # Cost
 ///
-/// A thread for each visit, and a transaction, begun again as long as its stripe is held; and the
-/// cost of the map's `new` and `close`.
+/// For each visit a thread, and a transaction that is begun again as long as its stripe is held.
+/// Also the cost of the map's `new` and `close`.
 pub fn visit_all<R: Threads + Wait + Sync>(
     rt: &R,
     alloc: Global,

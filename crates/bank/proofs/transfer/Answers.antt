@@ -5,7 +5,7 @@ use Rattle.bank.proofs.Sums.{on_ok}
 use Rattle.bank.proofs.Whys.{on_err, at_begin, at_commit, in_work}
 use Rattle.owned_map.proofs.Only.{after}
 use Rattle.owned_map.specs.Keeps.{Keeps}
-use Rattle.owned_map.specs.Within.{IsBeside}
+use Rattle.owned_map.specs.Within.{OnlyWorked}
 use Rattle.bank.proofs.transfer.Goals as goal
 
 pub returns-clause-moved : goal.returns-clause-moved
@@ -28,5 +28,5 @@ returns-clause-cause c =
           let keeps : Keeps t.now u.now = search rules in
           at_commit c.args.caller c.args.from c.args.to c.args.sum stop why old u.now.map.now.core undone.0 is
           (after c.args.caller old t.now.map.now.core u.now.map.now.core begun.beside
-          (subst (λ d. IsBeside d t.now.map.now.core u.now.map.now.core) whose keeps.goes_on.beside)) undone.1
+          (subst (λ d. OnlyWorked d t.now.map.now.core u.now.map.now.core) whose keeps.goes_on.beside)) undone.1
     ]) c.transact.ensures.cause

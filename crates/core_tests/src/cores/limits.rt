@@ -1,5 +1,5 @@
 //! Cores at their limits. By contract any call that takes memory may be refused memory, so a body
-//! that gives up at a limit would meet its contract. With enough memory calls at a limit must have
+//! that gives up at a limit would meet its contract. With enough memory, calls at a limit must have
 //! the same answers as elsewhere.
 use super::{Call, begin, help_is, large_core, play_calls, put, put_helped, small_core};
 use crate::devices::{
@@ -77,7 +77,7 @@ fn callers_work(rt: &impl Abort, core: &mut Core, callers: u64) -> Result<(), Fa
     Ok(())
 }
 
-/// The callers of a core of this size work.
+/// Makes a core of this size, and checks each of its callers (`callers_work`).
 fn size_works(rt: &impl Abort, alloc: Global, size: (u64, u64, u64)) -> Result<(), Fail> {
     let limits = limits_of(rt, size.0, size.1, size.2);
     callers_work(rt, &mut core_with(rt, alloc, limits), size.0)
@@ -162,8 +162,8 @@ fn change_often(rt: &impl Abort, core: &mut Core, times: u64) -> Result<(), Fail
 /// Numbers of jobs in a log: as many as fit into the log itself, one more, and very many.
 static JOBS: [u64; 3] = [8, 9, 100_000];
 
-/// Caller 0 changes key 5, whose value is 0, in its transaction as often as `times` says, and takes
-/// these changes back.
+/// Caller 0 changes key 5 `times` times in its transaction, and takes these changes back. The key's
+/// value is 0 before.
 fn jobs_are(rt: &impl Abort, core: &mut Core, times: u64) -> Result<(), Fail> {
     change_often(rt, core, times)?;
     assert_eq!(rt; operate(core, 0, Op::Get(5))?, Answer::Done(Some(times)));
@@ -219,7 +219,7 @@ fn run_many(rt: &impl Abort, alloc: Global, core: &mut Core, count: usize) -> Re
     run_sweeps(rt, alloc, core, &steps)
 }
 
-/// Checks that list and map have this number of pairs.
+/// Checks that the list and the map have this number of pairs.
 fn has_many(rt: &impl Abort, alloc: Global, core: &Core, count: usize) -> Result<(), Fail> {
     let pairs = pairs_of(alloc, core)?;
     assert_eq!(rt; pairs.len(), count);
@@ -276,8 +276,8 @@ fn makes_room(rt: &impl Abort, core: &mut Core) -> Result<(), Fail> {
     Ok(())
 }
 
-/// Room for 0, 1,000 and 2,000 entries is made, whether or not it is also written, and room for
-/// 2^64 - 1 entries is refused.
+/// Room for 0, 1,000 and 2,000 entries is made, and room for 2^64 - 1 entries is refused. In each
+/// call but the one for 1,000 entries, the room is also to be written.
 fn has_room(rt: &impl Abort, core: &mut Core) {
     assert!(rt; core.reserve(0, true).is_ok());
     assert!(rt; core.reserve(1_000, false).is_ok());
@@ -285,7 +285,32 @@ fn has_room(rt: &impl Abort, core: &mut Core) {
     assert!(rt; core.reserve(usize::MAX, true).is_err());
 }
 
-/// One put and the commit add three entries to that of the begin.
+/// The history is moved into a larger vector in mid-transaction, and the core works as usual.
+#[test]
+fn moved_history(rt: HostRuntime) -> Result<(), Fail> {
+    let alloc = rt.alloc();
+    let mut core = small_core(&rt, alloc);
+    begin(&rt, &mut core)?;
+    moves_history(&rt, alloc, &mut core)?;
+    fill_and_count(&rt, &mut core)
+}
+
+/// The history has one entry, and caller 0 owes two more. A vector with room for two entries is too
+/// small, and is handed back. A vector with room for 1,000 entries becomes the history. The old
+/// vector of the history has less room than this one, and is handed back if it is offered again.
+fn moves_history(rt: &impl Abort, alloc: Global, core: &mut Core) -> Result<(), Fail> {
+    let small = core.move_history(Vec::with_capacity(alloc, 2)?);
+    assert_eq!(rt; small.capacity(), 2);
+    let old = core.move_history(Vec::with_capacity(alloc, 1_000)?);
+    assert!(rt; old.is_empty());
+    assert_eq!(rt; core.history_room(), 997);
+    let capacity = old.capacity();
+    assert_eq!(rt; core.move_history(old).capacity(), capacity);
+    assert_eq!(rt; core.history_room(), 997);
+    Ok(())
+}
+
+/// The history has four entries: one of the begin, two of the put, and one of the commit.
 fn fill_and_count(rt: &impl Abort, core: &mut Core) -> Result<(), Fail> {
     let answer = operate(core, 0, Op::Put(7, 70))?;
     assert_eq!(rt; answer, Answer::Done(None));

@@ -28,8 +28,8 @@ enum Plan {
 }
 
 impl Plan {
-    /// The plan as steps. After an abort or a return, the steps take one change back, and the last
-    /// step ends the abort or the return.
+    /// The plan as steps. After a step `Abort` or `Back`, a seek and an act take one change back.
+    /// The last step is then one more act, which ends the abort or the return.
     fn steps(self, caller: u64, own: u64, other: u64) -> [Step; 7] {
         let value = caller.wrapping_add(100);
         let put = Op::Put(own, value);
@@ -64,8 +64,7 @@ struct Compared {
 }
 
 /// Takes a step of a caller. If the caller's position no longer fits, the caller seeks again at
-/// once. The position must still fit if the last step was taken by the same caller: `last` is the
-/// caller that took it.
+/// once. The position must still fit if `last`, the caller of the last step, is the same caller.
 fn take_anew(
     rt: &impl Abort,
     core: &mut Core,
@@ -311,8 +310,8 @@ fn try_case(rt: &impl Abort, alloc: Global, case: &Case) -> Result<(), Fail> {
 }
 
 /// With 7 stripes the two keys of a pair have different stripes, so a caller can be busy only in a
-/// case with `PutBoth`; with 8 they share one, and a caller that asks while the other holds it is
-/// busy.
+/// case with `PutBoth`. With 8 stripes they share a stripe, and a caller that asks while the other
+/// holds it is busy.
 static CASES: [Case; 8] = [
     (7, false, Plan::PutAborted, Plan::PutAborted),
     (7, false, Plan::PutAndTake, Plan::PutAborted),

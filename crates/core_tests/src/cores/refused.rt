@@ -215,7 +215,8 @@ fn five_callers_undone(rt: HostRuntime) -> Result<(), Fail> {
     }
 }
 
-/// Takes steps, and each once more if it is refused memory; false if one is refused again.
+/// Takes steps, and takes a step once more if it is refused memory; false if a step is refused
+/// memory twice.
 fn try_steps_twice(
     rt: &impl Abort,
     alloc: Global,
@@ -265,7 +266,8 @@ static SECOND_SEGMENT: [(Step, Answer); 12] = [
     (Step::InitSeek(0, 64), Answer::Ready),
 ];
 
-/// Fills the table and stores the bucket; or the caller aborts if a step is refused memory twice.
+/// Fills the table and stores the bucket. If a step is refused memory twice, the caller aborts
+/// instead.
 fn fill_segments(rt: &impl Abort, alloc: Global, core: &mut Core) -> Result<(), Fail> {
     let is_done = put_many(rt, alloc, core)? && try_steps_twice(rt, alloc, core, &SECOND_SEGMENT)?;
     if !is_done {
@@ -278,7 +280,7 @@ fn fill_segments(rt: &impl Abort, alloc: Global, core: &mut Core) -> Result<(), 
 }
 
 /// Bucket 64 is the first of the second segment, so its store takes memory. A step that is refused
-/// may be taken again, and if it is refused again the caller aborts, which needs no memory.
+/// is taken once more. If it is refused again, the caller aborts, which needs no memory.
 #[test]
 fn segments(rt: HostRuntime) -> Result<(), Fail> {
     match core_if_made(rt.alloc(), limits_of(&rt, 1, 8, 128)) {

@@ -1,30 +1,38 @@
 //! Operations that are asked for when stripes are words, on cores made by `Core::with_words` and
-//! `Core::with_room`. A step cannot ask there, so this module asks with the right to a stripe
-//! or with its word. The answers and the history were worked out by hand.
+//! `Core::with_room`. The step `Ask` is not allowed on such cores, so this module asks with the
+//! right to a stripe or with its word. The answers and the history were worked out by hand.
 use crate::devices::{core_of, is_history, limits_of, take_step};
-use boost_core::{Core, Room};
+use boost_core::{CallerRoom, Core, Room};
 use key_locks::StripeRight;
 use std::alloc::{AllocError, Global};
 use std::process::Abort;
 use std::test::Fail;
 use txn_words::{Answer, Entry, Op, Refusal, Step};
 
-/// A core of 3 callers whose stripes, 8 of them, are words.
+/// A core of 3 callers, with 8 stripes that are words.
 fn core_with_words(rt: &impl Abort, alloc: Global) -> Core {
     Core::with_words(alloc, limits_of(rt, 3, 8, 8)).expect(rt, "a core")
 }
 
-/// Room for this many entries, for this many nodes, and for these changes of the callers.
-fn room_for(entries: usize, nodes: usize, changes: &[usize], is_written: bool) -> Room<'_> {
+/// Room for this many entries, for this many nodes, and for what the callers need.
+fn room_for(entries: usize, nodes: usize, callers: &[CallerRoom], is_written: bool) -> Room<'_> {
     Room {
         entries,
         nodes,
-        changes,
+        callers,
         is_written,
     }
 }
 
-/// The same core, made with room.
+/// Room for this many changes and savepoints of a caller.
+fn need(changes: usize, savepoints: usize) -> CallerRoom {
+    CallerRoom {
+        changes,
+        savepoints,
+    }
+}
+
+/// A core like that of `core_with_words`, made with room.
 fn core_with_room(rt: &impl Abort, alloc: Global, room: Room<'_>) -> Core {
     Core::with_room(alloc, limits_of(rt, 3, 8, 8), room).expect(rt, "a core")
 }
@@ -39,7 +47,7 @@ fn has_words(core: &Core) -> bool {
     core.words()
 }
 
-/// Asks with the right to a stripe of eight.
+/// Asks with the right to one of eight stripes.
 fn ask_by_right(core: &mut Core, right: &StripeRight, caller: u64, op: Op) -> Result<Answer, Fail> {
     if !core.words() {
         return Err("stripes are no words".into());
@@ -157,27 +165,34 @@ fn rights_and_words(rt: HostRuntime) -> Result<(), Fail> {
     play(&rt, alloc, &mut core_with_words(&rt, alloc))
 }
 
-/// A core that was made with less room than it needs, or with more, gives the same answers, also if
-/// the room was written.
+/// Cores that were made with less room than they need, or with more, give the same answers, whether
+/// or not the room was written.
 #[test]
 fn cores_with_room(rt: HostRuntime) -> Result<(), Fail> {
     let alloc = rt.alloc();
     for is_written in [false, true] {
-        let little = room_for(1, 1, &[1], is_written);
+        let one = [need(1, 1)];
+        let little = room_for(1, 1, &one, is_written);
         play(&rt, alloc, &mut core_with_room(&rt, alloc, little))?;
-        let much = room_for(1_000, 1_000, &[8, 9, 1_000, 5], is_written);
+        let needs = [need(8, 0), need(9, 1), need(1_000, 1_000), need(5, 5)];
+        let much = room_for(1_000, 1_000, &needs, is_written);
         play(&rt, alloc, &mut core_with_room(&rt, alloc, much))?;
     }
     Ok(())
 }
 
-/// Room for more entries, nodes or changes than memory can hold is refused.
+/// Room for more entries, nodes, changes or savepoints than memory can hold is refused.
 #[test]
 fn refused_room(rt: HostRuntime) {
     let alloc = rt.alloc();
     let max = usize::MAX;
     assert!(rt; refuses(&rt, alloc, room_for(max, 0, &[], true)));
     assert!(rt; refuses(&rt, alloc, room_for(0, max, &[], true)));
-    assert!(rt; refuses(&rt, alloc, room_for(0, 0, &[0, 0, max], true)));
-    assert!(rt; !refuses(&rt, alloc, room_for(0, 0, &[0, 0, 0, max], true)));
+    let none = need(0, 0);
+    for most in [need(max, 0), need(0, max)] {
+        let third = [none, none, most];
+        assert!(rt; refuses(&rt, alloc, room_for(0, 0, &third, true)));
+        let fourth = [none, none, none, most];
+        assert!(rt; !refuses(&rt, alloc, room_for(0, 0, &fourth, true)));
+    }
 }

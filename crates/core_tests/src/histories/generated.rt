@@ -1,11 +1,12 @@
 //! Histories drawn from a seed, and histories with one fault. `histories` judges them; no test is
-//! here. Which entries a caller may add is asked of `plain` and not of `history_check`, so the
-//! judge is never compared with itself.
+//! here. `plain`, not `history_check`, says which entries a caller may add, so the judge is never
+//! compared with itself.
 use super::plain::{self, Place};
 use std::alloc::{AllocError, Global};
 use txn_words::{Entry, Holder, Op};
 
-/// A history has one to four callers: the first of these.
+/// The numbers that callers have. The one to four callers of a history have the first numbers of
+/// this list.
 const CALLERS: [u64; 4] = [0, 1, 7, 63];
 
 /// Numbers that a seed determines, by Knuth's linear congruential generator (MMIX).
@@ -133,8 +134,8 @@ fn next_in_open(
 }
 
 /// The entry for an operation in an open transaction: a Busy if another caller holds the stripe, or
-/// else an Asked. If `is_early`, the stripe was tested before the entry is recorded, so any other
-/// caller that has begun counts as its holder.
+/// else an Asked. If `is_early`, the stripe was tested some time before the entry is recorded. The
+/// holder may have given it back since, so any other caller that has begun counts as the holder.
 fn next_operation(history: &[Entry], caller: u64, op: Op, stripes: u64, is_early: bool) -> Entry {
     let stripe = plain::stripe_of(op, stripes);
     for other in CALLERS {

@@ -2,7 +2,7 @@
 //! checker is compared.
 //!
 //! It judges each prefix of a history from the beginning. It counts and looks back in the list of
-//! entries, while the checker keeps numbers, and it runs each transaction again on copies of maps,
+//! entries, while the checker keeps numbers. It runs each transaction again on copies of maps,
 //! while the checker keeps one map.
 
 use history_check::{Rule, Verdict};
@@ -58,8 +58,8 @@ pub(super) fn place_after(entries: &[Entry]) -> Place {
     Place::Closed
 }
 
-/// The number of changes that stand after a transaction's entries: those done, without those taken
-/// back.
+/// The number of changes that stand after a transaction's entries: the changes done, less those
+/// taken back.
 pub(super) fn count_standing(entries: &[Entry]) -> usize {
     let mut asked = None;
     let mut done: usize = 0;
@@ -388,9 +388,9 @@ fn serial_map(alloc: Global, history: &[Entry]) -> Result<Values, AllocError> {
     Ok(values)
 }
 
-/// Whether the open transaction that begins with this entry has the replies of running alone on
-/// these values; true if no open transaction begins with it. The entries of an open transaction are
-/// those of its caller from its Began on.
+/// Whether the open transaction that begins with this entry has the same replies as if it ran alone
+/// on these values. If no open transaction begins with it, the answer is true. The entries of an
+/// open transaction are those of its caller from its Began on.
 fn reply_holds(
     alloc: Global,
     history: &[Entry],
@@ -404,7 +404,7 @@ fn reply_holds(
     Ok(run_alone(settled, &entries, alloc)?.is_some())
 }
 
-/// Whether each open transaction has the replies of running alone on these values.
+/// Whether each open transaction has the same replies as if it ran alone on these values.
 fn replies_hold_on(alloc: Global, history: &[Entry], settled: &Values) -> Result<bool, AllocError> {
     for entry in history {
         if !reply_holds(alloc, history, settled, entry)? {
@@ -414,7 +414,8 @@ fn replies_hold_on(alloc: Global, history: &[Entry], settled: &Values) -> Result
     Ok(true)
 }
 
-/// Whether each open transaction has the replies of running alone after the committed ones.
+/// Whether each open transaction has the same replies as if it ran alone on the map that the
+/// committed transactions leave.
 fn replies_hold(alloc: Global, history: &[Entry]) -> Result<bool, AllocError> {
     let settled = serial_map(alloc, history)?;
     replies_hold_on(alloc, history, &settled)

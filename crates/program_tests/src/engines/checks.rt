@@ -40,7 +40,7 @@ const IN_VERSION: &str = r#"{"version":@,"stripes":8,"entries":[#]}"#;
 
 /// History files, and the output for each.
 pub const FILES: &[Files] = &[
-    // Replies, as `checker_replies` in `crates/txn_trace/proofs/Cases.antt`; and a wrong entry.
+    // The replies of `checker_replies` in `crates/txn_trace/proofs/Cases.antt`, and a wrong entry.
     Files {
         command: Command::Check,
         frame: CHECKED_OF,
@@ -182,7 +182,7 @@ pub const FILES: &[Files] = &[
         status: 3,
     },
     // `put_if_history` of `crates/txn_trace/proofs/WideCases.antt`: a change by `put_if` is taken
-    // back once, a `put_if` that changed nothing never.
+    // back once. A `put_if` that changed nothing is not taken back.
     Files {
         command: Command::Check,
         frame: OF_VERSION_2,

@@ -1,7 +1,7 @@
 //! Readers and writers that fail at each call in turn, memory that is refused, and the lines of
-//! faults. No contract counts the calls of a reader or a writer; the tests here check that none is
-//! made after one has failed. If memory is refused, by `docs/tests/refused.sh`, the output is empty
-//! or one of a few that were worked out by hand.
+//! faults. No contract counts the calls of a reader or a writer; the tests here check that no call
+//! is made after one has failed. If memory is refused, by `docs/tests/refused.sh`, the output is
+//! empty or one of a few that were worked out by hand.
 
 use super::checks::{CHECKED, LEGAL};
 use super::mixes::{EMPTY_SCRIPT, SHORT_HISTORY};
@@ -61,7 +61,8 @@ fn failing_reads(rt: HostRuntime) {
     }
 }
 
-/// A write that fails, or takes nothing, is not tried again: a beginning of the line is written.
+/// A write that fails, or takes nothing, is not tried again. Only the beginning of the line is
+/// written.
 fn fail_writes<T: Abort + Threads + Wait + Sync>(
     rt: &T,
     alloc: Global,
@@ -105,8 +106,8 @@ fn is_among(known: &[&str], text: &str) -> bool {
     known.iter().any(|one| *one == text)
 }
 
-/// Checks that one of these texts is printed, or that nothing is printed and the fault is that
-/// there was no memory or, for `run`, no thread.
+/// Checks that one of these texts is printed, or nothing. If there is a fault, nothing is printed,
+/// and the fault is that there was no memory or, for `run`, no thread.
 fn refuse_memory<T: Abort + Threads + Wait + Sync>(
     rt: &T,
     alloc: Global,
@@ -185,8 +186,8 @@ fn mix_without_memory(rt: HostRuntime) {
     );
 }
 
-/// Meant to be run with each allocation refused in turn: nothing is written, or the whole history
-/// of a worker, whether its script was refused memory or not.
+/// Meant to be run with each allocation refused in turn: nothing is written, or a whole history. If
+/// the script was refused memory, the history has no entries.
 #[test]
 fn run_without_memory(rt: HostRuntime) {
     let known = [SHORT_RUN, NO_ENTRIES];

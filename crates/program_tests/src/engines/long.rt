@@ -12,14 +12,15 @@ use std::test::Fail;
 
 /// Each row has a number of puts, and the least and the greatest `digits` for `key`. In the first
 /// row the last entry ends at most 10 bytes before or behind the place at which a piece is full, so
-/// the end of the line is in the same piece or in the next one. In the second row this place is at
-/// each byte of an entry in turn.
+/// the end of the line is in the same piece or in the next one. In the second row each further
+/// digit moves the entries by one byte. So the place at which a piece is full falls on each byte of
+/// an entry in turn.
 const LENGTHS: [(u64, u32, u32); 2] = [(1916, 36, 56), (1930, 0, 36)];
 
-/// The number of puts whose history fills two pieces and a part.
+/// A number of puts whose history fills two pieces and a part of a third.
 const MANY: u64 = 4000;
 
-/// A writer that expects a text. It takes at most some bytes for each call, and none at the call
+/// A writer that expects a text. It takes at most `most` bytes for each call, and none at the call
 /// `fails_at`, counted from 0.
 #[derive(Drop)]
 struct Expecting<'a> {
@@ -111,14 +112,15 @@ fn mixed<'a>(
     (result, output)
 }
 
-/// The whole line is written, however many bytes the writer takes at a time.
+/// Checks that the whole line is written if the writer takes at most `most` bytes at a time.
 fn compare_whole(rt: &impl Abort, alloc: Global, file: &str, line: &str, most: usize) {
     let (result, output) = mixed(alloc, file, Expecting::new(line, most, usize::MAX));
     let is_whole = result.is_ok() && output.is_right && output.rest.is_empty();
     assert!(rt; is_whole, "{most}");
 }
 
-/// The writes before the failing one wrote a beginning of the line, and no write follows it.
+/// Checks that the writes before the failing one wrote the beginning of the line, and that no write
+/// follows the failing one.
 fn compare_failed(rt: &impl Abort, alloc: Global, file: &str, line: &str, fails_at: usize) {
     let (result, output) = mixed(alloc, file, Expecting::new(line, 10_000, fails_at));
     let is_told = matches!(result, Err(Fault::Write)) && output.is_right;

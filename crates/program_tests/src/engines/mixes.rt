@@ -1,7 +1,7 @@
 //! Script files with the output of `mix` for each. With one worker every seed gives the same
 //! history, which was worked out by hand. With three workers, each of 200 seeds must give the same
-//! legal history in two runs. The history must not be empty, though the contract allows that for
-//! lack of memory.
+//! legal history in two runs. The history must not be empty. The contract allows an empty history
+//! if memory is refused.
 
 use super::{Command, Files, compare_file, run_on};
 use crate::devices::Narrow;
@@ -56,8 +56,9 @@ pub const FILES: &[Files] = &[
         printed: HISTORY_OF_VERSION_2,
         status: 0,
     },
-    // A key of 2^63 is refused before any step of help. It is refused in a get too, and so is a
-    // return to a level that is not there. The transaction aborts.
+    // A `help` for the key 2^63 is refused before it takes a step. A `get` of this key is refused
+    // too, and so is a return to a level that is not there. After each of these refusals the
+    // transaction aborts.
     Files {
         command: Command::Mix(3),
         frame: BAD_KEY,
@@ -110,7 +111,8 @@ const THREE_WORKERS: &str =
     10],[\"put\",2,20]],[[\"put\",2,21],[\"take\",1]],[[\"get\",1],[\"save\"],[\"put\",3,30],\
     [\"back\",1]],[[\"take\",2],[\"help\",5]],[[\"put\",4,40],[\"abort\"]],[[\"get\",2]]]}";
 
-/// The empty history: it is legal and plays scripts as the contract asks, but must not be printed.
+/// The empty history. It is legal, and it plays scripts as the contract asks, but it must not be
+/// printed.
 const NOTHING: &str = "{\"entries\":[],\"stripes\":2,\"version\":1}\n";
 
 /// The output of `mix` for three workers.
@@ -148,7 +150,7 @@ fn mix_one_worker(rt: HostRuntime) {
 }
 
 /// The history of any seed is legal with nothing open, and the same each time. Not all seeds give
-/// the same history, and none an empty one.
+/// the same history, and no seed gives an empty one.
 #[test]
 fn mix_any_seed(rt: HostRuntime) {
     let first = mix_three(&rt, rt.alloc(), 0);

@@ -12,8 +12,8 @@ use std::process::Abort;
 use std::test::Fail;
 use txn_words::{Answer, Entry, Holder, Limits, Op, Refusal, SmallEntry, Step, Unpacked};
 
-/// The number of times that a call is tried before memory is taken to be refused for good: one more
-/// than the allocations that `docs/tests/refused.py` refuses in a row, if it does not refuse all.
+/// The number of times that a call is tried before memory is taken to be refused for good. Unless
+/// `docs/tests/refused.py` refuses all allocations, it refuses fewer than this number in a row.
 const TRIES: usize = 9;
 
 /// The caller that looks on. Each caller `n` below it changes the key `n + 1`.
@@ -377,12 +377,13 @@ fn compare_stripes(rt: &impl Abort, alloc: Global, core: &mut Core, entries: &[E
     }
 }
 
-/// The first entries; the number says how many.
+/// The first `count` entries.
 fn first_entries(count: usize) -> &'static [Entry] {
     ENTRIES.get(..count).unwrap_or(&ENTRIES)
 }
 
-/// Compares everything after these entries, the stripes only if the onlooker may look on.
+/// Compares the state after these entries. The stripes are compared only if the onlooker may look
+/// on.
 fn compare(rt: &impl Abort, alloc: Global, core: &mut Core, entries: &[Entry], looks_on: bool) {
     compare_entries(rt, core, entries);
     compare_map(rt, alloc, core, entries);
@@ -391,9 +392,10 @@ fn compare(rt: &impl Abort, alloc: Global, core: &mut Core, entries: &[Entry], l
     }
 }
 
-/// Takes steps until one is refused memory; only a begin or an ask may be. Compares the state after
-/// each step that adds an entry, except after an ask. `before` is the number of entries at the
-/// beginning. Answers their number at the end. Neither number counts the onlooker's entries.
+/// Takes steps until one is refused memory. Only a begin or an ask may be refused memory. Compares
+/// the state after each step that adds an entry, except after an ask. `before` is the number of
+/// entries before the steps. Answers the number of entries after the steps. Neither number counts
+/// the onlooker's entries.
 fn play(
     rt: &impl Abort,
     alloc: Global,
@@ -419,8 +421,8 @@ fn play(
     count
 }
 
-/// Aborts each caller that is in a transaction after these entries, which needs no memory. The
-/// aborts add exactly the entries that were owed.
+/// Aborts each caller that is in a transaction after these entries. The aborts need no memory, and
+/// add exactly the entries that were owed.
 fn abort_all(rt: &impl Abort, core: &mut Core, entries: &[Entry]) {
     let (trace, owed) = history_of(core);
     let wanted_length = trace.len().saturating_add(owed);
@@ -530,17 +532,17 @@ fn play_on_core(rt: &impl Abort, alloc: Global, callers: u64, is_all: bool) -> R
     Ok(())
 }
 
-/// Meant to be run with allocations refused: one, eight in a row, or all from one on. If a change
-/// is refused memory, nothing has changed, and every caller aborts. State that takes memory to read
-/// is compared if there is memory.
+/// Meant to be run with allocations refused: one allocation, eight in a row, or every allocation
+/// from some point on. If a change is refused memory, nothing has changed, and every caller aborts.
+/// State that takes memory to read is compared if there is memory.
 #[test]
 fn five_callers_undone_is_legal(rt: HostRuntime) -> Result<(), Fail> {
     play_on_core(&rt, rt.alloc(), 6, true)
 }
 
 /// Meant to be run with allocations refused, like the test above. A caller has sought the position
-/// of its put when another caller's step is refused memory: its cursor still fits, so it acts there
-/// without another seek.
+/// of its put when another caller's step is refused memory. The cursor of the first caller still
+/// fits, so this caller acts without another seek.
 #[test]
 fn a_cursor_stands_beside_a_refusal(rt: HostRuntime) -> Result<(), Fail> {
     play_on_core(&rt, rt.alloc(), 2, false)

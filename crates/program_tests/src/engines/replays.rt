@@ -1,6 +1,7 @@
-//! Step files with the report of `replay` for each. A run is lines of steps with their answers
-//! behind them, worked out by hand; file and report are both made from these lines. One test puts
-//! 129 keys: its lines are made by a rule, and its report is compared up to the third pair.
+//! Step files with the report of `replay` for each. Each line of a run has steps, and behind the
+//! steps their answers. The answers were worked out by hand. The file and the report are both made
+//! from these lines. One test puts 129 keys: its lines are made by a rule, and its report is
+//! compared up to the third pair.
 
 use super::{Command, Files, run_on};
 use crate::devices::{Ended, Narrow, compare_ended};
@@ -10,7 +11,7 @@ use std::sync::Wait;
 use std::test::Fail;
 use std::thread::Threads;
 
-/// A file of some callers and no steps.
+/// A file without steps, with a gap for the number of callers.
 const EMPTY_FILE: &str = r#"{"version":1,"callers":@,"stripes":8,"buckets":8,"steps":[]}"#;
 
 /// One transaction that commits.
@@ -32,7 +33,7 @@ const MEMBERS_OF: &str =
 pub const FIRST_REPORT: &str =
     "began 1\nasked\nplaced\ndone none\ncommitted 1\nsize 2 count 1\n1 10\n";
 
-/// A file of some version, with a gap for a step before the others.
+/// A file with gaps for its version and for a step before the others.
 const PUT_IF: &str =
     "{\"version\":@,\"callers\":1,\"stripes\":8,\"buckets\":8,\"steps\":[#[\"begin\",0],[\"ask\",0,\
     \"put_if\",1,null,5]]}";
@@ -100,8 +101,9 @@ pub const FILES: &[Files] = &[
         printed: "refused 21\n",
         status: 3,
     },
-    // Wrong shapes: wrong numbers, a missing member, another version, a wrong step before too many
-    // callers, and a member that no step file has.
+    // Wrong shapes: wrong numbers, a missing member, and another version. If there are both a wrong
+    // step and too many callers, the fault is the wrong step. A member that no step file has is
+    // skipped.
     Files {
         command: Command::Replay,
         frame: MEMBERS_OF,
@@ -359,8 +361,8 @@ const COMMIT: &str = r#"["commit",0] = committed 1"#;
 
 const FIVE_KEYS_REPORT: &str = "size 4 count 5\n4 40\n2 20\n1 10\n5 50\n3 30\n";
 
-/// A step file by its name, and its report. Each line of its parts has steps, and behind ` = ` the
-/// answers to them.
+/// A step file with its name and its report. Each line of its parts has steps and, behind ` = `,
+/// the answers to them.
 #[derive(Clone, Copy)]
 struct Run {
     name: &'static str,
@@ -555,7 +557,7 @@ fn add_put(part: &mut String, key: u64) -> Result<(), Fail> {
     Ok(())
 }
 
-/// A caller begins, and puts this number of keys.
+/// Adds the steps of a caller that begins and puts this number of keys.
 fn add_puts(part: &mut String, count: u64) -> Result<(), Fail> {
     part.push_str("[\"begin\",0] = began 1\n")?;
     for key in 0..count {
@@ -581,7 +583,8 @@ const SEGMENTS: &str = r#"["double",2] = doubled 4
 ["commit",0] = committed 1
 ["sweep"] = clean"#;
 
-/// A file of one caller and at most 128 buckets, and the end of its report up to the third pair.
+/// A file of one caller and at most 128 buckets, and the lines of its report from the size to the
+/// third pair.
 const OF_SEGMENTS: Run = Run {
     name: "segments",
     version: 1,
@@ -591,7 +594,7 @@ const OF_SEGMENTS: Run = Run {
     rest: "size 128 count 129\n0 0\n128 128\n64 64\n",
 };
 
-/// The file and the report of 129 puts and of the steps behind them.
+/// A file of 129 puts and then the steps of `SEGMENTS`, and its report up to the third pair.
 fn texts_of_segments(alloc: Global) -> Result<(String, String), Fail> {
     let mut puts = String::new(alloc);
     add_puts(&mut puts, 129)?;

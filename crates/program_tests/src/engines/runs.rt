@@ -1,6 +1,6 @@
-//! Script files with the output of `run` for each. With one worker the history was worked out by
-//! hand. With more it depends on the threads: then `check` must find it legal, with no transaction
-//! open. It must not be empty either, though the contract allows that.
+//! Script files with the output of `run` for each. The history of one worker was worked out by
+//! hand. The history of several workers depends on the threads: `check` must find it legal, with no
+//! transaction open. It must also have entries, though the contract allows an empty history.
 
 use super::mixes::{BAD_KEY, ONE_WORKER, WORKERS_OF, judge};
 use super::{Command, Files, run_on};
@@ -10,7 +10,7 @@ use std::sync::Wait;
 use std::test::Fail;
 use std::thread::Threads;
 
-/// The history of an empty script as a run.
+/// The history that `run` prints for an empty script.
 pub const SHORT_RUN: &str =
     "{\"entries\":[[\"began\",0,1],[\"committed\",0,1]],\"stripes\":8,\"version\":3}\n";
 
@@ -31,7 +31,8 @@ pub const FILES: &[Files] = &[
             [\"did\",0,10],[\"leave\",0,null],[\"aborted\",0]],\"stripes\":8,\"version\":3}\n",
         status: 0,
     },
-    // Every number is a key in a script file of version 2; its history is of version 3 too.
+    // In a script file of version 2 every number may be a key. For such a file, too, `run` prints a
+    // history of version 3.
     Files {
         command: Command::Run,
         frame: "#",
@@ -44,7 +45,7 @@ pub const FILES: &[Files] = &[
             [\"committed\",0,1]],\"stripes\":8,\"version\":3}\n",
         status: 0,
     },
-    // A key of 2^63 is refused before any step of help: the transaction aborts.
+    // A `help` for the key 2^63 is refused before it takes a step. Then the transaction aborts.
     Files {
         command: Command::Run,
         frame: BAD_KEY,
@@ -114,7 +115,8 @@ fn run_workers<T: Threads + Wait + Sync>(
     )
 }
 
-/// These scripts with one to six workers: the history is legal with nothing open, and not empty.
+/// With one to six workers, the history of these scripts is legal and not empty, and leaves no
+/// transaction open.
 #[test]
 fn run_any_workers(rt: HostRuntime) -> Result<(), Fail> {
     for workers in "1 2 3 4 5 6".split(' ') {

@@ -1,5 +1,5 @@
-//! History files: their content, the text that is written for it, and the first fault of each that
-//! is refused. Of the three kinds only these are written too, so one table serves both directions.
+//! History files: their content, the text that is written for it, and the first fault of each file
+//! that is refused. No other kind of file is written, so one table tests both reading and writing.
 //! The files and their entries were made by hand.
 
 use super::{Files, Kind};
@@ -208,8 +208,9 @@ pub const FILES: &[Files] = &[
         fillings: "",
         fault: Some(FileFault::Limit),
     },
-    // The caller of the first entry is out of range, and with the filling 0 the stripes are too:
-    // both are found only after the entries.
+    // The entry with index 1 is wrong. Besides, the caller of the first entry is out of range, and
+    // so is the number of stripes if the filling is 0. But ranges are tested only after all entries
+    // were read. So the fault is that of the wrong entry.
     Files {
         kind: Kind::History,
         frame: BETWEEN_ENTRIES,

@@ -14,8 +14,8 @@ pub const FIRST_COMMIT: &str =
     "{\"version\":1,\"callers\":2,\"stripes\":8,\"buckets\":8,\"steps\":[[\"begin\",0],[\"ask\",0,\
     \"put\",1,10],[\"seek\",0],[\"act\",0],[\"commit\",0]]}";
 
-/// Every kind of step of version 1 that `FIRST_COMMIT` lacks, with white space, numbers at both
-/// ends, members in another order, further members, and one given twice.
+/// Every kind of step of version 1 that `FIRST_COMMIT` lacks, with white space, the least and the
+/// greatest numbers, members in another order, further members, and a member that is given twice.
 const EVERY_STEP: &str =
     " { \"steps\" : [[\"abort\",18446744073709551615], [\"ask\",7,\"take\",0],\n[\"ask\",0,\"get\",\
     9223372036854775808],[\"ask\",1,\"put\",18446744073709551615,0],\n[\"save\",3],[\"back\",4,\

@@ -1,6 +1,6 @@
-//! Buckets with their list, as one value. Its invariant is what the calls of `Buckets` require of
-//! the two, so a test that makes calls by `Home` has nothing to prove about them. A contract sees
-//! nothing of a `Home`: only the tables of the tests say what its calls answer.
+//! Buckets with their list, as one value. The invariant of a `Home` is what the calls of `Buckets`
+//! require of the buckets and of the list, so a test that calls a `Home` has nothing to prove.
+//! Contracts see nothing of a `Home`. The tests compare its answers with expected answers.
 ghost use Rattle.std.specs.Prelude.{◌≡◌};
 ghost use Rattle.bucket_table.specs.Home.{IsHome};
 ghost use Rattle.bucket_table.specs.Dummies.{IsKeyed};
@@ -94,9 +94,9 @@ fn put(
 }
 
 impl Home {
-    /// A list that has the dummy of bucket 0, with this stamp, and two buckets on it, which can
-    /// grow to `max`. Answers `None` if memory is refused, if the stamp is 2^64 - 1, or if `max` is
-    /// neither 2 nor 8.
+    /// A list whose first node is the dummy of bucket 0 and has the stamp `first_stamp`, and two
+    /// buckets on that list. The number of buckets can grow to `max`. Answers `None` if memory is
+    /// refused, if `first_stamp` is 2^64 - 1, or if `max` is neither 2 nor 8.
     pub fn new(alloc: Global, first_stamp: u64, max: u32, helpers: u32) -> Option<Home> {
         if first_stamp == u64::MAX {
             return None;
@@ -125,7 +125,7 @@ impl Home {
         put(rt, &mut self.list, &self.buckets, number)
     }
 
-    /// Keeps the place of one spare for good.
+    /// Takes a spare from the list for good, so the place of the spare stays reserved.
     pub fn keep_spare(&mut self) -> Result<u64, SpareFault> {
         let spare = self.list.spare()?;
         Ok(spare.stamp())
@@ -136,8 +136,8 @@ impl Home {
         (self.buckets.size(), self.list.count(), self.list.changes())
     }
 
-    /// The split key of the bucket's dummy. If the bucket is not stored, that of the dummy of its
-    /// nearest stored ancestor.
+    /// The split key of the bucket's dummy. If the bucket is not stored, it is the split key of the
+    /// dummy of its nearest stored ancestor.
     pub fn nearest(&self, bucket: u32) -> Option<u64> {
         let node = self.list.linked_node(self.buckets.nearest(bucket))?;
         match node.kind {

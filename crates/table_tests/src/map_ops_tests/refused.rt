@@ -1,7 +1,6 @@
-//! The state of a table after memory was refused: tests that are also run with each allocation
-//! refused in turn. A call that is refused is followed by a look at the whole table, unlike in
-//! `runs`. An operation that was prepared before the refusal keeps its spare, and a helper keeps
-//! its cursor.
+//! Tests of the state of a table after memory was refused. They are also run with each allocation
+//! refused in turn. Unlike in `runs`, the whole table is compared after a call that was refused. An
+//! operation that was prepared before the refusal keeps its spare, and a helper keeps its cursor.
 use super::{do_at_once, figures, finish, has_pairs, small_table};
 use map_ops::{InitLink, InitSeek, Table};
 use std::alloc::{AllocError, Global};
@@ -45,8 +44,8 @@ fn table_again(alloc: Global) -> Result<Table, AllocError> {
     }
 }
 
-/// Puts a new key. If memory is refused, the table is unchanged, with these pairs, and the put
-/// succeeds when it is repeated.
+/// Puts a new key. If memory is refused, the table is unchanged: it has the pairs `before`, and the
+/// put succeeds when it is repeated.
 fn put_again(
     rt: &impl Abort,
     alloc: Global,
@@ -67,7 +66,7 @@ fn put_again(
     Ok(())
 }
 
-/// Puts these pairs in their order, each once more if it was refused memory.
+/// Puts these pairs in their order. A put that is refused memory is made once more.
 fn put_all(
     rt: &impl Abort,
     alloc: Global,
@@ -92,7 +91,7 @@ enum Refused {
     Link,
 }
 
-/// Puts pairs, does what may be refused memory, and compares the pairs that are left.
+/// Puts pairs, makes the call that may be refused memory, and compares the pairs that are left.
 fn play_refused(
     rt: &impl Abort,
     alloc: Global,
@@ -126,8 +125,8 @@ fn refused_memory_for_puts(rt: HostRuntime) -> Result<(), Fail> {
     refuse(&rt, rt.alloc(), &PAIRS, Refused::Puts)
 }
 
-/// Prepares a put of key 6, and then prepares and does a take of key 2. If memory is refused to the
-/// take, the table is unchanged, and the put is done instead. Answers the pairs of the table.
+/// Prepares a put of key 6, and then prepares and does a take of key 2. If the take is refused
+/// memory, the table is unchanged, and the put is done instead. Answers the pairs of the table.
 fn do_second(
     rt: &impl Abort,
     alloc: Global,
@@ -155,8 +154,8 @@ fn refused_memory_for_a_preparation(rt: HostRuntime) -> Result<(), Fail> {
     refuse(&rt, rt.alloc(), first_pairs(2), Refused::Preparation)
 }
 
-/// Prepares a put of key 4, and links the dummy of bucket 1 as helper 0. If memory is refused to
-/// the link, the table is unchanged, the put is done, and the helper still has its cursor. Answers
+/// Prepares a put of key 4, and links the dummy of bucket 1 as helper 0. If the link is refused
+/// memory, the table is unchanged, the put is done, and the helper still has its cursor. Answers
 /// the pairs of the table.
 fn link_beside_a_put(
     rt: &impl Abort,

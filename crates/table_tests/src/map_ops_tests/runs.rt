@@ -1,6 +1,7 @@
-//! Runs of steps on a table, in tables of rows: each step with its answer. A step is one call, or a
-//! few whose jobs or cursors belong together. The answers, the order of the pairs and the change
-//! numbers were worked out by hand. By contract a step may be refused memory even if there is some.
+//! Runs of steps on a table. They are given in rows, each with a step and its answer. A step is one
+//! call, or a few whose jobs or cursors belong together. The answers, the order of the pairs and
+//! the change numbers were worked out by hand. By contract a step may be refused memory even if
+//! there is some.
 ghost use Rattle.std.specs.Prelude.{◌≡◌, true};
 ghost use Rattle.txn_words.specs.Map.{Map, get};
 ghost use Rattle.map_ops.specs.Jobs.{IsDue, key_of_job, spare_of_job};
@@ -57,7 +58,8 @@ enum Step {
     /// Takes the only key of the table, and then takes this change back.
     TakeThereAndBack(u64),
     /// Prepares and places a put, puts value 40 at key 4, reads the key of the first put, and then
-    /// does that put. Keeps both jobs, that of key 4 as the newer one.
+    /// does that put. Adds the job of the first put to the kept jobs, and then the job of key 4 as
+    /// the newest.
     PutLate(u64, u64),
     /// Looks at the newest of the jobs that are kept.
     Newest,
@@ -267,7 +269,7 @@ fn put_late(
     Ok(Answer::Late(is_again, other, there, own))
 }
 
-/// Takes a step of the buckets, or reads.
+/// Takes a step of the buckets, sweeps, or reads the figures.
 fn take_bucket_step(table: &mut Table, step: Step) -> Result<Answer, Fail> {
     Ok(match step {
         Step::Double(seen) => Answer::Double(table.double(seen)),
@@ -310,7 +312,7 @@ fn take_step(
 
 /// Runs of steps, with the answer to each. Each run begins with a new table.
 const STEPS: [(Step, Answer); 118] = [
-    // Each operation there and back.
+    // Operations are done and taken back.
     (Step::Begin, Answer::Done),
     (Step::Do(Op::Put(1, 10)), Answer::Reply(None)),
     (Step::Return(Op::Put(1, 11)), Answer::Reply(Some(10))),
@@ -387,7 +389,7 @@ const STEPS: [(Step, Answer); 118] = [
     (Step::Pair(3), Answer::Pair(5, 50)),
     (Step::Pair(4), Answer::Pair(3, 30)),
     (Step::Pair(5), Answer::End),
-    // Two buckets are at the limit.
+    // The table of two buckets cannot grow, so the second doubling answers `AtLimit`.
     (Step::BeginSmall, Answer::Done),
     (Step::Double(4), Answer::Double(Double::Moved(2))),
     (Step::Double(2), Answer::Double(Double::AtLimit)),
@@ -436,7 +438,7 @@ const STEPS: [(Step, Answer); 118] = [
     (Step::Read, Answer::Figures(2, 1, 7)),
     (Step::Sweep, Answer::Swept(SweepOutcome::Clean)),
     (Step::Read, Answer::Figures(2, 1, 7)),
-    // An operation that is given up changes nothing, and a discarded change stays.
+    // An operation that is withdrawn changes nothing. A change whose job is discarded stays.
     (
         Step::Withdraw(Op::Put(2, 20)),
         Answer::Withdrawn(Op::Put(2, 20), 2),

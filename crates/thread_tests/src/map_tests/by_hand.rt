@@ -1,6 +1,6 @@
 //! Calls that are driven by hand, one hold of the lock at a time. `into_booked` takes the core out
-//! of its lock; each hold is then a call of `hold`, and a test can put another core in its place.
-//! The ends of the calls and the entries were worked out by hand.
+//! of its lock. Each hold is then a call of `hold`, and a test can replace the core. The ends of
+//! the calls and the entries were worked out by hand.
 ghost use Rattle.std.specs.Prelude.{◌≡◌};
 ghost use Rattle.core_tokens.specs.Tokens.{HasTried};
 
@@ -28,7 +28,7 @@ fn drive<L: Ledger>(booked: &mut Booked<L>, me: &mut Caller<L, NoSide>, call: Ca
     None
 }
 
-/// The end of a call by `drive`, after the word of an operation's stripe was tried.
+/// The end of a call by `drive`. If the call is an operation, tries the word of its stripe first.
 fn end_of<L: Ledger>(
     booked: &mut Booked<L>,
     me: &mut Caller<L, NoSide>,
@@ -137,8 +137,8 @@ fn begin_with_others<L: Ledger, R: Abort>(
     Ok(())
 }
 
-/// The map has 8 words. A core of 4 stripes breaks the token, which takes no step on this core, nor
-/// on a core of 8 stripes later.
+/// The map has 8 words. A core of 4 stripes breaks the token. The token then takes no step on this
+/// core, nor later on a core of 8 stripes.
 struct OtherStripes;
 
 impl Play for OtherStripes {

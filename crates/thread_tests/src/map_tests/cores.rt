@@ -1,6 +1,6 @@
-//! The contents of the lock of a new map, and the core of a map that is closed: no contract sees
-//! through the lock. The calls of a map are tested elsewhere; here the core itself takes steps, to
-//! show its buckets, its helpers and what is left to sweep. All steps are on one thread.
+//! Tests of the core of a map, after the map is closed. No contract sees through the map's lock.
+//! The calls of a map are tested elsewhere; here the core itself takes steps, to show its buckets,
+//! its helpers and what is left to sweep. All steps are on one thread.
 use super::rows::{Row, play_rows};
 use crate::devices::{Play, Shared, Told, callers_in, closed_of, play_with};
 use boost_core::{Call, Core};
@@ -90,8 +90,8 @@ static SWEPT: [(Step, Answer); 3] = [
     (Step::Begin(0), Answer::Began(2)),
 ];
 
-/// The node of a key that is taken is marked, and no seek passes it: the core of the closed map
-/// still has it.
+/// The node of a taken key is marked. No seek passes the node, so the core of the closed map still
+/// has it.
 struct Marked;
 
 impl Play for Marked {

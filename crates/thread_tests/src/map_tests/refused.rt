@@ -2,7 +2,7 @@
 //! the tests are plain worked runs, whose ends were worked out by hand. No contract says that a
 //! refused call leaves its caller unchanged, or that a call is given memory while there is some.
 use crate::devices::{
-    Play, Shared, callers_of, closed_of, has_left, is_refused, play_where_made, run, seen_by,
+    Play, Shared, TRIES, callers_of, closed_of, has_left, is_refused, play_where_made, run, seen_by,
 };
 use boost_core::{Call, Core, End};
 use locked_map::{Caller, NoSide, Pass};
@@ -16,8 +16,9 @@ use txn_words::{Answer, Op, Refusal};
 /// A call of the caller at a position, and its end if there is memory.
 type Wanted = (usize, Call, End);
 
-/// Makes a call, and makes it once more if it is refused memory. Answers the end of the last try. A
-/// try that is refused memory does not change the number of entries that the caller has seen.
+/// Makes a call, and makes it again while it is refused memory, `TRIES` times in all. Answers the end
+/// of the last try. A try that is refused memory does not change the number of entries that the
+/// caller has seen.
 fn end_of<L: Ledger, R: Wait + Abort>(
     rt: &R,
     shared: &Shared<L>,
@@ -25,7 +26,7 @@ fn end_of<L: Ledger, R: Wait + Abort>(
     call: Call,
 ) -> End {
     let before = seen_by(me);
-    for _ in 0..2 {
+    for _ in 0..TRIES {
         let end = run(rt, shared, me, call);
         if end != End::Refused(Refusal::NoMemory) {
             return end;
@@ -35,8 +36,7 @@ fn end_of<L: Ledger, R: Wait + Abort>(
     End::Refused(Refusal::NoMemory)
 }
 
-/// Makes the calls up to the first that is refused memory twice. Answers whether no call
-/// was refused twice.
+/// Makes the calls up to the first that is refused memory for good. Answers whether none was.
 fn is_whole<L: Ledger, R: Wait + Abort>(
     rt: &R,
     alloc: Global,
@@ -74,9 +74,9 @@ fn give_up<L: Ledger, R: Wait + Abort>(
     }
 }
 
-/// Calls that are made up to the first that is refused memory twice; then all callers give up. If a
-/// call was refused memory twice, no key is left. Otherwise one key is left, and the history has
-/// this number of entries.
+/// The calls are made up to the first that is refused memory for good. Then all callers give up. If a
+/// call was refused memory, no key is left. Otherwise one key is left, and the history has this
+/// number of entries.
 #[derive(Drop)]
 struct Refused {
     calls: &'static [Wanted],

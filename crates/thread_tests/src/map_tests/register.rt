@@ -12,7 +12,7 @@ pub(super) struct Register {
     pub(super) words: [u64; 4],
 }
 
-/// A closure that takes a change back, to be run once, and the words before and after the change.
+/// The words before and after a change, and a closure that takes the change back when it is run.
 #[derive(Drop)]
 pub(super) struct RegisterJob {
     pub(super) before: [u64; 4],

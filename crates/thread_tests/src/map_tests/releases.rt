@@ -1,9 +1,9 @@
-//! An observer of releases is told of each hold of the lock, once. The observer is the caller's own
-//! type, so no contract can count the calls on it. The counts were worked out by hand from the
-//! steps of each call.
-use crate::devices::{Play, Shared, callers_in, play_with, run_heard};
+//! An observer of releases is told of each hold of the lock exactly once. The observer is the
+//! caller's own type, so no contract can count the calls on it. The counts were worked out by hand
+//! from the steps of each call.
+use crate::devices::{Play, Shared, callers_in, play_with, play_with_room, run_heard};
 use boost_core::Call;
-use locked_map::{Caller, NoSide, OnRelease, Pass};
+use locked_map::{Caller, NoSide, OnRelease, Pass, Room};
 use std::alloc::Global;
 use std::process::Abort;
 use std::sync::Wait;
@@ -60,22 +60,35 @@ static RELEASES: [(Call, u64); 16] = [
     (Call::Abort, 5),
 ];
 
+/// Calls on a map whose `Room` has `is_written: true` and `entries: 0`. So its history may not grow
+/// under the lock, and the first hold takes no turn. The second hold hands over room for entries,
+/// and takes a turn. Each later hold takes a turn.
+static GROWN: [(Call, u64); 3] = [
+    (Call::Begin, 2),
+    (Call::Op(Op::Put(1, 10)), 3),
+    (Call::Commit, 1),
+];
+
 /// Makes the calls.
 fn releases_are<L: Ledger, R: Wait + Abort>(
     rt: &R,
     shared: &Shared<L>,
     me: &mut Caller<L, NoSide>,
+    rows: &[(Call, u64)],
 ) {
-    for &(call, wanted) in &RELEASES {
+    for &(call, wanted) in rows {
         let releases = releases_of(rt, shared, me, call);
         assert!(rt; releases == wanted, "{call:?}");
     }
 }
 
-/// One caller makes the calls.
-struct OneEach;
+/// One caller makes these calls.
+#[derive(Drop)]
+struct OneEach<'a> {
+    rows: &'a [(Call, u64)],
+}
 
-impl Play for OneEach {
+impl Play for OneEach<'_> {
     fn play<L: Ledger, R: Wait + Abort>(
         &self,
         rt: &R,
@@ -85,7 +98,7 @@ impl Play for OneEach {
     ) -> Result<(), Fail> {
         let mut callers = callers_in(rt, alloc, passes);
         match callers.first_mut() {
-            Some(me) => releases_are(rt, &shared, me),
+            Some(me) => releases_are(rt, &shared, me, self.rows),
             None => panic!(rt; "caller 0"),
         }
         Ok(())
@@ -94,5 +107,16 @@ impl Play for OneEach {
 
 #[test]
 fn one_release_a_hold(rt: HostRuntime) -> Result<(), Fail> {
-    play_with(&rt, rt.alloc(), 1, &OneEach)
+    let calls = OneEach { rows: &RELEASES };
+    play_with(&rt, rt.alloc(), 1, &calls)
+}
+
+#[test]
+fn releases_of_a_history_that_grows(rt: HostRuntime) -> Result<(), Fail> {
+    let calls = OneEach { rows: &GROWN };
+    let room = Room {
+        is_written: true,
+        ..Room::default()
+    };
+    play_with_room(&rt, rt.alloc(), 1, room, &calls)
 }

@@ -1,4 +1,4 @@
-//! Calls by their names, in the order of a table, each compared with the answer that it must have.
+//! Calls that are made in the order of a table. The answer of each must be the one in the table.
 //! No contract says that a call is given memory while there is some, or that `help` grows the
 //! table. The answers were worked out by hand. `cores`, `threads` and `step_between` play rows too.
 use super::cores::step;
@@ -284,9 +284,9 @@ static RIGHTS_COME_BACK: Worked = Worked {
     seeks: &[],
 };
 
-/// Rights to stripes are given back at the end of a transaction and not before: keys 1, 9 and 17
-/// have the same stripe. A savepoint and a return to it leave caller 0 its right; an abort, a
-/// commit and a busy stripe give back all.
+/// Rights to stripes are given back at the end of a transaction and not before. Keys 1, 9 and 17
+/// have the same stripe. After a savepoint and a return to it, caller 0 still has its right. An
+/// abort, a commit and a busy stripe each give back all rights of the caller.
 #[test]
 fn rights_come_back(rt: HostRuntime) -> Result<(), Fail> {
     play_with(&rt, rt.alloc(), 2, &RIGHTS_COME_BACK)

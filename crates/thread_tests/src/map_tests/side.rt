@@ -4,7 +4,7 @@
 ghost use Rattle.std.specs.Prelude.{◌≡◌, [], ◌∷◌, IfSome};
 
 use super::register::{OfWords, Register, RegisterJob};
-use crate::devices::{Play, Shared, close, has_left, is_refused, play_where_made, run};
+use crate::devices::{Play, Shared, TRIES, close, has_left, is_refused, play_where_made, run};
 use boost_core::{Call, End};
 use locked_map::{Caller, Pass, Stop};
 use std::alloc::Global;
@@ -22,8 +22,8 @@ fn marks_of<L: Ledger, S: Side>(me: &Caller<L, S>) -> Marks {
     (me.seen().len(), me.words())
 }
 
-/// Makes a call, and makes it once more if it is refused memory. Answers `None` if it is refused
-/// again. A refused call leaves its caller's marks unchanged.
+/// Makes a call, and makes it again while it is refused memory. Answers `None` if it is refused for
+/// good. A refused call leaves its caller's marks unchanged.
 fn try_call<L: Ledger, S: Side, R: Wait + Abort>(
     rt: &R,
     shared: &Shared<L>,
@@ -31,7 +31,7 @@ fn try_call<L: Ledger, S: Side, R: Wait + Abort>(
     call: Call,
 ) -> Option<()> {
     let before = marks_of(me);
-    for _ in 0..2 {
+    for _ in 0..TRIES {
         let end = run(rt, shared, me, call);
         if let End::Answered(_) = end {
             return Some(());
@@ -154,7 +154,7 @@ fn close_alone<L: Ledger, S: Side, R: Abort>(
     }
 }
 
-/// Runs `words_there` with a new caller, which then aborts in any case, and has left nothing.
+/// Runs `words_there` with a new caller. The caller then aborts in any case, and leaves no key.
 fn there_and_back<L: Ledger, S: OfWords, R: Wait + Abort>(
     rt: &R,
     alloc: Global,

@@ -1,7 +1,7 @@
-//! Callers that each run in a thread, one after the other or all at the same time. No contract says
-//! that their calls do not give up. If the callers run one after the other, they have one history,
-//! which was worked out by hand. If they run at the same time, the history depends on the threads,
-//! so it is only judged.
+//! Callers that each run in a thread, one after the other or all at the same time. The contracts
+//! let each call be refused; here none is. If the callers run one after the other, they have one
+//! history, which was worked out by hand. If they run at the same time, the history depends on the
+//! threads, so it is only judged.
 ghost use Rattle.std.specs.Prelude.{◌≡◌};
 
 use super::rows::{Row, play_row};
@@ -30,7 +30,7 @@ enum Plan<'a> {
     AtOnce(u64),
 }
 
-/// Makes the calls of only this caller.
+/// Makes only the calls of this caller.
 fn play_own<L: Ledger, R: Wait + Abort>(
     rt: &R,
     shared: &Shared<L>,
@@ -241,7 +241,7 @@ fn two_threads_in_turn(rt: HostRuntime) -> Result<(), Fail> {
     play(&rt, rt.alloc(), 2, Plan::InTurn(TWO_IN_TURN.as_slice()))
 }
 
-/// 2 to 8 callers, by the seed.
+/// The seed of each run gives its number of callers, 2 to 8.
 #[test]
 fn a_thousand_runs(rt: HostRuntime) -> Result<(), Fail> {
     for seed in 0..1000 {

@@ -5,7 +5,7 @@ use Rattle.std.specs.List.{HoldsAt}
 use Rattle.striped_map.specs.declared.caller.Caller.{Caller}
 use Rattle.striped_map.specs.declared.map.StripedMap.{StripedMap}
 use Rattle.striped_map.specs.Callers.{IsNew}
-use Rattle.boostmap_c.specs.Members.{IsFirst}
+use Rattle.boostmap_c.specs.Members.{IsFirstMember}
 use Rattle.boostmap_c.specs.declared.member.Member.{Member}
 use Rattle.boostmap_c.proofs.striped.first_member.Goals as goal
 
@@ -13,7 +13,7 @@ use Rattle.boostmap_c.proofs.striped.first_member.Goals as goal
 -- wait in the member.
 first_of : (map : StripedMap) (callers stripes : ℕ) (before : List Caller) (last : Caller) → length before + 1 ≡ callers
     → ((place : ℕ) → place < callers → HoldsAt (IsNew map stripes (place + 1)) (before ++ last ∷ []) place)
-    → (m : Member) → m.caller ≡ last → m.waiting.items ≡ before → IsFirst callers stripes m
+    → (m : Member) → m.caller ≡ last → m.waiting.items ≡ before → IsFirstMember callers stripes m
 first_of map callers stripes before last count each m caller_is waiting_is = record {
   map = map;
   caller = subst (IsNew map stripes callers) (sym caller_is)

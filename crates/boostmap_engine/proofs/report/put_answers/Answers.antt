@@ -3,7 +3,7 @@ use Rattle.std.specs.Prelude.{reverse}
 use Rattle.std.proofs.lemmas.List.{append-nil, append_assoc, flat_map_more, reverse-append, reverse-reverse}
 use Rattle.txn_words.specs.declared.answer.Answer.{Answer}
 use Rattle.txn_words.specs.Text.{text_of}
-use Rattle.boost_core.specs.Machine.{Event}
+use Rattle.boost_core.specs.Machine.{Happens}
 use Rattle.boost_core.proofs.Runs.{Moves-then}
 use Rattle.boostmap_engine.specs.Report.{line}
 use Rattle.boostmap_engine.proofs.report.put_answers.Goals as goal
@@ -14,7 +14,7 @@ loop-step-init c =
 
 pub loop-step-preserved : goal.loop-step-preserved
 loop-step-preserved c =
-    let happens = subst (λ s. Event c.loop-step.core s c.step-answer.result c.step-answer.new.self) c.step.ensures c.step-answer.ensures.event in
+    let happens = subst (λ s. Happens c.loop-step.core s c.step-answer.result c.step-answer.new.self) c.step.ensures c.step-answer.ensures.event in
     let before = c.loop-step.invariant in
     let turned = reverse-append c.pop.new.self.items (c.in-Some.step ∷ []) in (
       before.0 ++ c.in-Some.step ∷ [],

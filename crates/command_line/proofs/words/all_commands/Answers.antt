@@ -1,14 +1,14 @@
 use Rattle.std.proofs.Common.{true, ap, ◌∙◌}
 use Rattle.std.proofs.lemmas.Result.{IfOk-weaker}
 use Rattle.clap.specs.Simple.{Shape, app_of_fields, on_top}
-use Rattle.program_host.specs.Words.{Has}
+use Rattle.program_host.specs.Words.{IsApp}
 use Rattle.program_host.proofs.Building.{added}
 use Rattle.command_line.specs.Words.{without_commands}
 use Rattle.command_line.proofs.words.all_commands.Goals as goal
 
 pub returns : goal.returns
 returns c =
-    let start : Has c.subcommand_required.result without_commands = (
+    let start : IsApp c.subcommand_required.result without_commands = (
       ap app_of_fields c.subcommand_required.ensures ∙ ap (on_top (λ (s : Shape). record s { subcommand_required = true })) c.new.ensures.app,
       ap (λ f. f.has_globals) c.subcommand_required.ensures ∙ c.new.ensures.local,
     ) in

@@ -8,7 +8,7 @@ use Rattle.core_tokens.proofs.turns.take.Goals as goal
 pub returns-clause-in_step : goal.returns-clause-in_step
 returns-clause-in_step g c = λ limits number sized ins.
     in_step_told _ _ _ limits number _ _ _ _ c.args.step c.step-answer.result c.trace-before.ensures.whole c.trace-after.ensures.whole c.trace-before.ensures.shape c.trace-after.ensures.shape c.entries-seen.ensures.small sized c.requires.step
-    (record { goes = c.step-answer.ensures.goes; told = c.told.ensures.drive; entries = c.note.ensures.entries }) ins
+    (record { goes = c.step-answer.ensures.goes; lists = c.step-answer.ensures.lists; told = c.told.ensures.drive; entries = c.note.ensures.entries }) ins
 
 pub returns-clause-goes : goal.returns-clause-goes
 returns-clause-goes g c = λ base goes. goes_told base _ _ _ _ c.args.step c.step-answer.result c.requires.step c.requires.may.whole c.note.ensures.entries c.told.ensures.drive goes

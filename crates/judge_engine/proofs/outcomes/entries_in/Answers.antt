@@ -1,5 +1,5 @@
 use Rattle.std.proofs.Common.{◌≡◌, Ok, subst, sym}
-use Rattle.piece_files.specs.Faults.{Fails}
+use Rattle.piece_files.specs.Faults.{FailsAs}
 use Rattle.txn_files.specs.HistoryFile.{history_of}
 use Rattle.judge_engine.specs.Outcomes.{FailsForHistory}
 use Rattle.judge_engine.proofs.Telling.{fails_history}
@@ -13,4 +13,4 @@ pub returns-clause-err : goal.returns-clause-err
 returns-clause-err g c =
     subst (FailsForHistory (g.R.Read.remaining c.args.input)) (sym c.of_history.ensures)
     (fails_history (g.R.Read.remaining c.args.input) c.in-Ok.bytes.items c.in-Err-read_packed_history.fault c.in-Ok.ensures.ok
-    (subst (λ b. Fails c.in-Err-read_packed_history.fault (history_of b)) c.deref.ensures.value c.in-Err-read_packed_history.ensures))
+    (subst (λ b. FailsAs c.in-Err-read_packed_history.fault (history_of b)) c.deref.ensures.value c.in-Err-read_packed_history.ensures))

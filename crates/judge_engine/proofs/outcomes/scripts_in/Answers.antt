@@ -1,5 +1,5 @@
 use Rattle.std.proofs.Common.{◌≡◌, Ok, subst, sym}
-use Rattle.piece_files.specs.Faults.{Fails}
+use Rattle.piece_files.specs.Faults.{FailsAs}
 use Rattle.txn_files.specs.ScriptFile.{scripts_of}
 use Rattle.judge_engine.specs.Outcomes.{FailsForScripts}
 use Rattle.judge_engine.proofs.Telling.{fails_scripts}
@@ -13,4 +13,4 @@ pub returns-clause-err : goal.returns-clause-err
 returns-clause-err g c =
     subst (FailsForScripts (g.R.Read.remaining c.args.input)) (sym c.of_scripts.ensures)
     (fails_scripts (g.R.Read.remaining c.args.input) c.in-Ok.bytes.items c.in-Err-read_scripts.fault c.in-Ok.ensures.ok
-    (subst (λ b. Fails c.in-Err-read_scripts.fault (scripts_of b)) c.deref.ensures.value c.in-Err-read_scripts.ensures))
+    (subst (λ b. FailsAs c.in-Err-read_scripts.fault (scripts_of b)) c.deref.ensures.value c.in-Err-read_scripts.ensures))

@@ -8,11 +8,11 @@ use Rattle.clap.specs.Words.{found_of, rows_of}
 use Rattle.program_host.proofs.Asking.{answered, together}
 use Rattle.judge_line.specs.declared.failure.Failure.{Failure}
 use Rattle.judge_line.specs.declared.words.Call.{Call}
-use Rattle.judge_line.specs.Words.{Asks, IsAnswered, asked_of}
+use Rattle.judge_line.specs.Words.{Spells, IsCallOf, asked_of}
 use Rattle.judge_line.proofs.Asking.{refused, found, look}
 use Rattle.judge_line.proofs.words.call_in.Goals as goal
 
-looked : (c : goal.Joined-matches-2) → Asks (map string_bytes c.args.words.now) (option_map asked_of c.call_named.result)
+looked : (c : goal.Joined-matches-2) → Spells (map string_bytes c.args.words.now) (option_map asked_of c.call_named.result)
 looked c =
     let words = map string_bytes c.args.words.now in
     let met = together c.in-Ok.matches c.in-Some.name.now (rows_of (found_of c.in-Some.found.now)) c.in-Some.ensures.name c.in-Some.ensures.rows in
@@ -27,8 +27,8 @@ returns-in-Err-clause-call c =
 pub returns-in-Err-clause-err : goal.returns-in-Err-clause-err
 returns-in-Err-clause-err c = told c.call_for.result c.call_for.ensures.err
   where
-    told : (r : Result Call Failure) → IfErr r (λ failure. (failure ≡ Fault faults.NoMemory) ⊎ ((failure ≡ Usage) × IsAnswered c.kind.result None))
-        → IfErr r (λ failure. (failure ≡ Fault faults.NoMemory) ⊎ ((failure ≡ Usage) × Asks (map string_bytes c.args.words.now) None))
+    told : (r : Result Call Failure) → IfErr r (λ failure. (failure ≡ Fault faults.NoMemory) ⊎ ((failure ≡ Usage) × IsCallOf c.kind.result None))
+        → IfErr r (λ failure. (failure ≡ Fault faults.NoMemory) ⊎ ((failure ≡ Usage) × Spells (map string_bytes c.args.words.now) None))
     told (Ok call) is = tt
     told (Err failure) (inl memory) = inl memory
     told (Err failure) (inr (usage, answered)) = inr (
@@ -37,7 +37,7 @@ returns-in-Err-clause-err c = told c.call_for.result c.call_for.ensures.err
     )
 
 pub returns-clause-call : goal.returns-clause-call
-returns-clause-call c = (answered (Asks (map string_bytes c.args.words.now)) asked_of (Fault faults.NoMemory) Usage c.call_named.result c.ok_or.result c.ok_or.ensures.value (looked c)).0
+returns-clause-call c = (answered (Spells (map string_bytes c.args.words.now)) asked_of (Fault faults.NoMemory) Usage c.call_named.result c.ok_or.result c.ok_or.ensures.value (looked c)).0
 
 pub returns-clause-err : goal.returns-clause-err
-returns-clause-err c = (answered (Asks (map string_bytes c.args.words.now)) asked_of (Fault faults.NoMemory) Usage c.call_named.result c.ok_or.result c.ok_or.ensures.value (looked c)).1
+returns-clause-err c = (answered (Spells (map string_bytes c.args.words.now)) asked_of (Fault faults.NoMemory) Usage c.call_named.result c.ok_or.result c.ok_or.ensures.value (looked c)).1

@@ -3,7 +3,7 @@ use Rattle.std.proofs.lemmas.Result.{IfOk-weaker}
 use Rattle.clap.specs.declared.builder.command.Command.{Command}
 use Rattle.clap.specs.declared.builder.command.Command.TheOpen.{Command-F}
 use Rattle.clap.specs.Simple.{Shape, app_of_fields, on_top}
-use Rattle.program_host.specs.Words.{Has}
+use Rattle.program_host.specs.Words.{IsApp}
 use Rattle.judge_line.specs.Words.{without_commands}
 use Rattle.program_host.proofs.Building.{added}
 use Rattle.judge_line.proofs.words.command.Goals as goal
@@ -11,7 +11,7 @@ use Rattle.judge_line.proofs.words.command.Goals as goal
 pub returns : goal.returns
 returns c =
     let fields = c.subcommand_required.ensures ∙ ap (λ (f : Command-F Command). record f { subcommand_required = true }) c.version.ensures in
-    let start : Has c.subcommand_required.result without_commands = (
+    let start : IsApp c.subcommand_required.result without_commands = (
       ap app_of_fields fields ∙ ap (on_top (λ (s : Shape). record s { has_version = true; subcommand_required = true })) c.new.ensures.app,
       ap (λ f. f.has_globals) fields ∙ c.new.ensures.local,
     ) in

@@ -1,5 +1,5 @@
 use Rattle.std.proofs.Common.{refl, sym, ◌∙◌, ap, arith}
-use Rattle.node_list.specs.Seen.{seen}
+use Rattle.node_list.specs.Seen.{node_seen}
 use Rattle.node_list.proofs.FollowLemmas.{follows_self, follows_twice}
 use Rattle.list_steps.specs.Content.{pairs}
 use Rattle.list_steps.proofs.NodeLemmas.{next_linked, no_place}
@@ -32,7 +32,7 @@ node-node-requires c =
 pub unlink_after-requires : goal.unlink_after-requires
 unlink_after-requires c =
     record {
-      node = seen c.in-Some.there c.node-node.result.now;
+      node = node_seen c.in-Some.there c.node-node.result.now;
       next = seeking_next c.search.invariant _ c.in-Some.is _ c.node-node.ensures.node;
       marked = c.if-node.true;
     }
@@ -80,7 +80,7 @@ search-preserved c =
     record {
       sound = before.sound;
       pred = record {
-        node = seen c.in-Some.there c.node-node.result.now;
+        node = node_seen c.in-Some.there c.node-node.result.now;
         is = c.node-node.ensures.node;
         unmarked = c.if-node.false;
         below = below;

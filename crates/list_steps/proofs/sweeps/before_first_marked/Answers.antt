@@ -1,5 +1,5 @@
 use Rattle.std.proofs.Common.{◌∙◌, sym}
-use Rattle.node_list.specs.Seen.{seen}
+use Rattle.node_list.specs.Seen.{node_seen}
 use Rattle.list_steps.proofs.NodeLemmas.{is_linked, next_linked, next_node, no_place, node_at}
 use Rattle.list_steps.proofs.SeekLemmas.{behind_next}
 use Rattle.list_steps.proofs.SweepLemmas.{sweeping_from, sweeping_passed, sweeping_found, sweeping_ends}
@@ -28,7 +28,7 @@ walk-preserved c =
 pub returns-then-node-clause-marked : goal.returns-then-node-clause-marked
 returns-then-node-clause-marked c =
     record {
-      node = seen c.in-Some.next c.node-in-Some.result.now;
+      node = node_seen c.in-Some.next c.node-in-Some.result.now;
       next = next_node _ _ _ c.node.ensures.sound.spread (c.node.ensures.next ∙ sym c.in-Some.ensures) _ c.node-in-Some.ensures.node;
       marked = c.if-node.true;
     }

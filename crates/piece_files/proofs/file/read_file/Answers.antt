@@ -1,5 +1,5 @@
 use Rattle.std.proofs.Common.{map, sym, ap, subst, ◌∙◌, arith}
-use Rattle.piece_files.specs.Faults.{◌>>=◌, Fails, Gives, or_fault}
+use Rattle.piece_files.specs.Faults.{◌>>=◌, FailsAs, Gives, or_fault}
 use Rattle.piece_files.specs.Files.{FileKind, contents_of}
 use Rattle.piece_files.specs.Pieces.{pieces_member, old_of}
 use Rattle.piece_files.specs.declared.file_fault.FileFault.TheVariants.{NotJson}
@@ -21,7 +21,7 @@ pub returns-in_err-found-clause-contents : goal.returns-in_err-found-clause-cont
 returns-in_err-found-clause-contents g c =
     let is = json_of-is c.args.bytes.now c.in-Ok.text.now (omega arith) c.in-Ok.ensures.cases.1 c.in-Ok.ensures.cases.0 in
     let fault = c.in_err-found.field-0.0 in
-    gives_fault _ c.from_residual.result fault _ c.from_residual.ensures.1 (fails_first fault _ _ (subst (Fails fault) (sym is) c.in_err-found.ensures))
+    gives_fault _ c.from_residual.result fault _ c.from_residual.ensures.1 (fails_first fault _ _ (subst (FailsAs fault) (sym is) c.in_err-found.ensures))
 
 pub returns-clause-contents : goal.returns-clause-contents
 returns-clause-contents g c =

@@ -1,15 +1,14 @@
 use Rattle.std.proofs.Common.{true, false, sym, ap, ◌∙◌}
 use Rattle.script_mix.proofs.Lives.{next_number, all_seen}
 use Rattle.script_mix.proofs.crew.live_numbers.Goals as goal
-use Rattle.script_mix.proofs.crew.live_numbers.Goals.{then-is_live+in_ok-push, else-is_live}
 
 pub loop-number-preserved : goal.loop-number-preserved
 loop-number-preserved c = elim c.if-is_live.branch [
-  | then-is_live+in_ok-push w ↦
+  | goal.then-is_live+in_ok-push w ↦
       next_number c.loop-number.number c.args.workers.now c.loop-number.numbers.items c.if-is_live.numbers.items
       c.index-workers-number.result true c.loop-number-test.true c.index-workers-number.is (sym c.is_live.ensures.step ∙ w.if-is_live.true)
       (ap (λ v. v.items) w.numbers-is ∙ w.in_ok-push.ensures.items) c.loop-number.invariant
-  | else-is_live w ↦
+  | goal.else-is_live w ↦
       next_number c.loop-number.number c.args.workers.now c.loop-number.numbers.items c.if-is_live.numbers.items
       c.index-workers-number.result false c.loop-number-test.true c.index-workers-number.is
       (sym c.is_live.ensures.step ∙ w.if-is_live.false)

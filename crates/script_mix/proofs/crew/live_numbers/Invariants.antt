@@ -1,5 +1,5 @@
 use Rattle.std.proofs.Common.{◌≡◌, ◌++◌, drop}
-use Rattle.script_mix.specs.Turns.{live_from}
+use Rattle.script_mix.proofs.Vocabulary.{live_from}
 use Rattle.script_mix.proofs.crew.live_numbers.Given as goal
 
 abbrev pub invariant-loop-number : goal.invariant-loop-number

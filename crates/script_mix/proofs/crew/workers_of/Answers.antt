@@ -1,6 +1,5 @@
 use Rattle.std.proofs.Common.{◌≡◌, ◌+◌, [], ◌∷◌, ◌++◌, length, length-append, sym, ap, ◌∙◌, arith, suc}
-use Rattle.script_worker.specs.declared.worker.Worker.{Worker}
-use Rattle.script_mix.specs.Turns.{first_crew}
+use Rattle.script_mix.proofs.Vocabulary.{first_crew, Worker}
 use Rattle.script_mix.proofs.Turns.{crew_more}
 use Rattle.script_mix.proofs.crew.workers_of.Goals as goal
 

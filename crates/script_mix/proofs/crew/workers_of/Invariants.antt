@@ -1,7 +1,5 @@
 use Rattle.std.proofs.Common.{◌≡◌, ℕ, ◌<◌, [], length, get_or}
-use Rattle.script_worker.specs.declared.worker.Worker.{Worker}
-use Rattle.script_mix.specs.Crews.{IsMember}
-use Rattle.script_mix.specs.Turns.{first_crew}
+use Rattle.script_mix.proofs.Vocabulary.{first_crew, IsMember, Worker}
 use Rattle.script_mix.proofs.crew.workers_of.Given as goal
 
 abbrev pub invariant-loop-number : goal.invariant-loop-number

@@ -1,13 +1,9 @@
 use Rattle.std.proofs.Common.{◌≡◌, ◌∙◌, inl, inr, List, [], ◌∷◌, length, refl, sym, ap, subst, arith}
-use Rattle.rand_pcg.specs.Pcg.{pcg32}
-use Rattle.boost_core.specs.Machine.{State, start}
-use Rattle.script_worker.specs.declared.worker.Worker.{Worker}
-use Rattle.script_mix.specs.Crews.{IsCrew}
-use Rattle.script_mix.specs.Turns.{first_crew, live, live_from, IsAtPlace}
+use Rattle.script_mix.proofs.Vocabulary.{first_crew, IsAtPlace, IsCrew, live, live_from, start, State, Worker}
+use Rattle.script_mix.proofs.Lives.{all_done, drawn, lives_at, kept, length-live, removed}
 use Rattle.script_mix.proofs.Turns.{crew_goes, crew_plays, crew_told, member_keeps}
-use Rattle.script_mix.proofs.Lives.{all_done, drawn, drawn_at, drawn_lives, kept, length-live, removed}
+use Rattle.script_mix.proofs.mix.mix_scripts.Goals.{After-index_mut}
 use Rattle.script_mix.proofs.mix.mix_scripts.Goals as goal
-use Rattle.script_mix.proofs.mix.mix_scripts.Goals.{After-index_mut, then-not-lives, else-not-lives, else-loop-turn-test, then-loop-turn-test+in_default-draw_place}
 
 pub loop-turn-init : goal.loop-turn-init
 loop-turn-init c =
@@ -27,11 +23,9 @@ pub index_mut-requires : goal.index_mut-requires
 index_mut-requires c =
     let found = drawn c.loop-turn.workers.items c.loop-turn.live.items c.in-Some.place c.index-number.result.now c.loop-turn.invariant.live
     (rw c.deref-in-loop-turn.ensures.value at c.in-Some.ensures.below) c.index-number.ensures in
-    let within = found.within in
-    let len = c.loop-turn.workers.ok.0 in
-    omega (arith, within, len)
+    omega (arith, found.within, c.loop-turn.workers.ok.0)
 
--- The number that the list of live workers has at the place that was drawn.
+-- The worker whose number was drawn is at the drawn place among the live workers.
 found_at : (c : After-index_mut) → IsAtPlace c.loop-turn.workers.items c.in-Some.place c.index-number.result.now
 found_at c =
     drawn c.loop-turn.workers.items c.loop-turn.live.items c.in-Some.place c.index-number.result.now c.loop-turn.invariant.live
@@ -39,8 +33,8 @@ found_at c =
 
 pub take_turn-lives-requires-clause-live : goal.take_turn-lives-requires-clause-live
 take_turn-lives-requires-clause-live c =
-    drawn_lives c.loop-turn.workers.items c.in-Some.place c.index-number.result.now c.index_mut.result.now c.index_mut.ensures.value
-    (found_at (goal.at.take_turn-lives-requires-clause-live c).After-index_mut)
+    rw c.index_mut.ensures.value (lives_at c.loop-turn.workers.items c.in-Some.place c.index-number.result.now c.index_mut.result.now
+    (found_at (goal.at.take_turn-lives-requires-clause-live c).After-index_mut))
 
 pub take_turn-lives-requires-clause-keeps : goal.take_turn-lives-requires-clause-keeps
 take_turn-lives-requires-clause-keeps c =
@@ -56,14 +50,16 @@ loop-turn-preserved c =
     let turn = c.take_turn-lives.ensures in
     let goes = rw (c.scripts-in-loop-turn.ensures, c.tries.ensures) at turn.goes in
     let (numbers, count, turns) = c.loop-turn.invariant.turns in
+    let listed = c.loop-turn.invariant.live in
+    let looked = c.deref-in-loop-turn.ensures.value in
     record {
       limits = goes.limits ∙ c.loop-turn.invariant.limits;
       crew = crew_goes c.args.work.now.scripts c.args.work.now.tries c.args.work.now.sizes.callers c.index-number.result.now c.loop-turn.core c.take_turn-lives.new.core c.loop-turn.workers.items c.index_mut.result.now c.take_turn-lives.new.worker found.within c.index_mut.ensures.value c.loop-turn.invariant.crew goes turn.ready;
       live = elim c.if-not-lives.branch [
-        | then-not-lives w ↦
+        | goal.then-not-lives w ↦
             removed c.loop-turn.workers.items c.loop-turn.live.items c.if-not-lives.live.items c.in-Some.place c.index-number.result.now c.index_mut.result.now c.take_turn-lives.new.worker c.loop-turn.invariant.live c.index_mut.ensures.value found
             (sym turn.lives ∙ w.if-not-lives.true) (ap (λ v. v.items) w.live-is ∙ w.remove.ensures.items)
-        | else-not-lives w ↦
+        | goal.else-not-lives w ↦
             ap (λ v. v.items) w.live-is
             ∙ kept c.loop-turn.workers.items c.loop-turn.live.items c.in-Some.place c.index-number.result.now c.index_mut.result.now c.take_turn-lives.new.worker c.loop-turn.invariant.live c.index_mut.ensures.value found (sym turn.lives ∙ w.if-not-lives.false)
       ];
@@ -74,7 +70,7 @@ loop-turn-preserved c =
           record { core = c.loop-turn.core; crew = c.loop-turn.workers.items; generator = c.loop-turn.generator },
           turns,
           record {
-            drawn = drawn_at c.loop-turn.workers.items c.loop-turn.live.items _ (pcg32 c.loop-turn.generator).0 c.in-Some.place c.index-number.result.now c.loop-turn.invariant.live c.deref-in-loop-turn.ensures.value c.in-Some.ensures.drawn found;
+            drawn = rw (← length-live 0 c.loop-turn.workers.items, ← listed, ← looked, ← c.in-Some.ensures.drawn) found;
             generator = c.in-Some.ensures.generator;
             before = c.index_mut.result.now;
             after = c.take_turn-lives.new.worker;
@@ -101,8 +97,8 @@ returns c =
       core = refl;
       turns = turns;
       ended = elim c.loop-turn-test.branch [
-        | else-loop-turn-test w ↦ inr (omega (arith, count, w.loop-turn-test.false, c.loop-turn.auto._turn-end))
-        | then-loop-turn-test+in_default-draw_place w ↦
+        | goal.else-loop-turn-test w ↦ inr (omega (arith, count, w.loop-turn-test.false, c.loop-turn.auto._turn-end))
+        | goal.then-loop-turn-test+in_default-draw_place w ↦
             let none : live c.loop-turn.workers.items ≡ 0 =
             sym (length-live 0 c.loop-turn.workers.items) ∙ ap length (sym c.loop-turn.invariant.live ∙ sym w.deref-in-loop-turn.ensures.value ∙ w.draw_place.ensures.none w.in_default-draw_place.is) in
             inl (none, all_done c.loop-turn.workers.items (λ i d within. (c.loop-turn.invariant.crew.each i d within).ready) none)

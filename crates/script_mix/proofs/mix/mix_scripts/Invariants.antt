@@ -1,6 +1,5 @@
 use Rattle.std.proofs.Common.{◌≡◌, ℕ, List, length}
-use Rattle.script_mix.specs.Crews.{IsCrew}
-use Rattle.script_mix.specs.Turns.{live_from, beginning, TakeDrawn}
+use Rattle.script_mix.proofs.Vocabulary.{beginning, IsCrew, live_from, TakeDrawn}
 use Rattle.script_mix.proofs.mix.mix_scripts.Given as goal
 
 abbrev pub invariant-loop-turn : goal.invariant-loop-turn

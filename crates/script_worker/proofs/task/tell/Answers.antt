@@ -1,8 +1,5 @@
 use Rattle.std.proofs.Common.{◌≡◌, Option, Some, sym, ap, ◌∙◌}
-use Rattle.script_worker.proofs.Vocabulary.{Drive}
-use Rattle.std.specs.Option.{option_or}
-use Rattle.script_worker.specs.declared.task.Task.{Task}
-use Rattle.script_worker.specs.Workers.{settled, finish_by, drive_told}
+use Rattle.script_worker.proofs.Vocabulary.{Drive, drive_told, finish_by, option_or, settled, Task}
 use Rattle.script_worker.proofs.task.tell.Goals as goal
 
 pub returns-clause-finish : goal.returns-clause-finish

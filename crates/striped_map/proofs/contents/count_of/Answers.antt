@@ -3,7 +3,7 @@ use Rattle.stripe_part.specs.PartAt.{PartAt}
 use Rattle.txn_words.specs.Map.{count_of}
 use Rattle.striped_map.specs.Contents.{count_at}
 use Rattle.striped_map.specs.Seats.{part_in}
-use Rattle.striped_map.specs.Sound.{parts_of}
+use Rattle.striped_map.specs.Sound.{held_parts}
 use Rattle.striped_map.proofs.Hands.{read_at}
 use Rattle.striped_map.proofs.Wholes.{sum_drop}
 use Rattle.striped_map.proofs.contents.count_of.Goals as goal
@@ -15,7 +15,7 @@ loop-place-preserved c = let inv = c.loop-place.invariant in let a = c.args.seat
     let found : c.count.result ≡ count_of (part_in a k).content = c.count.ensures.count ∙ ap (λ (f : ℕ → PartAt). count_of (f k).content) inv.parts in
     let sum : c.in_ok-count.count ≡ c.loop-place.count + c.count.result = search rules in
     let left = sum_drop (part_in a) ks place k at in
-    let next : sum_by count_at (parts_of a (drop (place + 1) ks)) ≡ sum_by count_at (parts_of a (drop (suc place) ks)) = (let one : place + 1 ≡ suc place = omega arith in ap (λ (i : ℕ). sum_by count_at (parts_of a (drop i ks))) one) in
+    let next : sum_by count_at (held_parts a (drop (place + 1) ks)) ≡ sum_by count_at (held_parts a (drop (suc place) ks)) = (let one : place + 1 ≡ suc place = omega arith in ap (λ (i : ℕ). sum_by count_at (held_parts a (drop i ks))) one) in
     let before = inv.count in record {
       seat = c.count.ensures.seat;
       knows = c.count.ensures.known ∙ inv.knows;

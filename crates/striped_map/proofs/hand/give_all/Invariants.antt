@@ -3,7 +3,7 @@ use Rattle.txn_trace.specs.Now.{now}
 use Rattle.txn_words.specs.declared.seat.Phase.TheVariants.{Closed}
 use Rattle.striped_map.specs.Handling.{idle}
 use Rattle.striped_map.specs.Seats.{IsOf, known, stripes_of}
-use Rattle.striped_map.specs.Sound.{AreHeld, parts_of}
+use Rattle.striped_map.specs.Sound.{AreHeld, held_parts}
 use Rattle.striped_map.specs.Steps.{IsAt}
 use Rattle.striped_map.proofs.hand.give_all.Given as goal
 
@@ -12,7 +12,7 @@ invariant-loop-stripe l = record {
   map : IsOf l.seat l.map;
   over : IsAt Closed (known l.seat);
   idle : idle (known l.seat) ≡ idle (known l.initial.seat);
-  parts : AreHeld (stripes_of l.map) (known l.seat) (parts_of l.seat l.held.items) (now (known l.seat).seen);
+  parts : AreHeld (stripes_of l.map) (known l.seat) (held_parts l.seat l.held.items) (now (known l.seat).seen);
 }
 
 abbrev pub decreases-loop-stripe : goal.decreases-loop-stripe

@@ -9,7 +9,7 @@ use Rattle.striped_map.specs.declared.view.View.{View}
 use Rattle.striped_map.specs.Additions.{due}
 use Rattle.striped_map.specs.Rule.{Holds}
 use Rattle.striped_map.specs.Seats.{known, part_in}
-use Rattle.striped_map.specs.Sound.{AreHeld, AreLogged, Change, Held, parts_of, with_part}
+use Rattle.striped_map.specs.Sound.{AreHeld, AreLogged, Change, HeldPart, held_parts, with_part}
 use Rattle.striped_map.proofs.Hands.{Job, newest, newest_owed, holds_in, read_at, stripes_with, with_at, parts_back, logged_back, parts_worked, back_step, back_done}
 use Rattle.striped_map.proofs.hand.take_back.Goals as goal
 
@@ -20,16 +20,16 @@ loop-order-init c = let v = known c.args.seat.now in let m = c.requires.mark in
 pub index-requires : goal.index-requires
 index-requires c = let inv = c.loop-order.invariant in let n = c.args.map.now.table.shared.table_id.slots in let v = known c.args.seat.now in let a = c.loop-order.seat in let ks = c.args.held.now.items in
     let place = c.in-Some.place in let change : Change = (place, c.in-Some.key, c.in-Some.before) in let rest = c.pop.new.self.items in
-    let logged : AreLogged n (parts_of a ks) (rest ++ change ∷ []) inv.1 = subst (λ (l : List Change). AreLogged n (parts_of a ks) l inv.1) c.in-Some.ensures.items inv.5 in
-    let first = newest n (parts_of a ks) rest change inv.1 logged in
+    let logged : AreLogged n (held_parts a ks) (rest ++ change ∷ []) inv.1 = subst (λ (l : List Change). AreLogged n (held_parts a ks) l inv.1) c.in-Some.ensures.items inv.5 in
+    let first = newest n (held_parts a ks) rest change inv.1 logged in
     let there : slice_get ks place ≡ Some (stripe_of n first.job.0) = ap (λ (l : List ℕ). slice_get l place) (sym (stripes_with (part_in a) ks)) ∙ first.place_is in
     let within : place < length ks = slice_get_within ks place _ there in let o = c.args.held.now.ok.0 in omega arith
 
 pub take_back-requires-clause-held : goal.take_back-requires-clause-held
 take_back-requires-clause-held c = let inv = c.loop-order.invariant in let n = c.args.map.now.table.shared.table_id.slots in let v = known c.args.seat.now in let a = c.loop-order.seat in let ks = c.args.held.now.items in
     let place = c.in-Some.place in let change : Change = (place, c.in-Some.key, c.in-Some.before) in let rest = c.pop.new.self.items in
-    let logged : AreLogged n (parts_of a ks) (rest ++ change ∷ []) inv.1 = subst (λ (l : List Change). AreLogged n (parts_of a ks) l inv.1) c.in-Some.ensures.items inv.5 in
-    let first = newest n (parts_of a ks) rest change inv.1 logged in
+    let logged : AreLogged n (held_parts a ks) (rest ++ change ∷ []) inv.1 = subst (λ (l : List Change). AreLogged n (held_parts a ks) l inv.1) c.in-Some.ensures.items inv.5 in
+    let first = newest n (held_parts a ks) rest change inv.1 logged in
     let there : slice_get ks place ≡ Some (stripe_of n first.job.0) = ap (λ (l : List ℕ). slice_get l place) (sym (stripes_with (part_in a) ks)) ∙ first.place_is in
     let k : ℕ = c.index.result.now in
     let at_k : slice_get ks place ≡ Some k = read_at ks place k (slice_get_within ks place _ there) c.index.ensures in
@@ -38,25 +38,25 @@ take_back-requires-clause-held c = let inv = c.loop-order.invariant in let n = c
 pub take_back-requires-clause-some : goal.take_back-requires-clause-some
 take_back-requires-clause-some c = let inv = c.loop-order.invariant in let n = c.args.map.now.table.shared.table_id.slots in let v = known c.args.seat.now in let a = c.loop-order.seat in let ks = c.args.held.now.items in
     let place = c.in-Some.place in let change : Change = (place, c.in-Some.key, c.in-Some.before) in let rest = c.pop.new.self.items in
-    let logged : AreLogged n (parts_of a ks) (rest ++ change ∷ []) inv.1 = subst (λ (l : List Change). AreLogged n (parts_of a ks) l inv.1) c.in-Some.ensures.items inv.5 in
-    let first = newest n (parts_of a ks) rest change inv.1 logged in
+    let logged : AreLogged n (held_parts a ks) (rest ++ change ∷ []) inv.1 = subst (λ (l : List Change). AreLogged n (held_parts a ks) l inv.1) c.in-Some.ensures.items inv.5 in
+    let first = newest n (held_parts a ks) rest change inv.1 logged in
     let there : slice_get ks place ≡ Some (stripe_of n first.job.0) = ap (λ (l : List ℕ). slice_get l place) (sym (stripes_with (part_in a) ks)) ∙ first.place_is in
     let k : ℕ = c.index.result.now in
     let at_k : slice_get ks place ≡ Some k = read_at ks place k (slice_get_within ks place _ there) c.index.ensures in
-    let at : slice_get (parts_of a ks) place ≡ Some (with_part (part_in a) k) = with_at (part_in a) ks place k at_k in
-    let owed = newest_owed n (parts_of a ks) rest change inv.1 logged (with_part (part_in a) k) at in
+    let at : slice_get (held_parts a ks) place ≡ Some (with_part (part_in a) k) = with_at (part_in a) ks place k at_k in
+    let owed = newest_owed n (held_parts a ks) rest change inv.1 logged (with_part (part_in a) k) at in
     omega arith
 
 pub loop-order-preserved : goal.loop-order-preserved
 loop-order-preserved c = let inv = c.loop-order.invariant in let n = c.args.map.now.table.shared.table_id.slots in let v = known c.args.seat.now in let a = c.loop-order.seat in let ks = c.args.held.now.items in
     let place = c.in-Some.place in let change : Change = (place, c.in-Some.key, c.in-Some.before) in let rest = c.pop.new.self.items in
-    let logged : AreLogged n (parts_of a ks) (rest ++ change ∷ []) inv.1 = subst (λ (l : List Change). AreLogged n (parts_of a ks) l inv.1) c.in-Some.ensures.items inv.5 in
-    let first = newest n (parts_of a ks) rest change inv.1 logged in
+    let logged : AreLogged n (held_parts a ks) (rest ++ change ∷ []) inv.1 = subst (λ (l : List Change). AreLogged n (held_parts a ks) l inv.1) c.in-Some.ensures.items inv.5 in
+    let first = newest n (held_parts a ks) rest change inv.1 logged in
     let there : slice_get ks place ≡ Some (stripe_of n first.job.0) = ap (λ (l : List ℕ). slice_get l place) (sym (stripes_with (part_in a) ks)) ∙ first.place_is in
     let k : ℕ = c.index.result.now in
     let at_k : slice_get ks place ≡ Some k = read_at ks place k (slice_get_within ks place _ there) c.index.ensures in
-    let at : slice_get (parts_of a ks) place ≡ Some (with_part (part_in a) k) = with_at (part_in a) ks place k at_k in
-    let owed = newest_owed n (parts_of a ks) rest change inv.1 logged (with_part (part_in a) k) at in
+    let at : slice_get (held_parts a ks) place ≡ Some (with_part (part_in a) k) = with_at (part_in a) ks place k at_k in
+    let owed = newest_owed n (held_parts a ks) rest change inv.1 logged (with_part (part_in a) k) at in
     let b = c.take_back.new.seat in
     let in_k : k ≡ stripe_of n first.job.0 = same_Some _ _ (sym at_k ∙ there) in
     let back : TakesBack (part_in a k) (part_in b k) (first.job.0 / n) first.job.1 = subst (λ (j : Job). TakesBack (part_in a k) (part_in b k) j.0 j.1) first.what_is c.take_back.ensures.back in
@@ -69,8 +69,8 @@ loop-order-preserved c = let inv = c.loop-order.invariant in let n = c.args.map.
       first.older,
       inv.2 - 1,
       omega arith,
-      subst (λ (l : List Held). AreHeld n v l (set_at inv.0 first.job.0 first.job.1)) worked (parts_back n v (parts_of a ks) inv.0 inv.4 place (with_part (part_in a) k) (part_in b k) first.job at in_k back),
-      subst (λ (l : List Held). AreLogged n l rest first.older) worked (logged_back n v (parts_of a ks) inv.0 rest inv.1 inv.4 change logged (with_part (part_in a) k) (part_in b k) at (omega arith)),
+      subst (λ (l : List HeldPart). AreHeld n v l (set_at inv.0 first.job.0 first.job.1)) worked (parts_back n v (held_parts a ks) inv.0 inv.4 place (with_part (part_in a) k) (part_in b k) first.job at in_k back),
+      subst (λ (l : List HeldPart). AreLogged n l rest first.older) worked (logged_back n v (held_parts a ks) inv.0 rest inv.1 inv.4 change logged (with_part (part_in a) k) (part_in b k) at (omega arith)),
       step.0 ∙ inv.6,
       step.1 ∙ inv.7,
       c.take_back.ensures.seat,
@@ -80,12 +80,12 @@ loop-order-preserved c = let inv = c.loop-order.invariant in let n = c.args.map.
 pub returns-clause-parts : goal.returns-clause-parts
 returns-clause-parts c = let inv = c.loop-order.invariant in let is = inv.3 in let t = c.loop-order-test.false in let l = c.len.ensures in
     let done = back_done inv.0 inv.2 inv.1 (omega arith) in
-    subst (AreHeld c.args.map.now.table.shared.table_id.slots (known c.args.seat.now) (parts_of c.loop-order.seat c.args.held.now.items)) (sym done.0 ∙ inv.6) inv.4
+    subst (AreHeld c.args.map.now.table.shared.table_id.slots (known c.args.seat.now) (held_parts c.loop-order.seat c.args.held.now.items)) (sym done.0 ∙ inv.6) inv.4
 
 pub returns-clause-logged : goal.returns-clause-logged
 returns-clause-logged c = let inv = c.loop-order.invariant in let is = inv.3 in let t = c.loop-order-test.false in let l = c.len.ensures in
     let done = back_done inv.0 inv.2 inv.1 (omega arith) in
-    subst (AreLogged c.args.map.now.table.shared.table_id.slots (parts_of c.loop-order.seat c.args.held.now.items) c.loop-order.order.items) (sym done.1 ∙ inv.7) inv.5
+    subst (AreLogged c.args.map.now.table.shared.table_id.slots (held_parts c.loop-order.seat c.args.held.now.items) c.loop-order.order.items) (sym done.1 ∙ inv.7) inv.5
 
 pub returns-clause-len : goal.returns-clause-len
 returns-clause-len c = let inv = c.loop-order.invariant in let is = inv.3 in let t = c.loop-order-test.false in let l = c.len.ensures in omega arith

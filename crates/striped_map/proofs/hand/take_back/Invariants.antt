@@ -3,16 +3,16 @@ use Rattle.txn_words.specs.Map.{Map}
 use Rattle.txn_trace.specs.Now.{now}
 use Rattle.striped_map.specs.Additions.{due}
 use Rattle.striped_map.specs.Seats.{IsOf, known, stripes_of}
-use Rattle.striped_map.specs.Sound.{AreHeld, AreLogged, parts_of}
-use Rattle.striped_map.specs.Steps.{undone}
+use Rattle.striped_map.specs.Sound.{AreHeld, AreLogged, held_parts}
+use Rattle.striped_map.specs.Steps.{rolled_back}
 use Rattle.striped_map.proofs.hand.take_back.Given as goal
 
 abbrev pub invariant-loop-order : goal.invariant-loop-order
 invariant-loop-order l = let v = known l.initial.seat in let n = stripes_of l.map in
-    let held = parts_of l.seat l.held.items in let all = vec_len l.initial.order - l.mark in (m : Map)
+    let held = held_parts l.seat l.held.items in let all = vec_len l.initial.order - l.mark in (m : Map)
     × (jobs : List (ℕ × Option ℕ)) × (left : ℕ) × (vec_len l.order ≡ l.mark + left)
     × AreHeld n v held m × AreLogged n held l.order.items jobs
-    × (undone m (take left jobs) ≡ undone (now v.seen) (take all (due v)))
+    × (rolled_back m (take left jobs) ≡ rolled_back (now v.seen) (take all (due v)))
     × (drop left jobs ≡ drop all (due v)) × (IsOf l.seat l.map) × (known l.seat ≡ v)
 
 abbrev pub decreases-loop-order : goal.decreases-loop-order

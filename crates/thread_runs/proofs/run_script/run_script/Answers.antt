@@ -1,8 +1,6 @@
 use Rattle.std.proofs.Common.{◌∙◌, rules, refl, sym, ap, subst}
-use Rattle.thread_runs.proofs.Vocabulary.{Sizes, Outcome, Heard}
-use Rattle.thread_runs.specs.Runs.{HasRunTo}
-use Rattle.thread_runs.proofs.Growing.{IsBefore, before_first, called, fell_out}
-use Rattle.thread_runs.proofs.Ending.{over_may}
+use Rattle.script_worker.proofs.Vocabulary.{Heard, Sizes}
+use Rattle.thread_runs.proofs.{Ending.over_may, Growing.IsBefore, Growing.before_first, Growing.called, Growing.fell_out}
 use Rattle.thread_runs.proofs.run_script.run_script.Goals as goal
 
 pub loop-init : goal.loop-init
@@ -40,6 +38,5 @@ returns-in-Over g c =
       same = search rules;
       may = rw c.outcome.ensures (over_may c.args.me.now.limits.half c.args.script.now _ _ _ over.1.1);
       closed = over.1.0;
-      told = subst (λ (o : Outcome). HasRunTo c.args.me.now.number c.args.tries c.args.script.now o c.args.me.now.seen c.grow.new.me.seen)
-          (sym c.outcome.ensures) over.0;
+      told = rw c.outcome.ensures over.0;
     }

@@ -1,5 +1,4 @@
-use Rattle.thread_runs.proofs.Vocabulary.{IsSameCaller}
-use Rattle.thread_runs.specs.Runs.{heard_of}
+use Rattle.thread_runs.proofs.Vocabulary.{heard_of, IsSameCaller}
 use Rattle.thread_runs.proofs.Growing.{IsBefore}
 use Rattle.thread_runs.proofs.run_script.run_script.Given as goal
 

@@ -1,11 +1,8 @@
 use Rattle.std.proofs.Common.{◌∙◌, length, sym, ap}
-use Rattle.thread_runs.proofs.Vocabulary.{length-map, length_push, new_ticket}
-use Rattle.std.proofs.lemmas.Iterator.Adapters.{YieldsList-from_vec}
-use Rattle.std.proofs.lemmas.Iterator.Consumers.{YieldsList-end, YieldsList-turn}
-use Rattle.std.proofs.lemmas.List.FromFn.{length-map-range_with_len}
-use Rattle.thread_runs.specs.Runs.{HasReported}
-use Rattle.thread_runs.proofs.Lists.{each_push}
-use Rattle.thread_runs.proofs.Reports.{shown_at}
+use Rattle.thread_runs.proofs.Vocabulary.{HasReported, new_ticket}
+use Rattle.script_worker.proofs.Vocabulary.{length-map, length-map-range_with_len, length_push, YieldsList-end, YieldsList-from_vec}
+use Rattle.script_worker.proofs.Vocabulary.{YieldsList-turn}
+use Rattle.thread_runs.proofs.{Lists.each_push, Reports.shown_at}
 use Rattle.thread_runs.proofs.threads.join_all.Goals as goal
 
 pub loop-thread-preserved : goal.loop-thread-preserved

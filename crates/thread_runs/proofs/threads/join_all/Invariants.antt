@@ -1,6 +1,5 @@
 use Rattle.std.specs.Prelude.{◌≡◌, length}
-use Rattle.thread_runs.specs.Each.{Each}
-use Rattle.thread_runs.specs.Runs.{HasReported}
+use Rattle.thread_runs.proofs.Vocabulary.{Each, HasReported}
 use Rattle.thread_runs.proofs.threads.join_all.Given as goal
 
 abbrev pub invariant-loop-thread : goal.invariant-loop-thread

@@ -1,6 +1,7 @@
 use Rattle.std.proofs.Common.{◌≡◌, ◌<◌, suc, Some, None, refl, sym, ap, subst, ◌∙◌}
 use Rattle.boost_core.proofs.Vocabulary.{Drive, new_drive, sized_of, step_of, told_of, end_of, State, Drives, Helps, outcome_of}
-use Rattle.boost_core.proofs.Driving.{Fits, left, fits_first, round, help_asks_nothing, limits_stay, within_there, most_there, ended}
+use Rattle.boost_core.proofs.Driving.{Fits, left, fits_first, round, help_asks_nothing, within_there, most_there, ended}
+use Rattle.boost_core.proofs.Moves.{move_over}
 use Rattle.txn_drive.specs.declared.call.Call.TheVariants as calls
 use Rattle.boost_core.proofs.machine.Core.help.Goals as goal
 
@@ -47,7 +48,7 @@ loop-step-preserved c =
       caller = ap (λ (d : Drive). d.caller) told_is ∙ so_far.caller;
       call = ap (λ (d : Drive). d.call) told_is ∙ so_far.call;
       words = c.step-answer.ensures.words ∙ so_far.words;
-      limits = limits_stay c.loop-step.self c.step-answer.new.self c.in-Some.step c.step-answer.result c.step-answer.ensures.event.move ∙ so_far.limits;
+      limits = (move_over _ _ c.in-Some.step _ c.step-answer.ensures.event.move).limits ∙ so_far.limits;
       fits = subst (λ (d : Drive). Fits c.step-answer.new.self c.args.caller c.args.key d.phase) (sym told_is) goes.fits;
     }
 

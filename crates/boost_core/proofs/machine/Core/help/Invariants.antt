@@ -4,8 +4,9 @@ use Rattle.boost_core.proofs.Driving.{Fits, left}
 use Rattle.txn_drive.specs.declared.call.Call.TheVariants as calls
 use Rattle.boost_core.proofs.machine.Core.help.Given as goal
 
--- The moves that the drive has made so far, followed by any moves that it makes from here on, are
--- moves from its start.
+-- So far the drive has made some moves. Suppose that further moves lead from the present state to a
+-- state `new`. Then the moves so far and the further moves together lead from the drive's start to
+-- `new`.
 abbrev pub invariant-loop-step : goal.invariant-loop-step
 invariant-loop-step l = record {
   drives : (more : ℕ) (last : Drive) (new : State) → Drives more l.drive l.self last new → (moves : ℕ) × Drives moves (new_drive l.fn.self.limits.half l.caller (calls.Help l.key)) l.fn.self last new;

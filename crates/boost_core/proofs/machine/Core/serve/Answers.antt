@@ -9,7 +9,7 @@ use Rattle.boost_core.proofs.machine.Core.serve.Goals as goal
 
 pub invariant_of-self : goal.invariant_of-self
 invariant_of-self c =
-    let is = serves _ c.self.invariant.tells c.size-size.ensures.parents c.serve-answer.new.table c.serve-answer.ensures.follows c.serve-answer.ensures.rises c.args.step c.serve-answer.result c.serve-answer.ensures.serves in
+    let is = serves _ c.self.invariant.tells c.size-size.ensures.parents c.serve-answer.new.table c.serve-answer.ensures.follows c.args.step c.serve-answer.result c.serve-answer.ensures.serves in
     record {
       tells = subst (λ (o : Option Owner). Tells (served (world_of c.self.inside.limits c.self.inside.history c.self.inside.counts c.self.inside.table c.self.inside.sessions c.self.inside.locks c.self.inside.placed c.self.inside.words) c.serve-answer.new.table o)) (sym c.placed_after-self-inside.ensures) is.tells;
       owes = c.self.invariant.owes;
@@ -21,9 +21,9 @@ pub returns-clause-event : goal.returns-clause-event
 returns-clause-event c =
     let w = world_of c.self.inside.limits c.self.inside.history c.self.inside.counts c.self.inside.table c.self.inside.sessions c.self.inside.locks c.self.inside.placed c.self.inside.words in
     let now = served w c.serve-answer.new.table c.placed_after-self-inside.result in
-    let is = serves _ c.self.invariant.tells c.size-size.ensures.parents c.serve-answer.new.table c.serve-answer.ensures.follows c.serve-answer.ensures.rises c.args.step c.serve-answer.result c.serve-answer.ensures.serves in
+    let is = serves _ c.self.invariant.tells c.size-size.ensures.parents c.serve-answer.new.table c.serve-answer.ensures.follows c.args.step c.serve-answer.result c.serve-answer.ensures.serves in
     record {
       move = subst (λ (o : Option Owner). Move c.args.self.now c.args.step c.serve-answer.result (state_of (served w c.serve-answer.new.table o))) (sym c.placed_after-self-inside.ensures) (move_of _ _ _ _ _ c.self.view_is is.move);
-      lists = lists_of _ _ _ _ _ c.self.view_is (listed w now c.size-size.ensures.stored c.args.step c.serve-answer.result c.serve-answer.ensures.serves);
+      lists = lists_of _ _ _ _ _ c.self.view_is (listed w now c.size-size.ensures.stored c.serve-answer.ensures.rises c.args.step c.serve-answer.result c.serve-answer.ensures.serves);
       cursors = cursors_of _ _ _ _ _ c.self.view_is (serves_cursors w now c.self.invariant.tells (c.serve-answer.ensures.follows.list.sound c.self.invariant.tells.sound) refl c.args.step c.serve-answer.result c.serve-answer.ensures.serves);
     }

@@ -2,8 +2,9 @@ use Rattle.std.proofs.Common.{◌≡◌, ℕ, List}
 use Rattle.boost_core.proofs.Vocabulary.{Step, Answer, State, seat_in, Moves, undoing, undone}
 use Rattle.boost_core.proofs.machine.Core.take_back.Given as goal
 
--- Some changes have been taken back. The steps that took them back, followed by any steps from here
--- on, are steps from the state before the loop.
+-- So far the loop has taken back `changes` changes, each by two steps. Suppose that further steps
+-- lead from the present state to a state `new`. Then the steps so far and the further steps
+-- together lead from the state before the loop to `new`.
 abbrev pub invariant-loop-self : goal.invariant-loop-self
 invariant-loop-self l = record {
   changes : ℕ;

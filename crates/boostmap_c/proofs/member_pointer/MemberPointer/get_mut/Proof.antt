@@ -70,7 +70,8 @@ get_mut_spec 𝓤 𝓛 𝓜 𝓡 wired =
     opens ! tt Row {h = d} rb ro (λ us. move ! (1 ∷ []) $ opens_member ! d us (λ spelled. rewrite ! 0 (λ (held : Option Member). ‵ (owns_member d.at held)) there refl $ fpick ! (λ heap.
     in_a_block ! d.at (λ p. box_owns (ghosts.dealloc_token heap) member.the_row p x) (fst∗ 𝓤 (never 𝓤) (sem 𝓛 (ghosts.dealloc_token heap (bare (lone member.the_row.mir)) null_ptr))) (λ b o here. fsplit ! $
     rewrite ! 2 (λ (ws : List Val). ‵ (cell_at full_share Row.mir ws rb ro)) (spelled ∙ ap (λ (p : Ptr). word p ∷ []) here) refl $
-    -- [the member; the right to free its block; the pointer's memory; its borrow, which is open, in three entries]
+    -- The resources at this point, in order: the member, the right to free its block, the pointer's
+    -- memory, and three resources for the pointer's open borrow.
     let lent : GName → MutBor Member = λ δ. record { ref_ptr = (b, o); ghost_name = δ; now = x } in
     let Others = sem 𝓛 (Rest 𝓛 d rb ro heap b o) in let way = back 𝓛 d rb ro heap b o here in
     first ! $ blocks ! $ sets ! (of_opd ! (load ! (through ! refl (fld ! refl (stop !))) (look_in ! 2 (sub ! 0 refl (whole !))))) refl (tt, tt) $ sets ! (of_opd ! (get ! refl)) refl (tt, tt) $

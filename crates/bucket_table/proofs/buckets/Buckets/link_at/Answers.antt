@@ -20,7 +20,8 @@ use Rattle.bucket_table.proofs.buckets.Buckets.link_at.Goals as goal
 own_split : (l : Listing) (helpers : List Helper) (helper bucket : ℕ) (cursor : Cursor) → All (IsHelperHome l) helpers → slice_get helpers helper ≡ Some (Seeking bucket cursor) → at_of cursor ≡ dummy_at bucket
 own_split l helpers helper bucket cursor home had = (helper_found (IsHelperHome l) helpers helper (Seeking bucket cursor) home had).1
 
--- If the dummy is not there, it belongs right behind the cursor's first node.
+-- If the cursor of a bucket's dummy finds no node, that dummy belongs right behind the cursor's
+-- first node.
 room : (l : Listing) (cursor : Cursor) (bucket : ℕ) (found : Option ℕ) → at_of cursor ≡ dummy_at bucket → found ≡ None → Finds l cursor found → IsVacant l.nodes (pred_of cursor) (dummy_at bucket)
 room l cursor bucket found sought is finds =
     let P : Option ℕ → Type 0 = Finds l cursor in

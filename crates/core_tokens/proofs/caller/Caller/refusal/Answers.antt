@@ -1,13 +1,13 @@
 use Rattle.std.proofs.Common.{◌∙◌, ◌≡◌, Bool, None, Option, Some, ap, false, is_some, refl, true}
 use Rattle.core_tokens.proofs.Vocabulary.{Call, Refusal, Seat, first_step, refusal_in}
 use Rattle.std.specs.Option.{option_or}
-use Rattle.core_tokens.specs.Ready.{refused_at, refused_help}
+use Rattle.core_tokens.specs.Ready.{refused_at, refusal_of_help}
 use Rattle.core_tokens.proofs.caller.Caller.refusal.Goals as goal
 
--- A call is refused by the caller's seat or, if the seat does not refuse it, as help with a bad
--- key.
+-- The refusal of a call is the refusal by the caller's seat or, if there is none, the refusal of
+-- help with a bad key.
 refuses : (half b : Bool) (o : Option Seat) (call : Call) (seat help r : Option Refusal) → b ≡ false → is_some o ≡ true
-    → ((s : Seat) → o ≡ Some s → seat ≡ refusal_in half s (first_step 0 call)) → help ≡ refused_help half call → r ≡ option_or seat help → r ≡ refused_at half b o call
+    → ((s : Seat) → o ≡ Some s → seat ≡ refusal_in half s (first_step 0 call)) → help ≡ refusal_of_help half call → r ≡ option_or seat help → r ≡ refused_at half b o call
 refuses half b None call seat help r sound whole seat_is help_is is = absurd (cc whole)
 refuses half b (Some s) call seat help r sound whole seat_is help_is is = rw (sound, is, help_is, seat_is s refl)
 

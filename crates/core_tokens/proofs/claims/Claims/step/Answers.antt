@@ -13,6 +13,7 @@ pub returns-in_default : goal.returns-in_default
 returns-in_default c =
     let plain = plain_claim c.args.self.now.tried c.args.core.now c.args.step c.in_default.not-Ask in record {
       goes = rw (plain, c.in_parts-in_default.ensures) c.step.ensures.event.move;
+      lists = rw (plain, c.in_parts-in_default.ensures) c.step.ensures.event.lists;
       words = c.step.ensures.words ∙ c.requires.words;
       limits = (goes_over Lock _ _ _ _ c.step.ensures.event.move).limits;
     }

@@ -4,7 +4,7 @@ use Rattle.owned_map.specs.declared.owned_map.OwnedMap.{OwnedMap}
 use Rattle.owned_map.specs.Within.{IsCommitted, IsRun, IsSameMap, IsTakenBack}
 use Rattle.txn_words.specs.declared.answer.Answer.TheVariants.{Committed}
 use Rattle.txn_words.specs.declared.step.Step.TheVariants.{Commit}
-use Rattle.boost_core.specs.Machine.{Event}
+use Rattle.boost_core.specs.Machine.{Happens}
 use Rattle.owned_map.specs.Effects.{HasAborted, IsNotCommitted}
 use Rattle.owned_map.proofs.Calls.{run, undone, on_err}
 use Rattle.owned_map.proofs.owned_map.OwnedMap.transact.Goals as goal
@@ -14,7 +14,7 @@ returns-clause-ok g c =
     let keeps = c.requires.keeps _ _ _ c.in_ok-value.ensures in
     let left : c.self-2-1.given.0 ≡ c.commit.new.self.0 = search rules in
     let Ends : OwnedMap → Type 0 = λ m. IsRun c.args.caller c.args.self.now.core c.begin.new.self.core c.work.new.arg2.map.now.core m.core in
-    let Commits : ℕ → OwnedMap → Type 0 = λ d m. Event c.work.new.arg2.map.now.core (Commit d) (Committed c.in_ok-commit.field-0) m.core in (
+    let Commits : ℕ → OwnedMap → Type 0 = λ d m. Happens c.work.new.arg2.map.now.core (Commit d) (Committed c.in_ok-commit.field-0) m.core in (
       _,
       _,
       c.in_ok-value.ensures,

@@ -1,5 +1,5 @@
 use Rattle.std.proofs.Common.{◌≡◌, rules, of_calls, refl, ap}
-use Rattle.script_worker.proofs.Taking.{told_step, turn_next, next_at}
+use Rattle.script_worker.proofs.Taking.{turn_next, next_at}
 use Rattle.script_worker.proofs.worker.Worker.take_turn.Goals as goal
 
 pub returns-clause-takes : goal.returns-clause-takes
@@ -10,10 +10,11 @@ returns-clause-takes g c =
     (λ f. record { taker = f.0.now; worker = f.2.now; finish = f.1.now }) c.args.size c.args.scripts.now c.args.tries c.args.self.now
     c.turn.new.self c.turn.result c.in-Some.turn _ _ c.turn.ensures.worker c.turn.ensures.turn c.turn.ensures.step c.in-Some.is refl refl
     (refl, refl, refl, refl, refl) c.take.ensures (λ z s a y i taken. (
-      told_step (λ f s answer e. goal.F-step g f s answer e) c.args.scripts.now c.args.tries
-          (record { taker = z.0.now; worker = z.2.now; finish = z.1.now }) s a
-          (record { taker = y.0.now; worker = y.2.now; finish = y.1.now }) z.3.now z.4.now (ap (λ b. b.now) i.3) (ap (λ b. b.now) i.4)
-          (search (rules, of_calls)) (search (rules, of_calls)) (search (rules, of_calls)),
+      record {
+        taken = search (rules, of_calls);
+        told = rw (← (ap (λ b. b.now) i.3), ← (ap (λ b. b.now) i.4)) (search (rules, of_calls));
+        ended = rw (← (ap (λ b. b.now) i.3), ← (ap (λ b. b.now) i.4)) (search (rules, of_calls));
+      },
       search (rules, of_calls),
     )) in
     next_at _ _ _ _ _ _ _ _ _ _ _ _ taken.0 (search (rules, taken)) (search (rules, taken)) (search (rules, taken))

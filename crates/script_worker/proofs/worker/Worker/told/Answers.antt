@@ -1,7 +1,6 @@
 use Rattle.std.proofs.Common.{ap, ◌∙◌}
-use Rattle.script_worker.specs.Workers.{Standing, step_by}
-use Rattle.script_worker.proofs.Keeping.{told_keeps, told_on}
-use Rattle.script_worker.proofs.Ready.{told_ready}
+use Rattle.script_worker.proofs.Vocabulary.{Standing, step_by}
+use Rattle.script_worker.proofs.{Keeping.told_keeps, Keeping.told_on, Ready.told_ready}
 use Rattle.script_worker.proofs.worker.Worker.told.Goals as goal
 
 pub invariant_of-self : goal.invariant_of-self
@@ -10,9 +9,7 @@ invariant_of-self c =
     c.args.answer)
 
 pub returns-clause-ready : goal.returns-clause-ready
-returns-clause-ready c =
-    rw c.tell.ensures.task (told_ready c.args.scripts.now c.args.tries c.self.inside.number c.self.inside.limits c.self.inside.task
-    c.args.answer)
+returns-clause-ready c = invariant_of-self c
 
 pub returns-clause-finish : goal.returns-clause-finish
 returns-clause-finish c = rw (← c.self.view_is) c.tell.ensures.finish

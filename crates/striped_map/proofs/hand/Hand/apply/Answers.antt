@@ -13,7 +13,7 @@ use Rattle.striped_map.specs.Additions.{due, entries_of, left_of}
 use Rattle.striped_map.specs.Handling.{under}
 use Rattle.striped_map.specs.Rule.{Holds}
 use Rattle.striped_map.specs.Seats.{known, part_in}
-use Rattle.striped_map.specs.Sound.{Held, Change, IsSound, parts_of, with_part}
+use Rattle.striped_map.specs.Sound.{HeldPart, Change, IsSound, held_parts, with_part}
 use Rattle.striped_map.specs.Steps.{noting, seat_of}
 use Rattle.striped_map.proofs.Hands.{read_at, with_at, holds_in, reply_right, parts_noted, logged_noted, parts_worked}
 use Rattle.striped_map.proofs.Lands.{may_note}
@@ -32,29 +32,29 @@ invariant_of-self c = let me = c.args.self.now in
 
 pub add-requires-clause-may : goal.add-requires-clause-may
 add-requires-clause-may c = let me = c.args.self.now in let n = c.args.map.now.table.shared.table_id.slots in let a = me.seat in let b = c.apply.new.seat in let v = known a in let ks = me.held.items in let place = c.args.place in let op = c.args.op in let reply = c.in_ok-reply.reply in
-    let s : IsSound n v (parts_of a ks) me.order.items me.levels.items = subst (λ z. IsSound z.slots v (parts_of a ks) me.order.items me.levels.items) c.requires.map me.sound in
+    let s : IsSound n v (held_parts a ks) me.order.items me.levels.items = subst (λ z. IsSound z.slots v (held_parts a ks) me.order.items me.levels.items) c.requires.map me.sound in
     let k : ℕ = c.index-stripe.result.now in
     let at_k : slice_get ks place ≡ Some k = read_at ks place k (slice_get_within ks place _ c.requires.place) c.index-stripe.ensures in
-    let at : slice_get (parts_of a ks) place ≡ Some (with_part (part_in a) k) = with_at (part_in a) ks place k at_k in
+    let at : slice_get (held_parts a ks) place ≡ Some (with_part (part_in a) k) = with_at (part_in a) ks place k at_k in
     let in_k : k ≡ stripe_of n (key_of op) = same_Some _ _ (sym at_k ∙ c.requires.place) in
     let sub = c.under.ensures ∙ ap (under op) c.requires.sub_key in
     let does : Does (part_in a k) (part_in b k) (under op (key_of op / n)) reply = subst (λ (o : Op). Does (part_in a k) (part_in b k) o reply) sub c.in_ok-reply.ensures.ok in
     let at_open = c.requires.open in
     subst (λ (u : View). MayAdd n u (entries_of u (Note op reply)) (left_of u (Note op reply))) (sym c.apply.ensures.known)
     (may_note n v a.acting (seat_of v) at_open.seat_is at_open.phase_is op reply (subst (Holds v) in_k (holds_in n v a ks (now v.seen) s.parts place k at_k))
-    (reply_right n v (parts_of a ks) (now v.seen) s.parts place (with_part (part_in a) k) (part_in b k) op reply at in_k does))
+    (reply_right n v (held_parts a ks) (now v.seen) s.parts place (with_part (part_in a) k) (part_in b k) op reply at in_k does))
 
 pub invariant_of-self-then-changes : goal.invariant_of-self-then-changes
 invariant_of-self-then-changes c = let me = c.args.self.now in let n = c.args.map.now.table.shared.table_id.slots in let a = me.seat in let b = c.apply.new.seat in let v = known a in let ks = me.held.items in let place = c.args.place in let op = c.args.op in let reply = c.in_ok-reply.reply in
-    let s : IsSound n v (parts_of a ks) me.order.items me.levels.items = subst (λ z. IsSound z.slots v (parts_of a ks) me.order.items me.levels.items) c.requires.map me.sound in
+    let s : IsSound n v (held_parts a ks) me.order.items me.levels.items = subst (λ z. IsSound z.slots v (held_parts a ks) me.order.items me.levels.items) c.requires.map me.sound in
     let k : ℕ = c.index-stripe.result.now in
     let at_k : slice_get ks place ≡ Some k = read_at ks place k (slice_get_within ks place _ c.requires.place) c.index-stripe.ensures in
-    let at : slice_get (parts_of a ks) place ≡ Some (with_part (part_in a) k) = with_at (part_in a) ks place k at_k in
+    let at : slice_get (held_parts a ks) place ≡ Some (with_part (part_in a) k) = with_at (part_in a) ks place k at_k in
     let in_k : k ≡ stripe_of n (key_of op) = same_Some _ _ (sym at_k ∙ c.requires.place) in
     let sub = c.under.ensures ∙ ap (under op) c.requires.sub_key in
     let does : Does (part_in a k) (part_in b k) (under op (key_of op / n)) reply = subst (λ (o : Op). Does (part_in a k) (part_in b k) o reply) sub c.in_ok-reply.ensures.ok in
     let d = c.add.new.seat in let w = known d in
-    let new : Held = with_part (part_in b) k in
+    let new : HeldPart = with_part (part_in b) k in
     let later : List Change = me.order.items ++ (place, key_of op / n, reply) ∷ [] in
     let added = added_as n v (known b) w (Note op reply) c.apply.ensures.known c.add.ensures.added in
     let worked = sym (parts_worked n v a b ks (now v.seen) s.parts place k at_k c.apply.ensures.others) in
@@ -62,39 +62,39 @@ invariant_of-self-then-changes c = let me = c.args.self.now in let n = c.args.ma
     let noted : c.push_reserved.new.self.items ≡ later = c.push_reserved.ensures.items ∙ ap (λ (q : ℕ). me.order.items ++ (place, q, reply) ∷ []) c.requires.sub_key in
     let order : c.push_reserved.new.self.items ≡ cond (changes op reply) later me.order.items = noted ∙ sym (ap (λ (x : Bool). cond x later me.order.items) changed) in
     record {
-      sound = subst (λ z. IsSound z.slots w (parts_of d ks) c.push_reserved.new.self.items me.levels.items) (sym c.add.ensures.seat)
+      sound = subst (λ z. IsSound z.slots w (held_parts d ks) c.push_reserved.new.self.items me.levels.items) (sym c.add.ensures.seat)
           (sound_parts n w b d ks c.push_reserved.new.self.items me.levels.items c.add.ensures.parts
-          (subst (λ (l : List Held). IsSound n w l c.push_reserved.new.self.items me.levels.items) worked
-          (subst (λ (l : List Change). IsSound n w (set (parts_of a ks) place new) l me.levels.items) (sym order)
-          (sound_added n v w _ (noting v (seat_of v) op reply) (set (parts_of a ks) place new) (cond (changes op reply) later me.order.items) me.levels.items added
-          (parts_noted n v (parts_of a ks) (now v.seen) s.parts place (with_part (part_in a) k) (part_in b k) op reply at in_k does)
-          (logged_noted n v (parts_of a ks) (now v.seen) me.order.items (due v) s.parts s.logged place (with_part (part_in a) k) (part_in b k) op reply at in_k does) s.levelled))));
+          (subst (λ (l : List HeldPart). IsSound n w l c.push_reserved.new.self.items me.levels.items) worked
+          (subst (λ (l : List Change). IsSound n w (set (held_parts a ks) place new) l me.levels.items) (sym order)
+          (sound_added n v w _ (noting v (seat_of v) op reply) (set (held_parts a ks) place new) (cond (changes op reply) later me.order.items) me.levels.items added
+          (parts_noted n v (held_parts a ks) (now v.seen) s.parts place (with_part (part_in a) k) (part_in b k) op reply at in_k does)
+          (logged_noted n v (held_parts a ks) (now v.seen) me.order.items (due v) s.parts s.logged place (with_part (part_in a) k) (part_in b k) op reply at in_k does) s.levelled))));
       indexed = me.indexed;
     }
 
 pub invariant_of-self-else-changes : goal.invariant_of-self-else-changes
 invariant_of-self-else-changes c = let me = c.args.self.now in let n = c.args.map.now.table.shared.table_id.slots in let a = me.seat in let b = c.apply.new.seat in let v = known a in let ks = me.held.items in let place = c.args.place in let op = c.args.op in let reply = c.in_ok-reply.reply in
-    let s : IsSound n v (parts_of a ks) me.order.items me.levels.items = subst (λ z. IsSound z.slots v (parts_of a ks) me.order.items me.levels.items) c.requires.map me.sound in
+    let s : IsSound n v (held_parts a ks) me.order.items me.levels.items = subst (λ z. IsSound z.slots v (held_parts a ks) me.order.items me.levels.items) c.requires.map me.sound in
     let k : ℕ = c.index-stripe.result.now in
     let at_k : slice_get ks place ≡ Some k = read_at ks place k (slice_get_within ks place _ c.requires.place) c.index-stripe.ensures in
-    let at : slice_get (parts_of a ks) place ≡ Some (with_part (part_in a) k) = with_at (part_in a) ks place k at_k in
+    let at : slice_get (held_parts a ks) place ≡ Some (with_part (part_in a) k) = with_at (part_in a) ks place k at_k in
     let in_k : k ≡ stripe_of n (key_of op) = same_Some _ _ (sym at_k ∙ c.requires.place) in
     let sub = c.under.ensures ∙ ap (under op) c.requires.sub_key in
     let does : Does (part_in a k) (part_in b k) (under op (key_of op / n)) reply = subst (λ (o : Op). Does (part_in a k) (part_in b k) o reply) sub c.in_ok-reply.ensures.ok in
     let d = c.add.new.seat in let w = known d in
-    let new : Held = with_part (part_in b) k in
+    let new : HeldPart = with_part (part_in b) k in
     let later : List Change = me.order.items ++ (place, key_of op / n, reply) ∷ [] in
     let added = added_as n v (known b) w (Note op reply) c.apply.ensures.known c.add.ensures.added in
     let worked = sym (parts_worked n v a b ks (now v.seen) s.parts place k at_k c.apply.ensures.others) in
     let changed : changes op reply ≡ false = sym c.changes.ensures ∙ c.if-changes.false in
     let order : me.order.items ≡ cond (changes op reply) later me.order.items = sym (ap (λ (x : Bool). cond x later me.order.items) changed) in
     record {
-      sound = subst (λ z. IsSound z.slots w (parts_of d ks) me.order.items me.levels.items) (sym c.add.ensures.seat)
+      sound = subst (λ z. IsSound z.slots w (held_parts d ks) me.order.items me.levels.items) (sym c.add.ensures.seat)
           (sound_parts n w b d ks me.order.items me.levels.items c.add.ensures.parts
-          (subst (λ (l : List Held). IsSound n w l me.order.items me.levels.items) worked
-          (subst (λ (l : List Change). IsSound n w (set (parts_of a ks) place new) l me.levels.items) (sym order)
-          (sound_added n v w _ (noting v (seat_of v) op reply) (set (parts_of a ks) place new) (cond (changes op reply) later me.order.items) me.levels.items added
-          (parts_noted n v (parts_of a ks) (now v.seen) s.parts place (with_part (part_in a) k) (part_in b k) op reply at in_k does)
-          (logged_noted n v (parts_of a ks) (now v.seen) me.order.items (due v) s.parts s.logged place (with_part (part_in a) k) (part_in b k) op reply at in_k does) s.levelled))));
+          (subst (λ (l : List HeldPart). IsSound n w l me.order.items me.levels.items) worked
+          (subst (λ (l : List Change). IsSound n w (set (held_parts a ks) place new) l me.levels.items) (sym order)
+          (sound_added n v w _ (noting v (seat_of v) op reply) (set (held_parts a ks) place new) (cond (changes op reply) later me.order.items) me.levels.items added
+          (parts_noted n v (held_parts a ks) (now v.seen) s.parts place (with_part (part_in a) k) (part_in b k) op reply at in_k does)
+          (logged_noted n v (held_parts a ks) (now v.seen) me.order.items (due v) s.parts s.logged place (with_part (part_in a) k) (part_in b k) op reply at in_k does) s.levelled))));
       indexed = me.indexed;
     }

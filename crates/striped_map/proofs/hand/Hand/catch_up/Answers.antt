@@ -1,7 +1,7 @@
 use Rattle.std.proofs.Common.{sym, subst}
 use Rattle.striped_map.specs.declared.seat.MapSeat.{MapSeat}
 use Rattle.striped_map.specs.Seats.{known}
-use Rattle.striped_map.specs.Sound.{IsSound, parts_of}
+use Rattle.striped_map.specs.Sound.{IsSound, held_parts}
 use Rattle.striped_map.proofs.Sounds.{sound_looked}
 use Rattle.striped_map.proofs.hand.Hand.catch_up.Goals as goal
 
@@ -13,6 +13,6 @@ invariant_of-self c = record {
 
 pub invariant_of-other : goal.invariant_of-other
 invariant_of-other c = let other = c.args.other.now in record {
-  sound = subst (λ (z : MapSeat). IsSound z.seat.table_id.slots (known z) (parts_of z other.held.items) other.order.items other.levels.items) (sym c.catch_up.ensures.same) other.sound;
+  sound = subst (λ (z : MapSeat). IsSound z.seat.table_id.slots (known z) (held_parts z other.held.items) other.order.items other.levels.items) (sym c.catch_up.ensures.same) other.sound;
   indexed = other.indexed;
 }

@@ -4,7 +4,7 @@ use Rattle.txn_trace.specs.Now.{now}
 use Rattle.stripe_part.specs.PartAt.{PartAt}
 use Rattle.striped_map.specs.declared.view.View.{View}
 use Rattle.striped_map.specs.Seats.{known}
-use Rattle.striped_map.specs.Sound.{AreHeld, IsSound, parts_of, with_part}
+use Rattle.striped_map.specs.Sound.{AreHeld, IsSound, held_parts, with_part}
 use Rattle.striped_map.specs.Lone.{RunsAlone}
 use Rattle.striped_map.specs.Steps.{at_end, seat_of}
 use Rattle.striped_map.proofs.Alone.{commits_alone}
@@ -20,7 +20,7 @@ give_all-requires-clause-over c = let v = known c.args.self.now.seat in let w = 
 
 pub give_all-requires-clause-parts : goal.give_all-requires-clause-parts
 give_all-requires-clause-parts c = let me = c.args.self.now in let n = c.args.map.now.table.shared.table_id.slots in let v = known me.seat in let w = known c.commit-place.new.seat in let a = c.commit-place.ensures.committed.2 in
-    let held = parts_of me.seat me.held.items in
+    let held = held_parts me.seat me.held.items in
     let s : IsSound n v held me.order.items me.levels.items = subst (λ z. IsSound z.slots v held me.order.items me.levels.items) c.requires.map me.sound in
     subst (λ (f : ℕ → PartAt). AreHeld n w (map (with_part f) me.held.items) (now w.seen)) (sym c.commit-place.ensures.parts)
     (parts_on n v w held (now v.seen) (now w.seen) s.parts (ap (λ (x : View). x.held) a.view_is) a.have)
@@ -28,8 +28,8 @@ give_all-requires-clause-parts c = let me = c.args.self.now in let n = c.args.ma
 pub invariant_of-self : goal.invariant_of-self
 invariant_of-self c = let me = c.args.self.now in let n = c.args.map.now.table.shared.table_id.slots in let v = known me.seat in let w = known c.commit-place.new.seat in let u = known c.give_all.new.seat in let a = c.commit-place.ensures.committed.2 in
     record {
-      sound = subst (λ z. IsSound z.slots u (parts_of c.give_all.new.seat c.give_all.new.held.items) c.clear.new.self.items c.clear-2.new.self.items) (sym c.give_all.ensures.map)
-          (sound_lists n u _ _ _ (ap (parts_of c.give_all.new.seat) c.give_all.ensures.none) c.clear.ensures.items c.clear-2.ensures.items (sound_ended n v w u _ (now v.seen) a c.give_all.ensures.idle));
+      sound = subst (λ z. IsSound z.slots u (held_parts c.give_all.new.seat c.give_all.new.held.items) c.clear.new.self.items c.clear-2.new.self.items) (sym c.give_all.ensures.map)
+          (sound_lists n u _ _ _ (ap (held_parts c.give_all.new.seat) c.give_all.ensures.none) c.clear.ensures.items c.clear-2.ensures.items (sound_ended n v w u _ (now v.seen) a c.give_all.ensures.idle));
       indexed = indexed_none c.give_all.new.held.items me.index.items c.give_all.ensures.none;
     }
 
@@ -42,7 +42,7 @@ returns-clause-idle c = ap (λ (v : View). v.held) c.give_all.ensures.idle
 
 pub returns-clause-committed : goal.returns-clause-committed
 returns-clause-committed c = let p = c.commit-place.ensures.committed in let w = known c.commit-place.new.seat in let me = c.args.self.now in let n = c.args.map.now.table.shared.table_id.slots in let v = known me.seat in
-    let held = parts_of me.seat me.held.items in
+    let held = held_parts me.seat me.held.items in
     let s : IsSound n v held me.order.items me.levels.items = subst (λ z. IsSound z.slots v held me.order.items me.levels.items) c.requires.map me.sound in
     let at = c.requires.open in (
       p.0,

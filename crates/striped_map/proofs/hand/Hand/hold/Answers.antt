@@ -1,7 +1,7 @@
 use Rattle.std.proofs.Common.{rules, vec_len, ◌<◌, ◌≤◌, ◌≡◌, ◌≢◌, ℕ, List, [], ◌∷◌, ◌++◌, Some, slice_get, length, set, sym, ap, subst, ◌∙◌, arith}
 use Rattle.txn_trace.specs.Now.{now}
 use Rattle.striped_map.specs.Seats.{known, part_in}
-use Rattle.striped_map.specs.Sound.{AreHeld, Held, IsIndexed, IsSound, parts_of}
+use Rattle.striped_map.specs.Sound.{AreHeld, HeldPart, IsIndexed, IsSound, held_parts}
 use Rattle.striped_map.proofs.Hands.{apart_in, holds_in, none_in, not_held, parts_pushed, push_last}
 use Rattle.striped_map.proofs.Index.{few, indexed_longer, indexed_taken}
 use Rattle.striped_map.proofs.Sounds.{sound_parts, sound_taken, sound_seen}
@@ -9,12 +9,12 @@ use Rattle.striped_map.proofs.hand.Hand.hold.Goals as goal
 
 pub take-requires-clause-free : goal.take-requires-clause-free
 take-requires-clause-free c = let me = c.args.self.now in let n = me.seat.seat.table_id.slots in let v = known me.seat in
-    not_held n v (parts_of me.seat me.held.items) (now v.seen) me.sound.parts c.args.stripe (none_in me.seat me.held.items c.args.stripe (c.place_of.ensures.none c.in_default.is))
+    not_held n v (held_parts me.seat me.held.items) (now v.seen) me.sound.parts c.args.stripe (none_in me.seat me.held.items c.args.stripe (c.place_of.ensures.none c.in_default.is))
 
 -- No stripe is twice in the list, so the list has at most 4,096 stripes.
 pub overflow_cast-place : goal.overflow_cast-place
 overflow_cast-place c = let me = c.args.self.now in let n = c.args.map.now.table.shared.table_id.slots in let v = known me.seat in let ks = me.held.items in
-    let parts : AreHeld n v (parts_of me.seat ks) (now v.seen) = subst (λ z. AreHeld z.slots v (parts_of me.seat ks) (now v.seen)) c.requires.map me.sound.parts in
+    let parts : AreHeld n v (held_parts me.seat ks) (now v.seen) = subst (λ z. AreHeld z.slots v (held_parts me.seat ks) (now v.seen)) c.requires.map me.sound.parts in
     let long : c.len-place.result ≡ length ks = (let l = c.len-place.ensures in let r = c.reserve.ensures.len in let o = me.held.ok.0 in omega arith) in
     let within : length ks ≤ n = few n ks (apart_in n v me.seat ks (now v.seen) parts)
     (λ i stripe at. subst (λ z. stripe < z.slots) c.requires.map (me.seat.inside stripe (holds_in n v me.seat ks (now v.seen) parts i stripe at))) in
@@ -23,13 +23,13 @@ overflow_cast-place c = let me = c.args.self.now in let n = c.args.map.now.table
 -- Memory was refused, for one more stripe or for the index.
 pub invariant_of-self-then-is_err : goal.invariant_of-self-then-is_err
 invariant_of-self-then-is_err c = let me = c.args.self.now in record {
-  sound = subst (λ (l : List ℕ). IsSound me.seat.seat.table_id.slots (known me.seat) (parts_of me.seat l) me.order.items me.levels.items) (sym c.reserve.ensures.items) me.sound;
+  sound = subst (λ (l : List ℕ). IsSound me.seat.seat.table_id.slots (known me.seat) (held_parts me.seat l) me.order.items me.levels.items) (sym c.reserve.ensures.items) me.sound;
   indexed = subst (λ (l : List ℕ). IsIndexed l me.index.items) (sym c.reserve.ensures.items) me.indexed;
 }
 
 pub invariant_of-self-in_default-widen : goal.invariant_of-self-in_default-widen
 invariant_of-self-in_default-widen c = let me = c.args.self.now in record {
-  sound = subst (λ (l : List ℕ). IsSound me.seat.seat.table_id.slots (known me.seat) (parts_of me.seat l) me.order.items me.levels.items) (sym c.reserve.ensures.items) me.sound;
+  sound = subst (λ (l : List ℕ). IsSound me.seat.seat.table_id.slots (known me.seat) (held_parts me.seat l) me.order.items me.levels.items) (sym c.reserve.ensures.items) me.sound;
   indexed = subst (λ (l : List ℕ). IsIndexed l c.widen.new.index.items) (sym c.reserve.ensures.items)
       (indexed_longer me.held.items me.index.items c.widen.new.index.items c.widen.ensures.keeps me.indexed);
 }
@@ -37,14 +37,14 @@ invariant_of-self-in_default-widen c = let me = c.args.self.now in record {
 pub invariant_of-self-in-Granted : goal.invariant_of-self-in-Granted
 invariant_of-self-in-Granted c = let me = c.args.self.now in let n = c.args.map.now.table.shared.table_id.slots in let a = me.seat in let b = c.take.new.seat in let v = known a in let w = known b in let k = c.args.stripe in let ks = me.held.items in
     let none : (i : ℕ) → slice_get ks i ≢ Some k = c.place_of.ensures.none c.in_default.is in
-    let s : IsSound n v (parts_of a ks) me.order.items me.levels.items = subst (λ z. IsSound z.slots v (parts_of a ks) me.order.items me.levels.items) c.requires.map me.sound in
+    let s : IsSound n v (held_parts a ks) me.order.items me.levels.items = subst (λ z. IsSound z.slots v (held_parts a ks) me.order.items me.levels.items) c.requires.map me.sound in
     let items : c.push_reserved.new.self.items ≡ ks ++ k ∷ [] = c.push_reserved.ensures.items ∙ ap (λ (l : List ℕ). l ++ k ∷ []) c.reserve.ensures.items in
     let long : c.len-place.result ≡ length ks = (let l = c.len-place.ensures in let r = c.reserve.ensures.len in let o = me.held.ok.0 in omega arith) in
-    let held = ap (parts_of b) items ∙ parts_pushed a b ks k none c.in-Granted.ensures.taken.1 in
+    let held = ap (held_parts b) items ∙ parts_pushed a b ks k none c.in-Granted.ensures.taken.1 in
     record {
-      sound = subst (λ z. IsSound z.slots w (parts_of b c.push_reserved.new.self.items) me.order.items me.levels.items) (sym c.take.ensures.seat)
-          (subst (λ (l : List Held). IsSound n w l me.order.items me.levels.items) (sym held)
-          (sound_taken n k v w (parts_of a ks) me.order.items me.levels.items (part_in b k) s (none_in a ks k none) c.in-Granted.ensures.taken.0));
+      sound = subst (λ z. IsSound z.slots w (held_parts b c.push_reserved.new.self.items) me.order.items me.levels.items) (sym c.take.ensures.seat)
+          (subst (λ (l : List HeldPart). IsSound n w l me.order.items me.levels.items) (sym held)
+          (sound_taken n k v w (held_parts a ks) me.order.items me.levels.items (part_in b k) s (none_in a ks k none) c.in-Granted.ensures.taken.0));
       indexed = subst (λ (l : List ℕ). IsIndexed l (set c.widen.new.index.items k c.len-place.result)) (sym items)
           (indexed_taken ks c.widen.new.index.items k c.len-place.result none
           (let lt : k < vec_len c.widen.new.index = search rules in let o = c.widen.new.index.ok.0 in omega arith)
@@ -54,12 +54,12 @@ invariant_of-self-in-Granted c = let me = c.args.self.now in let n = c.args.map.
 
 pub invariant_of-self-in-Denied-1 : goal.invariant_of-self-in-Denied-1
 invariant_of-self-in-Denied-1 c = let me = c.args.self.now in let n = c.args.map.now.table.shared.table_id.slots in let a = me.seat in let b = c.take.new.seat in let v = known a in let w = known b in let ks = me.held.items in
-    let s : IsSound n v (parts_of a ks) me.order.items me.levels.items = subst (λ z. IsSound z.slots v (parts_of a ks) me.order.items me.levels.items) c.requires.map me.sound in
+    let s : IsSound n v (held_parts a ks) me.order.items me.levels.items = subst (λ z. IsSound z.slots v (held_parts a ks) me.order.items me.levels.items) c.requires.map me.sound in
     record {
-      sound = subst (λ z. IsSound z.slots w (parts_of b c.reserve.new.self.items) me.order.items me.levels.items) (sym c.take.ensures.seat)
-          (subst (λ (l : List ℕ). IsSound n w (parts_of b l) me.order.items me.levels.items) (sym c.reserve.ensures.items)
+      sound = subst (λ z. IsSound z.slots w (held_parts b c.reserve.new.self.items) me.order.items me.levels.items) (sym c.take.ensures.seat)
+          (subst (λ (l : List ℕ). IsSound n w (held_parts b l) me.order.items me.levels.items) (sym c.reserve.ensures.items)
           (sound_parts n w a b ks me.order.items me.levels.items c.in-Denied.ensures.taken.1
-          (sound_seen n v w (parts_of a ks) me.order.items me.levels.items s c.in-Denied.ensures.taken.0.sees)));
+          (sound_seen n v w (held_parts a ks) me.order.items me.levels.items s c.in-Denied.ensures.taken.0.sees)));
       indexed = subst (λ (l : List ℕ). IsIndexed l c.widen.new.index.items) (sym c.reserve.ensures.items)
           (indexed_longer ks me.index.items c.widen.new.index.items c.widen.ensures.keeps me.indexed);
     }

@@ -5,7 +5,7 @@ use Rattle.txn_words.specs.declared.op.Op.TheVariants.{Get}
 use Rattle.txn_trace.specs.Now.{now}
 use Rattle.striped_map.specs.Rule.{Holds}
 use Rattle.striped_map.specs.Seats.{known}
-use Rattle.striped_map.specs.Sound.{AreHeld, parts_of}
+use Rattle.striped_map.specs.Sound.{AreHeld, held_parts}
 use Rattle.striped_map.proofs.Ends.{moved_on, moved_busy}
 use Rattle.striped_map.proofs.Hands.{holds_in}
 use Rattle.striped_map.proofs.hand.Hand.hold_all.Goals as goal
@@ -18,7 +18,7 @@ returns-in-Err-Busy-clause-err c = let map = c.args.map.now in let me = c.args.s
 pub loop-stripe-preserved : goal.loop-stripe-preserved
 loop-stripe-preserved c = let map = c.args.map.now in let n = map.table.shared.table_id.slots in let inv = c.loop-stripe.invariant in
     let me = c.hold.new.self in let v = known me.seat in let stripe = c.loop-stripe.stripe in
-    let parts : AreHeld n v (parts_of me.seat me.held.items) (now v.seen) = subst (λ z. AreHeld z.slots v (parts_of me.seat me.held.items) (now v.seen)) c.hold.ensures.map me.sound.parts in
+    let parts : AreHeld n v (held_parts me.seat me.held.items) (now v.seen) = subst (λ z. AreHeld z.slots v (held_parts me.seat me.held.items) (now v.seen)) c.hold.ensures.map me.sound.parts in
     record {
       map = c.hold.ensures.map;
       opened = c.hold.ensures.open;

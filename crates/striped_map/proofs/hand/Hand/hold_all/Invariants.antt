@@ -1,6 +1,6 @@
 use Rattle.std.specs.Prelude.{◌≡◌, ℕ, ◌<◌, []}
 use Rattle.txn_words.specs.declared.seat.Phase.TheVariants.{Opened}
-use Rattle.striped_map.specs.Hands.{Moves}
+use Rattle.striped_map.specs.Hands.{MovesHand}
 use Rattle.striped_map.specs.Rule.{Holds}
 use Rattle.striped_map.specs.Seats.{IsOf, known}
 use Rattle.striped_map.specs.Steps.{IsAt}
@@ -11,6 +11,6 @@ invariant-loop-stripe l = record {
   map : IsOf l.self.seat l.map;
   opened : IsAt Opened (known l.self.seat);
   levels : l.self.levels ≡ l.initial.self.levels;
-  moves : Moves l.map l.initial.self [] l.self;
+  moves : MovesHand l.map l.initial.self [] l.self;
   held : (other : ℕ) → other < l.stripe → Holds (known l.self.seat) other;
 }

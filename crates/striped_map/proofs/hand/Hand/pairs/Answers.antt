@@ -8,7 +8,7 @@ use Rattle.striped_map.specs.Steps.{IsAt}
 use Rattle.striped_map.proofs.Ends.{moved_known}
 use Rattle.striped_map.proofs.Hands.{holds_in}
 use Rattle.striped_map.specs.Seats.{known}
-use Rattle.striped_map.specs.Sound.{AreHeld, parts_of}
+use Rattle.striped_map.specs.Sound.{AreHeld, held_parts}
 use Rattle.striped_map.proofs.Sounds.{sound_same}
 use Rattle.striped_map.proofs.Wholes.{all_pairs}
 use Rattle.striped_map.proofs.hand.Hand.pairs.Goals as goal
@@ -21,7 +21,7 @@ invariant_of-self c = let me = c.hold_all.new.self in
     record { sound = sound_same c.args.map.now me c.pairs_of.new.seat c.hold_all.ensures.map c.pairs_of.ensures.seat c.pairs_of.ensures.known c.pairs_of.ensures.parts; indexed = me.indexed }
 
 pub returns-clause-ok : goal.returns-clause-ok
-returns-clause-ok c = let map = c.args.map.now in let n = map.table.shared.table_id.slots in let me = c.hold_all.new.self in let v = known me.seat in let held = parts_of me.seat me.held.items in let m = now v.seen in
+returns-clause-ok c = let map = c.args.map.now in let n = map.table.shared.table_id.slots in let me = c.hold_all.new.self in let v = known me.seat in let held = held_parts me.seat me.held.items in let m = now v.seen in
     let parts : AreHeld n v held m = subst (λ z. AreHeld z.slots v held m) c.hold_all.ensures.map me.sound.parts in
     let all : IsPermutation m.rows (pairs_in n held) = all_pairs n v held m map.some parts c.in_ok-hold_all.ensures.all (λ stripe holds. subst (λ z. stripe < z.slots) c.hold_all.ensures.map (me.seat.inside stripe holds)) in
     let found = c.sort.new.self.items in

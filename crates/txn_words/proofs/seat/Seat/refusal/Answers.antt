@@ -5,7 +5,7 @@ use Rattle.txn_words.specs.declared.refusal.Refusal.{Refusal}
 use Rattle.txn_words.specs.Seats.{first_of, unready_tests}
 use Rattle.txn_words.proofs.seat.Seat.refusal.Goals as goal
 
--- To try one more test if no other holds is to append it to the list of tests.
+-- A test that is tried if no other test holds may instead be appended to the list of tests.
 one_more : (tests : List (Bool × Refusal)) (is_bad : Bool) (refusal : Refusal)
     → option_or (first_of tests) (then_some is_bad refusal) ≡ first_of (tests ++ (is_bad, refusal) ∷ [])
 one_more [] true refusal = refl
