@@ -302,10 +302,9 @@ impl<L: Ledger, S: Side> Caller<L, S> {
     /// side value, and tests that the level of a return exists. No step is taken, and `seen` and
     /// the side value with its levels are unchanged.
     ///
-    /// It also makes room in `seen` for all entries of the call, so that the holds of the call take
-    /// no memory for `seen`. If the last `reserve` wrote its room, this room is written too, so that
-    /// no hold is the first to touch a page of it. If memory is refused for that, each hold makes
-    /// its own room.
+    /// If the last `reserve` wrote its room, it also makes and writes room in `seen` for all entries
+    /// of the call, so that no hold is the first to touch a page of it. If memory is refused for
+    /// that, each hold makes its own room.
     ///
     /// # Errors
     ///
@@ -320,7 +319,8 @@ impl<L: Ledger, S: Side> Caller<L, S> {
     /// # Cost
     ///
     /// That of `try_word` for an operation, and amortized constant time; takes memory only if there
-    /// is no room for one more right, for the level of a save, or in `seen`.
+    /// is no room for one more right, for the level of a save, or, if the last `reserve` wrote its
+    /// room, in `seen`.
     pub fn make_ready(&mut self, call: Call) -> Result<(), Refusal>
         ensures free { OnOk result (refused_by self.old call ≡ None) }
         ensures same { OnOk result (IsSameSeen self.old self.new) }

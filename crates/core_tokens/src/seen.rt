@@ -134,19 +134,21 @@ impl<L: Ledger> Seen<L> {
         make_room(&mut self.entries, entries, is_written)
     }
 
-    /// Makes room for all entries that a call may add, and for its savepoint if it is a save, so
-    /// that its holds find room. If `reserve_entries` last wrote its room, this room is written too,
-    /// so that no hold is the first to touch a page of it. If memory is refused, the holds have to
-    /// make the room.
+    /// If `reserve_entries` last wrote its room: makes and writes room for all entries that a call
+    /// may add, and for its savepoint if it is a save, so that no hold is the first to touch a page
+    /// of it. Otherwise, or if memory is refused, the holds make the room.
     pub(crate) fn make_call_room(&mut self, call: Call)
         requires { is_some (seat_after self.old.entries) ≡ true }
         ensures { self.new.entries ≡ self.old.entries }
     {
+        if !self.is_written {
+            return;
+        }
         // There is room for all that is owed.
         let _seen = self.entries();
         let wanted = self.seat.owed() as usize + CALL;
         if self.entries.capacity() - self.entries.len() < wanted {
-            let _room = make_room(&mut self.entries, wanted, self.is_written);
+            let _room = make_room(&mut self.entries, wanted, true);
         }
         if let Call::Save = call {
             let _room = self.seat.make_room(1, true);
