@@ -1,11 +1,10 @@
 -- A core and a caller stay in step over a step of the caller's drive.
-use Rattle.std.proofs.Common.{[], ℕ, ◌++◌, ◌+◌, ◌<◌, ◌==◌, ◌^◌, ◌∙◌, ◌∷◌, ◌≡◌, List, Option, Some, ap, arith, cond, inl, inr, length}
+use Rattle.std.proofs.Common.{[], ℕ, ◌++◌, ◌+◌, ◌<◌, ◌==◌, ◌^◌, ◌∙◌, ◌≡◌, List, Option, Some, ap, arith, inl, inr, length}
 use Rattle.std.proofs.Common.{length-append, refl, subst, sym}
 use Rattle.core_tokens.proofs.Vocabulary.{AllByRecursion, Answer, Drive, Entry, IsShaped, IsWhole, Sizes, State, Step, append-nil}
 use Rattle.core_tokens.proofs.Vocabulary.{caller_of, entries_of, has_seat, own, seat_after, seat_in, step_in, step_of, told_in}
-use Rattle.std.proofs.lemmas.Bool.{eq-eqb}
 use Rattle.std.proofs.lemmas.List.Elements.{filter-append}
-use Rattle.txn_drive.proofs.DriveLaws.{entries_callers}
+use Rattle.txn_drive.proofs.DriveLaws.{entries_callers, own_all}
 use Rattle.boost_core.proofs.Refused.{le_false}
 use Rattle.core_tokens.proofs.Claiming.{goes_cases, goes_over, suits_stale}
 use Rattle.core_tokens.proofs.Phases.{entries_if, fits_told, seat_on, seat_on_more, seat_told, some_is, undone_told}
@@ -13,10 +12,6 @@ use Rattle.core_tokens.proofs.Suiting.{MoveIf, suits_fits, suits_told}
 use Rattle.core_tokens.specs.Claims.{Trial, claim_in}
 use Rattle.core_tokens.specs.Holds.{TakesOneStep}
 use Rattle.core_tokens.specs.Suits.{IsInStep, IsSized, Suits}
-
-own_all : (w : ℕ) (es : List Entry) → AllByRecursion (λ e. caller_of e ≡ w) es → own w es ≡ es
-own_all w [] all = refl
-own_all w (e ∷ es) all = ap (λ b. cond b (e ∷ own w es) (own w es)) (eq-eqb (caller_of e) w all.0) ∙ ap (λ xs. e ∷ xs) (own_all w es all.1)
 
 own-mine : (w : ℕ) (h es : List Entry) → AllByRecursion (λ e. caller_of e ≡ w) es → own w (h ++ es) ≡ own w h ++ es
 own-mine w h es all = filter-append (λ e. caller_of e == w) h es ∙ ap (λ xs. own w h ++ xs) (own_all w es all)

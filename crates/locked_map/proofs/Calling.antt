@@ -78,12 +78,13 @@ module _ {S : Type 0} (words : S → List ℕ) (k r h l : Token S) (call : Call)
 pub passed_of : {S : Type 0} (words : S → List ℕ) (k l : Token S) (call : Call) (outcome : End) → IsDone outcome → Ran words k call outcome l → Passed k call l
 passed_of words k l call outcome done ran = record { free = ran.free; whose = ran.whose; sound = ran.sound; outcome = outcome; done = done; went = ran.went }
 
+-- A token that lets a call pass is not broken.
+pub sound_if_free : (half b : Bool) (seat : Option Seat) (call : Call) → refused_at half b seat call ≡ None → b ≡ false
+sound_if_free half true seat call free = absurd (cc free)
+sound_if_free half false seat call free = refl
+
 -- A call for which its token was not made ready.
 module _ {S : Type 0} (k l : Token S) where
-  free_sound : (half b : Bool) (o : Option Seat) (call : Call) → refused_at half b o call ≡ None → b ≡ false
-  free_sound half true o call free = absurd (cc free)
-  free_sound half false o call free = refl
-
   found_none : (call : Call) (refusal : Refusal) → may_refuse call NoMemory ≡ true → k.broken ≡ false → refusal ≡ NoMemory → l ≡ k → Failed k call refusal l
   found_none call refusal may sound is same = rw (is, same) (record {
     may = may;
@@ -111,4 +112,4 @@ module _ {S : Type 0} (k l : Token S) where
   pub was_refused : (call : Call) (refusal : Refusal) → IsUnready k call refusal l → WasRefused k call refusal l
   was_refused call refusal (inl by_token) = inl by_token
   was_refused call refusal (inr later) =
-      inr (later.0, lacked call refusal (free_sound k.limits.half k.broken (seat_after k.seen) call later.0) later.1)
+      inr (later.0, lacked call refusal (sound_if_free k.limits.half k.broken (seat_after k.seen) call later.0) later.1)

@@ -7,6 +7,7 @@ use Rattle.thread_runs.proofs.Vocabulary.{Next, Over, phase_at, Progress, refuse
 use Rattle.script_worker.proofs.Vocabulary.{Action, Answer, append_quiet, BadKey, Call, call_at, Closed, CommitNothing, End, Entry}
 use Rattle.script_worker.proofs.Vocabulary.{false≢true, first_heard, Heard, heard_then, is_bad_key, IsChunk, IsMade, Outcome, outcome_by}
 use Rattle.script_worker.proofs.Vocabulary.{OutOfStep, progress_of, Seat, seat_after}
+use Rattle.locked_map.proofs.Calling.{sound_if_free}
 use Rattle.thread_runs.proofs.{Adding.adds_of, Ending.MayLeave, Ending.Stands, Ending.stands_at, Ending.if_bad}
 
 -- The loop over the calls of a script; the entries `base` were seen before it.
@@ -28,11 +29,6 @@ run_call c tries script heard base seen seen' end (Over finish) adds is (chunk, 
     let grown : seen' ≡ base ++ (chunk ++ adds.added) = rw (adds.entries, seen_is, append_assoc) in
     let account = after_call c tries script heard chunk adds.added end (Over finish) adds.made in
     (chunk ++ adds.added, grown, λ whole. account (adds.quiet whole) so_far is)
-
--- A token that lets a call pass is not broken.
-sound_if_free : (half b : Bool) (seat : Option Seat) (call : Call) → refused_at half b seat call ≡ None → b ≡ false
-sound_if_free half false seat call free = refl
-sound_if_free half true seat call free = absurd (cc free)
 
 -- Help that did not fall out of step changes neither the entries that the token has seen nor
 -- whether the token is broken.
