@@ -13,7 +13,7 @@ use Rattle.accounts.specs.Transfers.{CannotMove, HasAdded, HasWorked, reading, w
 added_none : (a : Caller) → HasAdded a [] a
 added_none a = record { map_is = refl; number_is = refl; rest = []; goes = sym (append-nil (seen a)); own_is = refl }
 
--- A step adds its own entries.
+-- After one more step, the caller has also added the entries of this step.
 added_step : (a b c : Caller) (es fs : List Entry) → own (number a) fs ≡ fs → HasAdded a es b → IsStep b fs c → HasAdded a (es ++ fs) c
 added_step a b c es fs mine so_far step =
     let n : ℕ = number a in
@@ -43,7 +43,7 @@ added_did a b c es op reply so_far step =
     subst (λ (n : ℕ). HasAdded a (es ++ Asked n op ∷ Did n reply ∷ []) c) so_far.number_is
     (added_step a b c es (Asked (number b) op ∷ Did (number b) reply ∷ []) (own_did (number a) (number b) op reply so_far.number_is) so_far step)
 
--- Both accounts were read.
+-- If both accounts were read, the caller has added the entries of `reading`.
 added_reads : (a s t : Caller) (from to : ℕ) (had has : Option ℕ)
     → IsStep a (Asked (number a) (Get from) ∷ Did (number a) had ∷ []) s → IsStep s (Asked (number s) (Get to) ∷ Did (number s) has ∷ []) t
     → HasAdded a (reading (number a) from to had has) t

@@ -1,5 +1,5 @@
--- The meaning of a transfer's commit. Let a legal history end with the commit. Then the transaction
--- has the same replies as if it ran alone on the map that the earlier commits leave.
+-- What a transfer's commit means. If a legal history ends with the commit, the transaction has the
+-- same replies as if it ran alone on the map that the earlier commits leave.
 use Rattle.std.proofs.Common.{◌≡◌, ◌≢◌, ℕ, zero, suc, ◌+◌, Bool, true, false, cond, List, [], ◌∷◌, ◌++◌, Some, Option, is_some, IsSome, slice_get, refl, sym, ap, subst, ◌∙◌, append_assoc, append-nil}
 use Rattle.std.specs.List.{filter}
 use Rattle.std.proofs.lemmas.Bool.{eqb-true, eq-eqb}
@@ -29,8 +29,8 @@ use Rattle.striped_map.proofs.Within.{since_then, since_began}
 use Rattle.accounts.specs.Transfers.{HasTransferred, HasWorked, HasWritten, Makes}
 use Rattle.accounts.proofs.Works.{made}
 
--- The facts about a transfer's commit: its place, the transaction's replies, and the map that the
--- commit leaves.
+-- The facts about a transfer's commit: the commit's number, the transaction's replies, and the map
+-- that the commit leaves.
 pub record Ends (c txn place : ℕ) (inner before : List Entry) : Type 0 where
   pub counted : place ≡ how_many is_commit before + 1
   pub replied : IsSome (alone (serial before) (Began c txn ∷ inner ++ Committed c place ∷ []))
@@ -76,7 +76,7 @@ prefix [] ys i e is = absurd (cc is)
 prefix (x ∷ xs) ys zero e is = is
 prefix (x ∷ xs) ys (suc i) e is = prefix xs ys i e is
 
--- A run of the work of a transfer, with its commit, is a transfer.
+-- If the work of a transfer was run and committed, `HasTransferred` holds.
 pub transferred : (from to sum found : ℕ) (moved : Bool) (a b t u l : Caller) → from ≢ to → IsSince a b → IsRun b t u l found → HasWorked from to sum moved t u
     → HasTransferred from to sum moved a l
 transferred from to sum found moved a b t u l apart since run worked =

@@ -34,7 +34,7 @@ works_so caller_of did from to sum is a (Ok moved) b (h, k, done, first, last) =
     subst (λ (x : Caller). HasWorked from to sum moved x b) first (subst (λ (x : Caller). HasWorked from to sum moved (caller_of h) x) last (is h moved k done))
 works_so caller_of did from to sum is a (Err stop) b done = tt
 
--- If such a work was tried and given up, a transfer was tried and given up.
+-- If such a work was tried and given up, `GivesUp` holds.
 pub gives_up : {H : Type 0} (caller_of : H → Caller) (did : H → Result Bool Stop → H → Type 0) (from to sum tries : ℕ) (stop : Stop) (a b : Caller)
     → ((h : H) (moved : Bool) (k : H) → did h (Ok moved) k → HasWorked from to sum moved (caller_of h) (caller_of k))
     → ((busy : ℕ) × (busy ≤ tries) × ((holder : ℕ) → stop ≡ Busy holder → busy ≡ tries) × (l : Caller) × FailsBusy (on_callers caller_of did) busy a l × Fails (on_callers caller_of did) l b stop)

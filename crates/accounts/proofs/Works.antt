@@ -1,4 +1,4 @@
--- The map after a transfer's entries, run alone.
+-- The map after a transfer's entries are run alone.
 use Rattle.std.proofs.Common.{◌≡◌, ◌≢◌, ℕ, ◌+◌, ◌-◌, ◌≤◌, ◌==◌, Bool, true, false, cond, List, [], ◌∷◌, ◌++◌, Option, Some, None, IsSome, refl, sym, ap, subst, ◌∙◌, unwrap_or, arith}
 use Rattle.std.specs.Prelude.{nat_eq}
 use Rattle.std.specs.Option.{option_eq, option_and_then}
@@ -31,8 +31,8 @@ tested : (b : Bool) (run : AloneRun) (es : List Entry) → IsSome (going (cond b
 tested true run es some = (refl, refl)
 tested false run es some = absurd (nothing_goes es some)
 
--- A run goes on with an operation and then with the entries `es`. If the result is defined, `reply`
--- is the operation's reply on the map `run.last`.
+-- A run continues with an operation and then with the entries `es`. If the result is defined,
+-- `reply` is the operation's reply on the map `run.last`.
 replied : (run : AloneRun) (c : ℕ) (op : Op) (reply : Option ℕ) (es : List Entry)
     → IsSome (going (Some run) (Asked c op ∷ Did c reply ∷ es))
     → (reply ≡ reply_of run.last op) × (going (Some run) (Asked c op ∷ Did c reply ∷ es) ≡ going (Some (did run op)) es)
@@ -50,7 +50,7 @@ read m c txn from to had has es some =
     let (second, on) = replied (start m) c (Get to) has es (subst IsSome goes some) in
     (first, second, goes ∙ on)
 
--- The effect of a transfer's work, run alone and committed.
+-- What a transfer's work does to the map if it is run alone and committed.
 pub made : (m : Map) (c txn place from to sum : ℕ) (moved : Bool) (had has : Option ℕ) (es : List Entry) → from ≢ to → HasWritten c from to sum moved had has es
     → IsSome (alone m (Began c txn ∷ es ++ Committed c place ∷ [])) → Makes from to sum moved m (map_after m (Began c txn ∷ es ++ Committed c place ∷ []))
 made m c txn place from to sum false had has es apart (cannot, es_are) some =

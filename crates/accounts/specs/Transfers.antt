@@ -17,7 +17,8 @@ use Rattle.striped_map.specs.Attempts.{Fails, FailsBusy}
 use Rattle.striped_map.specs.Callers.{number, seen, stripes_in}
 use Rattle.bank.specs.Transfers.{balance, IsTransfer}
 
--- The sum cannot be moved: the one account has less, or the other would have 2^64 or more.
+-- The sum cannot be moved: the first account has less than the sum, or the second would have 2^64
+-- or more.
 abbrev pub CannotMove : ℕ → ℕ → ℕ → Type 0
 CannotMove sum had has = (had < sum) ⊎ (2 ^ 64 ≤ has + sum)
 
@@ -26,9 +27,9 @@ abbrev pub Makes : ℕ → ℕ → ℕ → Bool → Map → Map → Type 0
 Makes from to sum true old new = IsTransfer from to sum old new
 Makes from to sum false old new = (new ≡ old) × CannotMove sum (balance old from) (balance old to)
 
--- The caller has committed one transaction more. The history that it has now seen is legal, begins
--- with all entries that it had seen before, and ends with this commit. The earlier commits result
--- in a map, and this commit turns that map into the map after the transfer.
+-- The caller has committed one more transaction. The history that the caller has now seen is legal,
+-- begins with all entries that it had seen before, and ends with this commit. The earlier commits
+-- result in a map, and this commit turns that map into the map after the transfer.
 pub record HasTransferred (from to sum : ℕ) (moved : Bool) (a b : Caller) : Type 0 where
   pub map_is : b.map ≡ a.map
   pub number_is : number b ≡ number a
@@ -50,7 +51,7 @@ pub record HasAdded (a : Caller) (es : List Entry) (b : Caller) : Type 0 where
   pub goes : seen b ≡ seen a ++ rest
   pub own_is : own (number a) rest ≡ es
 
--- The entries of the two reads, and of the two writes.
+-- `reading` is the entries of the two reads, and `writing` is those of the two writes.
 abbrev pub reading : ℕ → ℕ → ℕ → Option ℕ → Option ℕ → List Entry
 reading c from to had has =
     Asked c (Get from) ∷ Did c had ∷ Asked c (Get to) ∷ Did c has ∷ []
@@ -59,7 +60,7 @@ abbrev pub writing : ℕ → ℕ → ℕ → ℕ → ℕ → Option ℕ → Opti
 writing c from to less more first second =
     Asked c (Put from less) ∷ Did c first ∷ Asked c (Put to more) ∷ Did c second ∷ []
 
--- Both accounts were read, and both written if the sum could be moved.
+-- Both accounts were read. If the sum could be moved, both were also written.
 abbrev pub HasWritten : ℕ → ℕ → ℕ → ℕ → Bool → Option ℕ → Option ℕ → List Entry → Type 0
 HasWritten c from to sum true had has es = (less : ℕ) × (less + sum ≡ unwrap_or had 0)
     × (first : Option ℕ) × (second : Option ℕ) × (es ≡ reading c from to had has
@@ -67,7 +68,7 @@ HasWritten c from to sum true had has es = (less : ℕ) × (less + sum ≡ unwra
 HasWritten c from to sum false had has es =
     CannotMove sum (unwrap_or had 0) (unwrap_or has 0) × (es ≡ reading c from to had has)
 
--- The work of a transfer: the entries that it has added.
+-- The work of a transfer was done, and added the entries `entries`.
 pub record HasWorked (from to sum : ℕ) (moved : Bool) (a b : Caller) : Type 0 where
   pub entries : List Entry
   pub added : HasAdded a entries b
@@ -75,7 +76,7 @@ pub record HasWorked (from to sum : ℕ) (moved : Bool) (a b : Caller) : Type 0 
   pub has : Option ℕ
   pub written : HasWritten (number a) from to sum moved had has entries
 
--- The work of a transfer with this result; if the transfer failed, nothing is stated.
+-- The work of a transfer returned this result. If the result is an error, nothing is stated.
 abbrev pub Works : ℕ → ℕ → ℕ → Caller → Result Bool Stop → Caller → Type 0
 Works from to sum a (Ok moved) b = HasWorked from to sum moved a b
 Works from to sum a (Err stop) b = Unit {0}

@@ -1,8 +1,8 @@
 //! Accounts in a striped map: a key is an account, and its value is the account's balance.
 //!
-//! An example of a caller of `striped_map`. Proved: a transfer is one transaction of its caller,
-//! whatever other callers do in their threads meanwhile. The earlier commits result in a map. The
-//! transfer moves the sum in that map, or changes nothing.
+//! An example of how `striped_map` is used. Proved: a transfer is one transaction of its caller,
+//! whatever other callers do in their threads meanwhile. In the map that results from the earlier
+//! commits, the transfer moves the sum or changes nothing.
 #![tactic(auto)]
 
 ghost use Rattle.std.specs.Prelude.{◌≡◌, ◌≢◌, false, IfErr, IfOk, OnErr};
@@ -12,22 +12,22 @@ ghost use Rattle.accounts.specs.Transfers.{GivesUp, HasTransferred, HasWorked};
 
 use striped_map::{Caller, Stop, Transaction};
 
-/// Moves a sum from one account to another, in a separate transaction, and answers whether the sum
-/// was moved. It is not moved if the first account has too little, or if the second would have 2^64
-/// or more. An account without a key has 0.
+/// Moves a sum from one account to another, in a separate transaction, and returns whether the sum
+/// was moved. The sum is not moved if the first account has less than the sum, or if the second
+/// would have 2^64 or more. An account without a key has 0.
 ///
 /// If a stripe is busy, the transaction aborts and the transfer is tried again, at most `tries`
 /// more times.
 ///
 /// # Errors
 ///
-/// Those of `Caller::transact`; nothing is committed. `Busy` is answered only after all tries were
-/// busy.
+/// The errors of `Caller::transact`. Nothing is committed. `Busy` is returned only if all tries
+/// were busy.
 ///
 /// # Cost
 ///
-/// For each try a begin, at most two `get`s and two `put`s, and a commit, or an abort if the try
-/// fails.
+/// For each try: a begin, at most two `get`s and two `put`s, and a commit. A try that fails has an
+/// abort instead of the commit.
 pub fn transfer(caller: &mut Caller, tries: u64, from: u64, to: u64, sum: u64) -> Result<bool, Stop>
     requires { from ≢ to }
     ensures closed { caller.old.is_open ≡ false → caller.new.is_open ≡ false }

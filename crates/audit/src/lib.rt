@@ -1,7 +1,7 @@
 //! An auditor of recorded histories.
 //!
-//! An example of a caller of `history_check`. Proved: the answer is whether a history is legal, or
-//! that the history names a caller that the checker does not know.
+//! An example of a program that calls `history_check`. Proved: the result says whether the history
+//! is legal, or that the history names a caller that the checker does not know.
 #![tactic(auto)]
 
 ghost use Rattle.std.specs.Prelude.{◌<◌, ◌↔◌, IsTrue, IsSome, IfOk, IfSome};
@@ -14,8 +14,9 @@ use history_check::{Verdict, check};
 use std::alloc::{AllocError, Global};
 use txn_trace::{Entry, Holder};
 
-/// Whether the history of a map with this number of stripes is legal; `None` if a caller's
-/// number is 64 or more, since the checker knows no such caller.
+/// Returns `Some(true)` if the history of a map with this number of stripes is legal, and
+/// `Some(false)` if it is not. Returns `None` if a caller's number is 64 or more, since the checker
+/// knows no such caller.
 ///
 /// # Errors
 ///
@@ -23,7 +24,7 @@ use txn_trace::{Entry, Holder};
 ///
 /// # Cost
 ///
-/// That of `history_check::check`, and a look at each entry.
+/// The cost of `history_check::check`, and a look at each entry.
 pub fn is_legal(alloc: Global, entries: &[Entry], stripes: u64) -> Result<Option<bool>, AllocError>
     requires { 0 < stripes }
     ensures legal { IfOk result (λ answer.

@@ -1,4 +1,4 @@
--- The desks of all callers, before the first entry and after one more.
+-- The desks of all callers, before the first entry and after one more entry.
 use Rattle.std.proofs.Common.{get_or, ◌≡◌, ◌≢◌, ℕ, ◌<◌, zero, suc, List, [], ◌∷◌, ◌++◌, None, Option, refl, ap, sym, subst, ◌∙◌, arith, vec_len}
 use Rattle.std.specs.Prelude.{slice_get}
 use Rattle.std.specs.Option.{IfSome}
@@ -21,7 +21,7 @@ use Rattle.bad_entry.specs.declared.desks.Desk.{Desk}
 use Rattle.bad_entry.specs.declared.desks.Desks.{Desks}
 use Rattle.bad_entry.specs.Desks.{HaveNoted, IsDeskOf}
 
--- The desk of a caller that has done nothing.
+-- The desk is that of a caller that has done nothing.
 abbrev pub IsFresh : Desk → Type 0
 IsFresh desk = (desk.waiting ≡ None) × (desk.txn ≡ None)
 
@@ -33,7 +33,7 @@ fresh_at (x ∷ xs) all c (suc k) = fresh_at xs (All-tail IsFresh x xs all) c k
 pub noted-none : (desks : Desks) → All IsFresh desks.table.items → HaveNoted [] desks
 noted-none desks fresh = record { each = λ c. fresh_at desks.table.items fresh c c }
 
--- The desk at an index of the table.
+-- The desk at an index of the table is that of the caller whose number is the index.
 pub noted_at : (h : List Entry) (desks : Desks) (c : ℕ) (desk : Desk) → HaveNoted h desks → c < 64 → desk ≡ get_or desks.table.items c desk → IsDeskOf h c desk
 noted_at h desks c desk noted below is =
     at_some (IsDeskOf h c) (slice_get desks.table.items c) desk
@@ -44,7 +44,7 @@ txn-other : (before : ℕ → Option ℕ) (e : Entry) (c : ℕ) → c ≢ caller
 txn-other before (Began d t) c other = rw (ne_eqb d c (λ is. other (sym is))) refl
 txn-other before _ c other = refl
 
--- The desks after one more entry, which updates its caller's desk.
+-- If one more entry updates the desk of its caller, `HaveNoted` holds after the entry.
 pub noted-push : (h : List Entry) (e : Entry) (old new : Desks) (before after : Desk) → HaveNoted h old → IsDeskOf h (caller_of e) before
     → ((log : Log) → log.pending ≡ before.waiting → (log_step log e).pending ≡ after.waiting)
     → ((txns : ℕ → Option ℕ) → txns (caller_of e) ≡ before.txn → txn_after txns e (caller_of e) ≡ after.txn)

@@ -1,4 +1,4 @@
--- One more entry of a history that a loop goes over.
+-- Loops over a history, and what each next entry adds to their results.
 use Rattle.std.proofs.Common.{◌≡◌, ℕ, ◌+◌, ◌<◌, ◌≤◌, List, [], ◌∷◌, ◌++◌, length, take, drop, get_or, Option, ap, sym, ◌∙◌, arith}
 use Rattle.std.specs.Option.{option_or}
 use Rattle.std.proofs.lemmas.List.{drop_all, drop_more, length-take-le, take_more}
@@ -17,8 +17,8 @@ next_drop i h e d below same at = drop_more h i d below ∙ ap (λ x. x ∷ drop
 pub last_at_end : {X : Type 0} (test : List Entry → Entry → Option X) (i : ℕ) (h : List Entry) (last found : Option X) → length h ≤ i → last_from test (take i h) (drop i h) last ≡ found → last ≡ found
 last_at_end test i h last found none is = ap (λ r. last_from test (take i h) r last) (sym (drop_all i h none)) ∙ is
 
--- The index and the caller of the entry e after g, if e is a commit that changes the key's value.
--- `last_commit` is the last answer of `commit_at` over a history.
+-- The index and the caller of the entry `e` after `g`, if `e` is a commit that changes the key's
+-- value. `last_commit` is the last result of `commit_at` over a history.
 abbrev pub commit_at : ℕ → List Entry → Entry → Option (ℕ × ℕ)
 commit_at k g e = settling_commit (length g) e (get (serial g) k) (get (serial (g ++ e ∷ [])) k)
 

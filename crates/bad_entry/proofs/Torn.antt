@@ -7,7 +7,7 @@ use Rattle.std.proofs.lemmas.List.{take_all}
 use Rattle.txn_words.specs.declared.entry.Entry.{Entry}
 use Rattle.bad_entry.specs.Commits.{IsTornIn, IsTornSince, IsWholeIn}
 
--- As `IsTornSince`, for the first n entries.
+-- Like `IsTornSince`, but for the first `n` entries.
 abbrev pub IsTornBefore : List Entry → ℕ → ℕ → Option ℕ → Type 0
 IsTornBefore h c n None = IsWholeIn (take n h) c
 IsTornBefore h c n (Some i) = (i < n) × IsWholeIn (take i h) c × ((m : ℕ) → i < m → m ≤ n → IsTornIn (take m h) c)
@@ -15,8 +15,8 @@ IsTornBefore h c n (Some i) = (i < n) × IsWholeIn (take i h) c × ((m : ℕ) �
 pub none_yet : (h : List Entry) (c : ℕ) → IsTornBefore h c 0 None
 none_yet h c t in_t going = absurd (grind (arith, in_t))
 
--- Let the replies contradict one another after n + 1 entries, and after m entries if m ≤ n. Then
--- they contradict one another after m entries if m ≤ n + 1.
+-- Suppose that the replies contradict one another after `n + 1` entries, and after `m` entries if
+-- `m ≤ n`. Then they also do so after `m` entries if `m ≤ n + 1`.
 one_more : (h : List Entry) (c n m : ℕ) → IsTornIn (take (n + 1) h) c → (m ≤ n → IsTornIn (take m h) c) → m ≤ n + 1 → IsTornIn (take m h) c
 one_more h c n m last before up =
     ⊎_elim (λ same. subst (λ (k : ℕ). IsTornIn (take k h) c) (sym same) last) (λ (less : m < n + 1). before (omega arith)) (eq-or-lt_of_le up)

@@ -31,8 +31,8 @@ IsTornIn h c = (t : ℕ) → txn_in h c ≡ Some t → is_open t h ≡ true → 
 abbrev pub IsWholeIn : List Entry → ℕ → Type 0
 IsWholeIn h c = (t : ℕ) → txn_in h c ≡ Some t → is_open t h ≡ true → RunsSomewhere h t
 
--- Some i: the replies of the caller's transaction contradict one another from entry i on to the
--- end, and did not before entry i. None: they do not contradict one another at the end.
+-- `Some i`: the replies of the caller's transaction contradict one another from entry `i` on to the
+-- end, but did not before entry `i`. `None`: the replies do not contradict one another at the end.
 abbrev pub IsTornSince : List Entry → ℕ → Option ℕ → Type 0
 IsTornSince h c None = IsWholeIn h c
 IsTornSince h c (Some i) =

@@ -10,8 +10,9 @@ use Rattle.bad_entry.specs.declared.held.Held.{Held}
 use Rattle.bad_entry.specs.Desks.{txn_in}
 use Rattle.bad_entry.specs.Places.{first_answer}
 
--- The holder of a stripe after one more entry, by the holder before it: an Asked for a key of the
--- stripe takes it, and a Committed or an Aborted gives it back if its caller holds it.
+-- The holder of a stripe after one more entry, given the holder before the entry. An Asked for a
+-- key of the stripe takes the stripe. A Committed or an Aborted gives it back if the entry's caller
+-- holds it.
 abbrev pub next_holder : ℕ → ℕ → Option ℕ → Entry → Option ℕ
 next_holder stripes s held (Asked c op) =
     if stripe_of stripes (key_of op) == s then Some c else held
@@ -20,18 +21,20 @@ next_holder stripes s held (Committed c p) =
 next_holder stripes s held (Aborted c) = if option_eq nat_eq held (Some c) then None else held
 next_holder stripes s held e = held
 
--- The index of an entry, if it asks for a key of the stripe in the transaction `wanted`.
+-- The index of the entry, if the entry asks for a key of the stripe and belongs to the transaction
+-- `wanted`.
 abbrev pub asked_at : Option ℕ → Option ℕ → ℕ → ℕ → ℕ → Entry → Option ℕ
 asked_at txn wanted stripes s i e =
     if asks_in stripes s e && option_eq nat_eq txn wanted then Some i else None
 
--- The first entry by which a transaction asked for a key of the stripe: the transaction holds the
--- stripe since then.
+-- The index of the first entry with which a transaction asked for a key of the stripe. The
+-- transaction has held the stripe since this entry.
 abbrev pub held_since : Option ℕ → ℕ → ℕ → List Entry → Option ℕ
 held_since txn stripes s h =
     first_answer (λ g e. asked_at (txn_in g (caller_of e)) txn stripes s (length g) e) h
 
--- The stripe is free, or this caller holds it, in this transaction, since this entry.
+-- `None`: the stripe is free. `Some held`: this caller holds the stripe, in this transaction, since
+-- this entry.
 abbrev pub IsHeldSince : ℕ → ℕ → List Entry → Option Held → Type 0
 IsHeldSince stripes s h None = holder_of stripes s h ≡ None
 IsHeldSince stripes s h (Some held) =

@@ -21,28 +21,29 @@ use Rattle.bad_entry.specs.Commits.{IsTornSince, last_commit}
 use Rattle.bad_entry.specs.Desks.{txn_in, waiting_in}
 use Rattle.bad_entry.specs.Holding.{IsHeldSince}
 
--- The caller waits for `op`, `due` is the reply to `op` by the map now, and `last` is the last
--- change of its key. Or the caller waits for no operation, and the reason is `Nothing`.
+-- Either the caller waits for `op`, `due` is the reply that the present map gives to `op`, and
+-- `last` is the last change of the key of `op`. Or the caller waits for no operation, and the
+-- reason is `Nothing`.
 abbrev pub IsReplyReason : List Entry → ℕ → Reason → Type 0
 IsReplyReason h c (reasons.Reply op due last) =
     (waiting_in h c ≡ Some op) × (due ≡ reply_of (now h) op) × IsLast (key_of op) h last
 IsReplyReason h c reasons.Nothing = waiting_in h c ≡ None
 IsReplyReason h c _ = ⊥
 
--- The reason names the stripe of the operation's key, and its holder.
+-- The reason names the stripe of the operation's key, and the holder of this stripe.
 abbrev pub IsLockReason : ℕ → Op → List Entry → Reason → Type 0
 IsLockReason stripes op h (reasons.Lock stripe holder) =
     (stripe ≡ stripe_of stripes (key_of op)) × IsHeldSince stripes stripe h holder
 IsLockReason stripes op h _ = ⊥
 
--- The caller is in this phase, this is its newest change that stands, and `committed` is the number
--- of commits.
+-- The caller is in the phase `phase`, `newest` is its newest change that is not taken back, and
+-- `committed` is the number of commits.
 abbrev pub IsShapeReason : List Entry → ℕ → Reason → Type 0
 IsShapeReason h c (reasons.Shape phase newest began committed) =
     IsIn h c phase × (newest ≡ slice_get (log_of c h) 0) × (committed ≡ how_many is_commit h)
 IsShapeReason h c _ = ⊥
 
--- By locks: the reason for an entry that breaks the rule.
+-- This is the reason why the entry breaks the rule, if the history is judged by locks.
 abbrev pub IsReasonByLocks : Rule → ℕ → List Entry → Entry → Reason → Type 0
 IsReasonByLocks rules.Replies stripes h (entries.Did c r) reason = IsReplyReason h c reason
 IsReasonByLocks rules.Replies stripes h e reason = Unit {0}
@@ -52,10 +53,10 @@ IsReasonByLocks rules.Locks stripes h (entries.Busy c op x) reason =
 IsReasonByLocks rules.Locks stripes h e reason = Unit {0}
 IsReasonByLocks rules.Shape stripes h e reason = IsShapeReason h (caller_of e) reason
 
--- Misread: the caller's open transaction read a value that the committed map does not have, and
--- `commit` is the last commit that changed the key. Torn: no map gives the transaction all of its
--- replies, or the committed map gives it all of them. In the second case its commit would be right.
--- In both cases `since` is as `IsTornSince` says.
+-- `Misread`: the caller's open transaction read a value that the committed map does not have, and
+-- `commit` is the last commit that changed the key. `Torn`: either no map gives the transaction all
+-- of its replies, or the committed map does, so that the transaction's commit would be right. In
+-- both cases `since` is as `IsTornSince` says.
 abbrev pub IsCommitReason : List Entry → ℕ → Reason → Type 0
 IsCommitReason h c (reasons.Misread key read due commit) =
     ((t : ℕ) → txn_in h c ≡ Some t → is_open t h ≡ true
@@ -65,7 +66,8 @@ IsCommitReason h c (reasons.Torn since) =
     ((t : ℕ) → txn_in h c ≡ Some t → is_open t h ≡ true → FitsOrTorn h t) × IsTornSince h c since
 IsCommitReason h c _ = ⊥
 
--- By the order of commits: the reason for an entry that breaks the rule.
+-- This is the reason why the entry breaks the rule, if the history is judged by the order of
+-- commits.
 abbrev pub IsReasonByCommits : Rule → List Entry → Entry → Reason → Type 0
 IsReasonByCommits rules.Replies h (entries.Committed c p) reason = IsCommitReason h c reason
 IsReasonByCommits rules.Replies h e reason = Unit {0}

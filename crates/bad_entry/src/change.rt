@@ -1,6 +1,6 @@
-//! The last change of a key, and its fate: open, committed or taken back. The answers need no
-//! checker, so they hold for any entries, legal or not. Each answer takes one pass over the
-//! entries; the pass for the fate begins after the change and takes no memory.
+//! Finds the last change of a key, and the fate of this change: open, committed or taken back. No
+//! checker is needed, so the results are right for any entries, legal or not. Each function takes
+//! one pass over the entries. The pass for the fate begins after the change and takes no memory.
 ghost use Rattle.std.specs.Prelude.{◌≡◌, ◌+◌, ◌<◌, ◌≤◌, ◌^◌, List, Option, None, IfOk};
 ghost use Rattle.std.specs.List.{All};
 ghost use Rattle.txn_words.specs.Kinds.{caller_of};
@@ -16,22 +16,22 @@ use txn_trace::{Entry, Op, Reply, SmallEntry};
 /// A change of a key.
 #[derive(Clone, Copy, Debug, PartialEq, Eq)]
 pub struct Change {
-    /// The index of its Did, from 0.
+    /// The index (from 0) of the Did that made the change.
     pub did: u64,
-    /// The caller that made it.
+    /// The caller that made the change.
     pub caller: u64,
-    /// The transaction that it belongs to.
+    /// The transaction that the change belongs to, if its caller had begun one.
     pub txn: Option<u64>,
 }
 
 /// The fate of a change at the end of a history.
 #[derive(Clone, Copy, Debug, PartialEq, Eq)]
 pub enum Fate {
-    /// It stands, and its transaction is open.
+    /// The change is not taken back, and its transaction is open.
     Open,
-    /// It stood when its transaction committed.
+    /// The change's transaction committed, and the change was not taken back before that.
     Committed,
-    /// It was taken back.
+    /// The change was taken back.
     Undone,
 }
 
@@ -54,8 +54,8 @@ fn change_at(desks: &Desks, key: u64, index: u64, entry: Entry) -> Option<Change
     }
 }
 
-/// The last change of a key in a history, even if it was taken back. The callers of the history
-/// must be below 64.
+/// Returns the last change of a key in a history, even if it was taken back. The callers of the
+/// history must be below 64.
 ///
 /// # Errors
 ///
@@ -63,7 +63,7 @@ fn change_at(desks: &Desks, key: u64, index: u64, entry: Entry) -> Option<Change
 ///
 /// # Cost
 ///
-/// Constant time an entry; memory for 64 callers.
+/// Constant time for each entry, and memory for 64 callers.
 pub fn last_change(
     alloc: Global,
     entries: &[SmallEntry],
@@ -82,7 +82,7 @@ pub fn last_change(
     Ok(last)
 }
 
-/// Whether an operation waits and, with this reply, is a change.
+/// Returns true if an operation waits and, given this reply, it is a change.
 fn is_change(waiting: Option<Op>, reply: Reply) -> bool
     ensures { result ≡ is_change waiting reply }
 {
@@ -92,8 +92,8 @@ fn is_change(waiting: Option<Op>, reply: Reply) -> bool
     }
 }
 
-/// The fate that an entry gives a change of this caller, if it gives one. `above` is the number of
-/// the caller's newer changes that stand.
+/// Returns the fate that an entry gives to a change of this caller, if it gives one. `above` is the
+/// number of the caller's newer changes that are not taken back.
 fn decided(caller: u64, above: u64, entry: Entry) -> Option<Fate>
     ensures { result ≡ decided caller above entry }
 {
@@ -122,8 +122,8 @@ fn waiting_after(caller: u64, waiting: Option<Op>, entry: Entry) -> Option<Op>
     }
 }
 
-/// The number of this caller's newer changes that stand, after one more entry; `above` is their
-/// number before the entry.
+/// Returns the number of this caller's newer changes that are not taken back after one more entry.
+/// `above` is their number before the entry.
 fn above_after(caller: u64, waiting: Option<Op>, above: u64, entry: Entry) -> u64
     requires { above < 2 ^ 63 }
     ensures above { result ≡ above_after caller waiting above entry }
@@ -139,7 +139,7 @@ fn above_after(caller: u64, waiting: Option<Op>, above: u64, entry: Entry) -> u6
     }
 }
 
-/// The fate of a change, by the entries after its Did.
+/// Returns the fate of a change of this caller, given the entries after the change's Did.
 fn fate_in(after: &[SmallEntry], caller: u64) -> Fate
     ensures { result ≡ fate_from caller None 0 after.now }
 {
@@ -171,8 +171,8 @@ pub fn fate_of(entries: &[SmallEntry], change: Change) -> Fate
     fate_in(&entries[did + 1..], change.caller)
 }
 
-/// The last change of a key in a history, with its fate. The callers of the history must be below
-/// 64.
+/// Returns the last change of a key in a history, with the fate of this change. The callers of the
+/// history must be below 64.
 ///
 /// # Errors
 ///
@@ -180,7 +180,7 @@ pub fn fate_of(entries: &[SmallEntry], change: Change) -> Fate
 ///
 /// # Cost
 ///
-/// That of `last_change` and of `fate_of`.
+/// The cost of `last_change` plus the cost of `fate_of`.
 pub fn last_with_fate(
     alloc: Global,
     entries: &[SmallEntry],

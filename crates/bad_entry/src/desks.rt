@@ -1,6 +1,6 @@
-//! The state of each caller of a history: the operation that it waits for, and its transaction.
-//! `change`, `held` and `reason` keep it while they go through the entries, legal or not. An entry
-//! takes constant time.
+//! The state of each caller of a history: the operation that the caller waits for, and its
+//! transaction. `change`, `held` and `reason` update this state while they go through the entries,
+//! legal or not. An entry takes constant time.
 ghost use Rattle.std.specs.Prelude.{◌≡◌, ℕ, ◌<◌, ◌++◌, [], ◌∷◌, List, Option, None, IfOk, vec_len};
 ghost use Rattle.txn_trace.specs.History.{txn_after};
 ghost use Rattle.txn_words.specs.Kinds.{caller_of};
@@ -23,7 +23,7 @@ pub(crate) struct Desk {
 }
 
 impl Desk {
-    /// Updates the state by an entry of its caller.
+    /// Updates the state of a caller by an entry of this caller.
     pub(crate) fn enter(&mut self, entry: Entry)
         ensures waiting { (log : Log) → log.pending ≡ self.old.waiting →
             (log_step log entry).pending ≡ self.new.waiting }
@@ -53,7 +53,7 @@ impl Desks {
     ghost use Rattle.txn_words.specs.declared.op.Op.{Op};
     ghost use Rattle.bad_entry.specs.Desks.{HaveNoted, txn_in, waiting_in};
 
-    /// The desks before the first entry.
+    /// Returns the states of the callers before the first entry.
     pub(crate) fn new(alloc: Global) -> Result<Desks, AllocError>
         ensures { IfOk result (HaveNoted []) }
     {

@@ -1,7 +1,7 @@
-//! The questions that need a checker: the value of a key, the last commit that changed it, and the
-//! first reply of a transaction that contradicts earlier ones. Each call feeds all entries to a new
-//! checker, so it costs as much as a verdict, or more. Contracts promise an answer only if no entry
-//! is bad.
+//! Questions that need a checker: the value of a key, the last commit that changed this value, and
+//! the first reply of a transaction that contradicts earlier ones. Each call feeds all entries to a
+//! new checker, so it costs as much as a verdict, or more. The contracts say something about the
+//! results only if no entry is bad.
 ghost use Rattle.std.specs.Prelude.{◌≡◌, ℕ, ◌<◌, List, Some, None, if◌then◌else◌, IfOk};
 ghost use Rattle.std.specs.List.{All};
 ghost use Rattle.std.specs.Option.{option_or};
@@ -18,7 +18,7 @@ ghost use Rattle.bad_entry.specs.Commits.{IsTornSince, last_commit, settling_com
 use std::alloc::{AllocError, Global};
 use txn_trace::{Entry, Holder, Reply, SmallEntry};
 
-/// A checker by locks that was fed these entries.
+/// Returns a checker that judges by locks and was fed these entries.
 pub(crate) fn fed_by_locks(
     alloc: Global,
     entries: &[SmallEntry],
@@ -36,7 +36,7 @@ pub(crate) fn fed_by_locks(
     Ok(checker)
 }
 
-/// A checker by the order of commits that was fed these entries.
+/// Returns a checker that judges by the order of commits and was fed these entries.
 pub(crate) fn fed_by_commits(
     alloc: Global,
     entries: &[SmallEntry],
@@ -51,8 +51,8 @@ pub(crate) fn fed_by_commits(
     Ok(checker)
 }
 
-/// The value of a key after a legal history, including the changes of open transactions. It is the
-/// reply that is due to an operation on the key.
+/// Returns the value of a key after a legal history, including the changes of open transactions.
+/// This is the reply that the next operation on the key must get.
 ///
 /// # Errors
 ///
@@ -60,7 +60,7 @@ pub(crate) fn fed_by_commits(
 ///
 /// # Cost
 ///
-/// That of making `history_check`'s checker and of feeding it each entry.
+/// The cost of making `history_check`'s checker and of feeding it each entry.
 pub fn value_now(
     alloc: Global,
     entries: &[SmallEntry],
@@ -77,8 +77,8 @@ pub fn value_now(
     Ok(checker.value(key))
 }
 
-/// The last commit of a serializable history that changed a key's value in the map of the committed
-/// transactions: the index of its Committed, and its caller.
+/// Finds the last commit, in a serializable history, that changed a key's value in the map of the
+/// committed transactions. Returns the index of its Committed, and its caller.
 ///
 /// # Errors
 ///
@@ -86,7 +86,7 @@ pub fn value_now(
 ///
 /// # Cost
 ///
-/// For each entry, that of `serial_check`'s checker and two looks at the key.
+/// For each entry, the cost of `serial_check`'s checker and of two look-ups of the key.
 pub fn last_commit(
     alloc: Global,
     entries: &[SmallEntry],
@@ -107,9 +107,9 @@ pub fn last_commit(
     Ok(last)
 }
 
-/// The index of the first reply of a caller's open transaction that contradicts those before it:
-/// since that entry no map gives the transaction all of its replies. Answers `None` if some map
-/// gives it all of them.
+/// Returns the index of the first reply of a caller's open transaction that contradicts the replies
+/// before it. From that entry on, no map gives the transaction all of its replies. Returns `None`
+/// if some map gives it all of them.
 ///
 /// # Errors
 ///
@@ -117,7 +117,7 @@ pub fn last_commit(
 ///
 /// # Cost
 ///
-/// That of `serial_check`'s checker for each entry.
+/// For each entry, the cost of `serial_check`'s checker.
 pub fn torn_since(
     alloc: Global,
     entries: &[SmallEntry],
@@ -138,9 +138,9 @@ pub fn torn_since(
     Ok(since)
 }
 
-/// The index of the entry with which the replies begin to contradict one another, given the entries
-/// up to `index`. `since` is the answer for the entries before `index`. The answer is `None` if the
-/// replies up to `index` do not contradict one another (`is_torn` is false).
+/// Returns the index of the entry with which the replies begin to contradict one another, given the
+/// entries up to `index`. `since` is the result for the entries before `index`. Returns `None` if
+/// the replies up to `index` do not contradict one another (`is_torn` is false).
 fn since_after(is_torn: bool, index: u64, since: Option<u64>) -> Option<u64>
     ensures { result ≡ (if is_torn then option_or since (Some index) else None) }
 {

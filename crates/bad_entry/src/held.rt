@@ -1,6 +1,7 @@
-//! The holder of a stripe, its transaction, and the entry since which it holds the stripe. A
-//! checker does not keep that entry, so this module searches the history for it, in constant time
-//! an entry. `held_by` promises its answer for legal histories only.
+//! Finds the caller that holds a stripe, this caller's transaction, and the entry since which the
+//! caller holds the stripe. A checker does not keep that entry, so this module searches the history
+//! for it, in constant time for each entry. The contract of `held_by` is about legal histories
+//! only.
 ghost use Rattle.std.specs.Prelude.{◌≡◌, ℕ, ◌<◌, List, Option, None, IfOk};
 ghost use Rattle.std.specs.List.{All, fold};
 ghost use Rattle.txn_trace.specs.History.{txn_after};
@@ -14,14 +15,14 @@ use crate::desks::Desks;
 use std::alloc::{AllocError, Global};
 use txn_trace::{Entry, SmallEntry};
 
-/// Who holds a stripe.
+/// The caller that holds a stripe, and since when.
 #[derive(Clone, Copy, Debug, PartialEq, Eq)]
 pub struct Held {
-    /// The caller that holds it.
+    /// The caller that holds the stripe.
     pub caller: u64,
     /// The transaction that the caller is in.
     pub txn: Option<u64>,
-    /// The index of the Asked by which that transaction took it.
+    /// The index of the Asked by which that transaction took the stripe.
     pub since: Option<u64>,
 }
 
@@ -50,7 +51,7 @@ fn holder_in(entries: &[SmallEntry], stripes: u64, stripe: u64) -> Option<u64>
     held
 }
 
-/// The index of an entry of the transaction `txn`, if the entry asks for a key of the stripe and
+/// Returns the index of an entry, if the entry asks for a key of the stripe and its transaction
 /// `txn` is the transaction `wanted`.
 fn asked_in(
     txn: Option<u64>,
@@ -80,11 +81,11 @@ fn next_txn(txn: Option<u64>, caller: u64, entry: Entry) -> Option<u64>
     }
 }
 
-/// The transaction that a caller began last in a history.
+/// Returns the transaction that a caller began last in a history.
 ///
 /// # Cost
 ///
-/// Constant time an entry; takes no memory.
+/// Constant time for each entry. Takes no memory.
 pub fn txn_of(entries: &[SmallEntry], caller: u64) -> Option<u64>
     ensures { result ≡ txn_in entries.now caller }
 {
@@ -95,7 +96,7 @@ pub fn txn_of(entries: &[SmallEntry], caller: u64) -> Option<u64>
     txn
 }
 
-/// The index of the first Asked of a transaction for a key of a stripe.
+/// Returns the index of the first entry with which a transaction asked for a key of a stripe.
 fn held_since(
     alloc: Global,
     entries: &[SmallEntry],
@@ -120,7 +121,8 @@ fn held_since(
     Ok(None)
 }
 
-/// Who holds a stripe after a legal history, and since which entry.
+/// Returns the holder of a stripe after a legal history, and the entry since which it holds the
+/// stripe.
 ///
 /// # Errors
 ///
@@ -128,7 +130,7 @@ fn held_since(
 ///
 /// # Cost
 ///
-/// Constant time an entry; memory for 64 callers.
+/// Constant time for each entry, and memory for 64 callers.
 pub fn held_by(
     alloc: Global,
     entries: &[SmallEntry],

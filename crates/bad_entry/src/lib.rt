@@ -1,18 +1,19 @@
-//! The events that lead to a bad entry of a recorded history: the reasons of a verdict of illegal.
+//! Finds the events that led to a bad entry of a recorded history. These are the reasons of an
+//! illegal verdict.
 //!
 //! `history_check` and `serial_check` say which entry of a history is the first that breaks a rule.
-//! This crate answers what a person asks next, by the definitions of a history: the reply that was
-//! due, who last changed the key and the fate of that change, who holds a lock and since which
-//! entry, or which entries are allowed there instead.
+//! This crate answers what a person asks next, by the definitions of a history: Which reply would
+//! have been right? Who last changed the key, and what is the fate of that change? Who holds a
+//! lock, and since which entry? Which entries are allowed in place of the bad one?
 //!
 //! Each question is answered by separate passes over the entries before the bad one. A pass takes
-//! constant time an entry, or, if it feeds a checker, the checker's time. Nothing is kept between
-//! two questions.
+//! constant time for each entry, or, if it feeds a checker, the checker's time. Nothing is kept
+//! between two questions.
 //!
-//! Proved, if no entry before the bad one is bad: each answer is the one of the definitions. The
-//! due reply is that of the map now or of the committed map, the holder of a lock is `holder_of`,
-//! and the last change of a key, its fate, and the entry since which a lock is held are those of
-//! `specs/`. Not proved is how many transactions began (`Reason::Shape`).
+//! Proved, if no entry before the bad one is bad: each answer is the one that the definitions give.
+//! The right reply is that of the present map or of the committed map. The holder of a lock is
+//! `holder_of`. The last change of a key, its fate, and the entry since which a lock is held are as
+//! defined in `specs/`. The number of transactions that began (`Reason::Shape`) is not proved.
 #![tactic(auto)]
 
 mod change;

@@ -1,6 +1,6 @@
-//! The reason of a verdict of illegal, chosen by the rule that the bad entry breaks. Only this
-//! module knows the rules; `change`, `due` and `held` answer single questions. Each question is a
-//! separate pass over the entries, so a reason costs a few passes.
+//! Finds the reason of an illegal verdict, by the rule that the bad entry breaks. Only this module
+//! knows the rules. The modules `change`, `due` and `held` answer single questions. Each question
+//! is a separate pass over the entries, so a reason costs a few passes.
 ghost use Rattle.std.specs.Prelude.{◌≡◌, ℕ, ◌<◌, ◌%◌, List, Option, IfOk};
 ghost use Rattle.std.specs.List.{All};
 ghost use Rattle.txn_words.specs.Kinds.{caller_of};
@@ -26,30 +26,30 @@ use txn_trace::{Entry, Holder, Op, Phase, Reply, SmallEntry};
 /// The reason why an entry is bad.
 #[derive(Clone, Copy, Debug, PartialEq, Eq)]
 pub enum Reason {
-    /// By locks: the reply is not that of the map as it is now.
+    /// When judged by locks: the reply is not the one that the present map gives.
     Reply {
         /// The operation that the caller waits for.
         op: Op,
-        /// The reply that was due.
+        /// The reply that would have been right.
         due: Reply,
-        /// The last change of the key, and its fate.
+        /// The last change of the key, and the fate of this change.
         last: Option<(Change, Fate)>,
     },
-    /// By the order of commits: at a key, the committing transaction read a value that the
-    /// committed map does not have.
+    /// When judged by the order of commits: at a key, the committing transaction read a value that
+    /// the committed map does not have.
     Misread {
         /// The key.
         key: u64,
-        /// The first reply that the transaction got there.
+        /// The first reply that the transaction got at this key.
         read: Reply,
-        /// The value in the committed map: the reply that was due.
+        /// The value of the key in the committed map, which the reply should have been.
         due: Reply,
-        /// The last commit that changed the committed map there: the index of its Committed, and
-        /// its caller.
+        /// The last commit that changed the key's value in the committed map: the index of its
+        /// Committed, and its caller.
         commit: Option<(u64, u64)>,
     },
-    /// By the order of commits: the replies of the committing transaction contradict one another,
-    /// whatever the map.
+    /// When judged by the order of commits: the replies of the committing transaction contradict
+    /// one another, so no map gives it all of them.
     Torn {
         /// The index of the first reply that contradicts those before it.
         since: Option<u64>,
@@ -59,22 +59,24 @@ pub enum Reason {
     Lock {
         /// The stripe of the key.
         stripe: u64,
-        /// Who holds it, if anyone does.
+        /// The holder of the stripe, if there is one.
         holder: Option<Held>,
     },
-    /// The entry may not follow its caller's entries, or does not have the next number.
+    /// The entry is not allowed after the earlier entries of its caller, or does not have the next
+    /// number.
     Shape {
-        /// The caller's phase, which tells which entries are allowed there instead.
+        /// The caller's phase, which determines the kinds of entries that are allowed instead.
         phase: Phase,
-        /// The newest change of the caller that stands: its key and the value before it.
+        /// The caller's newest change that is not taken back: the change's key, and the value
+        /// before the change.
         newest: Option<(u64, Reply)>,
-        /// How many transactions began.
+        /// The number of transactions that began.
         began: u64,
-        /// How many committed.
+        /// The number of transactions that committed.
         committed: u64,
     },
-    /// There is nothing to say: entries of this kind do not break this rule, or the entry is a Did
-    /// and its caller waits for no operation.
+    /// No reason can be given: entries of this kind do not break this rule, or the entry is a Did
+    /// whose caller waits for no operation.
     Nothing,
 }
 
@@ -91,7 +93,7 @@ fn waiting_in(alloc: Global, entries: &[SmallEntry], caller: u64) -> Result<Opti
     Ok(desks.at(caller).waiting)
 }
 
-/// By locks: why a reply to this caller is wrong.
+/// Judging by locks, returns the reason why a reply to this caller is wrong.
 fn reply_reason(
     alloc: Global,
     entries: &[SmallEntry],
@@ -113,7 +115,8 @@ fn reply_reason(
     Ok(Reason::Reply { op, due, last })
 }
 
-/// The reason if the rule of locks is broken: the stripe of the operation's key, and its holder.
+/// Returns the reason for an entry that breaks the rule of locks: the stripe of the operation's
+/// key, and the holder of this stripe.
 fn lock_reason(
     alloc: Global,
     entries: &[SmallEntry],
@@ -138,8 +141,9 @@ fn began_in(entries: &[SmallEntry]) -> u64 {
         .count() as u64
 }
 
-/// The reason if the rule of shape is broken: the caller's phase, its newest change and the counts.
-/// Together they tell which entries are allowed in place of the bad entry.
+/// Returns the reason for an entry that breaks the rule of shape: the caller's phase, its newest
+/// change and the counts. Together they determine which entries are allowed in place of the bad
+/// entry.
 fn shape_reason(callers: &Callers, began: u64, caller: u64) -> Reason
     requires { caller < 64 }
     ensures { (h : List Entry) → HaveEntered h callers.now → IsShapeReason h caller result }
@@ -152,7 +156,8 @@ fn shape_reason(callers: &Callers, began: u64, caller: u64) -> Reason
     }
 }
 
-/// By locks: why the entry `bad` breaks this rule after the legal history `entries`.
+/// Judging by locks, returns the reason why the entry `bad` breaks this rule after the legal
+/// history `entries`.
 ///
 /// # Errors
 ///
@@ -160,8 +165,8 @@ fn shape_reason(callers: &Callers, began: u64, caller: u64) -> Reason
 ///
 /// # Cost
 ///
-/// That of making `history_check`'s checker and of feeding it each entry, and a few passes over the
-/// entries.
+/// The cost of making `history_check`'s checker and of feeding it each entry, plus a few passes
+/// over the entries.
 pub fn by_locks(
     alloc: Global,
     entries: &[SmallEntry],
@@ -214,8 +219,8 @@ fn commit_reason(alloc: Global, entries: &[SmallEntry], caller: u64) -> Result<R
     })
 }
 
-/// By the order of commits: why the entry `bad` breaks this rule after the serializable history
-/// `entries`.
+/// Judging by the order of commits, returns the reason why the entry `bad` breaks this rule after
+/// the serializable history `entries`.
 ///
 /// # Errors
 ///
@@ -223,7 +228,7 @@ fn commit_reason(alloc: Global, entries: &[SmallEntry], caller: u64) -> Result<R
 ///
 /// # Cost
 ///
-/// For each entry, at most twice that of `serial_check`'s checker and two looks at a key.
+/// For each entry, at most twice the cost of `serial_check`'s checker, and two look-ups of a key.
 pub fn by_commits(
     alloc: Global,
     entries: &[SmallEntry],

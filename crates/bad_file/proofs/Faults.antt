@@ -13,15 +13,16 @@ use Rattle.bad_file.proofs.Reading.{accepts, is_entry}
 
 -- ---- what is still expected
 
--- The elements that are still expected after these; None if one of these is not as expected.
+-- The elements that are still expected after these elements, or None if one of these elements is
+-- not as expected.
 unfoldable pub rest_of : Bool → Bool → List Data → List Expected → Option (List Expected)
 rest_of is_old ranged [] es = Some es
 rest_of is_old ranged (d ∷ ds) [] = None
 rest_of is_old ranged (d ∷ ds) (e ∷ es) =
     if is_as_expected ranged e d then rest_of is_old ranged ds (expected_after is_old e d ++ es) else None
 
--- Whether elements are exactly what is still expected after earlier ones; false if one of the
--- earlier elements is not as expected.
+-- True if the elements `q` are exactly the elements that are still expected after earlier elements.
+-- False if one of the earlier elements is not as expected.
 abbrev left_accepts : Bool → Bool → List Data → Option (List Expected) → Bool
 left_accepts o r q None = false
 left_accepts o r q (Some left) = accepts o r q left

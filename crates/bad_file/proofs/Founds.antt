@@ -1,4 +1,4 @@
--- The kind of a value, by how it can be read.
+-- Lemmas about the kind of a value, given how the value can be read.
 use Rattle.std.proofs.Common.{◌≡◌, ℕ, List, length, true, false, Some, None, ap, refl}
 use Rattle.std.specs.Prelude.{is_some, option_and_then}
 use Rattle.serde_json.specs.Data.{Data, null, boolean, number, string, array, object, unsigned, negative, float}

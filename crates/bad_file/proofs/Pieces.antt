@@ -1,4 +1,5 @@
--- The entries of a file: all of its elements, or those before the first element that is no entry.
+-- Lemmas about the entries that are read from a file: either all elements of `entries` are entries,
+-- or one of them is the first that is not.
 use Rattle.std.proofs.Common.{◌≡◌, ℕ, zero, suc, ◌+◌, ◌<◌, List, [], ◌∷◌, length, Bool, true, false, not, ◌&&◌, ◌||◌, Option, Some, None, if◌then◌else◌, refl, ap, sym, ◌∙◌, arith}
 use Rattle.std.specs.Prelude.{IsSome, Result, Ok, Err, is_some, option_and_then, slice_get}
 use Rattle.std.specs.List.{list_all}
@@ -15,7 +16,7 @@ use Rattle.txn_files.specs.Entries.{entry_of, is_old_entry}
 use Rattle.txn_files.specs.HistoryFile.{is_in_range}
 use Rattle.bad_file.specs.Flaws.{AreEntries, IsEntry, entry_in}
 
--- The entry that a value is, if it is one.
+-- The entry that this value is, if it is an entry.
 abbrev pub piece_in : Bool → Bool → Data → Option Entry
 piece_in o r d = option_and_then (entry_in o r) (elements_of d)
 

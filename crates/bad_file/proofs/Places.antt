@@ -1,4 +1,4 @@
--- The flaw at a place, by the value there.
+-- Lemmas about the flaw at a place, given the value there.
 use Rattle.std.proofs.Common.{◌≡◌, ℕ, ◌+◌, ◌<◌, ◌≤◌, List, length, take, get_or, Bool, true, false, Option, Some, None, if◌then◌else◌, ap, sym, subst, ◌∙◌, arith}
 use Rattle.std.specs.Prelude.{IsSome, MatchOption, is_some, option_and_then, slice_get}
 use Rattle.std.specs.Option.{IfSome}

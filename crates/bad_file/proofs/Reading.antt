@@ -19,15 +19,16 @@ use Rattle.bad_file.specs.Meets.{in_range, is_entry_name, is_named, is_as_expect
 use Rattle.bad_file.specs.declared.expected.Expected.{Expected}
 use Rattle.bad_file.specs.declared.expected.Expected.TheVariants.{EntryName, Caller, Number, NumberOrNull}
 
--- Whether elements are exactly those that are expected. The flag o says that the version is 1, and
--- r that ranges count.
+-- True if the elements are exactly those that are expected. The flag `o` says that the version is
+-- 1. The flag `r` says that ranges count.
 abbrev pub accepts : Bool → Bool → List Data → List Expected → Bool
 accepts o r [] [] = true
 accepts o r [] (e ∷ es) = false
 accepts o r (d ∷ ds) [] = false
 accepts o r (d ∷ ds) (e ∷ es) = is_as_expected r e d && accepts o r ds (expected_after o e d ++ es)
 
--- A test of the value that was read and of the elements after it; false if no value was read.
+-- Tests a value that was read, together with the elements after it. The result is false if no value
+-- was read.
 abbrev then_test : {A : Type 0} → Option (A × List Data) → (A → List Data → Bool) → Bool
 then_test None f = false
 then_test (Some p) f = f p.0 p.1
@@ -46,7 +47,7 @@ over : {A : Type 0} (x : Option A) (ds : List Data) (f : List Data → Bool) →
 over None ds f = refl
 over (Some a) ds f = refl
 
--- Whether a caller is in range; true if ranges do not count.
+-- True if a caller is in range, or if ranges do not count.
 abbrev ok : Bool → ℕ → Bool
 ok r c = not r || nat_le c max_caller
 
@@ -109,9 +110,9 @@ put_if_next false r es k ds =
     ∙ sym (bind (optional_at ds) (λ e. number_at e.1 >>= λ v. Some (PutIf k e.0 v.0, v.1)) (kept_op false r es)
     ∙ (λ i. then_test (optional_at ds) (λ e rest. bind (number_at rest) (λ v. Some (PutIf k e v.0, v.1)) (kept_op false r es) i)))
 
--- `op_by` reads the operation on the key k. Its value is this operation and the elements after it.
--- `after_op_by` has the elements that are expected after the operation's word. For both, the first
--- true flag tells the word: "put", "take", "get" or "put_if".
+-- `op_by` reads an operation on the key `k`. The result is this operation and the elements after
+-- it. `after_op_by` has the elements that are expected after the operation's word. In both, the
+-- first flag that is true names the word: "put", "take", "get" or "put_if".
 abbrev op_by : Bool → Bool → Bool → Bool → ℕ → List Data → Option (Op × List Data)
 op_by b1 b2 b3 b4 k ds =
     if b1 then (number_at ds >>= λ v. Some (Put k v.0, v.1))
@@ -200,7 +201,8 @@ op_first false r es (d ∷ ds) = new_op r es ds (as_str d)
 
 -- ---- an entry
 
--- Whether there is an entry, the version has it and, if ranges count, its callers are in range.
+-- True if there is an entry and the version has it. If ranges count, its callers must also be in
+-- range.
 abbrev pub kept : Bool → Bool → Option Entry → Bool
 kept o r None = false
 kept o r (Some e) = (not o || is_old_entry e) && (not r || is_in_range e)
@@ -209,8 +211,8 @@ keeps : (o b : Bool) → ((not o || true) && b) ≡ b
 keeps true b = refl
 keeps false b = refl
 
--- After the last element of an entry: there is an entry only if b is true, which means that no
--- element follows.
+-- The lemma for the end of an entry. Its flag `b` is true if no element follows. Only then is there
+-- an entry.
 last : {A : Type 0} (o r : Bool) (c : ℕ) (a : A) (f : A → Entry) → kept o r (Some (f a)) ≡ ok r c → (b : Bool)
     → (ok r c && b) ≡ kept o r ((if b then Some a else None) >>= λ x. Some (f x))
 last o r c a f is true = both_true (ok r c) ∙ sym is
@@ -291,7 +293,7 @@ busy_last : (o r : Bool) (c : ℕ) (ds : List Data) → (ok r c && accepts o r d
 unfolding busy_of
 busy_last o r c ds = ap (λ b. ok r c && b) (op_first o r (Caller ∷ []) ds) ∙ busy_with o r c (op_at ds)
 
--- The elements of an entry after its word: a caller, and the others.
+-- Lemmas for the elements after the word of an entry: a caller, and then the others.
 through : (o r : Bool) (f : ℕ → List Data → Option Entry) (x : Option (ℕ × List Data)) → then_test x (λ c rest. kept o r (f c rest)) ≡ kept o r (x >>= λ c. f c.0 c.1)
 through o r f None = refl
 through o r f (Some p) = refl
@@ -301,8 +303,9 @@ caller_case : (o r : Bool) (es : List Expected) (f : ℕ → List Data → Optio
     → accepts o r ds (Caller ∷ es) ≡ kept o r (number_at ds >>= λ c. f c.0 c.1)
 caller_case o r es f each ds = caller_first o r es ds ∙ (λ i. then_test (number_at ds) (λ c rest. each c rest i)) ∙ through o r f (number_at ds)
 
--- `entry_by` reads the entry of the caller c; `after_by` has the elements that are expected after
--- the entry's word. For both, the first true flag tells the word, in the order of `entry_word`.
+-- `entry_by` reads an entry of the caller `c`. `after_by` has the elements that are expected after
+-- the entry's word. In both, the first flag that is true names the word, in the order of
+-- `entry_word`.
 abbrev entry_by : (b1 b2 b3 b4 b5 b6 b7 b8 b9 b10 : Bool) → ℕ → List Data → Option Entry
 entry_by b1 b2 b3 b4 b5 b6 b7 b8 b9 b10 c ds =
     if b1 then (op_of ds >>= λ op. Some (Asked c op))

@@ -14,7 +14,8 @@ listed (d ∷ ds) = ap (λ (rest : List Data). d ∷ rest) (listed ds)
 pub elements_are : (d : Data) (vs ws : List Value) → vs ≡ ws → Some (items_view ws) ≡ as_array d → Some (map view vs) ≡ elements_of d
 elements_are d vs ws same is = ap (λ xs. Some (map view xs)) same ∙ sym (ap (option_map list_of) (sym is) ∙ ap (λ (ds : List Data). Some ds) (listed (map view ws)))
 
--- An array has as many views as elements, and the view at an index is that of the element there.
+-- An array has as many views as elements. The view at an index is the view of the element at this
+-- index.
 pub seen_length : (vs : List Value) → length (map view vs) ≡ length vs
 seen_length vs = length-map vs view
 

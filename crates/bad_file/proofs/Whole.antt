@@ -155,16 +155,16 @@ shape_is_right d shape =
 array_is : (x : Option Data) (ds : List Data) → option_and_then elements_of x ≡ Some ds → or_fault faults.Member (option_and_then elements_of x) ≡ Ok ds
 array_is x ds is = ap (or_fault faults.Member) is
 
--- The entries that are read.
+-- The entries that are read from these elements, or a fault.
 abbrev read_of : Bool → List Data → Result (List TheEntry) FileFault
 read_of o ds = pieces_from (entry_in o false) parts.Entry 0 ds
 
--- The version, the stripes and the entries if `taken`, which means that the version and the number
--- of entries are in range. Else `Limit`.
+-- The version, the number of stripes and the entries if `taken` is true, and the fault `Limit`
+-- otherwise. `taken` means that the version and the number of entries are in range.
 abbrev numbered : ℕ → ℕ → List TheEntry → Bool → Result (ℕ × List ℕ × List TheEntry) FileFault
 numbered v s ps taken = if taken then Ok (v, s ∷ [], ps) else Err faults.Limit
 
--- A file from its numbers and what is read of its entries.
+-- The content of a file, given its numbers and the result of reading its entries.
 abbrev file_from : ℕ → ℕ → Result (List TheEntry) FileFault → Result (ℕ × List TheEntry × ℕ) FileFault
 file_from v s read =
     (read >>= λ ps. numbered v s ps (is_version v && nat_le (length ps) max_entries)) >>= λ file. entries_from file.0 file.1 file.2
@@ -249,8 +249,9 @@ entry_wrong d shape i flaw is =
 
 -- ---- ranges
 
--- A file all of whose entries were read, by the results of three tests: b for the version and the
--- number of entries, c for the number of stripes, e for the callers.
+-- The content of a file whose entries were all read, given the results of three tests. `b` is the
+-- test of the version and the number of entries, `c` of the number of stripes, and `e` of the
+-- callers.
 abbrev by_tests : ℕ → ℕ → List TheEntry → (b c e : Bool) → Result (ℕ × List TheEntry × ℕ) FileFault
 by_tests v s ps b c e = if b then (if c && e then Ok (s, ps, v) else Err faults.Limit) else Err faults.Limit
 
@@ -354,7 +355,8 @@ shaped d ds none are =
     let s = shape_of d none in
     record { version_no = s.version_no; stripes_no = s.stripes_no; entries = ds; version_is = s.version_is; stripes_is = s.stripes_is; entries_are = are }
 
--- The search through the elements has found this flaw, or none if each element is an entry.
+-- The search through the elements has found the flaw `found`. If `found` is None, each element is
+-- an entry.
 abbrev pub IsFound : Bool → Bool → Data → List Data → Option Flaw → Type 0
 IsFound o r d ds found = MatchOption found (AreEntries o r ds) (λ flaw. (i : ℕ) × IsFlawAt o r d i flaw)
 

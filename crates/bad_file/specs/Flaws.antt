@@ -35,11 +35,11 @@ entry_in is_old ranged ds =
 abbrev pub BeginsEntry : Bool → Bool → List Data → Type 0
 BeginsEntry is_old ranged ds = (more : List Data) × IsSome (entry_in is_old ranged (ds ++ more))
 
--- The elements are no entry, the element at index i is the first at fault, and `wanted` is what is
--- allowed there. The elements before index i begin some entry. Followed by one more element, they
--- begin some entry exactly if that element is as wanted. The element at index i is not as wanted.
--- If None is wanted, no element is allowed there. If an element is missing, i is the number of
--- elements.
+-- The elements are not an entry, the element at index `i` is the first at fault, and `wanted` is
+-- what is allowed there. The elements before index `i` begin some entry. If one more element
+-- follows them, they still begin some entry exactly if this element is as wanted. The element at
+-- index `i` is not as wanted. If `wanted` is None, no element is allowed there. If an element is
+-- missing, `i` is the number of elements.
 pub record IsFault (is_old ranged : Bool) (ds : List Data) (i : ℕ) (wanted : Option Expected)
     : Type 0 where
   pub refused : entry_in is_old ranged ds ≡ None
@@ -53,7 +53,7 @@ pub record IsFault (is_old ranged : Bool) (ds : List Data) (i : ℕ) (wanted : O
 abbrev pub wrong : Data → Place → Option Expected → Flaw
 wrong d place wanted = Wrong place (found_of (at place d)) wanted
 
--- The flaw at a place, if its value is not as expected.
+-- If the value at a place is not as expected, the flaw at this place.
 abbrev pub flaw_at : Bool → Data → Place → Expected → Option Flaw
 flaw_at ranged d place wanted =
     if is_met ranged (Some wanted) (at place d) then None else Some (wrong d place (Some wanted))
@@ -82,28 +82,29 @@ IsEntry is_old ranged d = IsSome (option_and_then (entry_in is_old ranged) (elem
 abbrev pub AreEntries : Bool → Bool → List Data → Type 0
 AreEntries is_old ranged ds = All (IsEntry is_old ranged) ds
 
--- The flaw of the entry at index i of a file: the entry is no array, or the flaw is at its first
--- element at fault.
+-- `flaw` is the flaw of the entry at index `i` of a file. Either the entry is not an array, or
+-- `flaw` is at the entry's first element at fault.
 abbrev pub IsFlawOfEntry : Bool → Bool → Data → ℕ → Option (List Data) → Flaw → Type 0
 IsFlawOfEntry is_old ranged d i None flaw = flaw ≡ wrong d (Entry i) (Some expected.Entry)
 IsFlawOfEntry is_old ranged d i (Some ds) flaw =
     (j : ℕ) × (wanted : Option Expected) × IsFault is_old ranged ds j wanted
     × (flaw ≡ wrong d (Element i j) wanted)
 
--- The element of `entries` at this index is the first that is no entry, and this is its flaw.
+-- The element of `entries` at this index is the first that is not an entry, and `flaw` is its flaw.
 pub record IsFlawAt (is_old ranged : Bool) (d : Data) (i : ℕ) (flaw : Flaw) : Type 0 where
   pub entry : Data
   pub is_there : entry_at i d ≡ Some entry
   pub before : (k : ℕ) (e : Data) → k < i → entry_at k d ≡ Some e → IsEntry is_old ranged e
   pub here : IsFlawOfEntry is_old ranged d i (elements_of entry) flaw
 
--- The flaw of a file whose shape is right: a member is out of range, or else a caller is.
+-- `flaw` is the flaw of a file whose shapes are right: a member that is out of range or, if there
+-- is none, a caller that is out of range.
 abbrev pub IsOutOfRange : Data → Flaw → Type 0
 IsOutOfRange d flaw =
     (flaw_in_members true d ≡ Some flaw)
     ⊎ ((flaw_in_members true d ≡ None) × ((i : ℕ) × IsFlawAt (is_old_file d) true d i flaw))
 
--- The flaw of a file in JSON that is refused with this fault.
+-- `flaw` is the flaw of a file with this JSON value, given the fault for which the file is refused.
 abbrev pub IsFlawOf : Data → FileFault → Flaw → Type 0
 IsFlawOf d faults.Member flaw = flaw_in_members false d ≡ Some flaw
 IsFlawOf d (faults.Piece part i) flaw = IsFlawAt (is_old_file d) false d i flaw
@@ -115,22 +116,22 @@ IsFlawOf d faults.NoMemory flaw = ⊥
 abbrev pub history_in : Data → Result (ℕ × List TheEntry × ℕ) FileFault
 history_in d = contents_of history_file d >>= λ file. entries_from file.0 file.1 file.2
 
--- The flaw of the history file that has this JSON value: none if the file is taken, else the cause
--- of the refusal.
+-- The flaw of the history file that has this JSON value. It is None if the file is accepted, and
+-- otherwise the cause of the refusal.
 abbrev pub TellsOf : Data → Option Flaw → Type 0
 TellsOf d None = IsOk (history_in d)
 TellsOf d (Some flaw) = (fault : FileFault) × (history_in d ≡ Err fault) × IsFlawOf d fault flaw
 
--- The flaw of bytes that are refused with this fault: the bytes are no JSON, they are too many, or
--- their JSON value has this flaw.
+-- `flaw` is the flaw of bytes, given the fault for which they are refused: the bytes are not JSON,
+-- there are too many of them, or their JSON value has this flaw.
 abbrev pub IsFlaw : FileFault → Result Data FileFault → Flaw → Type 0
 IsFlaw fault (Ok d) flaw = IsFlawOf d fault flaw
 IsFlaw fault (Err faults.NotJson) flaw =
     (line : ℕ) × (column : ℕ) × (flaw ≡ NotJson line column)
 IsFlaw fault (Err other) flaw = flaw ≡ TooLong
 
--- The flaw of the history file that has these bytes: none if the file is taken, else the cause of
--- the refusal.
+-- The flaw of the history file that has these bytes. It is None if the file is accepted, and
+-- otherwise the cause of the refusal.
 abbrev pub TellsFlaw : List ℕ → Option Flaw → Type 0
 TellsFlaw bytes None = IsOk (history_of bytes)
 TellsFlaw bytes (Some flaw) =

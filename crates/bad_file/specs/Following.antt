@@ -7,7 +7,8 @@ use Rattle.serde_json.specs.Find.{as_str}
 use Rattle.bad_file.specs.declared.expected.Expected.{Expected}
 use Rattle.bad_file.specs.declared.expected.Expected.TheVariants.{EntryName, OpName, OldOpName, Caller, Number, NumberOrNull}
 
--- The word of an operation; version 1 lacks some of these words.
+-- The name of an operation, as an expected value. If the flag is true, it is a name that version 1
+-- has.
 abbrev pub op_name : Bool → Expected
 op_name is_old = if is_old then OldOpName else OpName
 
@@ -40,8 +41,8 @@ abbrev pub after_word : (List ℕ → List Expected) → Option (List ℕ) → L
 after_word follows None = []
 after_word follows (Some word) = follows word
 
--- The elements that are expected after this element, as its word says. There are none if this
--- element is no word of an entry or an operation.
+-- The elements that are expected after this element. If this element is not the word of an entry or
+-- an operation, there are none.
 abbrev pub expected_after : Bool → Expected → Data → List Expected
 expected_after is_old EntryName d = after_word (after_entry_name is_old) (as_str d)
 expected_after is_old OpName d = after_word after_op_name (as_str d)

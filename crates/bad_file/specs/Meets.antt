@@ -33,18 +33,18 @@ abbrev pub found_of : Option Data → Found
 found_of None = found.Nothing
 found_of (Some d) = kind_of d
 
--- Whether a word says what an entry is.
+-- True if a word names a kind of entry.
 abbrev pub is_entry_name : List ℕ → Bool
 is_entry_name word =
     list_any (bytes_eq word)
     (codes "asked" ∷ codes "busy" ∷ codes "did" ∷ codes "undone" ∷ codes "began" ∷ codes "saved"
     ∷ codes "leave" ∷ codes "returned" ∷ codes "committed" ∷ codes "aborted" ∷ [])
 
--- Whether a word says what an operation of version 1 is.
+-- True if a word names an operation of version 1.
 abbrev pub is_old_op_name : List ℕ → Bool
 is_old_op_name word = list_any (bytes_eq word) (codes "put" ∷ codes "take" ∷ codes "get" ∷ [])
 
--- Whether a word says what an operation is.
+-- True if a word names an operation.
 abbrev pub is_op_name : List ℕ → Bool
 is_op_name word =
     list_any (bytes_eq word) (codes "put" ∷ codes "take" ∷ codes "get" ∷ codes "put_if" ∷ [])
@@ -54,21 +54,21 @@ abbrev pub is_named : (List ℕ → Bool) → Option (List ℕ) → Bool
 is_named test None = false
 is_named test (Some word) = test word
 
--- Whether there is a number. If its range is asked for, it must also be in this range.
+-- True if there is a number. If `ranged` is true, it must also be from `least` to `most`.
 abbrev pub in_range : Bool → ℕ → ℕ → Option ℕ → Bool
 in_range ranged least most None = false
 in_range ranged least most (Some n) = not ranged || (nat_le least n && nat_le n most)
 
--- Whether a value is a whole number. If its range is asked for, it must also be in this range.
+-- True if a value is a whole number. If `ranged` is true, it must also be from `least` to `most`.
 abbrev pub is_number : Bool → ℕ → ℕ → Data → Bool
 is_number ranged least most d = in_range ranged least most (whole_number d)
 
--- Whether there are elements. If their number is asked for, they must also be no more than `most`.
+-- True if there are elements. If `ranged` is true, there must also be at most `most` of them.
 abbrev pub are_few : Bool → ℕ → Option (List Data) → Bool
 are_few ranged most None = false
 are_few ranged most (Some ds) = not ranged || nat_le (length ds) most
 
--- Whether a value is an array. If its length is asked for, it must also be no longer than `most`.
+-- True if a value is an array. If `ranged` is true, it must also have at most `most` elements.
 abbrev pub is_array : Bool → ℕ → Data → Bool
 is_array ranged most d = are_few ranged most (elements_of d)
 

@@ -14,7 +14,7 @@ element_at i d = option_and_then (λ ds. slice_get ds i) (elements_of d)
 abbrev pub entries_of : Data → Option (List Data)
 entries_of d = option_and_then elements_of (get (codes "entries") d)
 
--- The entry of this index.
+-- The entry of a file at this index.
 abbrev pub entry_at : ℕ → Data → Option Data
 entry_at i d = option_and_then (λ ds. slice_get ds i) (entries_of d)
 

@@ -1,6 +1,6 @@
-//! The search for the first fault in one entry, element by element; `file` calls it for each entry.
-//! A word decides which elements must follow, so a stack keeps those that are still expected. An
-//! element too many ends the search, so the cost of an entry is bounded.
+//! Searches one entry for its first fault, element by element. `file` runs this search for each
+//! entry. A word decides which elements must follow, so a stack keeps the elements that are still
+//! expected. The search ends at the first element too many, so its cost for each entry is bounded.
 ghost use Rattle.std.specs.Prelude.{◌≡◌, ◌++◌, IfOk, MatchOption, OnOk, IsSome, map, reverse};
 ghost use Rattle.serde_json.specs.View.{view};
 ghost use Rattle.bad_file.specs.Flaws.{IsFault, entry_in};
@@ -11,7 +11,8 @@ use crate::values::is_of;
 use serde_json::Value;
 use std::alloc::{AllocError, Global};
 
-/// The word of an operation; version 1 lacks some of these words. Constant time.
+/// The name of an operation, as an expected value. If `is_old` is true, it is a name that version 1
+/// has. Constant time.
 fn op_name(is_old: bool) -> Expected
     ensures { result ≡ op_name is_old }
 {
@@ -21,8 +22,8 @@ fn op_name(is_old: bool) -> Expected
     }
 }
 
-/// Pushes the elements that are expected after the word of an entry. The last element of the stack
-/// is expected next.
+/// Pushes the elements that are expected after the word of an entry. The element that is expected
+/// next is at the end of the stack.
 fn push_after_entry_name(
     stack: &mut Vec<Expected>,
     is_old: bool,
@@ -61,8 +62,8 @@ fn push_after_op_name(stack: &mut Vec<Expected>, word: &str) -> Result<(), Alloc
     }
 }
 
-/// Pushes the elements that are expected after this element, as its word says. Pushes none if this
-/// element is no word of an entry or an operation.
+/// If this element is the word of an entry or an operation, pushes the elements that are expected
+/// after this word. Otherwise pushes none.
 fn push_after(
     stack: &mut Vec<Expected>,
     is_old: bool,
@@ -82,10 +83,10 @@ fn push_after(
     }
 }
 
-/// The first fault in elements that are no entry: the index of the element at fault, and the value
-/// that is expected there (`None` if no value is allowed). Answers `None` if the elements are an
-/// entry. If `is_old` is true, an entry counts only if it is allowed in version 1. If `ranged` is
-/// true, an entry counts only if its callers are in range.
+/// If the elements are not an entry, returns their first fault: the index of the element at fault,
+/// and the value that is expected there (`None` if no value is allowed). If they are an entry,
+/// returns `None`. If `is_old` is true, only entries that version 1 allows count as entries. If
+/// `ranged` is true, only entries whose callers are in range count.
 ///
 /// # Errors
 ///
@@ -93,8 +94,8 @@ fn push_after(
 ///
 /// # Cost
 ///
-/// Time in proportion to the elements, at most the first eight; memory for the elements that are
-/// still expected.
+/// Time in proportion to the elements, of which at most eight are read. Memory for the elements
+/// that are still expected.
 pub(crate) fn fault_in(
     alloc: Global,
     is_old: bool,

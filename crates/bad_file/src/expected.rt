@@ -1,6 +1,6 @@
-//! Names for the values that the format of history files allows, and the text of each in a flaw.
-//! The tests of values against these names are in `values`. The texts are constants with the ranges
-//! written out, as the contract says (`expected_text`).
+//! Names for the values that the format of history files allows, and the words by which a flaw
+//! prints them. The tests of values against these names are in `values`. The words are constants
+//! that include the ranges, as the contract says (`expected_text`).
 ghost use Rattle.std.specs.Prelude.{◌≡◌};
 ghost use Rattle.bad_file.specs.Texts.{expected_text};
 
@@ -15,15 +15,15 @@ pub enum Expected {
     Version,
     /// How many locks there are: 1 to 4,096.
     Stripes,
-    /// The entries: an array of at most 1,000,000.
+    /// The entries: an array of at most 1,000,000 elements.
     Entries,
     /// An entry: an array.
     Entry,
-    /// The word that says what an entry is.
+    /// The word that names the kind of an entry.
     EntryName,
-    /// The word that says what an operation is.
+    /// The word that names an operation.
     OpName,
-    /// The word that says what an operation is in version 1, which has no `put_if`.
+    /// The word that names an operation in version 1, which has no `put_if`.
     OldOpName,
     /// A caller: 0 to 63.
     Caller,

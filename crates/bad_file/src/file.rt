@@ -1,5 +1,5 @@
-//! The search through a whole history file for its first flaw. Only this module knows the order in
-//! which `txn_files` looks for faults: it tests all shapes before any range. So the search goes
+//! Searches a whole history file for its first flaw. Only this module knows the order in which
+//! `txn_files` looks for faults: `txn_files` tests all shapes before any range. So the search goes
 //! through the entries at most twice. The JSON value of the file is in memory as a whole.
 ghost use Rattle.std.specs.Prelude.{◌≡◌, ℕ, map, option_map, slice_get, IfOk, IfSome, IsNone, MatchOption, Some};
 ghost use Rattle.serde_json.specs.Data.{Data};
@@ -31,7 +31,7 @@ fn is_met(ranged: bool, expected: Expected, value: Option<&Value>) -> bool
     }
 }
 
-/// The flaw of a place that has this value, if the value is not as expected.
+/// If the value at a place is not as expected, the flaw at this place.
 #[tactic(auto, using(crate::proofs::Places::flaw_none, crate::proofs::Places::flaw_some))]
 fn flaw_at(ranged: bool, place: Place, value: Option<&Value>, expected: Expected) -> Option<Flaw>
     ensures { (d : Data) → at place d ≡ option_map (λ v. view v.now) value.entry
@@ -47,7 +47,7 @@ fn flaw_at(ranged: bool, place: Place, value: Option<&Value>, expected: Expected
     })
 }
 
-/// The flaw of the first member that is not as expected. Ranges count only if they are asked for.
+/// The flaw of the first member that is not as expected. Ranges count only if `ranged` is true.
 fn flaw_in_members(ranged: bool, file: &Value) -> Option<Flaw>
     ensures { result ≡ flaw_in_members ranged (view file.now) }
 {
@@ -127,7 +127,7 @@ fn flaw_in_entry(
     }))
 }
 
-/// The flaw of the first element that is no entry.
+/// The flaw of the first element of `entries` that is not an entry, if there is one.
 ///
 /// # Errors
 ///
@@ -185,13 +185,14 @@ fn flaw_in_value(alloc: Global, file: &Value) -> Result<Option<Flaw>, AllocError
     flaw_in_entries(alloc, is_old, true, entries)
 }
 
-/// The flaw of a history file, if `read_history` of `txn_files` refuses it.
+/// If `read_history` of `txn_files` refuses these bytes as a history file, returns the flaw that
+/// causes the refusal. Otherwise returns `None`.
 ///
-/// The flaw is the cause of the refusal. It is the first one that is found in this order:
+/// The flaw is the first one in this order:
 ///
-/// - The file is too long, no JSON or no object.
+/// - The file is too long, is not JSON, or is not an object.
 /// - A member is missing or of the wrong kind.
-/// - An entry has a wrong shape: it is no array, or else an element of it is at fault.
+/// - An entry has a wrong shape: it is not an array, or an element of it is at fault.
 /// - A member is out of range.
 /// - A caller is out of range.
 ///
@@ -201,8 +202,8 @@ fn flaw_in_value(alloc: Global, file: &Value) -> Result<Option<Flaw>, AllocError
 ///
 /// # Cost
 ///
-/// Time and memory in proportion to the bytes: the JSON value of the whole file is kept. Small
-/// objects take the most, about 110 bytes for each byte of the file.
+/// Time and memory in proportion to the bytes, since the JSON value of the whole file is kept.
+/// Small objects take the most memory, about 110 bytes for each byte of the file.
 pub fn flaw_in(alloc: Global, bytes: &[u8]) -> Result<Option<Flaw>, AllocError>
     ensures { IfOk result (TellsFlaw bytes.now) }
 {

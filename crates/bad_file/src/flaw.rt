@@ -1,6 +1,6 @@
-//! The answer of the crate, and how it is printed; the search for it is in `file`. The texts of its
-//! parts are in `place`, `found` and `expected`. A flaw borrows nothing from the file, so it can be
-//! printed after the file is dropped.
+//! `Flaw`, which this crate returns, and how a flaw is printed. The search for a flaw is in `file`.
+//! The texts of a flaw's parts are in `place`, `found` and `expected`. A flaw borrows nothing from
+//! the file, so it can be printed after the file is dropped.
 ghost use Rattle.std.specs.Prelude.{◌≡◌};
 ghost use Rattle.bad_file.specs.Texts.{is_a_word};
 
@@ -18,7 +18,7 @@ pub enum Flaw {
     NotJson {
         /// The line where the fault shows, counted from 1.
         line: usize,
-        /// The column in that line, in bytes, counted from 1. If the file is cut off there, it is
+        /// The column in that line, in bytes, counted from 1. If the file ends too early, this is
         /// the column of the line's last byte, or 0 if the line is empty.
         column: usize,
     },
@@ -26,9 +26,9 @@ pub enum Flaw {
     Wrong {
         /// The place.
         place: Place,
-        /// The finding there.
+        /// What is found at the place.
         found: Found,
-        /// The value that is expected there; `None` if no value is allowed.
+        /// The value that is expected at the place, or `None` if no value is allowed there.
         expected: Option<Expected>,
     },
 }

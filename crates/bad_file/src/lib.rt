@@ -1,18 +1,19 @@
 //! The flaw of a history file that is refused: the first place at fault, the value there, and the
 //! values that are allowed instead.
 //!
-//! `txn_files` names the first element of `entries` that is no entry, or only says that the file is
-//! no JSON, no object or too long, that some member is missing or of the wrong kind, or that some
-//! number is out of range. This crate answers the writer's next question: which element of the
-//! entry is wrong, which words and numbers are allowed there, or which member is missing.
+//! `txn_files` names the first element of `entries` that is not an entry. Of any other fault it
+//! only says that the file is not JSON, not an object or too long, that some member is missing or
+//! of the wrong kind, or that some number is out of range. This crate answers the writer's next
+//! question: which element of the entry is wrong, which words and numbers are allowed there, or
+//! which member is missing.
 //!
-//! The format is that of the definitions in `txn_files`. An element of an entry is at fault if
-//! some entry begins with the elements before it, but no entry begins with these and the element.
-//! The elements allowed in its place are exactly those with which some entry goes on.
+//! `txn_files` defines the format. An element of an array is at fault if some entry begins with the
+//! elements before it, but no entry begins with these elements and the element itself. Exactly the
+//! elements that continue some entry are allowed in its place.
 //!
-//! Proved: `flaw_in` finds no flaw exactly if `read_history` takes the file; if it finds a flaw,
-//! this is the cause of the refusal. `flaw_in` keeps the JSON value of the whole file, which takes
-//! much more memory than `read_history`; it is called only for files that are refused.
+//! Proved: `flaw_in` finds no flaw exactly if `read_history` accepts the file. If it finds a flaw,
+//! this flaw is the cause of the refusal. `flaw_in` keeps the JSON value of the whole file, which
+//! takes much more memory than `read_history`. Programs call it only for files that are refused.
 #![tactic(auto)]
 
 mod elements;

@@ -8,15 +8,16 @@ use std::fmt;
 pub enum Place {
     /// The file as a whole: `$`.
     File,
-    /// The member of the version: `$.version`.
+    /// The version: `$.version`.
     Version,
-    /// The member of the number of locks: `$.stripes`.
+    /// The number of locks: `$.stripes`.
     Stripes,
-    /// The member of the entries: `$.entries`.
+    /// The array of entries: `$.entries`.
     Entries,
     /// The entry of this index: `$.entries[4]`.
     Entry(usize),
-    /// The element at the second index of the entry at the first index: `$.entries[4][2]`.
+    /// An element of an entry, given the entry's index and then the element's index:
+    /// `$.entries[4][2]`.
     Element(usize, usize),
 }
 

@@ -1,6 +1,6 @@
-//! The tests that a JSON value is as expected, and the elements of an array; `file`, `elements` and
-//! `found` share them. A test looks at the range only on demand, since all shapes count before any
-//! range. Each test takes constant time and no memory.
+//! Tests that a JSON value is as expected, and gets the elements of an array. `file`, `elements`
+//! and `found` share these functions. A test looks at the range only if `ranged` is true, since all
+//! shapes are tested before any range. Each test takes constant time and no memory.
 ghost use Rattle.std.specs.Prelude.{◌≡◌, map, is_some, option_map};
 ghost use Rattle.piece_files.specs.Elements.{elements_of, optional};
 ghost use Rattle.serde_json.specs.Find.{as_str};
@@ -27,7 +27,8 @@ pub(crate) fn elements_in(value: &Value) -> Option<&[Value]>
     }
 }
 
-/// Whether a value is a whole number. If its range is asked for, it must also be in this range.
+/// Returns true if a value is a whole number. If `ranged` is true, it must also be from `least` to
+/// `most`.
 fn is_number(ranged: bool, least: u64, most: u64, value: &Value) -> bool
     ensures { result ≡ is_number ranged least most (view value.now) }
 {
@@ -37,7 +38,7 @@ fn is_number(ranged: bool, least: u64, most: u64, value: &Value) -> bool
     }
 }
 
-/// Whether a word says what an entry is.
+/// Returns true if a word names a kind of entry.
 fn is_entry_name(word: &str) -> bool
     ensures { result ≡ is_entry_name word.now }
 {
@@ -56,21 +57,22 @@ fn is_entry_name(word: &str) -> bool
     )
 }
 
-/// Whether a word says what an operation of version 1 is.
+/// Returns true if a word names an operation of version 1.
 fn is_old_op_name(word: &str) -> bool
     ensures { result ≡ is_old_op_name word.now }
 {
     matches!(word, "put" | "take" | "get")
 }
 
-/// Whether a word says what an operation is.
+/// Returns true if a word names an operation.
 fn is_op_name(word: &str) -> bool
     ensures { result ≡ is_op_name word.now }
 {
     matches!(word, "put" | "take" | "get" | "put_if")
 }
 
-/// Whether a value is an array. If its length is asked for, it must also be no longer than `most`.
+/// Returns true if a value is an array. If `ranged` is true, it must also have at most `most`
+/// elements.
 fn is_array(ranged: bool, most: usize, value: &Value) -> bool
     ensures { result ≡ is_array ranged most (view value.now) }
 {
@@ -90,7 +92,7 @@ fn is_number_or_null(value: &Value) -> bool
     value.as_u64().is_some()
 }
 
-/// Whether a value is a word that says what an entry is.
+/// Returns true if a value is a word that names a kind of entry.
 fn is_entry_word(value: &Value) -> bool
     ensures { result ≡ is_named is_entry_name (as_str (view value.now)) }
 {
@@ -100,7 +102,7 @@ fn is_entry_word(value: &Value) -> bool
     }
 }
 
-/// Whether a value is a word that says what an operation is.
+/// Returns true if a value is a word that names an operation.
 fn is_op_word(value: &Value) -> bool
     ensures { result ≡ is_named is_op_name (as_str (view value.now)) }
 {
@@ -110,7 +112,7 @@ fn is_op_word(value: &Value) -> bool
     }
 }
 
-/// Whether a value is a word that says what an operation of version 1 is.
+/// Returns true if a value is a word that names an operation of version 1.
 fn is_old_op_word(value: &Value) -> bool
     ensures { result ≡ is_named is_old_op_name (as_str (view value.now)) }
 {

@@ -17,17 +17,17 @@ pub on_err : {T E : Type 0} {P Q : E → Type 0} (result : Result T E) → ((e :
 on_err (Ok value) follows holds = tt
 on_err (Err e) follows holds = follows e holds
 
--- The begin was stopped.
+-- If the begin was stopped, this is the reason why nothing was moved.
 pub at_begin : (c from to sum : ℕ) (stop : Stop) (why : NotMoved) (old new : State) → why ≡ Stopped stop → IsStopped old (Begin c) stop new → IsWhy c from to sum why old
 at_begin c from to sum stop why old new is stopped = subst (λ w. IsWhy c from to sum w old) (sym is)
     (record { before = old; beside = same c old old refl; step = Begin c; whose = refl; after = new; is = stopped })
 
--- The commit was stopped.
+-- If the commit was stopped, this is the reason why nothing was moved.
 pub at_commit : (c from to sum : ℕ) (stop : Stop) (why : NotMoved) (old done left : State) → why ≡ Stopped stop → OnlyWorked c old done → IsStopped done (Commit c) stop left → IsWhy c from to sum why old
 at_commit c from to sum stop why old done left is beside stopped = subst (λ w. IsWhy c from to sum w old) (sym is)
     (record { before = done; beside = beside; step = Commit c; whose = refl; after = left; is = stopped })
 
--- The work gave the reason: a reason after the begin is also a reason before it.
+-- If a reason why nothing was moved holds after the begin, it also holds before the begin.
 pub in_work : (c from to sum : ℕ) (why : NotMoved) (old begun : State) → HasBegun c old begun → IsWhy c from to sum why begun → IsWhy c from to sum why old
 in_work c from to sum TooLittle old begun has why = subst (λ m. balance m from < sum) has.same why
 in_work c from to sum TooMuch old begun has why = subst (λ m. 2 ^ 64 ≤ balance m to + sum) has.same why

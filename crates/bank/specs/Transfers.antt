@@ -16,8 +16,8 @@ use Rattle.bank.specs.declared.NotMoved.TheVariants.{TooLittle, TooMuch, Stopped
 abbrev pub balance : Map → ℕ → ℕ
 balance m account = unwrap_or (get m account) 0
 
--- A sum went from one account to the other. Both together have what they had, and every other
--- account is unchanged.
+-- A sum was moved from one account to the other. The two balances together are the same as before,
+-- and every other account is unchanged.
 pub record IsTransfer (from to sum : ℕ) (old new : Map) : Type 0 where
   pub both : balance new from + balance new to ≡ balance old from + balance old to
   pub to_more : balance new to ≡ balance old to + sum

@@ -1,7 +1,7 @@
 //! A bank in a transactional map: a key is an account, and its value is the account's balance.
 //!
-//! An example of a caller of `owned_map`. Proved: a transfer moves a sum between two accounts and
-//! touches no other account, or it leaves the map unchanged. No other caller's transaction is
+//! An example of a crate that uses `owned_map`. Proved: a transfer moves a sum between two accounts
+//! and touches no other account, or it leaves the map unchanged. No other caller's transaction is
 //! touched.
 #![tactic(auto)]
 
@@ -23,7 +23,7 @@ pub enum NotMoved {
     TooLittle,
     /// The second account would have 2^64 or more.
     TooMuch,
-    /// A call was not done: another caller holds an account, or the call was refused.
+    /// A call failed: another caller holds the stripe of an account, or the call was refused.
     Stopped(Stop),
 }
 
@@ -37,7 +37,8 @@ impl From<Stop> for NotMoved {
     }
 }
 
-/// Moves a sum from one account to another, in one transaction. An account without a key has 0.
+/// Moves a sum from one account to another, in one transaction. The two accounts must differ. An
+/// account whose key is absent has 0.
 ///
 /// # Errors
 ///
@@ -45,12 +46,12 @@ impl From<Stop> for NotMoved {
 ///
 /// - `TooLittle` if the first account has less than the sum.
 /// - `TooMuch` if the second account would have 2^64 or more.
-/// - `Stopped` with the reason if a call was not done: for instance `Busy` if another caller holds
-///   one of the stripes, after which the transfer may be tried again.
+/// - `Stopped` with the reason if a call failed. For instance, the reason is `Busy` if another
+///   caller holds one of the stripes; the transfer may then be tried again.
 ///
 /// # Cost
 ///
-/// A begin, two `get`s, two `put`s and a commit; or an abort if one of these is not done.
+/// A begin, two `get`s, two `put`s and a commit, or an abort if one of these fails.
 pub fn transfer(
     accounts: &mut OwnedMap,
     caller: u64,

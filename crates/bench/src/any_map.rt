@@ -9,12 +9,12 @@ use txn_words::{Op, Refusal, Reply};
 
 /// A map from numbers to numbers.
 pub(crate) trait AnyMap {
-    /// Does an operation, and answers the value that its key had before it.
+    /// Does an operation, and returns the value that its key had before.
     fn run(&mut self, op: Op) -> Result<Reply, Refusal>;
 }
 
-/// Stores a bucket by its three steps, as helper 0. If one is refused the bucket is not stored, and
-/// its keys are sought from the dummy of its nearest stored ancestor.
+/// Stores a bucket by its three steps, as helper 0. If a step is refused, the bucket is not stored,
+/// and its keys are sought from the dummy of its nearest stored ancestor.
 pub(crate) fn store_bucket(table: &mut Table, bucket: u32) {
     let sought = table.init_seek(0, u64::from(bucket));
     let linked = table.init_link(0);

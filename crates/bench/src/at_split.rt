@@ -10,7 +10,7 @@ use list_steps::{Cursor, link_at, look, mark_at, seek, swap_at};
 use node_list::{Kind, NodeList, NodeRef, SpareFault};
 use split_key::SortKey;
 
-/// Whether a dummy that is before the sort key is linked at this place.
+/// Returns true if `from` is a linked dummy that is before the sort key.
 fn is_start(list: &NodeList, from: NodeRef, at: SortKey) -> bool
     ensures { IsTrue result → IsStart list.now.nodes from at }
 {
@@ -33,8 +33,8 @@ fn regular_there(list: &NodeList, cursor: &Cursor) -> Option<NodeRef>
     None
 }
 
-/// Links a new node, at a position that is sought from the dummy `from`. Answers `None` if a node
-/// with the sort key is linked, or if `from` is no linked dummy before the sort key.
+/// Links a new node, at a position that is sought from the dummy `from`. Returns `None` if a node
+/// with this sort key is linked already, or if `from` is not a linked dummy before the sort key.
 pub(crate) fn put(
     list: &mut NodeList,
     from: NodeRef,
@@ -71,7 +71,7 @@ pub(crate) fn value_of(list: &mut NodeList, from: NodeRef, at: SortKey) -> Optio
     }
 }
 
-/// Writes a value into the regular node with this sort key, and answers the node's former value.
+/// Writes a value into the regular node with this sort key, and returns the node's former value.
 pub(crate) fn write(list: &mut NodeList, from: NodeRef, at: SortKey, value: u64) -> Option<u64> {
     if !is_start(list, from, at) {
         return None;
@@ -81,7 +81,7 @@ pub(crate) fn write(list: &mut NodeList, from: NodeRef, at: SortKey, value: u64)
     Some(swap_at(list, node, value))
 }
 
-/// Marks the regular node with this sort key, and answers its value.
+/// Marks the regular node with this sort key, and returns its value.
 pub(crate) fn take(list: &mut NodeList, from: NodeRef, at: SortKey) -> Option<u64> {
     if !is_start(list, from, at) {
         return None;

@@ -14,7 +14,7 @@ use txn_words::{Answer, Limits, Op, Step, answer_text};
 /// The number of keys that the steps use, if there is no step file.
 const HOT_KEYS: u64 = 64;
 
-/// The steps of `puts` transactions of caller 0, each of one put.
+/// The steps of `puts` transactions of caller 0. Each transaction does one put.
 fn put_steps(alloc: Global, puts: u64) -> Result<Vec<Step>, AllocError> {
     let mut steps = Vec::new(alloc);
     for position in 0..puts {
@@ -35,7 +35,7 @@ fn sum_with(sum: u64, byte: u8) -> u64 {
     (sum ^ u64::from(byte)).wrapping_mul(0x0100_0000_01b3)
 }
 
-/// A hash of the answers, each written as a line.
+/// A hash of the lines that the answers are written as.
 fn sum_of(alloc: Global, answers: &[Answer]) -> Result<u64, AllocError> {
     let mut sum = 0xcbf2_9ce4_8422_2325;
     for answer in answers {
@@ -48,8 +48,8 @@ fn sum_of(alloc: Global, answers: &[Answer]) -> Result<u64, AllocError> {
     Ok(sum)
 }
 
-/// Runs the steps on a new core. Answers the time that this took, and the core's answers. The core
-/// is made before the clock starts.
+/// Runs the steps on a new core. Returns the time that the steps took, and the core's answers. The
+/// core is made before the clock starts.
 fn run_timed<R: AllocGlobal + Clock>(
     rt: &R,
     limits: Limits,
@@ -87,14 +87,14 @@ fn time_runs<R: AllocGlobal + Clock + Eprint>(
     report(rt, "steps", second, &answers)
 }
 
-/// Times transactions of one put each, on few keys.
+/// Times transactions that each do one put, on few keys.
 pub(crate) fn time_puts<R: AllocGlobal + Clock + Eprint>(rt: &R, puts: u64) -> Result<()> {
     let limits = Limits::new(1, 64, 64).map_err(|refusal| anyhow!("refused {refusal}"))?;
     let steps = put_steps(rt.alloc(), puts)?;
     time_runs(rt, limits, &steps)
 }
 
-/// Times the reading of a step file's bytes as steps, and then the steps.
+/// Times how long reading the steps from a step file's bytes takes, and then times the steps.
 pub(crate) fn time_file<R: Runtime + AllocGlobal>(rt: &R, file: &str) -> Result<()> {
     let bytes = fs::read(rt, file).context("the step file")?;
     let watch = Stopwatch::start(rt)?;

@@ -1,26 +1,27 @@
-//! Times the nodes and cursors of the split-ordered list, as a table of 65,536 buckets uses them;
-//! the table beside other maps; the core; the shared map; the striped map; and the stripes as
-//! atomic words.
+//! Times six things: the nodes and cursors of the split-ordered list, as a table of 65,536 buckets
+//! uses them; the table beside other maps; the core; the shared map; the striped map; and the
+//! stripes as atomic words.
 //!
 //! Each phase writes one line on standard error: what it did, the number of operations, the time,
 //! and the sum of the operations' answers. By its sum a phase can be compared with another program
-//! that does the same. Three kinds of lines have another number in place of the sum: the shared map
-//! writes the number of commits, the reading of a step file the number of bytes, and the words the
-//! number of granted takes. The striped map writes how many transactions it does a second, the
-//! processor time of one, and the outcomes. Nothing is written on standard output.
+//! that does the same. Three kinds of lines have another number in place of the sum. The shared map
+//! writes the number of commits, the reading of a step file writes the number of bytes, and the
+//! words write the number of granted takes. The striped map writes the number of transactions in a
+//! second, the processor time of one transaction, and the outcomes. Nothing is written on standard
+//! output.
 //!
 //! The first argument names the part to run: `nodes`, `maps`, `core`, `shared`, `words` or
 //! `striped`. The default, `all`, runs all parts. For all parts but `striped`, the second argument
-//! is the number of keys (`nodes` and `maps`), of puts (`core` and `shared`) or of takes of each
-//! thread (`words`); the default is 10,000. Three parts have a third argument:
+//! is the number of keys (`nodes` and `maps`), of puts (`core` and `shared`) or of each thread's
+//! takes (`words`). The default is 10,000. Three parts have a third argument:
 //!
-//! - `core`: a step file, whose steps the core takes in place of puts on few keys.
-//! - `shared`: a script file, whose scripts are run in place of puts on few keys.
-//! - `words`: the number of threads, up to 64; the default is two.
+//! - `core`: a step file. The core takes its steps in place of puts on few keys.
+//! - `shared`: a script file. Its scripts are run in place of puts on few keys.
+//! - `words`: the number of threads, up to 64. The default is two.
 //!
-//! With `all`, these three are the third, the fourth and the fifth argument. `striped` is followed
-//! by the numbers of threads, keys, transactions of each thread and stripes, or by the first few of
-//! these.
+//! With `all`, these three are the third, the fourth and the fifth argument. For `striped`, the
+//! other arguments are the numbers of threads, of keys, of each thread's transactions and of
+//! stripes. The last ones may be omitted.
 #![tactic(auto)]
 
 mod any_map;
@@ -44,17 +45,17 @@ use std::env;
 use striped::{STRIPES, time_striped};
 use words::time_words;
 
-/// The number of keys, of mixed operations, of puts, of takes and of each thread's transactions, if
-/// no argument gives it.
+/// The default number of keys, of mixed operations, of puts, of each thread's takes, and of each
+/// thread's transactions.
 const FEW: u64 = 10_000;
 
 /// The number of mixed operations, if an argument gives the number of keys.
 const MANY: u64 = 1_000_000;
 
-/// The number of threads that take and give, or that run transactions, if no argument gives it.
+/// The default number of threads that take and give stripes, or that run transactions.
 const THREADS: u64 = 2;
 
-/// The number of keys of the transactions, if no argument gives it.
+/// The default number of keys that the transactions use.
 const KEYS: u64 = 1000;
 
 fn main(rt: HostRuntime) -> Result<()> {

@@ -12,14 +12,15 @@ use std::collections::{BTreeMap, HashMap};
 use std::time::Clock;
 use txn_words::{Op, Refusal};
 
-/// The largest sizes of the two tables, in buckets.
+/// The largest size of the small table (`BUCKETS`) and of the large table (`MANY_BUCKETS`), in
+/// buckets.
 const BUCKETS: u32 = 65_536;
 
 const MANY_BUCKETS: u32 = 1_048_576;
 
-/// Half of the operations look up a key, a quarter put one and a quarter take one. Their keys are
-/// drawn from twice as many keys as the map is filled with, so about half of the drawn keys are in
-/// the map.
+/// One operation of the mix. Half of the operations look up a key, a quarter put a key and a
+/// quarter take one. The keys are drawn from twice as many keys as the map is filled with, so about
+/// half of the drawn keys are in the map.
 fn mixed_op(position: u64, keys: u64) -> Op {
     let drawn = number_at(position.wrapping_add(1 << 40));
     let key = number_at((drawn >> 8) % keys.max(1).saturating_mul(2));
@@ -75,8 +76,8 @@ fn large_table(alloc: Global) -> Result<Table, AllocError> {
     Table::new(alloc, MANY_BUCKETS, 1)
 }
 
-/// Times a new table. It has two buckets, and only the first is stored; so the second is stored
-/// before the clock starts.
+/// Times a new table. It has two buckets, of which only the first is stored, so this function
+/// stores the second bucket before the clock starts.
 fn time_table<R: Clock + Eprint>(
     rt: &R,
     name: &str,

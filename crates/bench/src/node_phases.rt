@@ -1,7 +1,7 @@
 //! Times the nodes and cursors of the list, without the layers above: puts, look-ups, swaps, marks
-//! and sweeps. The operations are in `node_table`. This module says how many of each are done and
-//! in what order, and times them. Each phase works on the list that the phase before it left, so
-//! the sums depend on the order.
+//! and sweeps. The operations are in `node_table`. This module decides how many of each are done
+//! and in what order, and times them. Each phase starts with the list that the phase before it
+//! produced, so the sums depend on the order.
 use crate::keys::key_at;
 use crate::node_table::{NodeTable, SIZE};
 use crate::stopwatch::Stopwatch;
@@ -63,7 +63,7 @@ enum Phase {
     Sweep,
 }
 
-/// Does this number of operations of a phase.
+/// Does `count` operations of a phase.
 fn run_phase(table: &mut NodeTable, phase: Phase, count: u64) -> Result<u64, SpareFault> {
     match phase {
         Phase::Insert => insert_all(table, count),
@@ -96,9 +96,9 @@ fn time_phases<R: Clock + Eprint>(rt: &R, table: &mut NodeTable, keys: u64) -> R
     time_phase(rt, table, Phase::Get, "unlink", keys)
 }
 
-/// Times each phase: half of all keys are swapped, and a quarter of all keys are marked. Only a few
-/// of the marked nodes are swept, since each sweep walks to the first marked node that is left. The
-/// last look-ups unlink the others.
+/// Times each phase. Half of all keys are swapped, and a quarter of all keys are marked. Only a few
+/// of the marked nodes are swept, since each sweep walks to the first node that is still marked.
+/// The look-ups at the end unlink the other marked nodes.
 pub(crate) fn time_nodes<R: AllocGlobal + Clock + Eprint>(rt: &R, keys: u64) -> Result<()> {
     let watch = Stopwatch::start(rt)?;
     let mut table = NodeTable::new(rt.alloc()).map_err(|fault| anyhow!("{fault:?}"))?;

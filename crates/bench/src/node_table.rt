@@ -49,7 +49,7 @@ impl NodeTable {
         }
     }
 
-    /// Puts a key in, unless it is there already. Answers whether the key was put in.
+    /// Puts a key in, unless it is there already. Returns true if the key was put in.
     pub(crate) fn insert(&mut self, key: Key, value: u64) -> Result<bool, SpareFault> {
         let from = self.dummy_of(key);
         let node = put(
@@ -68,19 +68,19 @@ impl NodeTable {
         value_of(&mut self.list, from, SortKey::regular(key))
     }
 
-    /// Writes a new value at a key that is there, and answers the former value.
+    /// If a key is there, writes a new value at it and returns the former value.
     pub(crate) fn swap(&mut self, key: Key, value: u64) -> Option<u64> {
         let from = self.dummy_of(key);
         write(&mut self.list, from, SortKey::regular(key), value)
     }
 
-    /// Marks the node of a key that is there, and answers its value.
+    /// If a key is there, marks its node and returns its value.
     pub(crate) fn mark(&mut self, key: Key) -> Option<u64> {
         let from = self.dummy_of(key);
         take(&mut self.list, from, SortKey::regular(key))
     }
 
-    /// Unlinks the first marked node, and says whether there was one.
+    /// Unlinks the first marked node. Returns true if there was one.
     pub(crate) fn sweep(&mut self) -> bool {
         matches!(sweep(&mut self.list), SweepOutcome::Swept)
     }

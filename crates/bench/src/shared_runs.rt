@@ -1,6 +1,6 @@
 //! Times `run_scripts`, which runs scripts on a shared map, each worker in its own thread. Only the
-//! library is timed: scripts are made or read before, and the history is not printed.
-//! `docs/speed/run.sh` compares the times with plain Rust.
+//! library is timed: the scripts are made or read before the clock starts, and the history is not
+//! printed. `docs/speed/run.sh` compares the times with plain Rust.
 use crate::keys::number_at;
 use crate::stopwatch::Stopwatch;
 use anyhow::{Context, Result, anyhow, ensure};
@@ -19,7 +19,7 @@ const HOT_KEYS: u64 = 64;
 /// The largest number of times that a script is tried again.
 const TRIES: u64 = 1000;
 
-/// This number of scripts, each of one put.
+/// Makes `puts` scripts. Each script does one put.
 fn put_scripts(alloc: Global, puts: u64) -> Result<Vec<Script>, AllocError> {
     let mut scripts = Vec::new(alloc);
     for position in 0..puts {

@@ -1,8 +1,8 @@
 //! Times transactions on a striped map, with a caller for each thread.
 //!
-//! A transaction is four operations, drawn by a linear congruence: half puts, a quarter takes, a
-//! quarter gets. Every tenth transaction of a thread aborts. A transaction is tried again if
-//! another caller holds a stripe that it needs.
+//! A transaction does four operations, which a linear congruence draws: half are puts, a quarter
+//! takes, and a quarter gets. Every tenth transaction of a thread aborts. A transaction is tried
+//! again if another caller holds a stripe that it needs.
 use anyhow::{Result, anyhow, ensure};
 use std::alloc::{AllocError, Global};
 use std::sync::Wait;
@@ -15,7 +15,7 @@ use txn_words::{Op, Reply};
 /// The number of stripes, if no argument gives it.
 pub(crate) const STRIPES: u64 = 1024;
 
-/// Numbers that look random, the same as those of `docs/speed/striped.rs`.
+/// A generator of numbers that look random. `docs/speed/striped.rs` draws the same numbers.
 #[derive(Clone, Copy)]
 struct Dice {
     state: u64,
@@ -65,7 +65,7 @@ fn operate(caller: &mut Caller, op: Op) -> std::result::Result<Reply, Stop> {
     }
 }
 
-/// Runs these operations as one transaction, which then commits or aborts. Answers the sum of the
+/// Runs these operations as one transaction, which then commits or aborts. Returns the sum of the
 /// replies.
 fn transact(caller: &mut Caller, ops: &[Op; 4], aborts: bool) -> std::result::Result<u64, Stop> {
     let mut sum = 0u64;
@@ -168,7 +168,7 @@ fn sums_of(workers: &[Worker]) -> Result<(u64, u64, u64)> {
     Ok((busy, commits, sum))
 }
 
-/// Runs all workers. Answers two times in nanoseconds: the time by the clock, and the time of the
+/// Runs all workers. Returns two times in nanoseconds: the elapsed time, and the time of the
 /// processor.
 fn run_timed<R: Threads + Wait + Sync + Clock + CpuClock>(
     rt: &R,
@@ -210,8 +210,8 @@ fn time_workers<R: Threads + Wait + Sync + Clock + CpuClock + Eprint>(
 }
 
 /// Runs `threads` threads, each of which does `transactions` transactions. Writes one line on
-/// standard error: the number of transactions a second, the processor time of one, and the
-/// outcomes.
+/// standard error: the number of transactions in a second, the processor time of one transaction,
+/// and the outcomes.
 pub(crate) fn time_striped<R: Threads + Wait + Sync + AllocGlobal + Clock + CpuClock + Eprint>(
     rt: &R,
     threads: u64,

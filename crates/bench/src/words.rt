@@ -1,7 +1,7 @@
-//! Times a take and a give of free stripes by their atomic words.
+//! Times how threads take and give free stripes by their atomic words.
 //!
 //! Each thread takes a stripe and gives it back, over and over. If the number of threads is a power
-//! of two, no two of them take the same stripe.
+//! of two, no two threads take the same stripe.
 ghost use Rattle.std.specs.Prelude.{◌≡◌, ◌<◌, ◌≤◌, All};
 ghost use Rattle.key_words.specs.Seats.{IsOf, stripes_of};
 ghost use Rattle.bench.specs.Takers.{IsIdle};
@@ -35,7 +35,8 @@ struct Taker {
 
 impl Taker {
     /// Takes a stripe and gives it back, `takes` times, and counts the stripes that were free. Each
-    /// stripe is `step` after the one before.
+    /// stripe's index is `step` above the index of the stripe before it, modulo the number of
+    /// stripes.
     fn run(&mut self, takes: u64, step: u64) -> std::result::Result<(), AllocError> {
         let mut stripe = self.first % STRIPES;
         for _ in 0..takes {

@@ -1,6 +1,7 @@
-//! The program `boostmap`. `boostmap_program::run` decides what the program does with its words,
-//! its file and its outputs, and with which status it exits. Nothing is decided here. This is a
-//! crate apart from `boostmap_program`, since it needs a process: its runtime, memory and outputs.
+//! The program `boostmap`. `boostmap_program::run` decides what the program does with its
+//! command-line words, its file and its outputs, and with which status it exits. Nothing is decided
+//! here. This is a crate apart from `boostmap_program`, since it needs a process: the process's
+//! runtime, memory and outputs.
 #![tactic(auto)]
 
 use boostmap_program::run;

@@ -1,4 +1,4 @@
--- The entries that a referee was fed, after it is fed one more. Assumes nothing.
+-- What `FedAll` and `FedFront` say after a referee is fed one more entry. Assumes nothing.
 use Rattle.std.proofs.Common.{◌≡◌, ◌≢◌, ℕ, zero, suc, ◌+◌, ◌<◌, List, [], ◌∷◌, ◌++◌, length, take, get_or, sym, refl, subst}
 use Rattle.std.proofs.lemmas.List.{take_more}
 use Rattle.std.proofs.lemmas.Option.{slice_get-get_or}

@@ -1,4 +1,5 @@
--- The contracts of the checkers, for a referee that has one of them. Assumes nothing.
+-- If a checker meets its contract, a referee that has this checker meets the referee's contract.
+-- Assumes nothing.
 use Rattle.std.proofs.Common.{ℕ, List, [], ◌∷◌, ◌++◌}
 use Rattle.txn_words.specs.declared.entry.Entry.{Entry}
 use Rattle.txn_words.specs.declared.holder.Holder.{Holder}

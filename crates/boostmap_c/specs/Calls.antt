@@ -1,5 +1,6 @@
--- The effect of a call on a handle, in terms of the map that the handle owns before and after. A
--- handle without a map stays without one, except by `MakesMap`, and C is told that it is empty.
+-- The effect of a call on a handle, in terms of the map that the handle owns before and after. Only
+-- `MakesMap` gives a map to a handle that has none. For every other call on such a handle the
+-- status says that the handle is empty.
 use Rattle.std.specs.Prelude.{◌≡◌, ℕ, Option, Some, None, Result, Ok, Err}
 use Rattle.txn_words.specs.declared.answer.Answer.{Answer}
 use Rattle.txn_words.specs.declared.refusal.Refusal.{Refusal}
@@ -11,7 +12,7 @@ use Rattle.boost_core.specs.Machine.{State, start}
 use Rattle.boost_core.specs.Plain.{Helps}
 use Rattle.boostmap_c.specs.Replies.{done, empty_handle, full, refused, status_of_answer, word_after, status_of_result}
 
--- The map takes a step of this kind, and C is told the answer.
+-- The map takes a step of this kind, and the status and the word report the answer to C.
 abbrev pub TellsAnswer : (State → Answer → State → Type 0) → Option State → ℕ → ℕ → ℕ → Option State
     → Type 0
 TellsAnswer Steps (Some old) status before after (Some new) =
@@ -35,14 +36,14 @@ Counts (Some old) status before after (Some new) =
 Counts None status before after None = (status ≡ empty_handle) × (after ≡ before)
 Counts old status before after new = ⊥
 
--- A new map; or none, if its limits or memory are refused.
+-- There is a new map. There is none if its limits or memory are refused.
 abbrev pub MakesWithin : Result Sizes Refusal → ℕ → Option State → Type 0
 MakesWithin (Ok limits) status (Some new) = (status ≡ done) × (new ≡ start limits)
 MakesWithin (Ok limits) status None = status ≡ refused NoMemory
 MakesWithin (Err refusal) status (Some new) = ⊥
 MakesWithin (Err refusal) status None = status ≡ refused refusal
 
--- A handle without a map gets one; a handle with a map keeps it.
+-- A handle without a map gets one, unless the map is refused. A handle with a map keeps its map.
 abbrev pub MakesMap : Option State → ℕ → ℕ → ℕ → ℕ → Option State → Type 0
 MakesMap None callers stripes buckets status new =
     MakesWithin (limits_of callers stripes buckets) status new

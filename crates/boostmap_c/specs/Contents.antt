@@ -15,15 +15,16 @@ pub record Lie (pairs : List (ℕ × ℕ)) (before after : List CPair) : Type 0 
   pub front : take (length pairs) after ≡ map c_pair_of pairs
   pub rest : drop (length pairs) after ≡ drop (length pairs) before
 
--- At status 0 these pairs are at the front of the array, in this order; otherwise the array has too
--- few places and is unchanged. In both cases the word is the number of pairs.
+-- If the status is 0, these pairs are at the front of the array, in this order. Otherwise the array
+-- has too few places and is unchanged. In both cases the word is the number of pairs.
 abbrev pub LaysOf : List (ℕ × ℕ) → ℕ → List CPair → List CPair → ℕ → Type 0
 LaysOf pairs zero before after word = (word ≡ length pairs) × Lie pairs before after
 LaysOf pairs (suc status) before after word =
     (suc status ≡ short) × (word ≡ length pairs) × (length before < length pairs)
     × (after ≡ before)
 
--- The pairs were read, as `LaysOf` says; or memory was refused, and array and word are unchanged.
+-- Either the pairs were read, as `LaysOf` says, or memory was refused. If memory was refused, the
+-- array and the word are unchanged.
 abbrev pub ReadsOf : List (ℕ × ℕ) → ℕ → List CPair → List CPair → ℕ → ℕ → Type 0
 ReadsOf pairs status before after was word =
     LaysOf pairs status before after word

@@ -7,7 +7,7 @@ use Rattle.txn_words.specs.declared.entry.Entry.TheVariants.{Began, Asked, Did, 
 use Rattle.txn_words.specs.Kinds.{caller_of}
 use Rattle.boostmap_c.specs.declared.c_entry.CEntry.{CEntry}
 
--- A number that is there unless the flag is 0.
+-- The number, or none if the flag is 0.
 abbrev pub optional : ℕ → ℕ → Option ℕ
 optional flag number = if nat_eq flag 0 then None else Some number
 
@@ -19,7 +19,8 @@ op_of e =
     else (if nat_eq e.operation 3 then Some (Take e.key)
     else (if nat_eq e.operation 4 then Some (Get e.key) else None)))
 
--- The Asked entry and the Busy entry of an operation; none if there is no operation.
+-- The Asked entry with this operation, and the Busy entry with this operation. None if there is no
+-- operation.
 abbrev pub asked_entry_of : CEntry → Option Op → Option Entry
 asked_entry_of e None = None
 asked_entry_of e (Some op) = Some (Asked e.caller op)
@@ -28,8 +29,8 @@ abbrev pub busy_entry_of : CEntry → Option Op → Option Entry
 busy_entry_of e None = None
 busy_entry_of e (Some op) = Some (Busy e.caller op e.number)
 
--- The entry that the numbers stand for; none if no kind of entry has the number `kind`, or if an
--- Asked or a Busy has no operation.
+-- The entry that the numbers stand for. None if there is no kind of entry with the number `kind`,
+-- or if the kind is Asked or Busy and `operation` stands for no operation.
 abbrev pub entry_of : CEntry → Option Entry
 entry_of e =
     if nat_eq e.kind 1 then Some (Began e.caller e.number)
@@ -43,7 +44,7 @@ entry_of e =
     else (if nat_eq e.kind 9 then busy_entry_of e (op_of e)
     else (if nat_eq e.kind 10 then Some (Aborted e.caller) else None)))))))))
 
--- An entry that the checker takes: its caller is below 64.
+-- The entry, or none if its caller is not below 64. The checker accepts only callers below 64.
 abbrev pub accepted_entry : Option Entry → Option Entry
 accepted_entry None = None
 accepted_entry (Some entry) = if nat_le 64 (caller_of entry) then None else Some entry

@@ -31,27 +31,29 @@ verdict_of (Legal commits running) =
 verdict_of (Illegal entry rule) =
     record { is_legal = 0; commits = 0; running = 0; entry = entry; rule = number_of rule }
 
--- A referee before the first entry; or none, if memory is refused.
+-- There is a referee, which was fed no entry yet. There is none if memory is refused.
 abbrev pub BeginsWith : Way → ℕ → ℕ → Option Referee → Type 0
 BeginsWith way stripes status (Some new) = (status ≡ done) × IsFedBy way stripes [] new
 BeginsWith way stripes status None = status ≡ refused NoMemory
 
--- A referee by this rule; none if there is no rule.
+-- There is a referee for this rule, unless memory is refused. There is none if there is no rule.
 abbrev pub BeginsFor : Option Way → ℕ → ℕ → Option Referee → Type 0
 BeginsFor None stripes status new = (status ≡ refused Limit) × (new ≡ None)
 BeginsFor (Some way) stripes status new = BeginsWith way stripes status new
 
--- A handle without a referee gets one; a handle with one keeps it.
+-- A handle without a referee gets one, unless the referee is refused. A handle with a referee keeps
+-- its referee.
 abbrev pub BeginsJudging : Option Referee → ℕ → ℕ → ℕ → Option Referee → Type 0
 BeginsJudging None stripes number status new = BeginsFor (way_for stripes number) stripes status new
 BeginsJudging (Some old) stripes number status new = (status ≡ full) × (new ≡ Some old)
 
--- The entry is fed; or memory is refused.
+-- If the status is 0, the entry is fed. Otherwise memory is refused, and nothing is fed.
 abbrev pub FedOrRefused : ℕ → Entry → Referee → Referee → Type 0
 FedOrRefused zero entry old new = IsFedOneMore entry old new
 FedOrRefused (suc status) entry old new = (suc status ≡ refused NoMemory) × Stays old new
 
--- If the numbers stand for no entry, nothing is fed and C is told so.
+-- If the numbers stand for an entry, the entry is fed or memory is refused. If not, nothing is fed,
+-- and the status is `no_entry`.
 abbrev pub FeedsEntry : Option Entry → Referee → ℕ → Referee → Type 0
 FeedsEntry None old status new = (status ≡ no_entry) × (new ≡ old)
 FeedsEntry (Some entry) old status new = FedOrRefused status entry old new
@@ -67,8 +69,8 @@ FedAll [] old new = new ≡ old
 FedAll (e ∷ entries) old new =
     (between : Referee) × FeedsEntry (judged_entry e) old done between × FedAll entries between new
 
--- At status 0 all entries are fed, and `count` is their number. Otherwise only the entries before
--- place `count` are fed, and the status says why the entry at that place is not fed.
+-- If the status is 0, all entries are fed, and `count` is their number. Otherwise only the entries
+-- before place `count` are fed, and the status says why the entry at that place is not fed.
 abbrev pub FedFront : List CEntry → Referee → ℕ → ℕ → Referee → Type 0
 FedFront entries old zero count new = (count ≡ length entries) × FedAll entries old new
 FedFront entries old (suc status) count new =
@@ -81,7 +83,7 @@ FeedsAll (Some old) entries status before after (Some new) = FedFront entries ol
 FeedsAll None entries status before after None = (status ≡ empty_handle) × (after ≡ before)
 FeedsAll old entries status before after new = ⊥
 
--- C is told the referee's verdict on the entries that the referee was fed.
+-- C gets the referee's verdict on the entries that the referee was fed.
 abbrev pub TellsVerdict : Option Referee → ℕ → CVerdict → CVerdict → Option Referee → Type 0
 TellsVerdict (Some old) status before after (Some new) =
     (new ≡ old) × (status ≡ done)

@@ -1,4 +1,4 @@
--- The handle's pointer once a reference to its member has ended.
+-- The pointer of a handle after a reference to the member has ended.
 use Rattle.std.specs.Prelude.{Some}
 use Rattle.std.specs.Borrow.{Fml, MutBor, Lends}
 use Rattle.boostmap_c.specs.declared.member.Member.{Member}
@@ -6,12 +6,12 @@ use Rattle.boostmap_c.specs.contracts.member.Member.{the_row as member_row}
 use Rattle.boostmap_c.specs.declared.member_pointer.MemberPointer.{MemberPointer}
 use Rattle.boostmap_c.specs.contracts.member_pointer.MemberPointer.{the_row}
 
--- The pointer with another member at it.
+-- The pointer with the same address, and with this member there.
 abbrev pub with_member : MemberPointer → Member → MemberPointer
 with_member pointer member = record { at = pointer.at; member = Some member }
 
--- When the reference ends, the member at the pointer is the one that the reference then has. The
--- address is unchanged.
+-- When the reference ends, the pointer's member is the member that the reference has at that
+-- moment. The address is unchanged.
 abbrev pub LendsMember : MutBor MemberPointer → MutBor Member → Fml
 LendsMember pointer reference =
     Lends the_row member_row pointer reference (with_member pointer.now)

@@ -1,6 +1,6 @@
 -- The effect of a striped map's call on a handle, in terms of the member that the handle owns
--- before and after. An empty handle stays empty, except by `Opens` and `Joins`, and C is told that
--- it is empty.
+-- before and after. Only `Opens` and `Joins` give a member to an empty handle. For every other call
+-- on an empty handle the status says that the handle is empty.
 use Rattle.std.specs.Prelude.{◌≡◌, ℕ, ◌+◌, ◌<◌, ◌&&◌, nat_le, Bool, true, [], ◌∷◌, ◌++◌, length, Option, Some, None, Result, if◌then◌else◌}
 use Rattle.std.specs.List.{HoldsAt}
 use Rattle.txn_words.specs.declared.refusal.Refusal.TheVariants.{NoMemory, NoSuchCaller, Limit}
@@ -12,8 +12,8 @@ use Rattle.boostmap_c.specs.declared.member.Member.{Member}
 use Rattle.boostmap_c.specs.Replies.{done, empty_handle, full, refused}
 use Rattle.boostmap_c.specs.Stops.{status_of_reply, word_of_reply, status_of_number, word_of_number, status_of_end}
 
--- The member's caller makes a call that answers a value or none, and C is told the answer. The
--- callers that wait still wait.
+-- The member's caller makes a call that returns a value or none. The status and the word report the
+-- result to C. The waiting callers are unchanged.
 abbrev pub TellsReply : (Caller → Result (Option ℕ) Stop → Caller → Type 0) → Option Member → ℕ → ℕ
     → ℕ → Option Member → Type 0
 TellsReply Calls (Some old) status before after (Some new) =
@@ -23,7 +23,8 @@ TellsReply Calls (Some old) status before after (Some new) =
 TellsReply Calls None status before after None = (status ≡ empty_handle) × (after ≡ before)
 TellsReply Calls old status before after new = ⊥
 
--- The member's caller makes a call that answers a number, and C is told the answer.
+-- The member's caller makes a call that returns a number. The status and the word report the result
+-- to C. The waiting callers are unchanged.
 abbrev pub TellsNumber : (Caller → Result ℕ Stop → Caller → Type 0) → Option Member → ℕ → ℕ → ℕ
     → Option Member → Type 0
 TellsNumber Calls (Some old) status before after (Some new) =
@@ -32,7 +33,8 @@ TellsNumber Calls (Some old) status before after (Some new) =
 TellsNumber Calls None status before after None = (status ≡ empty_handle) × (after ≡ before)
 TellsNumber Calls old status before after new = ⊥
 
--- The member's caller makes a call that answers nothing, and C is told the status.
+-- The member's caller makes a call that returns no value. The status reports the result to C. The
+-- waiting callers are unchanged.
 abbrev pub TellsEnd : (Caller → Result Unit Stop → Caller → Type 0) → Option Member → ℕ
     → Option Member → Type 0
 TellsEnd Calls (Some old) status (Some new) =
@@ -46,8 +48,9 @@ abbrev pub are_striped_limits : ℕ → ℕ → Bool
 are_striped_limits callers stripes =
     (nat_le 1 callers && nat_le callers 4096) && (nat_le 1 stripes && nat_le stripes 4096)
 
--- The first member of a map. No caller of the map has made a call. The member's own caller has the
--- last number; the other callers wait in the member, in the order of their numbers from 1.
+-- The first member of a map, before any caller of the map has made a call. The member's own caller
+-- has the largest number. The other callers wait in the member, in the order of their numbers from
+-- 1.
 pub record IsFirstMember (callers stripes : ℕ) (m : Member) : Type 0 where
   pub map : StripedMap
   pub caller : IsNew map stripes callers m.caller
@@ -55,7 +58,7 @@ pub record IsFirstMember (callers stripes : ℕ) (m : Member) : Type 0 where
   pub waiting : (place : ℕ) → place + 1 < callers
       → HoldsAt (IsNew map stripes (place + 1)) m.waiting.items place
 
--- The first member of a new map; or none, if the map's limits or memory are refused.
+-- There is the first member of a new map. There is none if the map's limits or memory are refused.
 abbrev pub OpensAt : ℕ → ℕ → ℕ → ℕ → ℕ → Option Member → Type 0
 OpensAt callers stripes status before after (Some new) =
     (are_striped_limits callers stripes ≡ true) × (status ≡ done) × (after ≡ callers)
@@ -64,7 +67,8 @@ OpensAt callers stripes status before after None =
     (status ≡ refused (if are_striped_limits callers stripes then NoMemory else Limit))
     × (after ≡ before)
 
--- An empty handle gets the first member of a map; a handle with a member keeps it.
+-- An empty handle gets the first member of a new map, unless the map is refused. A handle with a
+-- member keeps its member.
 abbrev pub Opens : Option Member → ℕ → ℕ → ℕ → ℕ → ℕ → Option Member → Type 0
 Opens None callers stripes status before after new =
     OpensAt callers stripes status before after new
@@ -75,9 +79,9 @@ Opens (Some old) callers stripes status before after new =
 abbrev pub IsSame : Member → Member → Type 0
 IsSame old new = (new.caller ≡ old.caller) × (new.waiting.items ≡ old.waiting.items)
 
--- The last caller that waits gets its own member, in which no caller waits. The word is the number
--- of the callers that waited, which by `IsFirstMember` is the number of this caller. If no caller
--- waits or memory is refused, no member is made.
+-- The last waiting caller gets its own member, in which no caller waits. The word is the number of
+-- callers that waited before the call, which by `IsFirstMember` is the number of this caller. If no
+-- caller waits or memory is refused, no member is made.
 abbrev pub JoinsOf : Member → ℕ → ℕ → ℕ → Member → Option Member → Type 0
 JoinsOf old status before after new (Some made) =
     (new.caller ≡ old.caller) × (old.waiting.items ≡ new.waiting.items ++ made.caller ∷ [])
@@ -86,7 +90,8 @@ JoinsOf old status before after new None =
     IsSame old new × (after ≡ before)
     × (status ≡ refused (if nat_le 1 (length old.waiting.items) then NoMemory else NoSuchCaller))
 
--- A caller joins, through two handles; the second must be empty.
+-- A waiting caller of the first handle's member joins: it gets the second handle, which must be
+-- empty.
 abbrev pub Joins : Option Member → Option Member → ℕ → ℕ → ℕ → Option Member → Option Member
     → Type 0
 Joins (Some old) None status before after (Some new) made = JoinsOf old status before after new made

@@ -1,4 +1,4 @@
--- The entries that a referee was fed, by its rule, and the meaning of its verdict.
+-- Which entries a referee was fed, and what its verdict means. Both depend on its rule.
 use Rattle.std.specs.Prelude.{ℕ, ◌<◌, ◌++◌, [], ◌∷◌, List}
 use Rattle.txn_words.specs.declared.entry.Entry.{Entry}
 use Rattle.history_check.specs.declared.verdict.Verdict.{Verdict}
@@ -16,13 +16,13 @@ abbrev pub has_stripes : Way → ℕ → Type 0
 has_stripes (ByLocks holder) stripes = 0 < stripes
 has_stripes ByCommits stripes = Unit {0}
 
--- The referee judges in this way, and was fed these entries, of a map with this number of stripes.
+-- The referee judges by this rule. It was fed these entries of a map with this number of stripes.
 abbrev pub IsFedBy : Way → ℕ → List Entry → Referee → Type 0
 IsFedBy (ByLocks holder) stripes h (Locks checker) = by_locks.IsFed holder stripes h checker
 IsFedBy ByCommits stripes h (Commits checker) = by_commits.IsFed h checker
 IsFedBy way stripes h referee = ⊥
 
--- The verdict of the rule's definition on these entries.
+-- The outcome is the verdict that the rule's definition gives on these entries.
 abbrev pub IsVerdictBy : Way → ℕ → List Entry → Verdict → Type 0
 IsVerdictBy (ByLocks holder) stripes h outcome = on_locks.IsVerdictOn holder stripes h outcome
 IsVerdictBy ByCommits stripes h outcome = on_commits.IsVerdictOn h outcome
@@ -39,7 +39,8 @@ Stays old new =
     (way : Way) (stripes : ℕ) (h : List Entry)
     → IsFedBy way stripes h old → IsFedBy way stripes h new
 
--- Whichever entries the referee was fed, the outcome is its rule's verdict on them.
+-- The outcome is the verdict of the referee's rule on the entries that the referee was fed,
+-- whichever they are.
 abbrev pub IsVerdictOf : Referee → Verdict → Type 0
 IsVerdictOf referee outcome =
     (way : Way) (stripes : ℕ) (h : List Entry)

@@ -1,4 +1,4 @@
--- An answer as C is told it: a status, and for some answers a word.
+-- How an answer is reported to C: by a status, and for some answers also by a word.
 use Rattle.std.specs.Prelude.{ℕ, ◌+◌, Some, None, Result, Ok, Err}
 use Rattle.txn_words.specs.declared.answer.Answer.{Answer}
 use Rattle.txn_words.specs.declared.answer.Answer.TheVariants.{Began, Busy, Done, Returned, Aborted, Saved, Committed, Refused}
@@ -9,7 +9,7 @@ use Rattle.txn_words.specs.Refusals.{number_of}
 abbrev pub done : ℕ
 done = 0
 
--- The status of a call that is done at a key without a value.
+-- The status of a call that was done at a key that had no value.
 abbrev pub absent : ℕ
 absent = 1
 
@@ -25,11 +25,11 @@ empty_handle = 3
 abbrev pub full : ℕ
 full = 4
 
--- The status of an array that is too short.
+-- The status of a call whose array is too short.
 abbrev pub short : ℕ
 short = 7
 
--- The status of numbers that stand for no entry.
+-- The status of a call whose numbers stand for no entry.
 abbrev pub no_entry : ℕ
 no_entry = 8
 
@@ -37,7 +37,7 @@ no_entry = 8
 abbrev pub refused : Refusal → ℕ
 refused refusal = 16 + number_of refusal
 
--- The status of an answer. No call that C can make has an answer other than these.
+-- The status of an answer. It is 63 for the answers that no call of C can have.
 abbrev pub status_of_answer : Answer → ℕ
 status_of_answer (Done None) = absent
 status_of_answer (Done (Some value)) = done
@@ -50,7 +50,7 @@ status_of_answer (Busy holder) = busy
 status_of_answer (Refused refusal) = refused refusal
 status_of_answer other = 63
 
--- The word after an answer: still `before` if the answer has no word.
+-- The word after an answer. It is still `before` if the answer has no word.
 abbrev pub word_after : ℕ → Answer → ℕ
 word_after before (Done (Some value)) = value
 word_after before (Began transaction) = transaction

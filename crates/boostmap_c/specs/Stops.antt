@@ -1,10 +1,11 @@
--- The answers of a striped map as C is told them: a status, and for some answers a word.
+-- How the result of a striped map's call is reported to C: by a status, and for some results also
+-- by a word.
 use Rattle.std.specs.Prelude.{ℕ, Option, Some, None, Result, Ok, Err}
 use Rattle.map_answers.specs.declared.stop.Stop.{Stop}
 use Rattle.map_answers.specs.declared.stop.Stop.TheVariants.{Busy, Refused}
 use Rattle.boostmap_c.specs.Replies.{done, absent, busy, refused}
 
--- The status and the word of the reason why a call was not done.
+-- The status and the word for the reason why a call was not done.
 abbrev pub status_of_stop : Stop → ℕ
 status_of_stop (Busy holder) = busy
 status_of_stop (Refused refusal) = refused refusal
@@ -13,7 +14,7 @@ abbrev pub word_of_stop : ℕ → Stop → ℕ
 word_of_stop before (Busy holder) = holder
 word_of_stop before (Refused refusal) = before
 
--- The status and the word of an answer that is a value or none.
+-- The status and the word for a call that returns a value or none.
 abbrev pub status_of_reply : Result (Option ℕ) Stop → ℕ
 status_of_reply (Ok None) = absent
 status_of_reply (Ok (Some value)) = done
@@ -24,7 +25,7 @@ word_of_reply before (Ok None) = before
 word_of_reply before (Ok (Some value)) = value
 word_of_reply before (Err stop) = word_of_stop before stop
 
--- The status and the word of an answer that is a number.
+-- The status and the word for a call that returns a number.
 abbrev pub status_of_number : Result ℕ Stop → ℕ
 status_of_number (Ok number) = done
 status_of_number (Err stop) = status_of_stop stop
@@ -33,7 +34,7 @@ abbrev pub word_of_number : ℕ → Result ℕ Stop → ℕ
 word_of_number before (Ok number) = number
 word_of_number before (Err stop) = word_of_stop before stop
 
--- The status of a call that answers nothing. It has no word.
+-- The status for a call that returns no value. Such a call writes no word.
 abbrev pub status_of_end : Result Unit Stop → ℕ
 status_of_end (Ok nothing) = done
 status_of_end (Err stop) = status_of_stop stop

@@ -1,6 +1,6 @@
--- The effect of each call of a striped map's caller, for each answer, in the words of the map's
--- contracts. The history that the caller has seen continues with entries of other callers, and then
--- with exactly the entries that are listed here.
+-- The effect of each call of a striped map's caller, for each result, in terms of the map's
+-- contracts. A call extends the history that the caller has seen: first by entries of other
+-- callers, and then by exactly the entries that are listed here.
 use Rattle.std.specs.Prelude.{◌≡◌, ℕ, ◌<◌, ◌≤◌, ◌%◌, ◌^◌, [], ◌∷◌, true, false, Option, Some, None, Result, Ok, Err, if◌then◌else◌}
 use Rattle.txn_words.specs.declared.entry.Entry.TheVariants.{Began, Asked, Did, Saved, Leave, Returned, Committed, Aborted}
 use Rattle.txn_words.specs.declared.op.Op.{Op}
@@ -12,26 +12,27 @@ use Rattle.striped_map.specs.Callers.{number, seen, levels, changes_made, change
 use Rattle.striped_map.specs.Lone.{RunsAlone}
 use Rattle.striped_map.specs.Steps.{undoing}
 
--- A transaction has begun; or there was one already.
+-- Either a transaction has begun, or the caller was already in one.
 abbrev pub Begins : Caller → Result Unit Stop → Caller → Type 0
 Begins a (Ok nothing) b = (a.is_open ≡ false) × (b.is_open ≡ true)
     × (txn : ℕ) × IsStep a (Began (number a) txn ∷ []) b
 Begins a (Err stop) b = (stop ≡ Refused AlreadyOpen) × (a.is_open ≡ true) × (b ≡ a)
 
--- The operation has its reply; or it was stopped.
+-- Either the operation was done and has its reply, or it was stopped.
 abbrev pub Operates : Op → Caller → Result (Option ℕ) Stop → Caller → Type 0
 Operates op a (Ok reply) b = (a.is_open ≡ true) × (b.is_open ≡ true)
     × IsStep a (Asked (number a) op ∷ Did (number a) reply ∷ []) b
 Operates op a (Err stop) b = IsStopped a op b stop
 
--- There is one more savepoint, of this level; or the transaction is unchanged.
+-- Either there is one more savepoint, with this level, or the call is refused and the transaction
+-- is unchanged.
 abbrev pub Saves : Caller → Result ℕ Stop → Caller → Type 0
 Saves a (Ok level) b = (a.is_open ≡ true) × (b.is_open ≡ true) × (level ≡ levels b)
     × IsStep a (Saved (number a) ∷ []) b
 Saves a (Err stop) b = (stop ≡ Refused (if a.is_open then NoMemory else NotOpen))
     × (b.is_open ≡ a.is_open) × IsStep a [] b
 
--- The changes above the level are taken back; or there is no such level, or no transaction.
+-- Either the changes above the level are taken back, or there is no such level or no transaction.
 abbrev pub Returns : ℕ → Caller → Result Unit Stop → Caller → Type 0
 Returns level a (Ok nothing) b = (a.is_open ≡ true) × (b.is_open ≡ true) × (level ≤ levels a)
     × IsStep a (Leave (number a) (Some level)
@@ -39,16 +40,16 @@ Returns level a (Ok nothing) b = (a.is_open ≡ true) × (b.is_open ≡ true) ×
 Returns level a (Err stop) b = (stop ≡ Refused (if a.is_open then NoSuchLevel else NotOpen))
     × (a.is_open ≡ true → levels a < level) × (b ≡ a)
 
--- The transaction is committed, and its commit number is told modulo 2^64; or there is no
--- transaction. A committed transaction has the same replies as if it ran alone on the map that the
--- earlier commits leave.
+-- Either the transaction is committed, and the result is its commit number modulo 2^64, or there is
+-- no transaction. A committed transaction has the same replies as if it ran alone on the map that
+-- the earlier commits leave.
 abbrev pub Commits : Caller → Result ℕ Stop → Caller → Type 0
 Commits a (Ok found) b = (a.is_open ≡ true) × (b.is_open ≡ false)
     × (place : ℕ) × (found ≡ place % 2 ^ 64) × IsStep a (Committed (number a) place ∷ []) b
     × RunsAlone (number a) place (seen b)
 Commits a (Err stop) b = (stop ≡ Refused NotOpen) × (a.is_open ≡ false) × (b ≡ a)
 
--- All changes are taken back, and the transaction is over; or there is no transaction.
+-- Either all changes are taken back and the transaction is over, or there is no transaction.
 abbrev pub Aborts : Caller → Result Unit Stop → Caller → Type 0
 Aborts a (Ok nothing) b = (a.is_open ≡ true) × (b.is_open ≡ false)
     × IsStep a (Leave (number a) None ∷ undoing (number a) (changes_made a) (Aborted (number a))) b

@@ -1,5 +1,5 @@
--- The content of a whole striped map, as a caller tells it to C: the caller takes every stripe, so
--- no other caller can change the map meanwhile.
+-- How a caller reads the content of a whole striped map for C. The caller takes every stripe, so no
+-- other caller can change the map meanwhile.
 use Rattle.std.specs.Prelude.{◌≡◌, ◌⊎◌, ℕ, List, [], true, Option, Some, None, Result, Ok, Err}
 use Rattle.txn_words.specs.Map.{count_of}
 use Rattle.txn_trace.specs.Now.{now}
@@ -12,17 +12,17 @@ use Rattle.boostmap_c.specs.Contents.{LaysOf}
 use Rattle.boostmap_c.specs.Replies.{empty_handle}
 use Rattle.boostmap_c.specs.Stops.{status_of_stop, word_of_stop}
 
--- The caller is in a transaction, before and after, and has added no entry.
+-- The caller is in a transaction before and after the call, and has added no entry.
 abbrev pub Looks : Caller → Caller → Type 0
 Looks a b = (a.is_open ≡ true) × (b.is_open ≡ true) × IsStep a [] b
 
--- The number of keys of the map; or the reason why it is not told.
+-- The result is the number of keys of the map, or the reason why the call was not done.
 abbrev pub Counts : Caller → Result ℕ Stop → Caller → Type 0
 Counts a (Ok count) b = Looks a b × (count ≡ count_of (now (seen b)))
 Counts a (Err stop) b = IsCut a b stop
 
--- The pairs of the map, by rising keys, or only their number if the array is too short; or the
--- reason why neither is told.
+-- C gets the pairs of the map, by rising keys. If the array is too short, C gets only their number.
+-- If the call was not done, the status gives the reason.
 abbrev pub ReadsMap : Option Member → ℕ → List CPair → List CPair → ℕ → ℕ → Option Member → Type 0
 ReadsMap (Some old) status before after was word (Some new) =
     (new.waiting ≡ old.waiting)

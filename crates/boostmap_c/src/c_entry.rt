@@ -1,6 +1,7 @@
-//! An entry of a history as C writes it, and the entry that it stands for. C passes numbers, not an
-//! enum: if the numbers stand for no entry, nothing is fed, and the call answers 8. Only this
-//! module reads the numbers, so a checker is fed only entries of callers below 64, as it requires.
+//! An entry of a history as numbers that C writes, and the entry that these numbers stand for. C
+//! passes numbers and no enum. If the numbers stand for no entry, nothing is fed and the call
+//! returns 8. Only this module reads the numbers, so a checker is fed only entries whose caller is
+//! below 64, as the checker requires.
 ghost use Rattle.std.specs.Prelude.{◌≡◌, ◌<◌, Some, IfSome};
 ghost use Rattle.txn_words.specs.Kinds.{caller_of};
 ghost use Rattle.boostmap_c.specs.Entries.{asked_entry_of, busy_entry_of, entry_of, judged_entry, op_of, optional, accepted_entry};
@@ -44,22 +45,25 @@ pub struct CEntry {
     pub kind: u32,
     /// For asked and busy: 1 put, 2 put if, 3 take, 4 get.
     pub operation: u32,
-    /// The caller whose entry it is, below 64.
+    /// The number of the entry's caller, below 64.
     pub caller: u64,
     /// The operation's key.
     pub key: u64,
-    /// The operation's value, or the reply.
+    /// The operation's value or, for did, the reply.
     pub value: u64,
-    /// The value that a put if expects.
+    /// The value that a `put if` operation expects.
     pub expected: u64,
-    /// The transaction, commit number, level or holder.
+    /// The transaction of began, the commit number of committed, the level of leave and returned,
+    /// or the holder that busy names.
     pub number: u64,
-    /// Whether there is a reply, an expected value, or a level to go back to: 0 if not.
+    /// 0 if did has no reply, put if expects no value, or leave has no level to go back to. Any
+    /// other number if there is one.
     pub has: u64,
 }
 
 impl CEntry {
-    /// The entry that it stands for, if its kind and operation exist and its caller is below 64.
+    /// The entry that these numbers stand for, if the kind and the operation exist and the caller
+    /// is below 64.
     pub(crate) fn judged(&self) -> Option<Entry>
         ensures value { result ≡ judged_entry self.now }
         ensures caller { IfSome result (λ entry. caller_of entry < 64) }
@@ -70,7 +74,7 @@ impl CEntry {
         }
     }
 
-    /// The entry that it stands for, if its kind and operation exist.
+    /// The entry that these numbers stand for, if the kind and the operation exist.
     fn entry(&self) -> Option<Entry>
         ensures { result ≡ entry_of self.now }
     {
@@ -107,7 +111,7 @@ impl CEntry {
         None
     }
 
-    /// The Asked entry of its operation, if that operation exists.
+    /// The Asked entry that these numbers stand for, if the operation exists.
     fn asked(&self) -> Option<Entry>
         ensures { result ≡ asked_entry_of self.now (op_of self.now) }
     {
@@ -117,7 +121,7 @@ impl CEntry {
         }
     }
 
-    /// The Busy entry of its operation, if that operation exists.
+    /// The Busy entry that these numbers stand for, if the operation exists.
     fn busy(&self) -> Option<Entry>
         ensures { result ≡ busy_entry_of self.now (op_of self.now) }
     {
@@ -127,7 +131,7 @@ impl CEntry {
         }
     }
 
-    /// Its operation, if `operation` names one.
+    /// The operation that these numbers stand for, if `operation` names one.
     fn op(&self) -> Option<Op>
         ensures { result ≡ op_of self.now }
     {
@@ -146,7 +150,7 @@ impl CEntry {
         None
     }
 
-    /// This number if `has` is not 0, else none.
+    /// Returns `number` if `has` is not 0, and `None` if it is 0.
     fn optional(&self, number: u64) -> Option<u64>
         ensures { result ≡ optional self.now.has number }
     {
@@ -157,7 +161,7 @@ impl CEntry {
     }
 }
 
-/// An entry, if its caller is below 64.
+/// Returns the entry if its caller is below 64, and `None` if not.
 fn taken(entry: Entry) -> Option<Entry>
     ensures value { result ≡ accepted_entry (Some entry) }
     ensures caller { IfSome result (λ entry. caller_of entry < 64) }

@@ -1,6 +1,6 @@
-//! The owning half of a handle: a pointer to a core, with the type erased, since no type that holds
-//! a `Vec` may be named behind a pointer that C sees. Only the three functions here touch the
-//! pointer; each costs nothing.
+//! The half of a handle that owns the core: a pointer whose type is erased, since C may see no
+//! pointer to a type that holds a `Vec`. Only the three functions of this module touch the pointer.
+//! Each of them costs nothing.
 ghost use Rattle.std.specs.Prelude.{◌≡◌, Option, Some, None, IsSome};
 ghost use Rattle.boost_core.specs.State.{State};
 
@@ -9,7 +9,7 @@ use owned_pointer::OwnedPointer;
 use std::marker::Model;
 use std::ptr;
 
-/// A core on the heap, or none.
+/// A pointer that owns a core on the heap, or nothing.
 #[repr(C)]
 #[derive(Drop)]
 pub struct CorePointer {
@@ -34,7 +34,7 @@ impl CorePointer {
         }
     }
 
-    /// The pointer with its type erased.
+    /// Erases the type of a pointer.
     pub(crate) fn erase(core: OwnedPointer<Core>) -> CorePointer
         ensures { result.core ≡ Some core.value }
     {
@@ -42,7 +42,7 @@ impl CorePointer {
         CorePointer { at: at as *mut () }
     }
 
-    /// The pointer with its type again.
+    /// Gives the pointer its type back.
     pub(crate) fn restore(self) -> OwnedPointer<Core>
         requires { IsSome self.core }
         ensures { self.core ≡ Some result.value }

@@ -1,6 +1,6 @@
-//! The handle that C keeps, and the functions that take a map out of it and put one into it. No
+//! The handle that C keeps, and the functions that take a map out of it and put a map into it. No
 //! export sees the pointer: the tag says whether there is a map. So a call on an empty handle,
-//! except `boostmap_new`, answers 3 and touches nothing.
+//! except `boostmap_new`, returns 3 and changes nothing.
 ghost use Rattle.std.specs.Prelude.{◌≡◌, Some, None, IfSome, IsNone, true, false, is_some};
 ghost use Rattle.boostmap_c.specs.Held.{takes_stripes};
 
@@ -14,7 +14,7 @@ use std::mem;
 /// compare or write it.
 const LIVE: u64 = 0x7061_6d62;
 
-/// The handle of a map in C's memory: all zeros, or a map.
+/// The handle of a map in C's memory. It is all zeros, or owns a map.
 #[repr(C)]
 #[derive(Drop)]
 pub struct Handle {
@@ -25,7 +25,7 @@ pub struct Handle {
 }
 
 impl Handle {
-    /// Whether it has a map.
+    /// Returns true if the handle has a map.
     pub(crate) fn is_live(&self) -> bool
         ensures { result ≡ is_some self.now.held.core }
     {
@@ -33,7 +33,8 @@ impl Handle {
     }
 }
 
-/// Takes the map out of a handle, if it has one; the handle is then all zeros.
+/// If the handle has a map, takes the map out and leaves the handle all zeros. If it has none,
+/// returns `None`.
 pub(crate) fn open(alloc: Global, handle: &mut Handle) -> Option<Box<Core, Global>>
     ensures some { IfSome result (λ core. (handle.old.held.core ≡ Some core.value)
         × (core.value.words ≡ false)) }
@@ -62,7 +63,7 @@ pub(crate) fn close(handle: &mut Handle, core: Box<Core, Global>)
     };
 }
 
-/// Answers this value, which may go to another thread.
+/// Returns this value. A call compiles only if the value may be sent to another thread.
 pub(crate) fn sends<T: Send>(value: T) -> T
     ensures { result ≡ value }
 {

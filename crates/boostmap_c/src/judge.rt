@@ -1,6 +1,7 @@
-//! The judge of histories for C: a checker, of `history_check` or of `serial_check`, behind its own
-//! handle, fed entry by entry. It needs no map of this library: entries are C's numbers. Invariant:
-//! the tag says whether the handle has a checker. A feed that is refused memory may be made again.
+//! The judge of histories for C: a checker, of `history_check` or of `serial_check`, behind a
+//! handle of its own. It is fed entry by entry. It needs no map of this library, since entries are
+//! C's numbers. Invariant: the tag says whether the handle has a checker. If memory is refused to a
+//! feed, the feed may be repeated.
 ghost use Rattle.std.specs.Prelude.{◌≡◌, ◌<◌, Some, None, IfSome, IsNone, true, is_some};
 ghost use Rattle.boostmap_c.specs.Judges.{BeginsJudging, FedFront, Feeds, FeedsAll, FeedsEntry, Frees, TellsVerdict, verdict_of, way_for};
 ghost use Rattle.boostmap_c.specs.Entries.{judged_entry};
@@ -20,7 +21,7 @@ use txn_trace::{Holder, Refusal};
 /// The tag of a handle with a checker: the bytes of "bmju".
 const LIVE: u64 = 0x756a_6d62;
 
-/// The handle of a judge in C's memory: all zeros, or a checker.
+/// The handle of a judge in C's memory. It is all zeros, or owns a checker.
 #[repr(C)]
 #[derive(Drop)]
 pub struct Judge {
@@ -36,18 +37,18 @@ pub struct Judge {
 pub struct CVerdict {
     /// 1 if no entry breaks a rule, else 0.
     pub is_legal: u64,
-    /// The number of committed transactions, if it is legal.
+    /// If the history is legal, the number of committed transactions.
     pub commits: u64,
-    /// The number of callers that are in a transaction, if it is legal.
+    /// If the history is legal, the number of callers that are in a transaction.
     pub running: u64,
-    /// The index of the first entry that breaks a rule, from 0, if it is not legal.
+    /// If the history is not legal, the index (from 0) of the first entry that breaks a rule.
     pub entry: u64,
-    /// The rule that it breaks: 1 replies, 2 locks, 3 shape.
+    /// If the history is not legal, the rule that this entry breaks: 1 replies, 2 locks, 3 shape.
     pub rule: u64,
 }
 
 impl Judge {
-    /// Whether it has a checker.
+    /// Returns true if the handle has a checker.
     fn is_live(&self) -> bool
         ensures { result ≡ is_some self.now.held.referee }
     {
@@ -55,7 +56,8 @@ impl Judge {
     }
 }
 
-/// Takes the checker out of a handle, if it has one; the handle is then all zeros.
+/// If the handle has a checker, takes the checker out and leaves the handle all zeros. If it has
+/// none, returns `None`.
 fn open(alloc: Global, handle: &mut Judge) -> Option<Box<Referee, Global>>
     ensures some { IfSome result (λ referee. handle.old.held.referee ≡ Some referee.value) }
     ensures none { IsNone result → handle.old.held.referee ≡ None }
@@ -124,7 +126,7 @@ fn verdict_of(verdict: Verdict) -> CVerdict
     }
 }
 
-/// Feeds an entry of C's, if the numbers stand for one.
+/// If C's numbers stand for an entry, feeds the entry. Returns the status.
 fn feed_entry(referee: &mut Referee, entry: &CEntry) -> u32
     ensures { FeedsEntry (judged_entry entry.now) referee.old result referee.new }
 {
@@ -137,8 +139,8 @@ fn feed_entry(referee: &mut Referee, entry: &CEntry) -> u32
     }
 }
 
-/// Feeds the entries in their order until the feed of one fails. Answers the number of entries that
-/// were fed, and the status of the feed that failed or `DONE`.
+/// Feeds the entries in their order until a feed fails. Returns the number of entries that were
+/// fed, and the status of the feed that failed, or `DONE` if none failed.
 fn feed_front(referee: &mut Referee, entries: &[CEntry]) -> (usize, u32)
     ensures { FedFront entries.now referee.old result.1 result.0 referee.new }
 {
@@ -152,18 +154,19 @@ fn feed_front(referee: &mut Referee, entries: &[CEntry]) -> (usize, u32)
 }
 
 /// Begins to judge the history of a map with this number of stripes, by a rule. Rules 0 and 1 are
-/// by locks: the caller that a Busy entry names must hold the stripe now (rule 0), or must have
-/// begun a transaction before (rule 1). Rule 2 is by the order of commits; for it stripes do not
-/// matter.
+/// by locks. By rule 0, the caller that a Busy entry names must hold the stripe now. By rule 1,
+/// this caller must have begun a transaction before. Rule 2 is by the order of commits, and ignores
+/// the stripes.
 ///
 /// # Errors
 ///
-/// The handle is unchanged: 4 if it has a checker, 38 (`Limit`) if there is no such rule or if a
-/// rule by locks is given no stripes, 30 (`NoMemory`) if memory is refused.
+/// On an error the handle is unchanged. The status is 4 if the handle has a checker already, 38
+/// (`Limit`) if there is no such rule or if a rule by locks is given 0 stripes, and 30 (`NoMemory`)
+/// if memory is refused.
 ///
 /// # Cost
 ///
-/// That of the `new` of `history_check::Checker` or `serial_check::Checker`, and memory for the
+/// The cost of the `new` of `history_check::Checker` or `serial_check::Checker`, and memory for the
 /// checker.
 #[unsafe(no_mangle)]
 pub extern "C" fn boostmap_judge_new(
@@ -194,12 +197,13 @@ pub extern "C" fn boostmap_judge_new(
 ///
 /// # Errors
 ///
-/// The judge was fed nothing: 3 if the handle has no checker, 8 if the numbers stand for no entry
-/// of a caller below 64, 30 (`NoMemory`) if memory is refused; then the entry may be fed again.
+/// On an error the judge was fed nothing. The status is 3 if the handle has no checker, 8 if the
+/// numbers stand for no entry with a caller below 64, and 30 (`NoMemory`) if memory is refused.
+/// After 30 the entry may be fed again.
 ///
 /// # Cost
 ///
-/// That of the `feed` of `history_check::Checker` or `serial_check::Checker`.
+/// The cost of the `feed` of `history_check::Checker` or `serial_check::Checker`.
 #[unsafe(no_mangle)]
 pub extern "C" fn boostmap_judge_feed(alloc: Global, judge: &mut Judge, entry: &CEntry) -> u32
     ensures { Feeds judge.old.held.referee entry.now result judge.new.held.referee }
@@ -212,17 +216,17 @@ pub extern "C" fn boostmap_judge_feed(alloc: Global, judge: &mut Judge, entry: &
     status
 }
 
-/// Feeds the judge the entries of an array in their order, until the feed of one fails; the word is
-/// the number of entries that were fed.
+/// Feeds the judge the entries of an array in their order, until a feed fails. The word is the
+/// number of entries that were fed.
 ///
 /// # Errors
 ///
-/// Those of `boostmap_judge_feed`, for the entry whose index is the word; for an empty handle no
-/// word is written.
+/// If the handle has no checker, the status is 3 and no word is written. If a feed fails, the
+/// status is that of `boostmap_judge_feed` for this entry, and the word is the entry's index.
 ///
 /// # Cost
 ///
-/// That of `boostmap_judge_feed` for each entry.
+/// The cost of `boostmap_judge_feed` for each entry.
 #[unsafe(no_mangle)]
 pub extern "C" fn boostmap_judge_feed_all(
     alloc: Global,
@@ -246,7 +250,7 @@ pub extern "C" fn boostmap_judge_feed_all(
 ///
 /// # Errors
 ///
-/// 3 if the handle has no checker; then nothing is written.
+/// The status is 3 if the handle has no checker. Then nothing is written.
 ///
 /// # Cost
 ///
@@ -268,7 +272,7 @@ pub extern "C" fn boostmap_judge_verdict(
     DONE
 }
 
-/// Frees the checker; the handle is then all zeros.
+/// Frees the checker. The handle is then all zeros.
 ///
 /// # Errors
 ///
@@ -276,7 +280,7 @@ pub extern "C" fn boostmap_judge_verdict(
 ///
 /// # Cost
 ///
-/// Time in proportion to the stripes, the keys and the changes that stand; takes no memory.
+/// Time in proportion to the stripes, the keys and the standing changes; takes no memory.
 #[unsafe(no_mangle)]
 pub extern "C" fn boostmap_judge_free(alloc: Global, judge: &mut Judge) -> u32
     ensures { Frees judge.old.held.referee result judge.new.held.referee }

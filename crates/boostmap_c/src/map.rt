@@ -1,5 +1,5 @@
-//! The calls on a map as a whole, which make it, free it, count its keys and help it to grow. They
-//! are apart from `operations` and `transactions`, since they need no transaction. Only
+//! The calls on a map as a whole. They make it, free it, count its keys and help it to grow. These
+//! calls need no transaction, so they are not in `operations` or `transactions`. Only
 //! `boostmap_new` fills a map's handle, and only `boostmap_free` empties it.
 ghost use Rattle.std.specs.Prelude.{◌≡◌, Some, None};
 ghost use Rattle.txn_words.specs.Map.{count_of};
@@ -13,12 +13,12 @@ use std::alloc::Global;
 use txn_trace::{Limits, Refusal};
 
 /// Makes a map without keys, for 1 to 64 callers, with 1 to 4096 stripes and at most `buckets`
-/// buckets, a power of two from 2 to 65536.
+/// buckets. `buckets` is a power of two from 2 to 65536.
 ///
 /// # Errors
 ///
-/// The handle is unchanged: 4 if it has a map, 38 (`Limit`) if a number is out of range, 30
-/// (`NoMemory`) if memory is refused.
+/// On an error the handle is unchanged. The status is 4 if the handle has a map already, 38
+/// (`Limit`) if a number is out of range, and 30 (`NoMemory`) if memory is refused.
 ///
 /// # Cost
 ///
@@ -51,7 +51,7 @@ pub extern "C" fn boostmap_new(
     DONE
 }
 
-/// Frees the map, with all transactions that are open; the handle is then all zeros.
+/// Frees the map, with all open transactions. The handle is then all zeros.
 ///
 /// # Errors
 ///
@@ -87,20 +87,20 @@ pub extern "C" fn boostmap_count(alloc: Global, map: &mut Handle, word: &mut u64
     DONE
 }
 
-/// Doubles the table if it has more than two keys for each bucket and is not at its largest size,
-/// then initialises the bucket of a key. Nothing else doubles the table, so a program should make
-/// this call now and then between its puts.
+/// If the table has more than two keys for each bucket and is not at its largest size, doubles the
+/// table. Then initialises the bucket of a key. Nothing else doubles the table, so a program should
+/// make this call now and then between its puts.
 ///
 /// # Errors
 ///
-/// 3 if the handle has no map, else as `Core::help`: 28 (`NoSuchHelper`), 32 (`StampsUsedUp`), 30
-/// (`NoMemory`). A doubling before the refusal stays, and buckets that were initialised stay
-/// initialised.
+/// The status is 3 if the handle has no map. Otherwise the errors are those of `Core::help`: 28
+/// (`NoSuchHelper`), 32 (`StampsUsedUp`), 30 (`NoMemory`). If the table was doubled before the
+/// refusal, it stays doubled, and buckets that were initialised stay initialised.
 ///
 /// # Cost
 ///
-/// At most 16 buckets, each with time in proportion to the nodes that the seek for it passes; may
-/// take memory for each bucket's dummy and segment.
+/// Initialises at most 16 buckets. Each takes time in proportion to the nodes that the search for
+/// its place passes, and may take memory for its dummy and its segment.
 #[unsafe(no_mangle)]
 pub extern "C" fn boostmap_help(alloc: Global, map: &mut Handle, caller: u64, key: u64) -> u32
     ensures { HelpsWith map.old.held.core caller key result map.new.held.core }

@@ -1,5 +1,5 @@
 //! The handle of a striped map's caller, and the functions that put a member into it and take one
-//! out of it. The type differs from `Handle`, since a call of the caller borrows the member through
+//! out of it. The type differs from `Handle`, since a call on the caller borrows the member through
 //! the pointer. By the invariants `live` and `dead`, the tag is "bmca" exactly if the pointer owns
 //! a member. No contract promises that a call leaves the bytes of the handle unchanged.
 ghost use Rattle.std.specs.Prelude.{◌≡◌, Some, None, IfSome, IsNone, IsSome, true, false, is_some};
@@ -14,7 +14,7 @@ use std::mem;
 /// The tag of a handle with a member: the bytes of "bmca".
 const LIVE: u64 = 0x6163_6d62;
 
-/// The handle of a caller in C's memory: all zeros, or a caller of a striped map.
+/// The handle of a striped map's caller in C's memory. It is all zeros, or owns a member.
 #[repr(C)]
 #[derive(Drop)]
 pub struct CallerHandle {
@@ -25,7 +25,7 @@ pub struct CallerHandle {
 }
 
 impl CallerHandle {
-    /// Whether it has a member.
+    /// Returns true if the handle has a member.
     pub(crate) fn is_live(&self) -> bool
         ensures value { result ≡ is_some self.now.held.member }
         ensures some { result ≡ true → IsSome self.now.held.member }
@@ -36,7 +36,8 @@ impl CallerHandle {
     }
 }
 
-/// Takes the member out of a handle, if it has one; the handle is then all zeros.
+/// If the handle has a member, takes the member out and leaves the handle all zeros. If it has
+/// none, returns `None`.
 pub(crate) fn take_out(alloc: Global, handle: &mut CallerHandle) -> Option<Box<Member, Global>>
     ensures some { IfSome result (λ member. handle.old.held.member ≡ Some member.value) }
     ensures none { IsNone result → handle.old.held.member ≡ None }

@@ -11,7 +11,7 @@ use owned_pointer::OwnedPointer;
 use std::marker::Model;
 use std::ptr;
 
-/// A member on the heap, or none.
+/// A pointer that owns a member on the heap, or nothing.
 #[repr(C)]
 #[derive(Drop)]
 pub struct MemberPointer {
@@ -39,7 +39,7 @@ impl MemberPointer {
         }
     }
 
-    /// The pointer with its type erased.
+    /// Erases the type of a pointer.
     pub(crate) fn erase(member: OwnedPointer<Member>) -> MemberPointer
         ensures { result.member ≡ Some member.value }
     {
@@ -47,7 +47,7 @@ impl MemberPointer {
         MemberPointer { at: at as *mut () }
     }
 
-    /// The pointer with its type again.
+    /// Gives the pointer its type back.
     pub(crate) fn restore(self) -> OwnedPointer<Member>
         requires { IsSome self.member }
         ensures { self.member ≡ Some result.value }

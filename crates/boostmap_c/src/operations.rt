@@ -1,6 +1,6 @@
-//! The operations of a transaction on one key. They are apart from `transactions`, since only they
-//! may be busy: each takes a stripe, which the transaction then holds to its end. Each puts the
-//! core back into the handle before it answers, so the handle has its map whatever the status is.
+//! The operations of a transaction on one key. They are not in `transactions`, since they alone can
+//! be busy: each takes a stripe, which the transaction then holds until it ends. Each puts the core
+//! back into the handle before it returns, so the handle has its map whatever the status is.
 ghost use Rattle.std.specs.Prelude.{Some, None};
 ghost use Rattle.boost_core.specs.Plain.{Operates};
 ghost use Rattle.boostmap_c.specs.Calls.{TellsAnswer};
@@ -10,13 +10,13 @@ use crate::status::{EMPTY, tell};
 use std::alloc::Global;
 use txn_trace::Op;
 
-/// Puts a value at a key; the word is the value before.
+/// Puts a value at a key. The word is the value that the key had before.
 ///
 /// # Errors
 ///
-/// 3 if the handle has no map; 2 if another caller holds the key's stripe, after which the
-/// transaction can only abort. A refusal changes nothing: 18 (`NoSuchCaller`), 19 (`NotOpen`), 22
-/// (`Leaving`), 30 (`NoMemory`), 32 (`StampsUsedUp`).
+/// The status is 3 if the handle has no map. It is 2 if another caller holds the key's stripe;
+/// after this the transaction can only abort. A refusal changes nothing: 18 (`NoSuchCaller`), 19
+/// (`NotOpen`), 22 (`Leaving`), 30 (`NoMemory`), 32 (`StampsUsedUp`).
 ///
 /// # Cost
 ///
@@ -47,9 +47,9 @@ pub extern "C" fn boostmap_put(
 ///
 /// # Errors
 ///
-/// 3 if the handle has no map; 2 if another caller holds the key's stripe, after which the
-/// transaction can only abort. A refusal changes nothing: 18 (`NoSuchCaller`), 19 (`NotOpen`), 22
-/// (`Leaving`), 30 (`NoMemory`), 32 (`StampsUsedUp`).
+/// The status is 3 if the handle has no map. It is 2 if another caller holds the key's stripe;
+/// after this the transaction can only abort. A refusal changes nothing: 18 (`NoSuchCaller`), 19
+/// (`NotOpen`), 22 (`Leaving`), 30 (`NoMemory`), 32 (`StampsUsedUp`).
 ///
 /// # Cost
 ///
@@ -76,14 +76,14 @@ pub extern "C" fn boostmap_put_if_absent(
     tell(answer, word)
 }
 
-/// Puts a value at a key that has the expected value. The word is the value that the key had; if
-/// the key had another value or none, nothing is put.
+/// Puts a value at a key that has the expected value. The word is the value that the key had
+/// before. If the key had another value or none, nothing is put.
 ///
 /// # Errors
 ///
-/// 3 if the handle has no map; 2 if another caller holds the key's stripe, after which the
-/// transaction can only abort. A refusal changes nothing: 18 (`NoSuchCaller`), 19 (`NotOpen`), 22
-/// (`Leaving`), 30 (`NoMemory`), 32 (`StampsUsedUp`).
+/// The status is 3 if the handle has no map. It is 2 if another caller holds the key's stripe;
+/// after this the transaction can only abort. A refusal changes nothing: 18 (`NoSuchCaller`), 19
+/// (`NotOpen`), 22 (`Leaving`), 30 (`NoMemory`), 32 (`StampsUsedUp`).
 ///
 /// # Cost
 ///
@@ -110,13 +110,13 @@ pub extern "C" fn boostmap_put_if_equal(
     tell(answer, word)
 }
 
-/// Takes a key out; the word is the value that it had.
+/// Takes a key out. The word is the value that the key had.
 ///
 /// # Errors
 ///
-/// 3 if the handle has no map; 2 if another caller holds the key's stripe, after which the
-/// transaction can only abort. A refusal changes nothing: 18 (`NoSuchCaller`), 19 (`NotOpen`), 22
-/// (`Leaving`), 30 (`NoMemory`), 32 (`StampsUsedUp`).
+/// The status is 3 if the handle has no map. It is 2 if another caller holds the key's stripe;
+/// after this the transaction can only abort. A refusal changes nothing: 18 (`NoSuchCaller`), 19
+/// (`NotOpen`), 22 (`Leaving`), 30 (`NoMemory`), 32 (`StampsUsedUp`).
 ///
 /// # Cost
 ///
@@ -145,9 +145,9 @@ pub extern "C" fn boostmap_take(
 ///
 /// # Errors
 ///
-/// 3 if the handle has no map; 2 if another caller holds the key's stripe, after which the
-/// transaction can only abort. A refusal changes nothing: 18 (`NoSuchCaller`), 19 (`NotOpen`), 22
-/// (`Leaving`), 30 (`NoMemory`).
+/// The status is 3 if the handle has no map. It is 2 if another caller holds the key's stripe;
+/// after this the transaction can only abort. A refusal changes nothing: 18 (`NoSuchCaller`), 19
+/// (`NotOpen`), 22 (`Leaving`), 30 (`NoMemory`).
 ///
 /// # Cost
 ///

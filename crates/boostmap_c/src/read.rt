@@ -1,6 +1,6 @@
-//! The content of a map, written into an array of C's: all pairs if there is room for them, and
-//! none if there is not. The module `striped_read` also calls `lay_all`, so C has one type of
-//! pairs. `boostmap_read` takes memory for the pairs, and frees it before it ends.
+//! Writes the content of a map into an array of C's: all pairs if there is room for them, and none
+//! otherwise. The module `striped_read` also calls `lay_all`, so C has one type of pairs.
+//! `boostmap_read` takes memory for the pairs, and frees it before it returns.
 ghost use Rattle.std.specs.Prelude.{◌≡◌, ◌≤◌, length};
 ghost use Rattle.boostmap_c.specs.Contents.{LaysOf, Lie, Reads};
 
@@ -17,14 +17,15 @@ pub struct CPair {
     pub value: u64,
 }
 
-/// Writes the pairs of the map now, including the changes of open transactions, to the front of an
-/// array; the word is their number. The pairs are in the order of the list, which is that of their
-/// keys' reversed bits.
+/// Writes the present pairs of the map, including the changes of open transactions, to the front of
+/// an array. The word is the number of pairs. The pairs are in the order of the map's list, which
+/// is the order of their keys' reversed bits.
 ///
 /// # Errors
 ///
-/// The array is unchanged: 3 if the handle has no map, 30 (`NoMemory`) if memory is refused, 7 if
-/// the array has too few places: then the word is the number that it needs.
+/// On an error the array is unchanged. The status is 3 if the handle has no map, 30 (`NoMemory`) if
+/// memory is refused, and 7 if the array has too few places. After 7 the word is the number of
+/// places that are needed.
 ///
 /// # Cost
 ///
@@ -51,7 +52,7 @@ pub extern "C" fn boostmap_read(
 }
 
 /// Writes the number of these pairs to the word. If the array has room for the pairs, writes them
-/// to its front. Answers the status.
+/// to the array's front. Returns the status.
 pub(crate) fn lay_all(listed: &[(u64, u64)], pairs: &mut [CPair], word: &mut u64) -> u32
     ensures { LaysOf listed.now result pairs.old pairs.new word.new }
 {

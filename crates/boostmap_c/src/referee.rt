@@ -1,7 +1,7 @@
-//! The checker that a judge's handle owns: by locks, or by the order of commits. The enum `Referee`
-//! is one type for both checkers, since the pointer of a handle names one type. A referee takes
-//! entries and not C's numbers, so its contracts do not mention these numbers. Its rule is chosen
-//! when the referee is made, and never changes. A call costs as much as the same call of the
+//! The checker that a judge's handle owns. It judges by locks, or by the order of commits. The enum
+//! `Referee` is one type for both checkers, since the pointer of a handle names one type. A referee
+//! takes entries and not C's numbers, so its contracts do not mention these numbers. Its rule is
+//! chosen when the referee is made, and never changes. A call costs as much as the same call of the
 //! checker.
 ghost use Rattle.std.specs.Prelude.{◌≡◌, ◌<◌, [], IfOk, OnOk, OnErr};
 ghost use Rattle.txn_words.specs.Kinds.{caller_of};
@@ -15,13 +15,13 @@ use txn_trace::{Entry, Holder};
 /// The rule of a judge.
 #[derive(Clone, Copy)]
 pub enum Way {
-    /// By locks; the `Holder` says which callers a Busy entry may name.
+    /// Judges by locks. The `Holder` says which callers a Busy entry may name.
     ByLocks(Holder),
-    /// By the order of commits.
+    /// Judges by the order of commits.
     ByCommits,
 }
 
-/// A checker, by its rule.
+/// A checker for one of the two rules.
 #[derive(Drop)]
 pub enum Referee {
     Locks(LockChecker),
@@ -40,7 +40,7 @@ impl Referee {
         })
     }
 
-    /// Feeds it the next entry.
+    /// Feeds the checker the next entry.
     #[tactic(auto, using(crate::proofs::Referees::locks_taken, crate::proofs::Referees::locks_stay, crate::proofs::Referees::commits_taken, crate::proofs::Referees::commits_stay))]
     pub(crate) fn feed(&mut self, entry: &Entry) -> Result<(), AllocError>
         requires { caller_of entry.now < 64 }

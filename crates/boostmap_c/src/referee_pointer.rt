@@ -11,7 +11,7 @@ use owned_pointer::OwnedPointer;
 use std::marker::Model;
 use std::ptr;
 
-/// A referee on the heap, or none.
+/// A pointer that owns a referee on the heap, or nothing.
 #[repr(C)]
 #[derive(Drop)]
 pub struct RefereePointer {
@@ -36,7 +36,7 @@ impl RefereePointer {
         }
     }
 
-    /// The pointer with its type erased.
+    /// Erases the type of a pointer.
     pub(crate) fn erase(referee: OwnedPointer<Referee>) -> RefereePointer
         ensures { result.referee ≡ Some referee.value }
     {
@@ -44,7 +44,7 @@ impl RefereePointer {
         RefereePointer { at: at as *mut () }
     }
 
-    /// The pointer with its type again.
+    /// Gives the pointer its type back.
     pub(crate) fn restore(self) -> OwnedPointer<Referee>
         requires { IsSome self.referee }
         ensures { self.referee ≡ Some result.value }

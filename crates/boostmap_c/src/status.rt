@@ -1,18 +1,18 @@
-//! The statuses of all exports, and functions that tell C an answer of a core: a status, and for
-//! some answers a word. The numbers are in one module because the calls of maps, striped maps and
-//! judges share them. An answer without a word leaves C's word unchanged.
+//! The statuses of all exports, and functions that report a core's result to C: a status, and for
+//! some results a word. The numbers are in one module because the calls of maps, striped maps and
+//! judges share them. If a result has no word, C's word is unchanged.
 ghost use Rattle.std.specs.Prelude.{◌≡◌};
 ghost use Rattle.boostmap_c.specs.Replies.{refused, status_of_answer, status_of_result, word_after};
 
 use txn_trace::{Answer, Refusal};
 
-/// Done; the word, if the call has one, is the value, number or count that it answers.
+/// The call is done. Its word, if it has one, is a value, a number or a count.
 pub(crate) const DONE: u32 = 0;
 
-/// Done, at a key without a value.
+/// The call is done, and the key had no value.
 pub(crate) const ABSENT: u32 = 1;
 
-/// Another caller holds the key's stripe, or one of the stripes that the call takes; the word is
+/// Another caller holds the key's stripe, or one of the stripes that the call takes. The word is
 /// the number of that caller.
 pub(crate) const BUSY: u32 = 2;
 
@@ -51,7 +51,7 @@ pub(crate) fn status_of(outcome: Result<(), Refusal>) -> u32
     }
 }
 
-/// Writes an answer's word, if it has one, and answers its status.
+/// Writes an answer's word, if the answer has one, and returns the answer's status.
 pub(crate) fn tell(answer: Answer, word: &mut u64) -> u32
     ensures status { result ≡ status_of_answer answer }
     ensures word { word.new ≡ word_after word.old answer }

@@ -1,6 +1,6 @@
-//! Functions that tell C an answer of a striped map: a status, and for some answers a word. The
-//! calls of a striped map answer a `Result` with a `Stop`, not an `Answer` of a core, so `tell` in
-//! `status` cannot serve them. If an answer has no word, C's word is unchanged.
+//! Functions that report a striped map's result to C: a status, and for some results a word. The
+//! calls of a striped map return a `Result` with a `Stop`, not an `Answer` of a core, so `tell` in
+//! `status` cannot report them. If a result has no word, C's word is unchanged.
 ghost use Rattle.std.specs.Prelude.{◌≡◌};
 ghost use Rattle.boostmap_c.specs.Stops.{status_of_end, status_of_number, status_of_reply, status_of_stop, word_of_number, word_of_reply, word_of_stop};
 
@@ -8,7 +8,7 @@ use crate::status::{ABSENT, BUSY, DONE, refused};
 use striped_map::Stop;
 use txn_trace::Reply;
 
-/// Writes the holder, if there is one, and answers the status.
+/// Writes the holder, if there is one, and returns the status.
 pub(crate) fn tell_stop(stop: Stop, word: &mut u64) -> u32
     ensures status { result ≡ status_of_stop stop }
     ensures word { word.new ≡ word_of_stop word.old stop }
@@ -22,7 +22,7 @@ pub(crate) fn tell_stop(stop: Stop, word: &mut u64) -> u32
     }
 }
 
-/// Writes the value, if there is one, or the holder, and answers the status.
+/// Writes the value or the holder, if there is one, and returns the status.
 pub(crate) fn tell_reply(answer: Result<Reply, Stop>, word: &mut u64) -> u32
     ensures status { result ≡ status_of_reply answer }
     ensures word { word.new ≡ word_of_reply word.old answer }
@@ -37,7 +37,7 @@ pub(crate) fn tell_reply(answer: Result<Reply, Stop>, word: &mut u64) -> u32
     }
 }
 
-/// Writes the number, and answers the status.
+/// Writes the number or the holder, if there is one, and returns the status.
 pub(crate) fn tell_number(answer: Result<u64, Stop>, word: &mut u64) -> u32
     ensures status { result ≡ status_of_number answer }
     ensures word { word.new ≡ word_of_number word.old answer }
@@ -51,7 +51,7 @@ pub(crate) fn tell_number(answer: Result<u64, Stop>, word: &mut u64) -> u32
     }
 }
 
-/// The status of a call that answers nothing.
+/// The status of a call that returns no value.
 pub(crate) fn tell_end(answer: Result<(), Stop>) -> u32
     ensures { result ≡ status_of_end answer }
 {

@@ -1,6 +1,6 @@
-//! The life of a striped map for C: it is opened with its callers, each of which gets its own
-//! handle, and is freed with the last of them. Only these calls fill and empty a caller's handle.
-//! All callers are made when the map is opened; a join takes memory only for its member.
+//! Opens and frees a striped map for C. Each caller of the map gets a handle of its own, and the
+//! map is freed with its last caller. Only the calls of this module fill and empty a caller's
+//! handle. All callers are made when the map is opened, so a join takes memory only for its member.
 ghost use Rattle.std.specs.Prelude.{◌≡◌, ◌++◌, [], ◌∷◌, IfOk, IfErr, OnOk, OnErr, true, length, nat_le, if◌then◌else◌};
 ghost use Rattle.txn_words.specs.declared.refusal.Refusal.TheVariants.{NoMemory, NoSuchCaller, Limit};
 ghost use Rattle.boostmap_c.specs.Members.{IsFirstMember, IsSame, Joins, LeavesMap, Opens, are_striped_limits};
@@ -19,7 +19,7 @@ fn are_limits(callers: u64, stripes: u64) -> bool
     (1 <= callers && callers <= MOST as u64) && (1 <= stripes && stripes <= MOST as u64)
 }
 
-/// Opens a map, and answers its first member.
+/// Opens a map, and returns its first member.
 fn first_member(alloc: Global, callers: u64, stripes: u64) -> Result<Box<Member, Global>, Refusal>
     ensures limits { OnOk result (are_striped_limits callers stripes ≡ true) }
     ensures ok { IfOk result (λ member. IsFirstMember callers stripes member.value) }
@@ -67,13 +67,14 @@ fn next_member(alloc: Global, first: &mut Member) -> Result<Box<Member, Global>,
 }
 
 /// Opens a striped map with no keys, and gives the handle to its first caller. The word is this
-/// caller's number: `callers`, the largest one. The other callers wait, and get their handles by
-/// `boostmap_striped_join`.
+/// caller's number, which is the largest one: `callers`. The other callers wait, and get their
+/// handles by `boostmap_striped_join`.
 ///
 /// # Errors
 ///
-/// The handle is unchanged: 4 if it has a caller, 38 (`Limit`) if there are not 1 to 4,096 callers
-/// and stripes, 30 (`NoMemory`) if memory is refused.
+/// On an error the handle is unchanged. The status is 4 if the handle has a caller already, 38
+/// (`Limit`) if the number of callers or of stripes is not from 1 to 4,096, and 30 (`NoMemory`) if
+/// memory is refused.
 ///
 /// # Cost
 ///
@@ -102,13 +103,15 @@ pub extern "C" fn boostmap_striped_open(
     }
 }
 
-/// Gives a handle to the next caller that waits; the word is its number, one less than that of the
-/// caller that got a handle last. Only the first caller of a map has callers that wait.
+/// Gives a handle to the next waiting caller. The word is this caller's number, which is one less
+/// than the number of the caller that got a handle last. Only the first caller of a map has waiting
+/// callers.
 ///
 /// # Errors
 ///
-/// Both handles are unchanged: 4 if the second has a caller, 3 if the first has none, 18
-/// (`NoSuchCaller`) if no caller waits, 30 (`NoMemory`) if memory is refused.
+/// On an error both handles are unchanged. The status is 4 if the second handle has a caller
+/// already, 3 if the first handle has none, 18 (`NoSuchCaller`) if no caller waits, and 30
+/// (`NoMemory`) if memory is refused.
 ///
 /// # Cost
 ///
@@ -142,7 +145,7 @@ pub extern "C" fn boostmap_striped_join(
     }
 }
 
-/// Frees the caller: an open transaction is aborted, and its stripes are given back. The handle is
+/// Frees the caller. An open transaction is aborted, and its stripes are given back. The handle is
 /// then all zeros. If the caller is the first of its map, the callers that still wait for a handle
 /// are freed too. The map is freed with its last caller.
 ///
@@ -152,8 +155,8 @@ pub extern "C" fn boostmap_striped_join(
 ///
 /// # Cost
 ///
-/// That of an abort, and a step for each caller that waits; for the last caller, time in proportion
-/// to the stripes and the keys. Takes no memory.
+/// The cost of an abort, and a step for each waiting caller. For the last caller, also time in
+/// proportion to the stripes and the keys. Takes no memory.
 #[unsafe(no_mangle)]
 pub extern "C" fn boostmap_striped_free(alloc: Global, caller: &mut CallerHandle) -> u32
     ensures { LeavesMap caller.old.held.member result caller.new.held.member }

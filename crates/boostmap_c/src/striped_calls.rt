@@ -1,6 +1,7 @@
-//! The calls of a striped map's caller. Each goes straight to the map: it takes no lock and never
-//! waits, so callers of one map may be in calls at the same time, each with its own handle. None
-//! fills, empties or moves a handle. To pass through a handle takes constant time and no memory.
+//! The calls of a striped map's caller. Each goes straight to the map. It takes no lock and never
+//! waits, so callers of one map may be in calls at the same time, each with its own handle. No call
+//! of this module fills, empties or moves a handle. Passing through a handle takes constant time
+//! and no memory.
 ghost use Rattle.std.specs.Prelude.{Some, None};
 ghost use Rattle.boostmap_c.specs.Members.{TellsEnd, TellsNumber, TellsReply};
 ghost use Rattle.boostmap_c.specs.Striped.{Aborts, Begins, Commits, Operates, Returns, Saves};
@@ -14,8 +15,8 @@ use txn_trace::Op;
 ///
 /// # Errors
 ///
-/// 3 if the handle has no caller, 20 (`AlreadyOpen`) if the caller is in a transaction, which goes
-/// on.
+/// The status is 3 if the handle has no caller, and 20 (`AlreadyOpen`) if the caller is already in
+/// a transaction. That transaction then continues.
 #[unsafe(no_mangle)]
 pub extern "C" fn boostmap_striped_begin(caller: &mut CallerHandle) -> u32
     ensures { TellsEnd Begins caller.old.held.member result caller.new.held.member }
@@ -32,14 +33,14 @@ pub extern "C" fn boostmap_striped_begin(caller: &mut CallerHandle) -> u32
 ///
 /// # Errors
 ///
-/// 3 if the handle has no caller; 2 if another caller held the key's stripe: then the transaction
-/// is aborted, with all its changes taken back, and the word is the holder. The refusals are 19
-/// (`NotOpen`) and 30 (`NoMemory`). They leave the transaction unchanged, except that after 30 it
-/// may hold the key's stripe.
+/// The status is 3 if the handle has no caller. It is 2 if another caller held the key's stripe.
+/// Then the transaction is aborted, all its changes are taken back, and the word is the holder. The
+/// refusals are 19 (`NotOpen`) and 30 (`NoMemory`). They leave the transaction unchanged, except
+/// that after 30 it may hold the key's stripe.
 ///
 /// # Cost
 ///
-/// That of `striped_map::Caller::get`.
+/// The cost of `striped_map::Caller::get`.
 #[unsafe(no_mangle)]
 pub extern "C" fn boostmap_striped_get(caller: &mut CallerHandle, key: u64, word: &mut u64) -> u32
     ensures { TellsReply (Operates (Op.Get key)) caller.old.held.member result word.old word.new
@@ -53,18 +54,18 @@ pub extern "C" fn boostmap_striped_get(caller: &mut CallerHandle, key: u64, word
     tell_reply(answer, word)
 }
 
-/// Puts a value at a key; the word is the value before.
+/// Puts a value at a key. The word is the value that the key had before.
 ///
 /// # Errors
 ///
-/// 3 if the handle has no caller; 2 if another caller held the key's stripe: then the transaction
-/// is aborted, with all its changes taken back, and the word is the holder. The refusals are 19
-/// (`NotOpen`) and 30 (`NoMemory`). They leave the transaction unchanged, except that after 30 it
-/// may hold the key's stripe.
+/// The status is 3 if the handle has no caller. It is 2 if another caller held the key's stripe.
+/// Then the transaction is aborted, all its changes are taken back, and the word is the holder. The
+/// refusals are 19 (`NotOpen`) and 30 (`NoMemory`). They leave the transaction unchanged, except
+/// that after 30 it may hold the key's stripe.
 ///
 /// # Cost
 ///
-/// That of `striped_map::Caller::put`.
+/// The cost of `striped_map::Caller::put`.
 #[unsafe(no_mangle)]
 pub extern "C" fn boostmap_striped_put(
     caller: &mut CallerHandle,
@@ -83,18 +84,18 @@ pub extern "C" fn boostmap_striped_put(
     tell_reply(answer, word)
 }
 
-/// Takes a key out; the word is the value that it had.
+/// Takes a key out. The word is the value that the key had.
 ///
 /// # Errors
 ///
-/// 3 if the handle has no caller; 2 if another caller held the key's stripe: then the transaction
-/// is aborted, with all its changes taken back, and the word is the holder. The refusals are 19
-/// (`NotOpen`) and 30 (`NoMemory`). They leave the transaction unchanged, except that after 30 it
-/// may hold the key's stripe.
+/// The status is 3 if the handle has no caller. It is 2 if another caller held the key's stripe.
+/// Then the transaction is aborted, all its changes are taken back, and the word is the holder. The
+/// refusals are 19 (`NotOpen`) and 30 (`NoMemory`). They leave the transaction unchanged, except
+/// that after 30 it may hold the key's stripe.
 ///
 /// # Cost
 ///
-/// That of `striped_map::Caller::take`.
+/// The cost of `striped_map::Caller::take`.
 #[unsafe(no_mangle)]
 pub extern "C" fn boostmap_striped_take(caller: &mut CallerHandle, key: u64, word: &mut u64) -> u32
     ensures { TellsReply (Operates (Op.Take key)) caller.old.held.member result word.old word.new
@@ -113,14 +114,14 @@ pub extern "C" fn boostmap_striped_take(caller: &mut CallerHandle, key: u64, wor
 ///
 /// # Errors
 ///
-/// 3 if the handle has no caller; 2 if another caller held the key's stripe: then the transaction
-/// is aborted, with all its changes taken back, and the word is the holder. The refusals are 19
-/// (`NotOpen`) and 30 (`NoMemory`). They leave the transaction unchanged, except that after 30 it
-/// may hold the key's stripe.
+/// The status is 3 if the handle has no caller. It is 2 if another caller held the key's stripe.
+/// Then the transaction is aborted, all its changes are taken back, and the word is the holder. The
+/// refusals are 19 (`NotOpen`) and 30 (`NoMemory`). They leave the transaction unchanged, except
+/// that after 30 it may hold the key's stripe.
 ///
 /// # Cost
 ///
-/// That of `striped_map::Caller::put_if`.
+/// The cost of `striped_map::Caller::put_if`.
 #[unsafe(no_mangle)]
 pub extern "C" fn boostmap_striped_put_if_absent(
     caller: &mut CallerHandle,
@@ -139,19 +140,19 @@ pub extern "C" fn boostmap_striped_put_if_absent(
     tell_reply(answer, word)
 }
 
-/// Puts a value at a key that has the expected value. The word is the value that the key had; if
-/// the key had another value or none, nothing is put.
+/// Puts a value at a key that has the expected value. The word is the value that the key had
+/// before. If the key had another value or none, nothing is put.
 ///
 /// # Errors
 ///
-/// 3 if the handle has no caller; 2 if another caller held the key's stripe: then the transaction
-/// is aborted, with all its changes taken back, and the word is the holder. The refusals are 19
-/// (`NotOpen`) and 30 (`NoMemory`). They leave the transaction unchanged, except that after 30 it
-/// may hold the key's stripe.
+/// The status is 3 if the handle has no caller. It is 2 if another caller held the key's stripe.
+/// Then the transaction is aborted, all its changes are taken back, and the word is the holder. The
+/// refusals are 19 (`NotOpen`) and 30 (`NoMemory`). They leave the transaction unchanged, except
+/// that after 30 it may hold the key's stripe.
 ///
 /// # Cost
 ///
-/// That of `striped_map::Caller::put_if`.
+/// The cost of `striped_map::Caller::put_if`.
 #[unsafe(no_mangle)]
 pub extern "C" fn boostmap_striped_put_if_equal(
     caller: &mut CallerHandle,
@@ -171,7 +172,7 @@ pub extern "C" fn boostmap_striped_put_if_equal(
     tell_reply(answer, word)
 }
 
-/// Sets a savepoint; the word is its level, counted from 1.
+/// Sets a savepoint. The word is the savepoint's level, counted from 1.
 ///
 /// # Errors
 ///
@@ -180,7 +181,7 @@ pub extern "C" fn boostmap_striped_put_if_equal(
 ///
 /// # Cost
 ///
-/// That of `striped_map::Caller::save`.
+/// The cost of `striped_map::Caller::save`.
 #[unsafe(no_mangle)]
 pub extern "C" fn boostmap_striped_save(caller: &mut CallerHandle, word: &mut u64) -> u32
     ensures { TellsNumber Saves caller.old.held.member result word.old word.new
@@ -194,8 +195,8 @@ pub extern "C" fn boostmap_striped_save(caller: &mut CallerHandle, word: &mut u6
     tell_number(answer, word)
 }
 
-/// Takes back every change since a level was set, newest first; 0 is the beginning. The level stays
-/// set, later ones are dropped, and stripes stay held.
+/// Takes back every change since a level was set, newest first. Level 0 is the beginning of the
+/// transaction. The level stays set, later levels are dropped, and stripes stay held.
 ///
 /// # Errors
 ///
@@ -217,7 +218,8 @@ pub extern "C" fn boostmap_striped_back(caller: &mut CallerHandle, level: u64) -
     tell_end(answer)
 }
 
-/// Commits; the word is the transaction's commit number, counted from 1, modulo 2^64.
+/// Commits the transaction. The word is the transaction's commit number, counted from 1, modulo
+/// 2^64.
 ///
 /// # Errors
 ///
@@ -239,7 +241,7 @@ pub extern "C" fn boostmap_striped_commit(caller: &mut CallerHandle, word: &mut 
     tell_number(answer, word)
 }
 
-/// Aborts: takes back every change, newest first, and gives back all stripes.
+/// Aborts the transaction: takes back every change, newest first, and gives back all stripes.
 ///
 /// # Errors
 ///

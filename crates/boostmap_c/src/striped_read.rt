@@ -1,7 +1,8 @@
-//! The content of a striped map, in a transaction that takes every stripe. These are the only calls
-//! that look at the whole map. Each takes time in proportion to the stripes; the read also walks
-//! over each stripe's hash map, and sorts the pairs. After a call that answers 0 or 7, the
-//! transaction holds every stripe: until it ends, no operation of another caller is done.
+//! Reads the content of a striped map, in a transaction that takes every stripe. The calls of this
+//! module are the only ones that look at the whole map. Each takes time in proportion to the
+//! stripes. The read also walks over each stripe's hash map, and sorts the pairs. After a call that
+//! returns 0 or 7, the transaction holds every stripe. Until this transaction ends, no operation of
+//! another caller succeeds.
 ghost use Rattle.boostmap_c.specs.Members.{TellsNumber};
 ghost use Rattle.boostmap_c.specs.StripedContents.{Counts, ReadsMap};
 
@@ -10,19 +11,19 @@ use crate::read::{CPair, lay_all};
 use crate::status::EMPTY;
 use crate::stops::{tell_number, tell_stop};
 
-/// Takes every stripe; the word is the number of keys of the map, with the transaction's own
-/// changes. The stripes stay held to the transaction's end.
+/// Takes every stripe. The word is the number of keys of the map, including the transaction's own
+/// changes. The stripes stay held until the transaction ends.
 ///
 /// # Errors
 ///
-/// 3 if the handle has no caller; 2 if another caller held a stripe: then the transaction is
-/// aborted, with all its changes taken back, and the word is the holder. The refusals are 19
-/// (`NotOpen`) and 30 (`NoMemory`). They leave the transaction unchanged, except that it may hold
-/// more stripes.
+/// The status is 3 if the handle has no caller. It is 2 if another caller held a stripe. Then the
+/// transaction is aborted, all its changes are taken back, and the word is the holder. The refusals
+/// are 19 (`NotOpen`) and 30 (`NoMemory`). They leave the transaction unchanged, except that it may
+/// hold more stripes.
 ///
 /// # Cost
 ///
-/// That of `striped_map::Caller::len`.
+/// The cost of `striped_map::Caller::len`.
 #[unsafe(no_mangle)]
 pub extern "C" fn boostmap_striped_count(caller: &mut CallerHandle, word: &mut u64) -> u32
     ensures { TellsNumber Counts caller.old.held.member result word.old word.new
@@ -36,18 +37,18 @@ pub extern "C" fn boostmap_striped_count(caller: &mut CallerHandle, word: &mut u
     tell_number(answer, word)
 }
 
-/// Takes every stripe, and writes the pairs of the map, with the transaction's own changes, to the
-/// front of an array, by rising keys; the word is their number. The stripes stay held to the
-/// transaction's end.
+/// Takes every stripe, and writes the pairs of the map, including the transaction's own changes, to
+/// the front of an array, by rising keys. The word is the number of pairs. The stripes stay held
+/// until the transaction ends.
 ///
 /// # Errors
 ///
-/// Those of `boostmap_striped_count`, and 7 if the array has too few places; after 7 the word is
+/// Those of `boostmap_striped_count`, and 7 if the array has too few places. After 7 the word is
 /// the number of places that are needed. The array is unchanged after each error.
 ///
 /// # Cost
 ///
-/// That of `striped_map::Caller::pairs`, and memory in proportion to the pairs while it runs.
+/// The cost of `striped_map::Caller::pairs`, and memory in proportion to the pairs while it runs.
 #[unsafe(no_mangle)]
 pub extern "C" fn boostmap_striped_read(
     caller: &mut CallerHandle,

@@ -1,6 +1,7 @@
-//! The beginning and the ends of a transaction, and its savepoints. These calls name no key and ask
-//! for no stripe, so none of them is busy. By their contracts a commit and an abort are never
-//! refused with `NoMemory`, so a transaction can be ended when other calls are refused memory.
+//! The beginning and the ends of a transaction, and its savepoints. The calls of this module name
+//! no key and ask for no stripe, so none of them is busy. By their contracts a commit and an abort
+//! are never refused with `NoMemory`. So a transaction can be ended even while other calls are
+//! refused memory.
 ghost use Rattle.boost_core.specs.Machine.{Happens};
 ghost use Rattle.boost_core.specs.Plain.{Aborts, Returns};
 ghost use Rattle.boostmap_c.specs.Calls.{TellsAnswer};
@@ -10,7 +11,7 @@ use crate::status::{EMPTY, tell};
 use std::alloc::Global;
 use txn_trace::Step;
 
-/// Begins a transaction; the word is its number, counted from 1.
+/// Begins a transaction. The word is the transaction's number, counted from 1.
 ///
 /// # Errors
 ///
@@ -38,7 +39,7 @@ pub extern "C" fn boostmap_begin(
     tell(answer, word)
 }
 
-/// Sets a savepoint; the word is its level, counted from 1.
+/// Sets a savepoint. The word is the savepoint's level, counted from 1.
 ///
 /// # Errors
 ///
@@ -61,8 +62,8 @@ pub extern "C" fn boostmap_save(alloc: Global, map: &mut Handle, caller: u64, wo
     tell(answer, word)
 }
 
-/// Takes back every change since a level was set, newest first; 0 is the beginning. The word is the
-/// level, which stays set. Stripes stay held.
+/// Takes back every change since a level was set, newest first. Level 0 is the beginning of the
+/// transaction. The word is the level, which stays set. Stripes stay held.
 ///
 /// # Errors
 ///
@@ -71,8 +72,8 @@ pub extern "C" fn boostmap_save(alloc: Global, map: &mut Handle, caller: u64, wo
 ///
 /// # Cost
 ///
-/// That of an operation for each change that is taken back, and a step for each savepoint that is
-/// dropped; may take memory, but only for the history.
+/// The cost of an operation for each change that is taken back, and a step for each savepoint that
+/// is dropped. May take memory, but only for the history.
 #[unsafe(no_mangle)]
 pub extern "C" fn boostmap_back(
     alloc: Global,
@@ -92,7 +93,7 @@ pub extern "C" fn boostmap_back(
     tell(answer, word)
 }
 
-/// Commits; the word is the transaction's commit number, counted from 1.
+/// Commits the transaction. The word is the transaction's commit number, counted from 1.
 ///
 /// # Errors
 ///
@@ -120,7 +121,8 @@ pub extern "C" fn boostmap_commit(
     tell(answer, word)
 }
 
-/// Aborts: takes back every change, newest first, and gives back all stripes. No word is written.
+/// Aborts the transaction: takes back every change, newest first, and gives back all stripes. No
+/// word is written.
 ///
 /// # Errors
 ///
@@ -128,8 +130,8 @@ pub extern "C" fn boostmap_commit(
 ///
 /// # Cost
 ///
-/// That of an operation for each change, and a step for each savepoint and each stripe; takes no
-/// memory.
+/// The cost of an operation for each change, and a step for each savepoint and each stripe; takes
+/// no memory.
 #[unsafe(no_mangle)]
 pub extern "C" fn boostmap_abort(
     alloc: Global,

@@ -24,7 +24,8 @@ Appends-kept (Some us) (Some vs) (Some ws) xs p q = q ∙ p
 rest_whole : (text : List ℕ) (done : ℕ) → take (length text - done) (drop done text) ≡ drop done text
 rest_whole text done = take_all (length text - done) (drop done text) (omega (arith, length-drop done text))
 
--- The writer was offered the rest of the text, and took one more piece of it.
+-- If a writer that was offered the rest of a text takes `count` bytes of the rest, it has taken
+-- `done + count` bytes of the text in all.
 pub written_more : (a b c : Option (List ℕ)) (text : List ℕ) (done count : ℕ) → Appends a b (take done text) → Appends b c (take count (take (length text - done) (drop done text))) → Appends a c (take (done + count) text)
 written_more a b c text done count p q =
     let r = rw rest_whole at q in
@@ -46,7 +47,8 @@ Consumes-then (Some us) None c xs ys p q = absurd p
 Consumes-then (Some us) (Some vs) None xs ys p q = absurd q
 Consumes-then (Some us) (Some vs) (Some ws) xs ys p q = p ∙ ap (λ (s : List ℕ). xs ++ s) q ∙ sym (append_assoc xs ys ws)
 
--- The input was read to its end, and at most `m` bytes were read.
+-- If the input was read to its end and at most `m` bytes were read, these are the input's first `m`
+-- bytes.
 pub read_to_end : (a b c : Option (List ℕ)) (xs : List ℕ) (m : ℕ) → Consumes a b xs → Consumes b c [] → IsAtEnd c → length xs ≤ m → IfSome a (λ all. xs ≡ take m all)
 read_to_end None b c xs m p q end le = tt
 read_to_end (Some us) None c xs m p q end le = absurd p
@@ -55,7 +57,7 @@ read_to_end (Some us) (Some vs) (Some ws) xs m p q end le =
     let e : us ≡ xs = p ∙ ap (λ (s : List ℕ). xs ++ s) (q ∙ end) ∙ append-nil xs in
     rw e (sym (take_all m xs le))
 
--- The input was read up to the limit.
+-- If exactly `m` bytes of the input were read, these are the input's first `m` bytes.
 pub read_most : (a b : Option (List ℕ)) (xs : List ℕ) (m : ℕ) → Consumes a b xs → length xs ≤ m → m ≤ length xs → IfSome a (λ all. xs ≡ take m all)
 read_most None b xs m p le ge = tt
 read_most (Some us) None xs m p le ge = absurd p
@@ -63,7 +65,7 @@ read_most (Some us) (Some vs) xs m p le ge =
     let e : m ≡ length xs = omega arith in
     rw (p, take-append-le m xs vs ge, e, take-length) refl
 
--- The bytes read so far, after one more read into the front of a buffer.
+-- If one more read puts bytes at the front of a buffer, the bytes read so far grow by these bytes.
 pub read_more : (a b c : Option (List ℕ)) (xs part whole ys : List ℕ) (count : ℕ) → Consumes a b xs → Consumes b c (take count part) → count ≤ length part → ys ≡ xs ++ take count (part ++ whole) → Consumes a c ys
 read_more a b c xs part whole ys count p q le e =
     rw (e, take-append-le count part whole le) (Consumes-then a b c xs (take count part) p q)

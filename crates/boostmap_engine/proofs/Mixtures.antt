@@ -1,4 +1,4 @@
--- The line of a mixed core's history is a mixture of the file's scripts.
+-- If scripts were mixed on a core, the line with the core's history is a mixture of these scripts.
 use Rattle.std.proofs.Common.{◌≡◌, ℕ, ◌<◌, List, Ok, ap, subst, ◌∙◌}
 use Rattle.std.specs.List.{All}
 use Rattle.txn_words.specs.declared.holder.Holder.TheVariants.{Now}

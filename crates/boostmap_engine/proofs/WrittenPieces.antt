@@ -13,12 +13,12 @@ use Rattle.boostmap_engine.proofs.Known.{Appends-then}
 take-past : (xs ys : List ℕ) (n : ℕ) → take (length xs + n) (xs ++ ys) ≡ xs ++ take n ys
 take-past xs ys n = rw (take-add, take_at xs ys (length xs) refl, drop_at xs ys (length xs) refl) refl
 
--- The text written so far, with one more piece.
+-- After one more piece is written, the whole text is what has been written, followed by the rest.
 pub piece_written : (whole done left piece rest : List ℕ) → whole ≡ done ++ left → left ≡ piece ++ rest → whole ≡ (done ++ piece) ++ rest
 piece_written whole done left piece rest is is_left =
     is ∙ ap (λ (xs : List ℕ). done ++ xs) is_left ∙ sym (append_assoc done piece rest)
 
--- If a proper beginning of the next piece was written, a proper beginning of the whole text was.
+-- If a proper prefix of the next piece was written, a proper prefix of the whole text was written.
 pub part_written : (a b c : Option (List ℕ)) (whole done left piece rest : List ℕ) → whole ≡ done ++ left → left ≡ piece ++ rest → Appends a b done → AppendsPart b c piece → AppendsPart a c whole
 part_written a b c whole done left piece rest is is_left before part =
     let split : whole ≡ done ++ (piece ++ rest) = is ∙ ap (λ (xs : List ℕ). done ++ xs) is_left in
@@ -30,7 +30,7 @@ part_written a b c whole done left piece rest is is_left before part =
       rw begins (Appends-then a b c done (take part.0 piece) before part.2),
     )
 
--- If the next piece is empty, nothing is left to write.
+-- If the next piece is empty, the whole text has been written.
 pub nothing_left : (found : Bool) (left piece rest : List ℕ) (n : ℕ) → found ≡ false → IsTrue found ↔ (0 < length piece) → (rest ≡ []) ⊎ (n < length piece) → left ≡ piece ++ rest → left ≡ []
 nothing_left found left [] rest n is some (inl none) whole = whole ∙ none
 nothing_left found left [] rest n is some (inr full) whole = absurd (omega (arith, full))
@@ -48,7 +48,8 @@ pub if_err : {A E : Type 0} (r : Result A E) (P Q : E → Type 0) → ((e : E) �
 if_err (Ok x) P Q f h = tt
 if_err (Err e) P Q f h = f e h
 
--- The output after a fault in writing a text of the bytes that were read.
+-- If the output is as `LeavesText` says for a text of the bytes that were read, it is also as
+-- `LeavesOutput` says for these bytes.
 pub leaves_of : (IsTextOf : List ℕ → List ℕ → Type 0) (IsRefused : List ℕ → FileFault → Type 0) (remaining old new : Option (List ℕ)) (bytes text : List ℕ) → IsRead remaining bytes → IsTextOf bytes text → (fault : Fault) → LeavesText old new text fault → LeavesOutput IsTextOf IsRefused remaining old new fault
 leaves_of IsTextOf IsRefused remaining old new bytes text read is faults.Write h = (bytes, text, read, is, h)
 leaves_of IsTextOf IsRefused remaining old new bytes text read is faults.NoMemory h = h

@@ -17,7 +17,7 @@ status_of Read = 4
 status_of Write = 4
 status_of OutOfStep = 4
 
--- The text of a fault on standard error.
+-- The text that is printed on standard error for a fault.
 abbrev pub message_of : Fault → List ℕ
 message_of Usage = USAGE.now
 message_of (Input fault) = codes "refused " ++ words_of fault
@@ -27,7 +27,8 @@ message_of Read = codes "read failed"
 message_of Write = codes "write failed"
 message_of OutOfStep = codes "out of step"
 
--- The program's fault for a fault of a file. Lack of memory is not the file's fault.
+-- The program's fault for a fault in reading a file. Lack of memory is a fault of its own, not
+-- `Input`.
 abbrev pub of_file : FileFault → Fault
 of_file files.NoMemory = NoMemory
 of_file files.NotJson = Input files.NotJson
@@ -35,7 +36,7 @@ of_file files.Member = Input files.Member
 of_file (files.Piece part i) = Input (files.Piece part i)
 of_file files.Limit = Input files.Limit
 
--- The faults of reading.
+-- The faults that reading the input may have: `Read` and `NoMemory`.
 abbrev pub IsReadFault : Fault → Type 0
 IsReadFault Read = Unit {0}
 IsReadFault NoMemory = Unit {0}

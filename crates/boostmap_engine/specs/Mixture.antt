@@ -1,4 +1,4 @@
--- The history of a script file whose workers' turns are mixed.
+-- The history that results if the scripts of a file are run with mixed turns of the workers.
 use Rattle.std.specs.Prelude.{◌≡◌, ℕ, ◌<◌, List, Ok, Err}
 use Rattle.std.specs.List.{All}
 use Rattle.txn_words.specs.declared.holder.Holder.TheVariants.{Now}
@@ -13,9 +13,9 @@ use Rattle.boost_core.specs.State.{State}
 use Rattle.script_mix.specs.Crews.{IsMixed}
 use Rattle.boostmap_engine.specs.Report.{line}
 
--- There is a core on which the workers took turns as this seed draws them. Its history is legal and
--- has only entries of these workers. Each worker's committed transactions play its scripts, in
--- rising order. The text is that of the history, with the version of the script file.
+-- There is a core on which the workers took turns as this seed draws them. The core's history is
+-- legal and has only entries of these workers. Each worker's committed transactions play its
+-- scripts, in rising order. `text` is the text of the history, with the version of the script file.
 pub record IsMixture (work : Work) (seed : ℕ) (text : List ℕ) : Type 0 where
   pub core : State
   pub mixed : IsMixed work seed core
@@ -24,11 +24,11 @@ pub record IsMixture (work : Work) (seed : ℕ) (text : List ℕ) : Type 0 where
   pub plays : PlayScripts work.sizes.callers work.scripts core.history
   pub whole : text ≡ line (text_of_history work.version work.sizes.stripes core.history)
 
--- A mixture of the scripts in the bytes.
+-- `text` is a mixture of the scripts that are read from these bytes.
 abbrev pub IsMixtureOf : ℕ → List ℕ → List ℕ → Type 0
 IsMixtureOf seed bytes text =
     (work : Work) × (scripts_of bytes ≡ Ok work) × IsMixture work seed text
 
--- The bytes are refused as a script file, with this fault.
+-- The bytes are not a script file, and reading them as one gives this fault.
 abbrev pub IsNoScriptFile : List ℕ → FileFault → Type 0
 IsNoScriptFile bytes fault = scripts_of bytes ≡ Err fault

@@ -1,4 +1,4 @@
--- The report of a run of a step file.
+-- The report on a run of the steps in a file.
 use Rattle.std.specs.Prelude.{◌≡◌, ℕ, List, [], ◌∷◌, ◌++◌, Ok, Err, codes, decimal}
 use Rattle.std.specs.List.{flat_map}
 use Rattle.txn_words.specs.declared.answer.Answer.{Answer}
@@ -20,7 +20,7 @@ line text = text ++ 10 ∷ []
 abbrev pub answers_text : List Answer → List ℕ
 answers_text answers = flat_map (λ answer. line (text_of answer)) answers
 
--- The line of the size and the count.
+-- The line that gives the size and the count.
 abbrev pub size_text : ℕ → ℕ → List ℕ
 size_text size count = line (codes "size " ++ (decimal size ++ (codes " count " ++ decimal count)))
 
@@ -38,19 +38,19 @@ last_text last =
 abbrev pub report : List Answer → State → List ℕ
 report answers last = answers_text answers ++ last_text last
 
--- A run of these steps, and its report.
+-- `text` is the report on a run of these steps.
 pub record IsReport (sizes : Sizes) (steps : List Step) (text : List ℕ) : Type 0 where
   pub answers : List Answer
   pub last : State
   pub run : Run sizes steps answers last
   pub whole : text ≡ report answers last
 
--- The report of a run of the steps in the bytes.
+-- `text` is the report on a run of the steps that are read from these bytes.
 abbrev pub IsReportOf : List ℕ → List ℕ → Type 0
 IsReportOf bytes text =
     (sizes : Sizes) × (steps : List Step) × (file_of bytes ≡ Ok (sizes, steps))
     × IsReport sizes steps text
 
--- The bytes are refused as a step file, with this fault.
+-- The bytes are not a step file, and reading them as one gives this fault.
 abbrev pub IsNoStepFile : List ℕ → FileFault → Type 0
 IsNoStepFile bytes fault = file_of bytes ≡ Err fault

@@ -1,4 +1,4 @@
--- The reading and the writing of an engine, for any kind of text.
+-- What an engine reads and writes, for any kind of text.
 use Rattle.std.specs.Prelude.{◌≡◌, ℕ, ◌<◌, List, length, take, Option, IfSome}
 use Rattle.std.specs.Io.KnownBytes.{Appends, Keeps}
 use Rattle.txn_files.specs.FileFault.{FileFault}
@@ -6,17 +6,17 @@ use Rattle.txn_files.specs.Reading.{max_read}
 use Rattle.boostmap_engine.specs.declared.fault.Fault.{Fault}
 use Rattle.boostmap_engine.specs.declared.fault.Fault.TheVariants as faults
 
--- The first `max_read` of the bytes that a reader had left. A file may have at most `max_read` - 1
--- bytes.
+-- `bytes` are the first `max_read` of the bytes that the reader still had. A file may have at most
+-- `max_read` - 1 bytes.
 abbrev pub IsRead : Option (List ℕ) → List ℕ → Type 0
 IsRead remaining bytes = IfSome remaining (λ all. bytes ≡ take max_read all)
 
--- Known bytes grow by a proper beginning of the text.
+-- The output, if its bytes are known, grew by a proper prefix of the text.
 abbrev pub AppendsPart : Option (List ℕ) → Option (List ℕ) → List ℕ → Type 0
 AppendsPart old new text = (n : ℕ) × (n < length text) × Appends old new (take n text)
 
--- The output after a fault in writing a text. If a write failed, it grew by a proper beginning of
--- the text. If memory was refused, it is unchanged.
+-- The output after writing a text has failed. If a write failed, the output grew by a proper prefix
+-- of the text. If memory was refused, the output is unchanged.
 abbrev pub LeavesText : Option (List ℕ) → Option (List ℕ) → List ℕ → Fault → Type 0
 LeavesText old new text faults.Write = AppendsPart old new text
 LeavesText old new text faults.NoMemory = Keeps old new
@@ -26,7 +26,8 @@ LeavesText old new text faults.NoThread = ⊥
 LeavesText old new text faults.Read = ⊥
 LeavesText old new text faults.OutOfStep = ⊥
 
--- The reason why bytes have no text: they are refused as a file, or memory was refused.
+-- The reason why no text was made from the bytes: they are not a file of the right kind, or memory
+-- was refused.
 abbrev pub HasNone : (List ℕ → FileFault → Type 0) → List ℕ → Fault → Type 0
 HasNone IsRefused bytes (faults.Input fault) = IsRefused bytes fault
 HasNone IsRefused bytes faults.NoMemory = Unit {0}
@@ -36,15 +37,15 @@ HasNone IsRefused bytes faults.Read = ⊥
 HasNone IsRefused bytes faults.Write = ⊥
 HasNone IsRefused bytes faults.OutOfStep = ⊥
 
--- The output grew by a text of the bytes that were read.
+-- The output grew by a text that belongs to the bytes that were read.
 abbrev pub WritesTextOf : (List ℕ → List ℕ → Type 0) → Option (List ℕ) → Option (List ℕ)
     → Option (List ℕ) → Type 0
 WritesTextOf IsTextOf remaining old new =
     (bytes : List ℕ) × (text : List ℕ) × IsRead remaining bytes × IsTextOf bytes text
     × Appends old new text
 
--- The output at a fault: if a write failed, a proper beginning of a text of the bytes that were
--- read; otherwise nothing was written.
+-- The output after a fault. If a write failed, the output grew by a proper prefix of a text that
+-- belongs to the bytes that were read. Otherwise nothing was written.
 abbrev pub LeavesOutput : (List ℕ → List ℕ → Type 0) → (List ℕ → FileFault → Type 0)
     → Option (List ℕ) → Option (List ℕ) → Option (List ℕ) → Fault → Type 0
 LeavesOutput IsTextOf IsRefused remaining old new (faults.Input fault) =

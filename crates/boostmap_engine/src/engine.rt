@@ -1,5 +1,5 @@
-//! The engines of three commands, over a reader and a writer. Each reads its whole input, and takes
-//! all of its memory, and only then writes. So a fault before the first write leaves the output
+//! The engines of three commands. Each engine reads its whole input from a reader, takes all of its
+//! memory, and only then writes to a writer. So a fault before the first write leaves the output
 //! unchanged.
 ghost use Rattle.std.specs.Prelude.{OnOk, IfOk, IfErr};
 ghost use Rattle.boostmap_engine.specs.Written.{WritesTextOf, LeavesOutput};
@@ -17,9 +17,9 @@ use std::alloc::Global;
 use std::io::{Read, Write};
 
 /// Reads a step file to its end, runs its steps one after the other on a new core, and writes the
-/// report: the answers, one on each line, then `size S count C` with the numbers of buckets and of
-/// keys, then a line `key value` for each pair of the map, in list order. Every line ends with a
-/// line feed.
+/// report. First come the answers, one on each line. Then comes `size S count C`, where `S` is the
+/// number of buckets and `C` the number of keys. Then comes a line `key value` for each pair of the
+/// map, in list order. Every line ends with a line feed.
 ///
 /// At most 16,777,217 bytes are read. No call of the reader or the writer is repeated after it
 /// failed.
@@ -31,13 +31,13 @@ use std::io::{Read, Write};
 /// - `Read` if a read fails.
 /// - `Input` if the file is refused.
 /// - `NoMemory` if memory is refused outside a step. Room in the history is made before the first
-///   step; if only that room is refused, the run goes on. A step that is refused memory is
-///   answered `refused 14` and changes nothing.
-/// - `Write` if a write fails or takes nothing: a proper beginning of the report is written.
+///   step; if only that room is refused, the run continues. If a step lacks memory, it is answered
+///   `refused 14` and changes nothing.
+/// - `Write` if a write fails or takes no bytes. Then a proper prefix of the report is written.
 ///
 /// # Cost
 ///
-/// That of `Core::new` and of the steps, and time and memory in proportion to the file and the
+/// The cost of `Core::new` and of the steps, and time and memory in proportion to the file and the
 /// report.
 pub fn replay<R: Read, W: Write>(alloc: Global, input: &mut R, output: &mut W) -> Result<(), Fault>
     ensures reports { OnOk result (WritesTextOf IsReportOf (R.remaining input.old)
@@ -50,10 +50,10 @@ pub fn replay<R: Read, W: Write>(alloc: Global, input: &mut R, output: &mut W) -
     write_text(output, text.as_bytes())
 }
 
-/// Reads a history file to its end, judges the history, writes the verdict as one line that ends
-/// with a line feed, and answers whether the history is legal. The line is `legal C commits O open`
-/// or `illegal entry I rule R`. `C` is the number of commits, and `O` the number of callers that
-/// are in a transaction at the end. `I` is the index, from 0, of the first entry that breaks a
+/// Reads a history file to its end, judges the history, and writes the verdict as one line that
+/// ends with a line feed. Returns true if the history is legal. The line is `legal C commits O
+/// open` or `illegal entry I rule R`. `C` is the number of commits, and `O` the number of callers
+/// that are in a transaction at the end. `I` is the index, from 0, of the first entry that breaks a
 /// rule, and `R` is that rule: 1 for replies, 2 for locks, 3 for shape.
 ///
 /// At most 16,777,217 bytes are read. No call of the reader or the writer is repeated after it
@@ -66,11 +66,11 @@ pub fn replay<R: Read, W: Write>(alloc: Global, input: &mut R, output: &mut W) -
 /// - `Read` if a read fails.
 /// - `Input` if the file is refused.
 /// - `NoMemory` if memory is refused.
-/// - `Write` if a write fails or takes nothing: a proper beginning of the line is written.
+/// - `Write` if a write fails or takes no bytes. Then a proper prefix of the line is written.
 ///
 /// # Cost
 ///
-/// That of `history_check::check`, and time and memory in proportion to the file.
+/// The cost of `history_check::check`, and time and memory in proportion to the file.
 pub fn check<R: Read, W: Write>(alloc: Global, input: &mut R, output: &mut W) -> Result<bool, Fault>
     ensures judges { IfOk result (λ legal. WritesTextOf (IsJudgement legal) (R.remaining input.old)
         (W.contents output.old) (W.contents output.new)) }
@@ -84,13 +84,14 @@ pub fn check<R: Read, W: Write>(alloc: Global, input: &mut R, output: &mut W) ->
     Ok(is_legal(verdict))
 }
 
-/// Reads a script file to its end, runs its scripts on a new core with the workers' turns mixed as
-/// the seed says, and writes the history as one line of compact JSON, which ends with a line feed.
+/// Reads a script file to its end, and runs its scripts on a new core. The seed determines how the
+/// workers' turns are mixed. Writes the history as one line of compact JSON, which ends with a line
+/// feed.
 ///
 /// Before each turn the generator `Pcg32` of this seed draws its next word, even if only one worker
 /// still has a step to take. The workers that still have a step to take get places from 0, in
 /// rising order of their numbers. The turn goes to the worker whose place is the word modulo the
-/// number of these workers. So, if no step is refused memory, the same file and seed give the same
+/// number of these workers. So, if no step lacks memory, the same file and seed give the same
 /// bytes.
 ///
 /// At most 16,777,217 bytes are read. No call of the reader or the writer is repeated after it
@@ -102,13 +103,13 @@ pub fn check<R: Read, W: Write>(alloc: Global, input: &mut R, output: &mut W) ->
 ///
 /// - `Read` if a read fails.
 /// - `Input` if the file is refused.
-/// - `NoMemory` if memory is refused outside a step. A step that is refused memory ends its
-///   script as refused.
-/// - `Write` if a write fails or takes nothing: a proper beginning of the line is written.
+/// - `NoMemory` if memory is refused outside a step. If a step lacks memory, its script ends as
+///   refused.
+/// - `Write` if a write fails or takes no bytes. Then a proper prefix of the line is written.
 ///
 /// # Cost
 ///
-/// That of `script_mix::mix_scripts`, and time and memory in proportion to the file and the
+/// The cost of `script_mix::mix_scripts`, and time and memory in proportion to the file and the
 /// history.
 pub fn mix<R: Read, W: Write>(
     alloc: Global,

@@ -1,6 +1,7 @@
-//! The faults of the program, with the exit status and the line of each, and the usage. All
-//! commands share them with the programs above: a command returns its fault, a program prints the
-//! line. Contracts give each status and text (`specs/Faults.antt`), and no text takes memory.
+//! The faults of the program, with the exit status and the line of each, and the usage text. All
+//! commands and the programs above share these faults: a command returns its fault, and a program
+//! prints the fault's line. Contracts state each status and text (`specs/Faults.antt`). No text
+//! takes memory.
 ghost use Rattle.std.specs.Prelude.{◌≡◌};
 ghost use Rattle.boostmap_engine.specs.Faults.{status_of, message_of, of_file};
 ghost use Rattle.boostmap_engine.specs.declared.fault.Fault.TheVariants as faults;
@@ -10,7 +11,7 @@ use std::fmt;
 use thiserror::Error;
 use txn_files::FileFault;
 
-/// The usage, which is printed if the command line is no call of the program.
+/// The usage text, which is printed if the command line is not valid.
 const USAGE: &str = "usage: boostmap replay FILE | boostmap run FILE
        boostmap mix --seed N FILE | boostmap check FILE
 
@@ -32,7 +33,7 @@ Example: boostmap check examples/checked.json";
 #[derive(Debug, Drop, Error)]
 #[error("{}", Message {fault: self})]
 pub enum Fault {
-    /// The command line is no call of the program.
+    /// The command line is not valid.
     Usage,
     /// The file was refused, with this fault.
     Input(FileFault),
@@ -44,12 +45,12 @@ pub enum Fault {
     Read,
     /// A write failed, or took none of the bytes.
     Write,
-    /// The history of a run in threads is not what its workers saw.
+    /// The history of a run in threads differs from what the run's workers saw.
     OutOfStep,
 }
 
-/// The text of a fault on standard error: one line without its line feed. For `Usage` it is the
-/// whole usage.
+/// The text that is printed on standard error for a fault: one line without its line feed. For
+/// `Usage` it is the whole usage text.
 #[derive(Clone, Copy, Debug)]
 pub struct Message<'a> {
     fault: &'a Fault,
@@ -74,7 +75,7 @@ impl fmt::Display for Message<'_> {
 }
 
 impl Fault {
-    /// The text of the fault on standard error.
+    /// The text that is printed on standard error for the fault.
     ///
     /// # Cost
     ///

@@ -1,6 +1,6 @@
-//! Reading the input of each command, also that of `run` in the crate above. At most one byte more
-//! than a file may have is read, so a file that is too long is found without reading all of it. A
-//! reader is not called again after it failed. Takes memory for the bytes, and 64 KB for a chunk.
+//! Reads the input of each command, including `run` in the crate above. Reads at most one byte more
+//! than a file may have, so a file that is too long is found without reading all of it. A reader is
+//! not called again after it failed. Takes memory for the bytes, and 64 KB for a chunk.
 ghost use Rattle.std.specs.Prelude.{◌≡◌, length, IfOk, IfErr};
 ghost use Rattle.boostmap_engine.specs.Written.{IsRead};
 ghost use Rattle.piece_files.specs.Faults.{Gives};
@@ -25,7 +25,7 @@ fn zeros(alloc: Global, count: usize) -> Result<Vec<u8>, AllocError>
     vec![in alloc; 0u8; count]
 }
 
-/// Reads to the end, or at most one byte more than a file may have.
+/// Reads to the end of the input, but at most one byte more than a file may have.
 ///
 /// # Errors
 ///
@@ -55,15 +55,15 @@ pub fn read_input<R: Read>(alloc: Global, input: &mut R) -> Result<Vec<u8>, Faul
     Ok(bytes)
 }
 
-/// The scripts of a file, read from its bytes, which are dropped.
+/// Reads scripts from the bytes of a file, and drops the bytes.
 ///
 /// # Errors
 ///
-/// Those of `read_scripts`, in its order.
+/// The errors of `read_scripts`, in the same order.
 ///
 /// # Cost
 ///
-/// Time and memory in proportion to the bytes.
+/// Time and memory in proportion to the number of bytes.
 pub fn scripts_in(alloc: Global, bytes: Vec<u8>) -> Result<Scripts, FileFault>
     ensures { Gives (λ work. work) result (scripts_of bytes.items) }
 {

@@ -1,6 +1,6 @@
-//! The line that `check` prints: the verdict on the entries of a history file, by the rule of locks
-//! that the file's version has. The checker knows no versions, so this module chooses the
-//! checker's rule by the version. The bytes are dropped before the entries are judged.
+//! The line that `check` prints: the verdict on the entries of a history file. The file's version
+//! decides which rule of locks holds. The checker knows no versions, so this module chooses the
+//! rule for it. The bytes of the file are dropped before the entries are judged.
 ghost use Rattle.std.specs.Prelude.{◌≡◌, IfOk, IfErr, string_bytes};
 ghost use Rattle.history_check.specs.Verdicts.{says_legal, verdict_line};
 ghost use Rattle.boostmap_engine.specs.Judgement.{IsJudged, IsNoHistoryFile};
@@ -11,15 +11,16 @@ use history_check::{Verdict, check_packed};
 use std::alloc::{AllocError, Global};
 use txn_files::{holder_in, into_packed_history};
 
-/// The verdict on the history in the bytes, by the rule of their version.
+/// Judges the history that is read from these bytes, by the rule of locks that the file's version
+/// determines.
 ///
 /// # Errors
 ///
-/// `Input` if the bytes are no history file; `NoMemory` if memory is refused.
+/// `Input` if the bytes are not a history file. `NoMemory` if memory is refused.
 ///
 /// # Cost
 ///
-/// That of `history_check::check`, and time and memory in proportion to the bytes.
+/// The cost of `history_check::check`, and time and memory in proportion to the number of bytes.
 pub fn judge(alloc: Global, bytes: Vec<u8>) -> Result<Verdict, Fault>
     ensures ok { IfOk result (IsJudged bytes.items) }
     ensures err { IfErr result (HasNone IsNoHistoryFile bytes.items) }
@@ -29,7 +30,7 @@ pub fn judge(alloc: Global, bytes: Vec<u8>) -> Result<Verdict, Fault>
     Ok(verdict)
 }
 
-/// The line of a verdict, with its line feed.
+/// The line that gives this verdict, with a line feed at the end.
 ///
 /// # Errors
 ///
@@ -54,7 +55,7 @@ pub fn line_of(alloc: Global, verdict: Verdict) -> Result<String, AllocError>
     Ok(line)
 }
 
-/// Whether a verdict says that the history is legal.
+/// Returns true if the verdict says that the history is legal.
 ///
 /// # Cost
 ///

@@ -1,27 +1,27 @@
-//! The engines of the program `boostmap`, over any reader and any writer.
+//! The engines of the program `boostmap`, for any reader and any writer.
 //!
 //! An engine reads a file and writes the outcome:
 //!
 //! - `replay` runs the steps of a step file on a new core, and writes the report: each step's
 //!   answer, the size and the count, and the pairs of the map in list order.
 //! - `check` judges the history of a history file, and writes the verdict as one line.
-//! - `mix` runs the scripts of a script file, with the workers' turns mixed as a seed says, and
-//!   writes the history.
+//! - `mix` runs the scripts of a script file, with the workers' turns mixed as a seed determines,
+//!   and writes the history.
 //!
-//! The engine of `run` is in `boostmap_program`, since it starts threads; it uses `read_input`,
-//! `scripts_in` and `write_history` too.
+//! The engine of `run` is in `boostmap_program`, since it starts threads. It also uses
+//! `read_input`, `scripts_in` and `write_history`.
 //!
-//! Proved: `replay` writes exactly the report of a run of the file's steps (`specs/Report.antt`),
-//! and `check` writes exactly the line of the verdict on the file's history
+//! Proved: `replay` writes exactly the report of a run of the file's steps (`specs/Report.antt`).
+//! `check` writes exactly the line that gives the verdict on the file's history
 //! (`specs/Judgement.antt`). `mix` writes a legal history in which the workers' committed
 //! transactions play the file's scripts (`specs/Mixture.antt`). At the faults `Input`, `Read` and
-//! `NoMemory` nothing is written; at `Write`, a proper beginning of the text is written
+//! `NoMemory` nothing is written; at `Write`, a proper prefix of the text is written
 //! (`specs/Written.antt`).
 //!
-//! No read and no write is repeated. The bytes of the file and the values that are read from them
-//! are in memory at the same time; then the bytes are dropped. A report is made as a whole before
-//! its first byte is written. A history is written in pieces, in memory that is taken before the
-//! first write.
+//! No read and no write is repeated. The bytes of the file and the values that are read from the
+//! bytes are in memory at the same time; then the bytes are dropped. A report is made as a whole
+//! before its first byte is written. A history is written in pieces, in memory that is taken before
+//! the first write.
 #![tactic(auto)]
 
 mod engine;

@@ -1,7 +1,7 @@
-//! The history that `mix` prints, before it is turned into text: the history of a core on which the
-//! scripts were mixed. This module is apart from `engine`, since it needs no reader and no writer.
-//! The scripts and the rest of the core are dropped before the history is written, since they are
-//! large.
+//! The history that `mix` prints, before it is turned into text. It is the history of a core on
+//! which the scripts were mixed. This module is separate from `engine`, since it needs no reader
+//! and no writer. The scripts and the rest of the core are large, so they are dropped before the
+//! history is written.
 ghost use Rattle.std.specs.Prelude.{IfOk, IfErr};
 ghost use Rattle.txn_files.specs.HistoryText.{text_of_history};
 ghost use Rattle.boostmap_engine.specs.Mixture.{IsMixtureOf, IsNoScriptFile};
@@ -14,10 +14,10 @@ use script_mix::mix_scripts;
 use std::alloc::Global;
 use txn_words::SmallEntry;
 
-/// A history, with the version and the number of stripes that its text also has.
+/// A history, with the version and the number of stripes that the history's text states too.
 #[derive(Drop)]
 pub(crate) struct MixedHistory {
-    /// The version of the history, which is that of its script file.
+    /// The version of the history, which is the version of its script file.
     pub(crate) version: u64,
     /// The number of stripes.
     pub(crate) stripes: u32,
@@ -25,16 +25,16 @@ pub(crate) struct MixedHistory {
     pub(crate) entries: Vec<SmallEntry>,
 }
 
-/// A history of the scripts in these bytes, with the workers' turns mixed as the seed says. The
-/// history has the version of its script file.
+/// Runs the scripts that are read from these bytes, with the workers' turns mixed as the seed
+/// determines, and returns the history. The history has the version of its script file.
 ///
 /// # Errors
 ///
-/// `Input` if the bytes are no script file; `NoMemory` if memory is refused outside a step.
+/// `Input` if the bytes are not a script file. `NoMemory` if memory is refused outside a step.
 ///
 /// # Cost
 ///
-/// That of `script_mix::mix_scripts`, and time and memory in proportion to the bytes.
+/// The cost of `script_mix::mix_scripts`, and time and memory in proportion to the number of bytes.
 pub(crate) fn mixture(alloc: Global, seed: u64, bytes: Vec<u8>) -> Result<MixedHistory, Fault>
     ensures ok { IfOk result (λ mixture. IsMixtureOf seed bytes.items
         (line (text_of_history mixture.version mixture.stripes mixture.entries.items))) }

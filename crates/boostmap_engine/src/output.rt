@@ -1,6 +1,6 @@
-//! Writing a text as a whole, or a proper beginning of it if the writer fails. All commands write
-//! by these two functions, `run` too, so what a failed write leaves is proved once. A writer is not
-//! called again after it failed or took nothing.
+//! Writes a whole text, or only a proper prefix of the text if the writer fails. All commands,
+//! including `run`, write by the two functions of this module. So it is proved only once what a
+//! failed write leaves. A writer is not called again after it failed or took no bytes.
 ghost use Rattle.std.specs.Prelude.{◌≡◌, OnOk, OnErr, IfErr};
 ghost use Rattle.std.specs.Io.KnownBytes.{Appends};
 ghost use Rattle.txn_files.specs.HistoryText.{text_of_history};
@@ -18,12 +18,12 @@ use txn_words::SmallEntry;
 ///
 /// # Errors
 ///
-/// `Write` if the writer fails or takes nothing. Then it is not called again, and a proper
-/// beginning of the text is written.
+/// `Write` if the writer fails or takes no bytes. Then it is not called again, and a proper prefix
+/// of the text is written.
 ///
 /// # Cost
 ///
-/// A call of the writer for each part that it takes; takes no memory.
+/// One call of the writer for each part of the text that it takes. Takes no memory.
 pub fn write_text<W: Write>(output: &mut W, text: &[u8]) -> Result<(), Fault>
     ensures ok { OnOk result (Appends (W.contents output.old) (W.contents output.new) text.now) }
     ensures err { OnErr result (AppendsPart (W.contents output.old)
@@ -48,13 +48,13 @@ pub fn write_text<W: Write>(output: &mut W, text: &[u8]) -> Result<(), Fault>
 ///
 /// - `NoMemory` if memory is refused. All memory is taken before the first write, so nothing is
 ///   written.
-/// - `Write` if the writer fails or takes nothing. Then it is not called again, and a proper
-///   beginning of the line is written.
+/// - `Write` if the writer fails or takes no bytes. Then it is not called again, and a proper
+///   prefix of the line is written.
 ///
 /// # Cost
 ///
-/// Time in proportion to the entries, and memory for 65,536 bytes. A call of the writer for each
-/// part of a piece that it takes.
+/// Time in proportion to the number of entries, and memory for 65,536 bytes. One call of the writer
+/// for each part of a piece that it takes.
 pub fn write_history<W: Write>(
     alloc: Global,
     output: &mut W,

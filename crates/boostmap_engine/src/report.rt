@@ -13,14 +13,15 @@ use std::alloc::{AllocError, Global};
 use txn_files::read_packed_steps;
 use txn_trace::{Limits, PackedStep};
 
-/// The estimated length of an answer's line, in bytes, by which room for all lines is made at once.
+/// An estimate of the length of an answer's line, in bytes. It determines how much room is made for
+/// all lines at once.
 const ANSWER: usize = 8;
 
-/// When the number of steps left is a multiple of this number, the memory of the steps that were
-/// taken is given back.
+/// Each time the number of remaining steps is a multiple of this number, the memory of the steps
+/// already taken is freed.
 const BLOCK: usize = 16_384;
 
-/// Gives back the memory of the steps that were taken, if the number of steps left is a multiple of
+/// Frees the memory of the steps already taken, if the number of remaining steps is a multiple of
 /// `BLOCK`.
 fn give_back(steps: &mut Vec<PackedStep>)
     ensures { steps.new.items ≡ steps.old.items }
@@ -33,8 +34,8 @@ fn give_back(steps: &mut Vec<PackedStep>)
 /// Takes the steps one after the other on a core whose stripes are not words, and appends each
 /// answer to the text, as one line.
 ///
-/// The steps are reversed first, and taken from the end of the vector. So the memory of the steps
-/// that were taken can be given back while the history grows.
+/// The steps are first reversed, and then taken from the end of the vector. So the memory of the
+/// steps already taken can be freed while the history grows.
 fn put_answers(
     text: &mut String,
     core: &mut Core,
@@ -53,7 +54,7 @@ fn put_answers(
     Ok(())
 }
 
-/// Appends the line of the size and the count to the text.
+/// Appends one line with the size and the count to the text.
 fn put_size(text: &mut String, size: u32, count: u64) -> Result<(), AllocError>
     ensures { OnOk result (string_bytes text.new ≡ string_bytes text.old ++ size_text size count) }
 {
@@ -79,15 +80,15 @@ fn put_last(text: &mut String, alloc: Global, core: &Core) -> Result<(), AllocEr
     put_pairs(text, &pairs)
 }
 
-/// The report of a run of these steps on a new core.
+/// Runs these steps on a new core, and returns the report.
 fn text_of_run(alloc: Global, limits: Limits, steps: Vec<PackedStep>) -> Result<String, AllocError>
     ensures { IfOk result (λ text. IsReport limits steps.items (string_bytes text)) }
 {
     let Ok(mut core) = Core::new(alloc, limits) else {
         return Err(AllocError);
     };
-    // If this room, for an entry of each step, is refused, the history grows while entries are
-    // added.
+    // This makes room in the history for one entry of each step. If the room is refused, the
+    // history grows while entries are added.
     let _room = core.reserve(steps.len(), false);
     let mut text = String::with_capacity(alloc, steps.len().saturating_mul(ANSWER))?;
     put_answers(&mut text, &mut core, steps)?;
@@ -95,17 +96,18 @@ fn text_of_run(alloc: Global, limits: Limits, steps: Vec<PackedStep>) -> Result<
     Ok(text)
 }
 
-/// The report of a run, on a new core, of the steps in the bytes. If the file is of version 1, the
-/// core takes only keys below 2^63. The bytes are dropped before the first step is taken.
+/// Runs the steps that are read from these bytes on a new core, and returns the report. If the file
+/// is of version 1, the core takes only keys below 2^63. The bytes are dropped before the first
+/// step is taken.
 ///
 /// # Errors
 ///
-/// `Input` if the bytes are no step file; `NoMemory` if memory is refused outside a step. Room in
-/// the history is made before the first step; if only that room is refused, the run goes on.
+/// `Input` if the bytes are not a step file. `NoMemory` if memory is refused outside a step. Room
+/// in the history is made before the first step; if only that room is refused, the run continues.
 ///
 /// # Cost
 ///
-/// That of `Core::new` and of the steps, and time and memory in proportion to the bytes and the
+/// The cost of `Core::new` and of the steps, and time and memory in proportion to the bytes and the
 /// report.
 pub fn report(alloc: Global, bytes: Vec<u8>) -> Result<String, Fault>
     ensures ok { IfOk result (λ text. IsReportOf bytes.items (string_bytes text)) }

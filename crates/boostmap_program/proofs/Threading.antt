@@ -1,4 +1,4 @@
--- The text of a run's history is a text of the file's scripts.
+-- The text of a run's history satisfies `IsThreadedOf` for the file's bytes.
 use Rattle.std.proofs.Common.{◌≡◌, ℕ, ◌≤◌, Bool, true, false, ◌&&◌, nat_le, refl, List, [], ◌∷◌, Option, Result, Ok, Err, ap, subst, sym, ◌∙◌, if◌then◌else◌}
 use Rattle.std.specs.List.{list_all}
 use Rattle.std.proofs.lemmas.Bool.{leb-true}
@@ -75,7 +75,7 @@ few_in (Ok f) work is = few_from f.0 f.1 f.2 work is
 pub few_tries : (bytes : List ℕ) (work : Work) → scripts_of bytes ≡ Ok work → work.tries ≤ 1000
 few_tries bytes work is = few_in (contents script_file bytes) work is
 
--- The output after a fault in writing a history of the bytes that were read.
+-- If a history of the bytes is written and this fails, the output is as `LeavesThreaded` says.
 pub leaves_threaded : (remaining old new : Option (List ℕ)) (bytes text : List ℕ) → IsRead remaining bytes → IsThreadedOf bytes text → (fault : Fault) → LeavesText old new text fault → LeavesThreaded remaining old new fault
 leaves_threaded remaining old new bytes text read is faults.Write h = (bytes, text, read, is, h)
 leaves_threaded remaining old new bytes text read is faults.NoMemory h = h

@@ -16,20 +16,21 @@ use Rattle.boostmap_engine.specs.Report.{line}
 use Rattle.boostmap_engine.specs.Written.{HasNone, LeavesOutput, WritesTextOf}
 use Rattle.unthreaded_program.specs.Runs.{Engine}
 
--- The outcomes and the history of a run of the scripts in threads; and the history's text, of
--- version 3.
+-- A run of the scripts in threads has these outcomes and this history. The text is the line of the
+-- history, with version 3.
 pub record IsThreaded (work : Work) (text : List ℕ) : Type 0 where
   pub outcomes : List Outcome
   pub trace : List Entry
   pub run : HasRunScripts work.sizes work.sizes.callers work.tries work.scripts outcomes trace
   pub whole : text ≡ line (text_of_history 3 work.sizes.stripes trace)
 
--- The outcomes and the history of a run of the scripts in these bytes, and the history's text.
+-- The bytes are a script file, and the text is that of the history of a run of its scripts in
+-- threads.
 abbrev pub IsThreadedOf : List ℕ → List ℕ → Type 0
 IsThreadedOf bytes text = (work : Work) × (scripts_of bytes ≡ Ok work) × IsThreaded work text
 
--- The reason why bytes have no such text: a thread was not started, the history is not what the
--- workers saw, or a reason that a mixed run can have too.
+-- The reason why there is no such text for the bytes: a thread was not started, the history is not
+-- what the workers saw, or a reason that a mixed run can have too.
 abbrev pub HasNoneThreaded : List ℕ → Fault → Type 0
 HasNoneThreaded bytes faults.NoThread = Unit {0}
 HasNoneThreaded bytes faults.OutOfStep = Unit {0}

@@ -2,16 +2,21 @@
 //!
 //! `boostmap replay FILE` runs the steps of a file on a transactional map and prints a report;
 //! `boostmap run FILE` runs the scripts of a file, each worker in its own thread, and prints the
-//! history; `boostmap mix --seed N FILE` runs them in one thread, with the workers' turns mixed as
-//! the seed says; `boostmap check FILE` says whether the recorded history of a file is legal.
+//! history; `boostmap mix --seed N FILE` runs the scripts of a file in one thread, with the
+//! workers' turns mixed as the seed says; `boostmap check FILE` says whether the recorded history
+//! of a file is legal.
 //!
-//! `run` does all that the program does, over any system that has words and opens files, and over
-//! any two writers. It promises (`Runs` of `unthreaded_program`) that one of two things has
-//! happened. Either an engine ran on the file that the words name. It is the engine of the command
-//! that the words ask for, and standard output has exactly what this engine wrote. Or no engine
-//! ran, and standard output is unchanged: the words are no call, their file was not opened, or
-//! memory was refused. Standard error has the line of the fault, if there is one, and nothing else,
-//! unless writing the line failed. The status is that of the outcome.
+//! `run` does all that the program does. It works over any system that has words and opens files,
+//! and over any two writers. It promises (`Runs` of `unthreaded_program`) that one of two things
+//! has happened:
+//!
+//! - An engine ran on the file that the words name. It is the engine of the command that the words
+//!   ask for, and standard output has exactly what this engine wrote.
+//! - No engine ran, and standard output is unchanged. The reason is that the words are no call,
+//!   that their file was not opened, or that memory was refused.
+//!
+//! If there is a fault, its line and nothing else is written to standard error, unless writing the
+//! line fails. Otherwise standard error is unchanged. The exit status is that of the outcome.
 //!
 //! `threaded::run` is the engine of the command `run` (`specs/Threaded.antt`): it writes a legal
 //! history of a run of the scripts in threads (`HasRunScripts`). All else is in

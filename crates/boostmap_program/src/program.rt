@@ -1,6 +1,6 @@
-//! The whole call, with the engine of `run` in threads. All other commands, and the beginning and
-//! the end of a call, are those of `unthreaded_program`. The system and both outputs are type
-//! parameters, so that contracts and tests reach the whole call.
+//! A whole call of the program, with the engine of `run` in threads. The other engines, and what
+//! happens before and after an engine, are in `unthreaded_program`. The system and both outputs are
+//! type parameters, so that contracts and tests cover the whole call.
 ghost use Rattle.std.specs.Prelude.{◌≡◌};
 ghost use Rattle.boostmap_program.specs.Threaded.{RunsThreads};
 ghost use Rattle.unthreaded_program.specs.Runs.{RunsCommand, HasExited, Runs, TellsError};
@@ -15,8 +15,8 @@ use std::sync::Wait;
 use std::thread::Threads;
 use unthreaded_program::{Ending, end, open};
 
-/// Runs the engine of a command on its open file. Answers whether all is well: `false` only if
-/// `check` finds its history illegal.
+/// Runs the engine of a command on its open file. Returns false only if `check` finds that the
+/// history of the file is illegal.
 fn run_command<T: Threads + Wait + Sync, R: Read, W: Write>(
     rt: &T,
     alloc: Global,
@@ -51,13 +51,13 @@ fn run_words<T: Threads + Wait + Sync, S: System, W: Write>(
 }
 
 /// Does all that the program does: reads the words of the call, opens the file that they name, and
-/// runs the engine of the command on this file. The engine writes to `output`; the line of a fault
-/// is written to `errors`. If `errors` does not take the line, nothing else changes. Only the
-/// command `run` starts threads, by `rt`.
+/// runs the engine of the command on this file. The engine writes to `output`. The line of a fault
+/// is written to `errors`. If this write fails, nothing else changes. Only the command `run` starts
+/// threads, with `rt`.
 ///
 /// # Cost
 ///
-/// That of the engine, and time and memory in proportion to the words.
+/// The cost of the engine, and time and memory in proportion to the words.
 pub fn run<T: Threads + Wait + Sync, S: System, W: Write, E: Write>(
     rt: &T,
     alloc: Global,

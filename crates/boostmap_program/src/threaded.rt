@@ -1,6 +1,6 @@
 //! The engine of `run`: each worker of a script file runs its scripts in its own thread, and the
-//! history is printed. Only this engine starts threads and waits. The other engines are in a crate
-//! below, so they do not depend on the proofs about the map of threads.
+//! history is printed. Only this engine starts threads and waits for them. The other engines are in
+//! `unthreaded_program`, so they do not depend on the proofs about the map that threads share.
 ghost use Rattle.std.specs.Prelude.{◌≡◌, OnOk, IfOk, IfErr};
 ghost use Rattle.txn_files.specs.HistoryText.{text_of_history};
 ghost use Rattle.boostmap_engine.specs.Report.{line};
@@ -25,7 +25,7 @@ struct ThreadedHistory {
     entries: Vec<SmallEntry>,
 }
 
-/// Runs the scripts in the bytes of a script file, each worker in its own thread, and answers the
+/// Runs the scripts in the bytes of a script file, each worker in its own thread, and returns the
 /// history. The history has version 3, whatever version the script file has. A Busy entry of this
 /// history names a caller that has begun a transaction and may have ended it. Only version 3 allows
 /// such an entry.
@@ -35,11 +35,11 @@ struct ThreadedHistory {
 /// `Input` if the bytes are no script file; `NoMemory` if memory is refused outside a call;
 /// `NoThread` if a thread could not be started; `OutOfStep` if the history is not what the workers
 /// saw. Before a thread starts, the map takes room for what the scripts add. If memory for this
-/// room is refused, the run goes on.
+/// room is refused, the run continues.
 ///
 /// # Cost
 ///
-/// That of `run_scripts`, and time and memory in proportion to the bytes.
+/// The cost of `run_scripts`, and time and memory in proportion to the bytes.
 fn run_in_threads<R: Threads + Wait + Sync>(
     rt: &R,
     alloc: Global,
@@ -83,13 +83,13 @@ fn fault_of(refusal: Refusal) -> Fault
     }
 }
 
-/// Reads a script file to its end, runs its scripts on one map, each worker in its own thread, and
-/// writes the history as one line of compact JSON, which ends with a line feed. Nothing else is
+/// Reads a script file to its end, and runs its scripts on one map, each worker in its own thread.
+/// Writes the history as one line of compact JSON, which ends with a line feed. Nothing else is
 /// written. The order of the workers' steps is not fixed, so two runs of a file may write different
 /// histories; each is legal.
 ///
-/// At most 16,777,217 bytes are read, and no call of the reader or the writer is repeated after it
-/// failed.
+/// At most 16,777,217 bytes are read. If a call of the reader or the writer fails, it is not
+/// repeated.
 ///
 /// # Errors
 ///
@@ -98,15 +98,15 @@ fn fault_of(refusal: Refusal) -> Fault
 /// - `Read` if a read fails.
 /// - `Input` if the file is refused.
 /// - `NoMemory` if memory is refused outside a call. Before a thread starts, the map takes room for
-///   what the scripts add. If memory for this room is refused, the run goes on. A call that is
-///   refused memory ends its script as refused.
+///   what the scripts add. If memory for this room is refused, the run continues. If a call is
+///   refused memory, its script ends as refused.
 /// - `NoThread` if a thread could not be started; the workers that were started finish.
 /// - `OutOfStep` if the history is not what the workers saw.
-/// - `Write` if a write fails or takes nothing: a proper beginning of the line is written.
+/// - `Write` if a write fails or takes no byte. Then a proper beginning of the line is written.
 ///
 /// # Cost
 ///
-/// That of `thread_runs::run_scripts`, and time and memory in proportion to the file and the
+/// The cost of `thread_runs::run_scripts`, and time and memory in proportion to the file and the
 /// history.
 pub fn run<T: Threads + Wait + Sync, R: Read, W: Write>(
     rt: &T,

@@ -1,4 +1,4 @@
--- The steps that keep the buckets sound.
+-- The changes of a `Directory` that keep it sound.
 use Prim.Native.Nat.{zero, suc}
 use Rattle.std.proofs.Common.{◌≡◌, ◌≢◌, ℕ, ◌+◌, ◌*◌, ◌-◌, ◌^◌, ◌<◌, ◌≤◌, inl, inr, List, Option, Some, None, true, All, replicate, is_some, refl, sym, ◌∙◌, ap, subst, arith, get_or, pow-suc, length-set}
 use Rattle.std.proofs.Math.Nat.{pow-le-pow_right}
@@ -17,7 +17,8 @@ pub helper_found : (P : Helper → Type 0) (helpers : List Helper) (number : ℕ
 helper_found P helpers number helper each is =
     subst P (get_or_from_slice_get helpers number helper helper is) (All-get_or P helpers number helper (slice_get_within helpers number helper is) each)
 
--- A bucket stays ready if the size does not fall and each stored bucket stays stored.
+-- If the size does not fall and each stored bucket stays stored, then `MayBeStored` still holds for
+-- each bucket for which it held.
 pub ready_kept : (old new : Directory) → old.size ≤ new.size → ((bucket : ℕ) → is_stored old bucket ≡ true → is_stored new bucket ≡ true) → (bucket : ℕ) → MayBeStored old bucket → MayBeStored new bucket
 ready_kept old new more kept bucket ready = record {
   within = omega (arith, ready.within);
@@ -86,7 +87,7 @@ sound_with_dummy d bucket place sound ready =
 power_doubled : (a : ℕ) → 2 ^ (a + 1) ≡ 2 * 2 ^ a
 power_doubled a = let next : a + 1 ≡ suc a = omega arith in rw next (omega (arith, pow-suc 2 a))
 
--- Twice a power of two is at most a larger power of two.
+-- If one power of two is less than another, then twice the smaller one is at most the greater one.
 pub doubled_within : (a b : ℕ) → 2 ^ a < 2 ^ b → 2 * 2 ^ a ≤ 2 ^ b
 doubled_within a b less = elim (cases_lt a b) [
   | inl below ↦ let power : 2 ^ (a + 1) ≤ 2 ^ b = pow-le-pow_right {n = 2} (omega arith) (omega arith) in

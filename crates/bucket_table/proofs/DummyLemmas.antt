@@ -21,7 +21,7 @@ pub either : (b : Bool) → (b ≡ true) ⊎ (b ≡ false)
 either true = inl refl
 either false = inr refl
 
--- A statement that holds of all nodes holds of all nodes that a seek leaves.
+-- A statement that holds of all nodes holds of all nodes that remain after a seek (`cleaned`).
 each_cleaned : (P : NodeAt → Type 0) (at : SortKey) (nodes : List NodeAt) → AllByRecursion P nodes → AllByRecursion P (cleaned at nodes)
 unfolding cleaned
 each_cleaned P at [] each = tt
@@ -83,7 +83,7 @@ dummy_had (m ∷ rest) place bucket n is dummy same = elim (eqb_tells m.place pl
     or_true true = refl
     or_true false = refl
 
--- A bucket has no dummy if no node has the sort key of its dummy.
+-- If no node has the sort key of a bucket's dummy, `has_dummy` is false of the bucket.
 pub no_dummy : (nodes : List NodeAt) (bucket : ℕ) → AllByRecursion (λ n. n.at ≢ dummy_at bucket) nodes → has_dummy nodes bucket ≡ false
 unfolding has_dummy
 no_dummy [] bucket each = refl
@@ -138,8 +138,8 @@ is_dummy_of-dummy_node place bucket stamp other fits other_fits = elim (eqb_tell
   | inr apart ↦ rw apart.0 (is_dummy_other other (dummy_node place bucket stamp) (λ same. apart.1 (same_from_reversed bucket other (omega arith) (omega arith) (ap (λ (at : SortKey). at.split) same))))
 ]
 
--- If each regular node has the sort key of its key, a node with the sort key of a bucket's dummy is
--- that dummy.
+-- If `IsKeyedNode` holds of a node and the node has the sort key of a bucket's dummy, then the node
+-- is a dummy.
 pub dummy_there : (n : NodeAt) (bucket : ℕ) → bucket < 2 ^ 32 → IsKeyedNode n → n.at ≡ dummy_at bucket → n.kind ≡ Dummy
 dummy_there n bucket fits keyed same = go n.kind refl
   where

@@ -24,7 +24,7 @@ use Rattle.bucket_table.specs.Links.{IsUnlinked, LinksAt}
 use Rattle.bucket_table.specs.Refusals.{refusal_of}
 use Rattle.bucket_table.proofs.DummyLemmas.{has_dummy-linked_after, is_dummy_of-dummy_node, dummy_there, dummy_had, no_dummy}
 
--- If the list gave no spare, the refusal of the link is right (`IsUnlinked`).
+-- If the list gave no spare, `IsUnlinked` holds with the refusal of the link.
 pub unlinked : (before after : Listing) (fault : SpareFault) → (◌≡◌ {A = Result SpareAt SpareFault} (Err fault) (Err Worn) ↔ (before.last ≡ 2 ^ 64 - 2)) → after ≡ before → IsUnlinked before after (refusal_of fault)
 unlinked before after Worn worn same = (same, worn.0 refl)
 unlinked before after SpareNoMemory worn same = (same, λ last. absurd (cc (worn.1 last)))
@@ -58,7 +58,7 @@ module _ (before middle after : Listing) (pred bucket place stamp : ℕ) where
             ap (λ ns. has_dummy ns other) links.takes.nodes ∙ more ∙ ap (λ b. b || has_dummy middle.nodes other) own ∙ ap (λ ns. (bucket == other) || has_dummy ns other) given.nodes;
       }
 
--- If the cursor of a bucket's dummy finds a node, the node is that dummy.
+-- If a cursor for a bucket's dummy finds a node, the node is that dummy.
 pub there_dummy : (l : Listing) (cursor : Cursor) (bucket place : ℕ) → bucket < 2 ^ 32 → IsKeyed l.nodes → at_of cursor ≡ dummy_at bucket → IsThere l cursor place → IsDummyAt l.nodes place bucket
 there_dummy l cursor bucket place fits keyed sought there =
     let same = there.at ∙ sought in
@@ -72,7 +72,7 @@ there_dummy l cursor bucket place fits keyed sought there =
 pub there_had : (l : Listing) (bucket place : ℕ) → IsDummyAt l.nodes place bucket → has_dummy l.nodes bucket ≡ true
 there_had l bucket place dummy = dummy_had l.nodes place bucket dummy.node dummy.is dummy.kind dummy.at
 
--- If the cursor of a bucket's dummy finds no node, that dummy is not linked.
+-- If a cursor for a bucket's dummy finds no node, that dummy is not linked.
 pub absent_not_had : (l : Listing) (cursor : Cursor) (bucket : ℕ) → at_of cursor ≡ dummy_at bucket → IsAbsent l cursor → has_dummy l.nodes bucket ≡ false
 absent_not_had l cursor bucket sought absent =
     let P : SortKey → Type 0 = λ s. AllByRecursion (λ n. n.at ≢ s) l.nodes in

@@ -12,8 +12,8 @@ use Rattle.bucket_table.specs.Directory.{Directory, dummy_of, is_stored, IsNeare
 use Rattle.bucket_table.specs.Dummies.{IsDummyAt, IsBeforeBucket}
 use Rattle.bucket_table.specs.Home.{IsHome}
 
--- Steps from a bucket to its parent lead from `bucket` to `at`. No bucket before `at` on this way
--- is stored.
+-- Zero or more steps, each from a bucket to its parent, lead from `bucket` to `at`. No bucket
+-- before `at` on this path is stored.
 pub record IsPassing (d : Directory) (bucket at : ℕ) : Type 0 where
   pub steps : ℕ
   pub reached : at ≡ ancestor_of steps bucket

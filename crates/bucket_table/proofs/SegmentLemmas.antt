@@ -7,7 +7,7 @@ use Rattle.std.proofs.lemmas.List.{ext_get_or, get_or_past, get_or_read, get_or-
 use Rattle.std.proofs.lemmas.List.FromFn.{get_or-map-range_with_len, length-map-range_with_len}
 use Rattle.bucket_table.specs.Segments.{HasStored, IsRow, Puts, LacksSegment, bucket_entries, bucket_entry, held_by, is_stored_in}
 
--- The entries of a row, one by one.
+-- Lemmas on the entries of a row.
 pub entries_length : (limit : ℕ) (row : List (Option (List (Option ℕ)))) → length (bucket_entries limit row) ≡ limit
 entries_length limit row = length-map-range_with_len (bucket_entry row) 0 limit
 
@@ -29,8 +29,8 @@ segment_within limit bucket long within fits = omega (arith, within, fits)
 same_bucket : (one other : ℕ) → one / 64 ≡ other / 64 → one % 64 ≡ other % 64 → one ≡ other
 same_bucket one other segment place = omega (arith, segment, place)
 
--- The bucket's old segment is replaced by `segment`. The two differ only in the bucket's entry,
--- which is now `dummy`. So the flat list, too, changes only in this entry.
+-- The bucket's old segment is replaced by `segment`. The two segments differ only in the bucket's
+-- entry, which is now `dummy`. So the flat list, too, changes only in this entry.
 module _ (limit : ℕ) (row : List (Option (List (Option ℕ)))) (bucket : ℕ) (segment : List (Option ℕ)) (dummy : ℕ) (within : bucket < limit) (long : limit ≤ 64 * length row) (here : slice_index_or segment (bucket % 64) None ≡ Some dummy)
     (others : (place : ℕ) → place ≢ bucket % 64 → slice_index_or segment place None ≡ slice_index_or (held_by (slice_index_or row (bucket / 64) None)) place None) where
   abbrev changed : List (Option (List (Option ℕ)))
@@ -124,7 +124,7 @@ segment_here place dummy within = get_or-set_same (replicate 64 None) place (Som
 pub segment_elsewhere : (place dummy other : ℕ) → other ≢ place → slice_index_or (slice_set (replicate 64 None) place (Some dummy)) other None ≡ None
 segment_elsewhere place dummy other apart = get_or-set_other (replicate 64 None) place other (Some dummy) None apart ∙ none_in 64 other
 
--- A row of missing segments, just long enough for the limit.
+-- If a row of missing segments is just long enough for the limit, `IsRow` holds of it.
 pub row_missing : (limit count : ℕ) → limit ≤ 64 * count → 64 * count < limit + 64 → limit < 2 ^ 32 → IsRow limit (replicate count None)
 row_missing limit count long no_longer fits = record {
   long = let same = length-replicate {A = Option (List (Option ℕ))} count None in omega (arith, same, long);
@@ -142,7 +142,8 @@ entries_missing limit count = ext_get_or None _ _ (entries_length limit (replica
         entry_at limit (replicate count None) i (omega (arith, below, entries_length limit (replicate count None)))
         ∙ ap (λ (o : Option (List (Option ℕ))). slice_index_or (held_by o) (i % 64) None) (none_in count (i / 64)) ∙ sym (none_in limit i)
 
--- The value read from the row for a bucket is the bucket's segment, or `None` if it is missing.
+-- The value read from the row for a bucket is the bucket's segment, or `None` if the segment is
+-- missing.
 pub segment_read : (row : List (Option (List (Option ℕ)))) (bucket : ℕ) (limit : ℕ) (old : Option (List (Option ℕ))) → bucket < limit → limit ≤ 64 * length row → old ≡ slice_index_or row (bucket / 64) old → old ≡ slice_index_or row (bucket / 64) None
 segment_read row bucket limit old within long is = get_or_read row (bucket / 64) old (segment_within limit bucket (length row) within long) is None
 

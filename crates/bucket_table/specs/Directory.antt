@@ -24,11 +24,11 @@ dummy_of d bucket = slice_index_or d.entries bucket None
 abbrev pub is_stored : Directory → ℕ → Bool
 is_stored d bucket = is_some (dummy_of d bucket)
 
--- The state of the helper of this number, if there is one.
+-- The state of the helper with this number, if there is such a helper.
 abbrev pub helper_of : Directory → ℕ → Option Helper
 helper_of d helper = slice_get d.helpers helper
 
--- Size 2, only bucket 0 stored, and every helper idle.
+-- The buckets of a new table: the size is 2, only bucket 0 is stored, and every helper is idle.
 abbrev pub beginning : ℕ → ℕ → ℕ → Directory
 beginning limit helpers head = record {
   size = 2;
@@ -48,19 +48,19 @@ with_dummy d bucket place = record d { entries = slice_set d.entries bucket (Som
 abbrev pub with_size : Directory → ℕ → Directory
 with_size d size = record d { size = size }
 
--- The bucket is in the table, is not bucket 0, and its parent is stored, so it may be stored too.
+-- The bucket may be stored: it is in the table, it is not bucket 0, and its parent is stored.
 pub record MayBeStored (d : Directory) (bucket : ℕ) : Type 0 where
   pub within : bucket < d.size
   pub above : 0 < bucket
   pub parent : is_stored d (parent_of bucket) ≡ true
 
--- The bucket of a helper, if the helper has one, may be stored.
+-- If the helper has a bucket, the bucket may be stored (`MayBeStored`).
 abbrev pub IsReadyHelper : Directory → Helper → Type 0
 IsReadyHelper d Idle = Unit {0}
 IsReadyHelper d (Seeking bucket cursor) = MayBeStored d bucket
 IsReadyHelper d (Holding bucket dummy) = MayBeStored d bucket
 
--- The sizes are powers of two, and no bucket is stored before its parent.
+-- The size and the largest size are powers of two, and no bucket is stored before its parent.
 pub record IsSound (d : Directory) : Type 0 where
   pub size : IsPowerOfTwo d.size
   pub limit : IsPowerOfTwo (limit_of d)

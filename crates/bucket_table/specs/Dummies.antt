@@ -32,17 +32,17 @@ pub record IsDummyAt (nodes : List NodeAt) (place bucket : ℕ) : Type 0 where
   pub kind : node.kind ≡ Dummy
   pub at : node.at ≡ dummy_at bucket
 
--- A dummy is linked at this place, and is not behind the position of the bucket's dummy.
+-- A dummy is linked at this place, and the position of the bucket's dummy is not before it.
 pub record IsBeforeBucket (nodes : List NodeAt) (place bucket : ℕ) : Type 0 where
   pub node : NodeAt
   pub is : node_of nodes place ≡ Some node
   pub kind : node.kind ≡ Dummy
   pub at_most : IsNotBefore (dummy_at bucket) node.at
 
--- A regular node has the sort key of its key.
+-- If the node is regular, its sort key is the one that `regular_at` gives for its key.
 abbrev pub IsKeyedNode : NodeAt → Type 0
 IsKeyedNode n = n.kind ≡ Regular → n.at ≡ regular_at n.at.key
 
--- Each regular node has the sort key of its key.
+-- `IsKeyedNode` holds of each node.
 abbrev pub IsKeyed : List NodeAt → Type 0
 IsKeyed nodes = AllByRecursion IsKeyedNode nodes

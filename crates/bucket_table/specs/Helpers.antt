@@ -10,20 +10,21 @@ use Rattle.bucket_table.specs.declared.answer.InitRefusal.TheVariants.{HelperOut
 use Rattle.bucket_table.specs.declared.helper.Helper.{Helper}
 use Rattle.bucket_table.specs.declared.helper.Helper.TheVariants.{Idle, Seeking, Holding}
 
--- The bucket and the cursor of a helper that has a cursor.
+-- The helper's bucket and cursor, or `HelperOutOfOrder` if it has no cursor.
 abbrev pub seeking_of : Helper → Result (ℕ × Cursor) InitRefusal
 seeking_of Idle = Err HelperOutOfOrder
 seeking_of (Seeking bucket cursor) = Ok (bucket, cursor)
 seeking_of (Holding bucket dummy) = Err HelperOutOfOrder
 
--- The bucket and the dummy of a helper that has a dummy.
+-- The helper's bucket and dummy, or `HelperOutOfOrder` if it has no dummy.
 abbrev pub holding_of : Helper → Result (ℕ × ℕ) InitRefusal
 holding_of Idle = Err HelperOutOfOrder
 holding_of (Seeking bucket cursor) = Err HelperOutOfOrder
 holding_of (Holding bucket dummy) = Ok (bucket, dummy)
 
--- The state of a helper as answers see it: it has nothing; a cursor for the dummy of a bucket, with
--- the change number at which the cursor was placed; or the dummy of a bucket.
+-- The part of a helper's state that decides answers. The helper has nothing, or it has a cursor for
+-- the dummy of a bucket, with the change number at which the cursor was placed, or it has the dummy
+-- of a bucket.
 pub data Help : Type 0 where
   Nothing : Help
   Sought : ℕ → ℕ → Help
@@ -34,7 +35,7 @@ help_of Idle = Nothing
 help_of (Seeking bucket cursor) = Sought bucket (change_number_of cursor)
 help_of (Holding bucket dummy) = Dummy bucket
 
--- The state of the helper of this number, if there is one.
+-- `help_of` for the state of the helper with this number, if there is such a helper.
 abbrev pub help_at : Directory → ℕ → Option Help
 help_at d helper = option_map help_of (helper_of d helper)
 

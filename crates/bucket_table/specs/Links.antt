@@ -1,11 +1,11 @@
--- The effect of linking a dummy on a list.
+-- How a list changes if a dummy is linked.
 use Rattle.std.specs.Prelude.{◌≡◌, ◌≢◌, ℕ, ◌+◌, ◌-◌, ◌<◌, ◌^◌, ◌==◌, ◌||◌}
 use Rattle.node_list.specs.Nodes.{Listing, IsLinked, out_at, linked_after, one_more}
 use Rattle.bucket_table.specs.declared.answer.InitRefusal.{InitRefusal}
 use Rattle.bucket_table.specs.declared.answer.InitRefusal.TheVariants.{NoSuchBucket, ParentMissing, NoSuchHelper, HelperOutOfOrder, NoMemory, StampsUsedUp}
 use Rattle.bucket_table.specs.Dummies.{IsDummyAt, dummy_node, has_dummy}
 
--- The dummy of a bucket is linked behind a node, at this place and with a new stamp.
+-- The dummy of a bucket is linked right after the node `pred`, at this place and with a new stamp.
 pub record LinksAt (before after : Listing) (pred bucket place : ℕ) : Type 0 where
   pub linked : IsLinked before.nodes pred
   pub nodes : after.nodes
@@ -19,8 +19,9 @@ pub record LinksAt (before after : Listing) (pred bucket place : ℕ) : Type 0 w
   pub dummies : (other : ℕ) → other < 2 ^ 32
       → has_dummy after.nodes other ≡ ((bucket == other) || has_dummy before.nodes other)
 
--- The reason why no dummy is linked. Nothing has changed. The stamps are used up exactly if the
--- last stamp given is 2^64 - 2. Otherwise memory was refused, or the list has no place left.
+-- No dummy was linked, nothing has changed, and this refusal is the reason. It is `StampsUsedUp`
+-- exactly if the last stamp given is 2^64 - 2. Otherwise it is `NoMemory`: memory was refused, or
+-- the list has no place left.
 abbrev pub IsUnlinked : Listing → Listing → InitRefusal → Type 0
 IsUnlinked before after StampsUsedUp = (after ≡ before) × (before.last ≡ 2 ^ 64 - 2)
 IsUnlinked before after NoMemory = (after ≡ before) × (before.last ≢ 2 ^ 64 - 2)

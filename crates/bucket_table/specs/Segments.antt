@@ -12,11 +12,11 @@ abbrev pub bucket_entry : List (Option (List (Option ℕ))) → ℕ → Option �
 bucket_entry row bucket =
     slice_index_or (held_by (slice_index_or row (bucket / 64) None)) (bucket % 64) None
 
--- The entries of this number of buckets.
+-- The entries of the buckets below the limit.
 abbrev pub bucket_entries : ℕ → List (Option (List (Option ℕ))) → List (Option ℕ)
 bucket_entries limit row = map (bucket_entry row) (range_with_len 0 limit)
 
--- Whether a bucket is stored, by the entries of all buckets.
+-- Whether a bucket is stored, given the entries of all buckets.
 abbrev pub is_stored_in : List (Option ℕ) → ℕ → Bool
 is_stored_in entries bucket = is_some (slice_index_or entries bucket None)
 

@@ -1,6 +1,7 @@
-//! The answers of the calls on buckets, and their refusals. This crate does not use `txn_words`, so
-//! `map_ops` converts the refusals to those of steps, and `boost_core` converts the other answers.
-//! Each answer but `NoMemory` is a function of the state before the call (`specs/Answers.antt`).
+//! The answers that the calls of `Buckets` give, and their refusals. This crate does not use
+//! `txn_words`: `map_ops` converts these refusals to refusals of steps, and `boost_core` converts
+//! the other answers. The state before a call determines its answer, unless the answer is
+//! `NoMemory` (`specs/Answers.antt`).
 ghost use Rattle.std.specs.Prelude.{◌≡◌};
 ghost use Rattle.bucket_table.specs.Refusals.{refusal_of};
 ghost use Rattle.bucket_table.specs.Text.{refusal_text};
@@ -29,7 +30,7 @@ pub enum InitLink {
     Linked,
 }
 
-/// The refusal of a step of a bucket's initialisation. A refused step leaves everything unchanged.
+/// Why a step that initialises a bucket is refused. A refused step leaves everything unchanged.
 /// Each refusal is printed as a sentence.
 #[derive(Clone, Copy, Debug, PartialEq, Eq)]
 pub enum InitRefusal {
@@ -86,12 +87,12 @@ impl From<SpareFault> for InitRefusal {
 /// buckets.
 #[derive(Clone, Copy, Debug, PartialEq, Eq)]
 pub enum Double {
-    /// The size is this one, not the one that the caller saw.
+    /// The size is not the one that the caller saw; it is this number.
     Moved(u32),
     /// The size is the largest one allowed.
     AtLimit,
     /// There are at most twice as many keys as buckets.
     Light,
-    /// The size is doubled to this one.
+    /// The size is doubled; it is now this number.
     Doubled(u32),
 }

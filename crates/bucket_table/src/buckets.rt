@@ -62,7 +62,8 @@ impl Buckets {
     ///
     /// # Cost
     ///
-    /// Time and memory in proportion to `max / 64`, the number of segments, and to the helpers.
+    /// Time and memory in proportion to the number of segments, `max / 64`, plus the number of
+    /// helpers.
     pub fn new(alloc: Global, max: u32, helpers: u32, list: &NodeList) -> Result<Self, AllocError>
         requires power { IsPowerOfTwo max }
         requires least { 2 ≤ max }
@@ -81,8 +82,8 @@ impl Buckets {
     ///
     /// # Cost
     ///
-    /// That of `new`, and 4 bytes of memory for each of these buckets, up to `max` of them, in
-    /// whole segments.
+    /// The cost of `new`, and 4 bytes of memory for each of the first `buckets` buckets, rounded up
+    /// to whole segments. If `buckets` is greater than `max`, `max` counts instead.
     pub fn with_capacity(
         alloc: Global,
         max: u32,
@@ -152,7 +153,7 @@ impl Buckets {
             .ok_or(InitRefusal::NoSuchHelper)
     }
 
-    /// Stores a bucket with its dummy, or answers `NoMemory`.
+    /// Stores a bucket with its dummy, or returns `NoMemory`.
     fn set_dummy(&mut self, bucket: u32, dummy: NodeRef) -> Result<(), InitRefusal>
         requires { MayBeStored self.old bucket }
         ensures ok { IfOk result (λ done. self.new ≡ with_dummy self.old bucket dummy) }
@@ -175,21 +176,21 @@ impl Buckets {
         self.helpers[helper as usize] = now;
     }
 
-    /// Seeks the position of a bucket's dummy, from the dummy of its parent, and gives the helper a
-    /// cursor there, in place of whatever it had. If the bucket is stored already, answers `Ready`,
-    /// and the helper is idle.
+    /// Seeks the position of a bucket's dummy, beginning at the dummy of the bucket's parent, and
+    /// gives the helper a cursor at this position. The cursor replaces whatever the helper had. If
+    /// the bucket is stored already, returns `Ready` instead, and the helper is idle.
     ///
     /// The seek unlinks the marked nodes that it passes. The content of the list is unchanged.
     ///
     /// # Errors
     ///
-    /// In this order: `NoSuchHelper`; `NoSuchBucket` if the bucket is not below the size; and,
-    /// unless the bucket is stored, `ParentMissing` if its parent is not stored. The helper, the
-    /// buckets and the list are then unchanged.
+    /// In this order: `NoSuchHelper`; `NoSuchBucket` if the bucket is not below the size;
+    /// `ParentMissing` if neither the bucket nor its parent is stored. The helper, the buckets and
+    /// the list are then unchanged.
     ///
     /// # Cost
     ///
-    /// Time in proportion to the nodes from the parent's dummy to the position.
+    /// Time in proportion to the number of nodes from the parent's dummy to the position.
     pub fn init_seek(
         &mut self,
         list: &mut NodeList,
@@ -220,8 +221,9 @@ impl Buckets {
         let Some(from) = self.dummy(parent) else {
             return Err(InitRefusal::ParentMissing);
         };
-        // By the contract of this call the list is sound, so no dummy is marked. The proof needs
-        // this fact, not the answer: a seek unlinks only marked nodes, so it unlinks no dummy.
+        // By the contract of `changes` the list is sound, so no dummy is marked. The proof needs
+        // this fact, because a seek unlinks marked nodes but must not unlink a dummy. The number
+        // itself is not used.
         let _changes = list.changes();
         let cursor = seek(list, from, SortKey::dummy(bucket));
         self.set_helper(helper, Helper::Seeking(bucket, cursor));
@@ -267,17 +269,18 @@ impl Buckets {
         }
     }
 
-    /// Links the dummy of a helper's bucket at the helper's cursor, unless it is linked there
-    /// already, and gives the helper that dummy. If the cursor does not fit, it is dropped and the
-    /// helper is idle.
+    /// If the helper's cursor no longer fits, drops the cursor, and the helper is idle. Otherwise
+    /// links the dummy of the helper's bucket at the cursor, unless this dummy is linked already,
+    /// and gives the helper the dummy.
     ///
     /// The content of the list is unchanged.
     ///
     /// # Errors
     ///
-    /// In this order: `NoSuchHelper`; `HelperOutOfOrder` if the helper has no cursor; and, if a
-    /// dummy is to be linked, `StampsUsedUp`, then `NoMemory` if memory is refused or the list has
-    /// no place left. The helper then keeps its cursor, and the buckets and the list are unchanged.
+    /// In this order: `NoSuchHelper`; `HelperOutOfOrder` if the helper has no cursor. If a dummy is
+    /// to be linked, also `StampsUsedUp` if no stamp is left, then `NoMemory` if memory is refused
+    /// or the list has no place left. The helper with its cursor, the buckets and the list are then
+    /// unchanged.
     ///
     /// # Cost
     ///
@@ -301,17 +304,17 @@ impl Buckets {
     }
 
     /// Stores a helper's dummy as the dummy of the helper's bucket, even if the bucket was stored
-    /// meanwhile; the helper is then idle.
+    /// meanwhile. The helper is then idle.
     ///
     /// # Errors
     ///
     /// In this order: `NoSuchHelper`; `HelperOutOfOrder` if the helper has no dummy; `NoMemory` if
     /// memory is refused, which happens only if no bucket of the bucket's segment is stored. The
-    /// helper, with its dummy, and the buckets are then unchanged.
+    /// helper with its dummy and the buckets are then unchanged.
     ///
     /// # Cost
     ///
-    /// Constant time; takes memory only for the bucket's segment, if it is not there.
+    /// Constant time. Takes memory only if the bucket's segment does not exist yet.
     pub fn init_store(&mut self, helper: u64) -> Result<(), InitRefusal>
         ensures answer { result ≢ Err InitRefusal.NoMemory
             → result ≡ store_answer (help_at self.old helper) }
@@ -328,9 +331,9 @@ impl Buckets {
         Ok(())
     }
 
-    /// Doubles the size if it is the one that the caller saw, if it is not the largest one, and if
-    /// the list has more than twice as many keys as there are buckets. These conditions are tested
-    /// in this order.
+    /// Doubles the size if three conditions hold. They are tested in this order: the size is the
+    /// one that the caller saw, the size is not the largest one, and the list has more than twice
+    /// as many keys as there are buckets.
     ///
     /// Nothing else changes: no node moves, and the new buckets are not stored yet.
     pub fn double(&mut self, list: &NodeList, seen: u64) -> Double
@@ -353,7 +356,7 @@ impl Buckets {
     }
 }
 
-/// Links the dummy of a bucket behind `pred`, the node before the dummy's position.
+/// Links the dummy of a bucket right after `pred`, the node before the dummy's position.
 fn link_dummy(list: &mut NodeList, pred: NodeRef, bucket: u32) -> Result<NodeRef, InitRefusal>
     requires { IsVacant list.old.nodes pred (dummy_at bucket) }
     ensures ok { IfOk result (λ place. LinksAt list.old list.new pred bucket place) }

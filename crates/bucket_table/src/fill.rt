@@ -1,12 +1,12 @@
 //! Vectors filled with one value: the idle helpers of a new table, the entries of a new segment,
-//! and the memory for segments to come. The module knows neither helpers nor entries, so one loop
-//! and one proof serve all three. The time is in proportion to the length; `fill` takes memory only
-//! for what the vector lacks.
+//! and the memory for segments to come. The functions here take any value, so one loop and one
+//! proof serve all three. Their time is in proportion to the length. `fill` takes memory only if
+//! the vector has too little room.
 ghost use Rattle.std.specs.Prelude.{◌≡◌, replicate, IfOk};
 
 use std::alloc::{AllocError, Global};
 
-/// A vector of this number of equal values.
+/// A vector of `count` copies of `value`.
 pub(crate) fn vec_of<T: Copy>(alloc: Global, count: u32, value: T) -> Result<Vec<T>, AllocError>
     ensures { IfOk result (λ items. items.items ≡ replicate count value) }
 {
@@ -15,7 +15,7 @@ pub(crate) fn vec_of<T: Copy>(alloc: Global, count: u32, value: T) -> Result<Vec
     Ok(items)
 }
 
-/// Fills a vector with this number of equal values, in place of what it has.
+/// Replaces the items of a vector by `count` copies of `value`.
 pub(crate) fn fill<T: Copy>(items: &mut Vec<T>, count: u32, value: T) -> Result<(), AllocError>
     ensures { IfOk result (λ done. items.new.items ≡ replicate count value) }
 {

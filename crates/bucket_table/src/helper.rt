@@ -1,6 +1,6 @@
 //! Helpers: the callers that initialise buckets. Between two steps a helper is idle, has a cursor
 //! for a dummy, or has a dummy that it has not stored yet. `buckets.rt` reads this state only by
-//! the two methods here, so a step out of order is refused in one place.
+//! `seeking` and `holding`, so only these two methods refuse a step that comes out of order.
 ghost use Rattle.std.specs.Prelude.{◌≡◌};
 
 use crate::answer::InitRefusal;
@@ -10,18 +10,18 @@ use node_list::NodeRef;
 /// The state of a helper.
 #[derive(Clone, Copy, Debug)]
 pub enum Helper {
-    /// It has no bucket.
+    /// The helper has no bucket.
     Idle,
-    /// It has a cursor for the dummy of this bucket.
+    /// The helper has a cursor for the dummy of this bucket.
     Seeking(u32, Cursor),
-    /// It has the linked dummy of this bucket, which it has not stored yet.
+    /// The helper has the linked dummy of this bucket, and has not stored it yet.
     Holding(u32, NodeRef),
 }
 
 impl Helper {
     ghost use Rattle.bucket_table.specs.Helpers.{seeking_of, holding_of};
 
-    /// The bucket and the cursor of a helper that has a cursor.
+    /// The helper's bucket and cursor, or `HelperOutOfOrder` if it has no cursor.
     pub(crate) fn seeking(&self) -> Result<(u32, Cursor), InitRefusal>
         ensures { result ≡ seeking_of self.now }
     {
@@ -31,7 +31,7 @@ impl Helper {
         }
     }
 
-    /// The bucket and the dummy of a helper that has a dummy.
+    /// The helper's bucket and dummy, or `HelperOutOfOrder` if it has no dummy.
     pub(crate) fn holding(&self) -> Result<(u32, NodeRef), InitRefusal>
         ensures { result ≡ holding_of self.now }
     {

@@ -8,14 +8,15 @@
 //! after its parent. A key is sought from the dummy of its bucket or, until that bucket is stored,
 //! from the dummy of the nearest stored ancestor. A *helper* stores a bucket in three steps: it
 //! seeks the position of the dummy, links the dummy there unless it is linked already, and stores
-//! it.
+//! the dummy.
 //!
-//! Apart from the list, the buckets are a row of segments, each with the entries of 64 buckets. A
-//! segment is there exactly if one of its buckets is stored: the first segment from the beginning,
-//! and every other segment once any of its buckets is stored. The store that makes a segment takes
-//! the memory for it, unless memory is left that `Buckets::with_capacity` took before. A contract
-//! sees the row as the flat array of its entries. In this example the size is 4, the keys are 1 to
-//! 5, and all buckets but bucket 2 are stored. The list is ordered by split keys (`split_key`):
+//! The table keeps the buckets in a row of segments, each with the entries of 64 buckets. A segment
+//! exists exactly if one of its buckets is stored: the first segment exists from the beginning, and
+//! every other segment once any of its buckets is stored. The call that stores the first bucket of
+//! a segment makes the segment. It uses memory that `Buckets::with_capacity` took, as long as any
+//! is left, and otherwise takes memory. A contract sees the row as the flat array of its entries.
+//! In this example the size is 4, the keys are 1 to 5, and all buckets but bucket 2 are stored. The
+//! list is ordered by split keys (`split_key`):
 //!
 //! ```text
 //!     buckets            list         bucket of the key
@@ -37,12 +38,12 @@
 //! Contracts see a `Directory`: the size, the place of each stored bucket's dummy, and each
 //! helper's state. For every value of `Buckets` the size and the largest size are powers of two,
 //! and no bucket is stored before its parent (`IsSound`). Buckets are *at home* on their list
-//! (`IsHome`) if two things hold. Each stored bucket, and each helper that has a dummy, names the
-//! linked dummy of its bucket. Each helper's cursor was placed on the list for its bucket's dummy.
-//! Each call keeps the buckets at home, and so does any change of the list (`still_home`). Each
-//! answer but `NoMemory` is a function of the state before the call (`Answers`), a refused call
-//! changes nothing, and no call changes the content of the list. A doubling changes only the size:
-//! no node moves.
+//! (`IsHome`) if two things hold. Each stored bucket names its linked dummy, and each helper's
+//! dummy is the linked dummy of the helper's bucket. Each helper's cursor was placed on this list,
+//! for the dummy of the helper's bucket. Each call keeps the buckets at home, and so does any
+//! change of the list (`still_home`). The state before a call determines its answer, unless the
+//! answer is `NoMemory` (`Answers`). A refused call changes nothing, and no call changes the
+//! content of the list. A doubling changes only the size: no node moves.
 //!
 //! Calls take constant time and no memory unless they say otherwise. `Buckets::new` and
 //! `Buckets::with_capacity` take memory. `Buckets::init_link` may take memory for a new dummy, and

@@ -1,7 +1,7 @@
-//! The entries of the buckets, in segments of 64. Memory for a segment is taken when the first of
-//! its buckets is stored, unless memory that was taken before is left (`spares`). To `buckets.rt`
-//! the entries are one flat list. A look-up reads one entry, and a store writes one; a segment's
-//! first store writes all 64.
+//! The entries of the buckets, in segments of 64. The first store into a segment makes the segment,
+//! in memory from `spares` if any is left there, and otherwise in new memory. To `buckets.rt` the
+//! entries are one flat list. A look-up reads one entry. A store writes one entry, and the first
+//! store into a segment writes all 64.
 ghost use Rattle.std.specs.Prelude.{◌≡◌, ℕ, ◌-◌, ◌*◌, ◌<◌, ◌≤◌, ◌^◌, ◌∷◌, List, Option, Some, None, length, replicate, slice_index_or, slice_set, IfOk, OnErr};
 ghost use Rattle.bucket_table.specs.Segments.{LacksSegment, Puts};
 
@@ -13,7 +13,7 @@ use std::marker::Model;
 /// The number of entries of a segment.
 const WIDTH: usize = 64;
 
-/// The entries of 64 buckets in a row, of 4 bytes each.
+/// The entries of 64 consecutive buckets, of 4 bytes each.
 #[derive(Drop)]
 struct Segment {
     entries: Vec<PackedRef>,
@@ -85,7 +85,7 @@ impl Model for Segments {
 }
 
 impl Segments {
-    /// The entries of this number of buckets; only bucket 0 is stored, with this dummy. Takes
+    /// The entries of `limit` buckets. Only bucket 0 is stored, with the dummy `first`. Takes
     /// memory for the row, for the first segment, and for the segments of the first `room` buckets,
     /// and writes all of it.
     pub(crate) fn new(
@@ -102,8 +102,8 @@ impl Segments {
         Ok(entries)
     }
 
-    /// The entries of this number of buckets, none of them stored. Takes memory for the row, and
-    /// for the segments of the first `room` buckets, and writes all of it.
+    /// The entries of `limit` buckets, none of them stored. Takes memory for the row, and for the
+    /// segments of the first `room` buckets, and writes all of it.
     fn empty(alloc: Global, limit: u32, room: usize) -> Result<Self, AllocError>
         ensures { IfOk result (λ entries. entries ≡ replicate limit None) }
     {
@@ -138,7 +138,7 @@ impl Segments {
     }
 
     /// Stores a bucket with its dummy. Takes memory only if no bucket of the bucket's segment is
-    /// stored and all memory that was taken before is used.
+    /// stored and no memory that was taken in advance is left.
     ///
     /// # Errors
     ///
@@ -181,8 +181,8 @@ fn put(
     Ok(())
 }
 
-/// The memory for this number of segments, written, so that no later store is the first to touch a
-/// page of it.
+/// Memory for `count` segments. The memory is written here, so that no later store is the first to
+/// touch one of its pages.
 fn spares_of(alloc: Global, count: usize) -> Result<Vec<Vec<PackedRef>>, AllocError> {
     let mut spares = Vec::with_capacity(alloc, count)?;
     for _ in 0..count {

@@ -1,4 +1,4 @@
--- The call of a command line, from the result of `clap`.
+-- Lemmas that lead from the result of `clap` to the call that the words ask for.
 use Rattle.std.proofs.Common.{◌≡◌, true, List, [], ◌∷◌, Option, None, refl, sym, ap, ap₂}
 use Rattle.std.specs.Prelude.{option_and_then}
 use Rattle.clap.specs.declared.error.Error.{Error}
@@ -13,7 +13,7 @@ simple_and_free : is_simple_and_free command_line ≡ true
 unfolding clap_on_literals
 simple_and_free = refl
 
--- The call of a command that was found.
+-- The call that the found command and its arguments make, if a command was found.
 abbrev pub look : Option (Text × List Row) → Option Asked
 look = option_and_then (λ (found : Text × List Row). asked_in found.0 found.1)
 

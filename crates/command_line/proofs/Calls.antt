@@ -1,4 +1,4 @@
--- The call, from the values found for the arguments.
+-- Lemmas about the call that the values found for the arguments make.
 use Rattle.std.proofs.Common.{◌≡◌, ℕ, Option, Some, None, codes, sym, ap, ◌∙◌}
 use Rattle.std.specs.Prelude.{option_and_then, option_map}
 use Rattle.clap.specs.declared.parser.matches.Found.{Found}
@@ -15,7 +15,7 @@ over name known found file named is =
     ap (option_and_then (asked_for known (seed_in found))) (is ∙ first_value-rows found (codes "FILE"))
     ∙ ap (λ given. asked_in given (rows_of found)) (sym named)
 
--- The call of `mix`, whose seed is found as well.
+-- The call of `mix`, if both a file and a seed are found.
 pub over_seed : (name : Text) (found : Found) (seed file : Text) → name ≡ codes "mix" → Some file ≡ first_value found (codes "FILE") → Some seed ≡ first_value found (codes "seed")
     → option_map (λ n. (codes "mix", Some n, file)) (seed_of seed) ≡ asked_in name (rows_of found)
 over_seed name found seed file named is_file is_seed =

@@ -1,4 +1,4 @@
--- Worked command lines: the rows of the usage, and words that are no call.
+-- Examples of command lines: words that are a call, and words that are no call.
 use Rattle.std.proofs.Common.{◌≡◌, List, [], ◌∷◌, Some, None, codes, refl}
 use Rattle.clap.specs.Words.{Text}
 use Rattle.clap.proofs.OnLiterals.{clap_on_literals}

@@ -18,7 +18,7 @@ use Rattle.command_line.specs.declared.words.Command.TheVariants.{Replay, Run, M
 abbrev pub Asked : Type 0
 Asked = Text × Option ℕ × Text
 
--- The name of a command, and the seed that it is given.
+-- The name of a command (`name_of`), and its seed, if it has one (`given_seed`).
 abbrev pub name_of : Command → Text
 name_of Replay = codes "replay"
 name_of Run = codes "run"
@@ -71,7 +71,7 @@ asked_for name seed file =
     else if list_any (bytes_eq name) (codes "replay" ∷ codes "run" ∷ codes "check" ∷ [])
     then Some (name, None, file) else None
 
--- The call of a command with this name, from the values found for its arguments.
+-- The call of the command with this name. `rows` has the values found for its arguments.
 abbrev pub asked_in : Text → List Row → Option Asked
 asked_in name rows = option_and_then (λ file.
     asked_for name (option_and_then seed_of (first_of (codes "seed") rows)) file)

@@ -1,6 +1,6 @@
 //! The reason why there is no call, as an error with a text. It is not the `Fault` of the engines,
-//! since nothing here depends on an engine: the programs turn it into a fault. It has no fields, so
-//! making one takes no memory.
+//! since nothing in this crate depends on an engine. The programs turn the reason into a fault.
+//! `NoCall` has no fields, so making one takes no memory.
 ghost use Rattle.std.specs.Prelude.{◌≡◌};
 ghost use Rattle.command_line.specs.declared.no_call.NoCall.TheVariants.{NoMemory};
 

@@ -21,7 +21,8 @@ pub enum Command {
     Replay,
     /// Runs the scripts of a file, each worker in its own thread.
     Run,
-    /// Runs the scripts of a file, with the workers' turns mixed as a seed says.
+    /// Runs the scripts of a file in one thread. The workers take turns in an order that a seed
+    /// decides.
     Mix {
         /// The seed of the generator that draws the turns.
         seed: u64,
@@ -60,7 +61,7 @@ fn seed_option<'a>(alloc: Global) -> Arg<'a>
         .action(ArgAction::Set)
 }
 
-/// The command of this name, which takes one file.
+/// The command with this name, which takes one file.
 fn command_on_file<'a>(alloc: Global, name: &'a str) -> Result<clap::Command<'a>, AllocError>
     ensures { IfOk result (λ command. IsApp command (over_file name.entry.now)) }
 {
@@ -97,7 +98,7 @@ fn seed_in(word: &str) -> Option<u64>
     }
 }
 
-/// The call of the command of this name, from the values found for its arguments.
+/// The call of the command with this name. `found` has the values of its arguments.
 fn call_named<'a>(name: &str, found: &ArgMatches<'a>) -> Option<Call<'a>>
     ensures { option_map asked_of result ≡ asked_in name.now (rows_of (found_of found.now)) }
 {
@@ -131,8 +132,8 @@ fn call_named<'a>(name: &str, found: &ArgMatches<'a>) -> Option<Call<'a>>
 /// # Errors
 ///
 /// - `NoMemory` if memory is refused.
-/// - Otherwise `Usage`, exactly if the words are no call of the program. Words that ask for help
-///   are no call.
+/// - Otherwise `Usage` if the words are no call of the program, and only then. Words that ask for
+///   help are no call.
 ///
 /// # Cost
 ///

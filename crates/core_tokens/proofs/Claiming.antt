@@ -1,4 +1,4 @@
--- The outcome of a caller's step that uses the claim of the caller's last trial.
+-- What a caller's step does if it uses the claim that the caller's last trial gives.
 use Rattle.std.proofs.Common.{[], ℕ, ◌++◌, ◌+◌, ◌<◌, ◌∙◌, ◌∷◌, ◌≡◌, ◌⊎◌, Bool, IsTrue, List, None, Option, Some, ap, arith, false, inl, inr}
 use Rattle.std.proofs.Common.{length, length-append, refl, subst, sym, true}
 use Rattle.core_tokens.proofs.Vocabulary.{Answer, Call, Claim, Doubling, Drive, Entry, Fresh, Goes, IsStale, Move, Op, Phase, Seat}
@@ -66,7 +66,7 @@ tried_sized_in : (tried : Option Trial) (stripes c size : ℕ) (call : Call) (ph
 tried_sized_in tried stripes c size call (Doubling seen) has = tt
 tried_sized_in tried stripes c size call phase has = has
 
--- The same in terms of the values in the code: `d'` is the drive `d` after it has noted a size.
+-- The lemma above for the values in the code: `d'` is the drive `d` after it has noted a size.
 pub may_next : {S : Type 0} (t k : Token S) (stripes size : ℕ) (d d' : Drive) → t ≡ k → stripes ≡ t.limits.stripes → d' ≡ sized_of size d → HasTriedNext k d → HasTriedIf t.claims.tried stripes (step_of d')
 may_next t k stripes size d d' view as_many sized has = rw (sized, as_many, view) (tried_sized_in k.claims.tried k.limits.stripes d.caller size d.call d.phase has)
 

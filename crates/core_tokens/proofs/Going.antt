@@ -1,4 +1,4 @@
--- A call stays in progress over its steps.
+-- If a call is in progress (`IsUnderway`), it still is after each of its steps.
 use Rattle.std.proofs.Common.{if◌then◌else◌, ℕ, ◌++◌, ◌∙◌, ◌≡◌, List, None, Option, Some, ap, append_assoc, false, is_some, nat_lt, refl}
 use Rattle.std.proofs.Common.{subst, sym, true, unwrap_or}
 use Rattle.core_tokens.proofs.Vocabulary.{Answer, Call, Doubling, Drive, Entry, Initialising, One, Phase, Seat, Seeking, Sizes, State, Step}
@@ -33,8 +33,8 @@ goes_told base seen seen' d e step a is whole seen_is told goes =
       fits = subst (λ o. FitsIf o d.call (told_in d.call d.phase a)) (sym (seat_on_more seen es s seat)) (fits_on s d step a (seat_on s es) is (subst (λ o. FitsIf o d.call d.phase) seat goes.fits) refl);
     })
 
--- The second step of a turn is the drive's next step after `placed`, and this step does not double
--- the table.
+-- The second step of a turn is the drive's next step after the answer `Placed`, and this step does
+-- not double the table.
 second_in : (size c : ℕ) (call : Call) (phase : Phase) (step next : Step) → turn_in c call phase ≡ Two step next → (step_in c call (told_in call phase answers.Placed) ≡ Some next) × IsSized size (told_in call phase answers.Placed)
 second_in size c call (Seeking work again) step next = at_paired (λ t. t ≡ Two step next → (Some (steps.Act c) ≡ Some next) × Unit) again (steps.Seek c) (steps.Act c) (λ is. absurd (cc is)) (λ is. (cc is, tt))
 second_in size c call (Initialising way again) step next =

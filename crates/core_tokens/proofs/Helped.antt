@@ -1,5 +1,5 @@
--- The holds of a call for help keep to the bucket of its key, and the last one leaves that bucket
--- stored.
+-- The holds of a call for help keep to the bucket of its key, and after the last hold this bucket
+-- is stored.
 use Rattle.std.proofs.Common.{ℕ, ◌%◌, ◌∙◌, ◌≡◌, Bool, List, None, Option, Some, ap, false, refl, subst, sym, true}
 use Rattle.core_tokens.proofs.Vocabulary.{Answer, Call, Claim, Doubling, Drive, End, Entry, Goes, HelpSuits, Helped, Initialising, IsWhole}
 use Rattle.core_tokens.proofs.Vocabulary.{Linking, Move, Phase, Refused, Seat, State, Step, Storing, Way, end_of, ended_by, false≢true}
@@ -17,7 +17,7 @@ use Rattle.txn_drive.specs.declared.«end».End.TheVariants as ends
 use Rattle.txn_words.specs.declared.answer.Answer.TheVariants as answers
 use Rattle.txn_words.specs.declared.step.Step.TheVariants as steps
 
--- A hold has taken its turn if the call goes on after the hold or has ended with `Helped`.
+-- The call has not ended, or has ended with `Helped`. Then the hold has taken the drive's turn.
 abbrev IsPlain : Option End → Type 0
 IsPlain None = Unit {0}
 IsPlain (Some ends.Helped) = Unit {0}
@@ -51,10 +51,10 @@ moved tried m n step a plain goes = subst (λ (claim : Claim). Goes claim m step
 abbrev Told : Type 0 → State → ℕ → ℕ → Drive → Type 0
 Told known n key bucket e = (e.call ≡ calls.Help key) × Reaches known n bucket e.phase
 
--- `n`, `seen'` and `e` are core, entries and drive after a turn.
+-- `n`, `seen'` and `e` are the core, the entries and the drive after a turn.
 module _ (known : Type 0) (tried : Option Trial) (c key bucket : ℕ) (n : State) (seen' : List Entry) (e : Drive) where
-  -- The last step of the turn is a move of the core. If the call keeps to its bucket over this
-  -- move, it keeps to the bucket over the turn.
+  -- The last step of the turn is a move of the core. If the call keeps to its bucket in this move,
+  -- it keeps to the bucket in the turn.
   took_last : {m : State} {seen : List Entry} {phase : Phase} {step : Step} {a : Answer} → is_ask step ≡ false → TakesOneStep tried m seen (helping c key phase) step a n seen' e
       → (Move m step a n → Reaches known n bucket (told_in (calls.Help key) phase a)) → Told known n key bucket e
   took_last {m} {seen} {phase} {step} {a} plain takes reaches =
@@ -66,7 +66,7 @@ module _ (known : Type 0) (tried : Option Trial) (c key bucket : ℕ) (n : State
   took_second m seen way again a to reaches second =
       subst (Told known n key bucket) (sym second.2) (refl, subst (λ x. Reaches known x bucket (told_init_seek way again a)) (sym second.0) reaches)
 
-  -- The call keeps to its bucket over each turn.
+  -- In each turn the call keeps to its bucket.
   keeps : (m : State) (seen : List Entry) (phase : Phase) → (known → IsWhole m × HelpSuits m c phase) → IsTo bucket phase → Turned tried m seen (helping c key phase) n seen' e → Told known n key bucket e
   keeps m seen (Initialising way again) suits to turned =
       at_paired (λ t. TakesTurn tried m seen (helping c key (Initialising way again)) t n seen' e → Told known n key bucket e) again (steps.InitSeek c way.bucket) (steps.InitLink c)
@@ -77,12 +77,12 @@ module _ (known : Type 0) (tried : Option Trial) (c key bucket : ℕ) (n : State
   keeps m seen (Storing way) suits to turned = took_last refl turned.1 (store_reaches known m n c bucket way turned.0 suits to)
   keeps m seen phase suits to turned = absurd to
 
--- The first turn of the call gives it its bucket.
+-- The first turn of a call for help gives the call its bucket.
 begun : (known : Type 0) (tried : Option Trial) (m n : State) (seen seen' : List Entry) (c key : ℕ) (phase : Phase) (e : Drive) → (known → is_set n.stored 0 ≡ true) → IsDoubling phase → Turned tried m seen (helping c key phase) n seen' e → Told known n key (key % n.size) e
 begun known tried m n seen seen' c key (Doubling size) e first doubling turned = took_last known tried c key (key % n.size) n seen' e refl turned.1 (double_reaches known m n key turned.0 (λ k same. first k))
 begun known tried m n seen seen' c key phase e first doubling turned = absurd doubling
 
--- If a call that keeps to its bucket has not ended, it is on its way to the bucket. If it has ended
+-- If a call that keeps to its bucket has not ended, the bucket is its target. If the call has ended
 -- with `Helped`, the bucket is stored.
 going : (known : Type 0) (n : State) (c bucket : ℕ) (call : Call) (phase : Phase) → Reaches known n bucket phase → ended_by (turn_in c call phase) ≡ None → IsTo bucket phase
 going known n c bucket call Helped reaches none = absurd (cc none)
@@ -121,7 +121,7 @@ stays {S} key size m n k l d e heads held =
     let on = later_hold ⊥ key size m n k l d e None tt (λ no. absurd no) heads held in
     (on.0.0, going ⊥ n e.caller (key % size) e.call e.phase on.0.1 on.1)
 
--- A call that is in step and on its way suits the core.
+-- If a call with a target suits the core (`Suits`), `HelpSuits` holds of its phase.
 way_suits : (m : State) (s : Seat) (c bucket : ℕ) (call : Call) (phase : Phase) → IsTo bucket phase → Suits m s c call phase → HelpSuits m c phase
 way_suits m s c bucket call (Initialising way again) to suits = suits.1
 way_suits m s c bucket call (Linking way again) to suits = suits.1

@@ -68,15 +68,15 @@ not_out call (Some outcome) plain = λ is. false≢true (sym plain ∙ ap (is_od
 pub no_room_run : (base seen seen' : List Entry) (d e : Drive) → seen' ≡ seen → e ≡ d → (made d ≡ []) × (may_refuse d.call NoMemory ≡ true) → IsUnderway base seen d → HasRun base seen' e.caller e.call (ends.Refused NoMemory)
 no_room_run base seen seen' d e same is starts goes = rw is (record { added = []; entries = cc; made = refl; may = ap not starts.1; quiet = λ whole. tt })
 
--- A hold first tells its drive the core's size, which turns `d` into `d'`. So a course (`HeldBy`)
--- that begins with `d'` is a hold that begins with `d`.
+-- A hold first gives its drive the core's size, which turns `d` into `d'`. So `HeldBy` from `d'`
+-- implies `Held` from `d`.
 pub held_sized : {S : Type 0} (how : How) (m n : State) (k l : Token S) (d d' e : Drive) (size : ℕ) (r : Option End) → size ≡ m.size → d' ≡ sized_of size d → HeldBy how m k d' r n l e → Held m k d r n l e
 held_sized how m n k l d d' e size r size_is is held = (how, subst (λ x. HeldBy how m k x r n l e) (is ∙ ap (λ z. sized_of z d) size_is) held)
 
 pub other_in_step : {S : Type 0} (m : State) (t k : Token S) (d : Drive) → t ≡ k → (m.limits.stripes ≡ t.limits.stripes → ⊥) → InStep m k d → ⊥
 other_in_step {S} m t k d view other ins = other (ap (λ (z : Sizes). z.stripes) (ins.1.same_limits ∙ ap (λ (x : Token S). x.limits) (sym view)))
 
--- A core and a token that are in step stay so, and their hold does not end with `OutOfStep`.
+-- If a core and a token are in step, they stay in step, and the hold does not end with `OutOfStep`.
 pub held_in_step : (n : State) (limits : Sizes) (number : ℕ) (seen : List Entry) (b : Bool) (e : Drive) (end r : Option End) (whole : Bool) → IsInStep n limits number seen e → IsShaped n.history
     → whole ≡ is_some (seat_after seen) → end ≡ end_of e → b ≡ (not whole || odd_if e.call end) → r ≡ end_in b end → ((b ≡ false) × IsInStep n limits number seen e) × IfSome r (λ x. x ≢ ends.Refused OutOfStep)
 held_in_step n limits number seen b e end r whole ins shape whole_is end_is broken ends_is =

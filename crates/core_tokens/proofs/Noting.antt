@@ -11,13 +11,13 @@ use Rattle.core_tokens.proofs.Phases.{seat_on_more}
 use Rattle.core_tokens.specs.Noted.{HasRoomFor, IsNoted, adds_entry, began_by, last_txn}
 use Rattle.txn_words.specs.declared.seat.Phase.TheVariants as seats
 
--- If a step with this answer adds an entry, the step is one that may add an entry.
+-- If `entries_of` gives an entry, `adds_entry` is true of the step.
 adds_if : (step : Step) (a : Answer) (e : Entry) → e ∷ [] ≡ entries_of step a → adds_entry step ≡ true
 adds_if (Begin c) a e is = refl
 adds_if step a e is = cc
 
--- If there is room for the owed entries and for all that an entry reserves, there is room for this
--- entry and for the entries that are owed after it.
+-- If there is room for the owed entries and for the entries that an entry reserves, there is room
+-- for this entry and for the entries that are owed after it.
 owed_row : (s : Seat) (e : Entry) (room : ℕ) (next : Option Seat) → row s s.phase e ≡ next → owed_by (Some s) + reserved_for e ≤ room → 0 < room → owed_by next + 1 ≤ room
 owed_row s e room None is all one = omega (arith, one)
 owed_row s e room (Some next) is all one = omega (arith, owed_by-row s next e is, all)
@@ -29,8 +29,8 @@ owed_noted es s e step a room at is all one =
     let kept = (subst (AllByRecursion (λ e. reserved_for e ≤ reserved step)) (sym is) (reserved_enough step a)).0 in
     subst (λ o. owed_by o + 1 ≤ room) (sym (seat_on_more es (e ∷ []) s at)) (owed_row s e room (row s s.phase e) refl (omega (arith, before, kept, all)) (one (adds_if step a e is)))
 
--- A seat has at most as many standing changes as it owes entries. There is room for the entries
--- that it owes, so the number of its changes fits in 64 bits.
+-- The number of a seat's changes that were not taken back is at most the number of entries that the
+-- seat owes. There is room for these entries, so the number of changes fits in 64 bits.
 standing_owed : (q : Standing) (standing : ℕ) (kept : List ℕ) → IsLevelIn q standing kept → standing ≤ owed_in standing q
 standing_owed seats.Closed standing kept is = let none = is.0 in omega (arith, none)
 standing_owed q standing kept is = omega arith

@@ -1,4 +1,5 @@
--- A drive that is told an answer fits its caller's seat, if the step's entries have rows.
+-- If the rule of shape allows a step's entries, a drive that is given the step's answer fits its
+-- caller's seat.
 use Rattle.std.proofs.Common.{[], if◌then◌else◌, ℕ, ◌%◌, ◌++◌, ◌+◌, ◌-◌, ◌^◌, ◌∙◌, ◌≡◌, ◌≤◌, Bool, List, None, Option, Some, ap, arith}
 use Rattle.std.proofs.Common.{cond, false, is_some, length, nat_lt, refl, slice_index, subst, sym, true, unwrap_or}
 use Rattle.core_tokens.proofs.Vocabulary.{Acting, Answer, Busy, Call, Doubling, Entry, Fresh, Initialising, Last, Leaving, Linking, Lost}
@@ -14,8 +15,8 @@ use Rattle.txn_words.specs.declared.answer.Answer.TheVariants as answers
 use Rattle.txn_words.specs.declared.entry.Entry.TheVariants as entries
 use Rattle.txn_words.specs.declared.seat.Phase.TheVariants as seats
 
--- After an entry with which a call goes on, the seat has the phase that `phase_after` gives, if the
--- entry has a row. For every other entry `phase_after` gives None.
+-- `phase_after` gives a phase for each entry after which a call continues, and `None` for any other
+-- entry. If the rule of shape allows the entry, the seat then has this phase.
 abbrev left_for : Option ℕ → Standing
 left_for None = seats.LeavingToEnd
 left_for (Some n) = seats.LeavingTo n
@@ -94,8 +95,8 @@ fits_undone s call Operation fits = tt
 fits_undone s call (Busy x k) fits = at_counted (SuitsSeat s call) k (Busy x (k + 1)) (Busy x k) (work_more call x k (k + 1) ∙ fits) tt
 fits_undone s call (Leaving k) fits = at_counted (SuitsSeat s call) k (Leaving (k + 1)) (Leaving k) (leave_more call k (k + 1) ∙ fits) tt
 
--- The phases other than `Fresh` in which no work is done. No call comes back to its work from such
--- a phase. So the phase that follows it fits each seat, and counts no change as taken back.
+-- The phases other than `Fresh` in which no work is done. No call returns to its work from such a
+-- phase. So the next phase fits each seat, and counts no change as taken back.
 abbrev Aside : Phase → Type 0
 Aside (Seeking work again) = ⊥
 Aside (Acting work again) = ⊥

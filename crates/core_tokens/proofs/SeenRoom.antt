@@ -41,7 +41,7 @@ open_owes : (standing : ℕ) (q : Standing) → is_closed q ≡ false → 0 < ow
 open_owes standing seats.Closed is = absurd (false≢true (sym is))
 open_owes standing q is = omega arith
 
--- Room is refused only to a call that has not begun, and that may be refused memory.
+-- The call has added no entry yet, and may be refused memory. Room is refused only to such a call.
 abbrev HasNotBegun : ℕ → Call → Phase → Type 0
 HasNotBegun c call phase = (made_in c call phase ≡ []) × (may_refuse call NoMemory ≡ true)
 

@@ -1,4 +1,4 @@
--- A core and a drive stay in step over the first step of a call.
+-- If a core and a drive are in step, they stay in step after the first step of a call.
 use Rattle.std.proofs.Common.{ℕ, ◌∙◌, ◌≡◌, None, Some, ap, cond, false, nat_le, not, refl, true}
 use Rattle.core_tokens.proofs.Vocabulary.{Answer, Call, IsAllowed, Refusal, Seat, State, first_step, never_refused, or_else, refusal_in}
 use Rattle.core_tokens.proofs.Vocabulary.{refusal_parts, seat_in, told_first}

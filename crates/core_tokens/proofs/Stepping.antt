@@ -1,4 +1,4 @@
--- A core and a caller stay in step over a step of the caller's drive.
+-- If a core and a caller are in step, they stay in step after a step of the caller's drive.
 use Rattle.std.proofs.Common.{[], ℕ, ◌++◌, ◌+◌, ◌<◌, ◌==◌, ◌^◌, ◌∙◌, ◌≡◌, List, Option, Some, ap, arith, inl, inr, length}
 use Rattle.std.proofs.Common.{length-append, refl, subst, sym}
 use Rattle.core_tokens.proofs.Vocabulary.{AllByRecursion, Answer, Drive, Entry, IsShaped, IsWhole, Sizes, State, Step, append-nil}

@@ -1,4 +1,4 @@
--- A core and a drive stay in step over a move.
+-- If a core and a drive are in step, they stay in step after a move.
 use Rattle.std.proofs.Common.{[], ℕ, ◌-◌, ◌<◌, ◌^◌, ◌∙◌, ◌≡◌, Bool, None, Option, Some, ap, arith, false, length, nat_le, refl, subst, sym}
 use Rattle.std.proofs.Common.{true}
 use Rattle.core_tokens.proofs.Vocabulary.{Acting, Answer, Call, Doubling, Fresh, HelpSuits, Helped, Initialising, IsWhole, Linking, Move}
@@ -12,7 +12,7 @@ use Rattle.core_tokens.proofs.Working.{suits_act, suits_seek}
 use Rattle.core_tokens.specs.Suits.{SuitsSeat, IsSized, Suits, is_help, undone_of}
 use Rattle.txn_drive.specs.declared.call.Call.TheVariants as calls
 
--- A phase of a call for help that suits the core suits the call.
+-- If a phase suits the core (`HelpSuits`), it suits a call for help (`Suits`).
 suits_help : (n : State) (s : Seat) (c key : ℕ) (phase : Phase) → HelpSuits n c phase → Suits n s c (calls.Help key) phase
 suits_help n s c key (Doubling size) suits = (refl, suits)
 suits_help n s c key (Initialising way again) suits = (refl, suits)
@@ -61,7 +61,7 @@ no_caller : (half : Bool) (s : Seat) (c : ℕ) (call : Call) → refusal_in half
 no_caller half s c calls.Begin = refl
 no_caller half s c call = refl
 
--- A phase that suits a seat fits it.
+-- If `Suits` holds of a phase, `SuitsSeat` holds of it too.
 pub suits_fits : (m : State) (c : ℕ) (s : Seat) (call : Call) (phase : Phase) → Suits m s c call phase → SuitsSeat s call phase
 suits_fits m c s call Fresh suits = (m.limits.half, no_caller m.limits.half s c call ∙ suits.0)
 suits_fits m c s call (Seeking work again) suits = suits

@@ -1,4 +1,4 @@
--- The names of lower crates that several proofs cite, passed on from one place. Declares nothing.
+-- The names of lower crates that several proofs cite, exported from one place. Declares nothing.
 pub use Rattle.std.proofs.lemmas.Bool.{false≢true}
 pub use Rattle.std.proofs.lemmas.List.{append-nil}
 pub use Rattle.std.proofs.lemmas.List.Sums.{fold-append}

@@ -1,4 +1,4 @@
--- A core and a drive stay in step over the steps of an operation and of a return.
+-- If a core and a drive are in step, they stay in step after each step of an operation or a return.
 use Rattle.std.proofs.Common.{if◌then◌else◌, ℕ, ◌&&◌, ◌+◌, ◌-◌, ◌<◌, ◌^◌, ◌||◌, ◌∙◌, ◌≡◌, Bool, None, Option, Some, ap, cond, false, inl}
 use Rattle.std.proofs.Common.{inr, is_some, length, lt-ltb, nat_le, not, refl, subst, sym, true}
 use Rattle.core_tokens.proofs.Vocabulary.{Answer, Busy, Call, IsAllowed, Last, Leaving, Move, Op, Operation, Refusal, Seat, Seeking}
@@ -21,7 +21,7 @@ use Rattle.txn_words.specs.declared.refusal.Refusal.TheVariants as refusals
 use Rattle.txn_words.specs.declared.seat.Phase.TheVariants as seats
 use Rattle.txn_words.specs.declared.step.Step.TheVariants as steps
 
--- A caller at work has a transaction, and is waiting or leaving.
+-- A caller at work has an open transaction, and its seat is waiting or leaving.
 abbrev pub IsAtWork : Option Standing → Type 0
 IsAtWork None = Unit {0}
 IsAtWork (Some q) = (is_closed q ≡ false) × ((is_leaving q || is_waiting q) ≡ true)
@@ -96,8 +96,8 @@ module _ (m n : State) (c : ℕ) (s : Seat) (call : Call) (within : nat_le m.lim
       subst (λ r. Suits n s c call (told_seek work again (answers.Refused r))) (sym nothing.1) (nothing_suits work again fits (ap has_target is ∙ nothing.0))
   suits_seek work again a there is fits move = absurd move.allowed.1
 
-  -- If fewer than 2^64 - 1 changes were taken back, the call goes on when one more change is taken
-  -- back, and its next phase suits the seat and the core.
+  -- If fewer than 2^64 - 1 changes were taken back, the call continues after one more change is
+  -- taken back, and its next phase suits the seat and the core.
   counted_suits : (k : ℕ) (more work : Work) → k < 2 ^ 64 - 1 → SuitsSeat s call (counted k more work)
       → Suits n s c call (counted k more work)
   counted_suits k more work few =

@@ -1,4 +1,4 @@
--- The rights that a caller holds, the word that it tried last, and the effect of calls on them.
+-- The rights that a caller has, the word that it tried last, and what calls do to both.
 use Rattle.std.specs.Prelude.{ℕ, ◌≡◌, ◌≢◌, ◌+◌, ◌-◌, ◌==◌, List, [], ◌∷◌, ◌++◌, Option, Some, None}
 use Rattle.std.specs.Prelude.{slice_get, if◌then◌else◌}
 use Rattle.atomic_table.specs.Seated.{TableId}
@@ -25,9 +25,9 @@ use Rattle.boost_core.specs.declared.claim.Claim.{Claim}
 use Rattle.boost_core.specs.declared.claim.Claim.TheVariants.{Lock, Right}
 use Rattle.boost_core.specs.Words.{claim_of}
 
--- A trial of a stripe. If the caller has the stripe's right after the trial, `word` is 0. Otherwise
--- `word` is the word that the trial found. If the caller had the right before the trial, no word
--- was tried.
+-- A trial of a stripe. If the caller has the right to the stripe after the trial, `word` is 0.
+-- Otherwise `word` is the word that the trial found. If the caller had the right before the trial,
+-- no word was tried.
 pub record Trial : Type 0 where
   pub stripe : ℕ
   pub word : ℕ
@@ -35,8 +35,8 @@ pub record Trial : Type 0 where
 abbrev pub trial : ℕ → ℕ → Option Trial
 trial stripe word = Some (record { stripe = stripe; word = word })
 
--- The claims of a caller: its map's words, the number of stripes, the view of the caller's seat,
--- the stripes whose rights it holds (the newest last), and its last trial.
+-- A caller's claims: the words of its map, the number of stripes, the view of the caller's seat,
+-- the stripes to which it has the right (the newest last), and its last trial.
 pub record Claimed : Type 0 where
   pub words : TableId
   pub stripes : ℕ
@@ -44,20 +44,20 @@ pub record Claimed : Type 0 where
   pub held : List ℕ
   pub tried : Option Trial
 
--- The trial of a stripe, given the result of the try.
+-- The trial of a stripe with this result, or `None` if there was no trial.
 abbrev pub trial_of : ℕ → Option Tried → Option Trial
 trial_of stripe None = None
 trial_of stripe (Some (Mine place)) = trial stripe 0
 trial_of stripe (Some (Another word)) = trial stripe word
 
--- If the try found a right, this right is at the position that the try names. If it found another
--- seat's word, the word is not 0.
+-- If the try found a right, this right is at the position that the try names. If the try found
+-- another seat's word, the word is not 0.
 abbrev pub IsTrial : List ℕ → ℕ → Option Tried → Type 0
 IsTrial rights stripe None = Unit {0}
 IsTrial rights stripe (Some (Mine place)) = slice_get rights place ≡ Some stripe
 IsTrial rights stripe (Some (Another word)) = word ≢ 0
 
--- The seat belongs to these words, and the result of the last try fits the rights.
+-- The seat belongs to these words, and the result of the last try fits the rights (`IsTrial`).
 pub record IsClaimed (words : KeyWords) (rights : Rights) (stripe : ℕ) (tried : Option Tried) :
     Type 0 where
   pub seat : IsOf rights.seat words
@@ -70,16 +70,16 @@ pub record IsIdle (k : Claimed) : Type 0 where
   pub held : k.held ≡ []
   pub tried : k.tried ≡ None
 
--- What a trial of a stripe finds: the right is in hand, the word is 0, or the word names another
--- seat.
+-- What a trial of a stripe finds: the caller has the right already, the word is 0, or the word
+-- names another seat.
 pub data Found : Type 0 where
   InHand : Found
   WasFree : Found
   WasHeld : ℕ → Found
 
--- With the right in hand no word is tried. Otherwise the stripe's word is tried, and the seat has
--- one more note, of this stripe with the word that was found. If the word was 0, the caller gets
--- the right; if not, the word names another seat.
+-- If the caller has the right already, no word is tried. Otherwise the stripe's word is tried, and
+-- the seat gets one more note, of this stripe with the word that was found. If the word was 0, the
+-- caller gets the right. If not, the word names another seat.
 abbrev pub TriesAt : Found → Claimed → ℕ → Claimed → Type 0
 TriesAt InHand k stripe l = Holds k.seat stripe × (l ≡ record k { tried = trial stripe 0 })
 TriesAt WasFree k stripe l =
@@ -94,7 +94,7 @@ TriesAt (WasHeld word) k stripe l =
     (Holds k.seat stripe → ⊥) × (word ≢ 0) × (word ≢ k.seat.number + 1)
     × (l ≡ record k { seat = with_note k.seat stripe word; tried = trial stripe word })
 
--- A stripe's word is tried, unless its right is in hand.
+-- A stripe's word is tried, unless the caller has the right to the stripe.
 pub record Tries (k : Claimed) (stripe : ℕ) (l : Claimed) : Type 0 where
   pub found : Found
   pub so : TriesAt found k stripe l
@@ -104,36 +104,39 @@ abbrev pub HasTriedAt : Option Trial → ℕ → Type 0
 HasTriedAt None stripe = ⊥
 HasTriedAt (Some trial) stripe = trial.stripe ≡ stripe
 
--- If the call is an operation, the last trial was of the stripe of its key.
+-- If the call is an operation, the last trial was of the stripe to which the operation's key
+-- belongs.
 abbrev pub HasTriedFor : Option Trial → ℕ → Call → Type 0
 HasTriedFor tried stripes (calls.Op op) = HasTriedAt tried (stripe_of stripes (key_of op))
 HasTriedFor tried stripes call = Unit {0}
 
--- If the step asks for an operation, the last trial was of the stripe of its key.
+-- If the step asks for an operation, the last trial was of the stripe to which the operation's key
+-- belongs.
 abbrev pub HasTriedStep : Option Trial → ℕ → Step → Type 0
 HasTriedStep tried stripes (Ask c op) = HasTriedAt tried (stripe_of stripes (key_of op))
 HasTriedStep tried stripes step = Unit {0}
 
--- If there is a step that asks for an operation, the last trial was of the stripe of its key.
+-- If there is a step, `HasTriedStep` holds of it.
 abbrev pub HasTriedIf : Option Trial → ℕ → Option Step → Type 0
 HasTriedIf tried stripes None = Unit {0}
 HasTriedIf tried stripes (Some step) = HasTriedStep tried stripes step
 
--- The claim of caller `c` after this trial: by the right if the trial found the right, else by the
+-- The claim of caller `c` after this trial: the right if the trial found the right, otherwise the
 -- word that the trial found.
 abbrev pub claim_by : State → ℕ → Trial → Claim
 claim_by m c trial = if trial.word == 0 then Right else claim_of m c (trial.word - 1)
 
--- The claim of a step to its stripe. A step that asks for an operation has the claim by the last
--- trial. Any other step has the claim `Lock`, which uses neither a right nor a word. If there is no
--- last trial, each step has this claim.
+-- The claim of a step to its stripe. A step that asks for an operation has the claim that the last
+-- trial gives (`claim_by`). Any other step has the claim `Lock`, which uses neither a right nor a
+-- word. If there is no last trial, every step has the claim `Lock`.
 abbrev pub claim_in : Option Trial → State → Step → Claim
 claim_in None m step = Lock
 claim_in (Some trial) m (Ask c op) = claim_by m c trial
 claim_in (Some trial) m step = Lock
 
--- The claims `k` are made ready for the first hold of a call, and become `l`: an operation tries
--- the word of its key's stripe, unless the caller has the right; any other call changes nothing.
+-- The claims `k` are made ready for the first hold of a call, and become `l`. An operation tries
+-- the word of its key's stripe, unless the caller has the right to this stripe. Any other call
+-- changes nothing.
 abbrev pub Readies : Claimed → Call → Claimed → Type 0
 Readies k (calls.Op op) l = Tries k (stripe_of k.stripes (key_of op)) l
 Readies k call l = l ≡ k

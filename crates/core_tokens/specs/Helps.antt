@@ -1,4 +1,4 @@
--- The bucket to which a call for help is on its way.
+-- The target of a call for help: the bucket that the call is to initialise.
 use Rattle.std.specs.Prelude.{ℕ, ◌≡◌, ◌%◌}
 use Rattle.txn_drive.specs.declared.call.Call.TheVariants as calls
 use Rattle.txn_drive.specs.declared.drive.Drive.{Drive}
@@ -10,7 +10,7 @@ abbrev pub IsDoubling : Phase → Type 0
 IsDoubling (Doubling seen) = Unit {0}
 IsDoubling phase = ⊥
 
--- A drive helps with this key, and is to double the table first.
+-- The drive's call is help with this key, and the drive is in the phase that doubles the table.
 abbrev pub BeginsHelp : ℕ → Drive → Type 0
 BeginsHelp key d = (d.call ≡ calls.Help key) × IsDoubling d.phase
 
@@ -20,6 +20,7 @@ IsTo bucket (Linking way again) = way.target ≡ bucket
 IsTo bucket (Storing way) = way.target ≡ bucket
 IsTo bucket phase = ⊥
 
--- A drive helps with this key, and is on its way to the bucket that the key has at this size.
+-- The drive's call is help with this key, and its target is the bucket that the key has at this
+-- size.
 abbrev pub Heads : ℕ → ℕ → Drive → Type 0
 Heads key size d = (d.call ≡ calls.Help key) × IsTo (key % size) d.phase

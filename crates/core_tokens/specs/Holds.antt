@@ -1,6 +1,6 @@
--- A hold is one turn of a call on the core. `Held` is the effect of a hold on core, token and
--- drive. `GoesTo` says which entries a call has added when a hold is over. It covers a call that
--- goes on and a call that has ended.
+-- A hold is one turn of a call on the core. `Held` says what a hold does to the core, the token and
+-- the drive. `GoesTo` says which entries a call has added after a hold, whether or not the call has
+-- ended.
 use Rattle.std.specs.Prelude.{ℕ, ◌≡◌, ◌≢◌, Bool, true, false, not, ◌||◌, List, [], ◌++◌}
 use Rattle.std.specs.Prelude.{Option, Some, None, is_some}
 use Rattle.txn_words.specs.declared.answer.Answer.{Answer}
@@ -26,8 +26,8 @@ use Rattle.core_tokens.specs.Claims.{Claimed, Trial, HasTriedIf, claim_in}
 use Rattle.core_tokens.specs.Tokens.{Token, IsSameCaller, IsSameClaims}
 use Rattle.core_tokens.specs.Suits.{is_odd, may_refuse, SuitsSeat, IsInStep, IsSized}
 
--- The course of a hold: the token was broken; the core does not have as many stripes as there are
--- words; there was no room for what the turn may add; or the turn was taken.
+-- The four ways a hold can go: the token was broken; the core does not have as many stripes as
+-- there are words; there was no room for what the turn may add; or the turn was taken.
 pub data How : Type 0 where
   WasBroken : How
   FoundOther : How
@@ -39,7 +39,7 @@ abbrev pub odd_if : Call → Option End → Bool
 odd_if call None = false
 odd_if call (Some outcome) = is_odd call outcome
 
--- The answer of a hold after its turn.
+-- What a hold returns after its turn.
 abbrev pub end_in : Bool → Option End → Option End
 end_in true outcome = Some (ends.Refused OutOfStep)
 end_in false outcome = outcome
@@ -53,17 +53,17 @@ abbrev pub out_if : Option End → Bool
 out_if None = false
 out_if (Some outcome) = is_out outcome
 
--- The next step of a drive may be taken: each seen entry has a row, the core has as many stripes as
--- there are words, and if the step asks for an operation, the last trial was of the stripe of its
--- key.
+-- The next step of a drive may be taken. The rule of shape allows each seen entry, and the core has
+-- as many stripes as there are words. If the step asks for an operation, the last trial was of the
+-- stripe to which the operation's key belongs.
 pub record MayTake (claims : Claimed) (m : State) (seen : List Entry) (d : Drive) : Type 0 where
   pub whole : is_some (seat_after seen) ≡ true
   pub stripes : m.limits.stripes ≡ claims.stripes
   pub tried : HasTriedIf claims.tried claims.stripes (step_of d)
 
--- A step is taken. The core makes the step's move. If the step asks for an operation, the core
--- instead does what the claim to the operation's stripe allows. The drive is told the answer, and
--- the step's entries are seen.
+-- A step is taken. If the step asks for an operation, the core does what the claim to the
+-- operation's stripe allows. For any other step, the core makes the step's move. The drive is given
+-- the answer, and the step's entries are added to those seen.
 pub record TakesOneStep (tried : Option Trial) (m : State) (seen : List Entry) (d : Drive)
     (step : Step)
     (answer : Answer) (n : State) (seen' : List Entry) (e : Drive) : Type 0 where
@@ -72,14 +72,15 @@ pub record TakesOneStep (tried : Option Trial) (m : State) (seen : List Entry) (
   pub told : e ≡ told_of d answer
   pub entries : seen' ≡ seen ++ entries_of step answer
 
--- After the first of two steps, the second is taken if the answer was `placed`.
+-- If the answer to the first of two steps was `Placed`, the second step is taken. Otherwise nothing
+-- more happens.
 abbrev pub TakesSecond : Option Trial → State → List Entry → Drive → Step → Answer → State
     → List Entry → Drive → Type 0
 TakesSecond tried m seen d step answers.Placed n seen' e =
     (answer : Answer) × TakesOneStep tried m seen d step answer n seen' e
 TakesSecond tried m seen d step answer n seen' e = (n ≡ m) × (seen' ≡ seen) × (e ≡ d)
 
--- A turn is taken: its steps and no others.
+-- The steps of a turn are taken, and no others.
 abbrev pub TakesTurn : Option Trial → State → List Entry → Drive → Turn → State → List Entry
     → Drive → Type 0
 TakesTurn tried m seen d (One step) n seen' e =
@@ -91,8 +92,8 @@ TakesTurn tried m seen d (Two step next) n seen' e =
 TakesTurn tried m seen d (Ended outcome) n seen' e = (n ≡ m) × (seen' ≡ seen) × (e ≡ d)
 
 -- A hold that took the drive's turn. The core took only the steps of the turn, only their entries
--- were added to `seen`, and the drive was told their answers. The token breaks if an entry has no
--- row, or if the call must not have this end.
+-- were added to `seen`, and the drive was given their answers. The token breaks if the rule of
+-- shape does not allow an entry, or if the call must not have this end.
 pub record TurnHeld {S : Type 0} (m : State) (k : Token S) (d : Drive) (outcome : Option End)
     (n : State) (l : Token S) (e : Drive) : Type 0 where
   pub sound : k.broken ≡ false
@@ -116,29 +117,30 @@ HeldBy HadNoRoom m k d outcome n l e =
     (k.broken ≡ false) × (outcome ≡ Some (ends.Refused NoMemory)) × (n ≡ m) × (l ≡ k) × (e ≡ d)
 HeldBy TookTurn m k d outcome n l e = TurnHeld m k d outcome n l e
 
--- The effect of a hold. In any case the drive is told the core's size. Its turn is taken if the
--- token is not broken and has room, and the core has as many stripes as there are words.
+-- What a hold does. In any case the drive is given the core's size. The drive's turn is taken if
+-- the token is not broken and has room, and the core has as many stripes as there are words.
 abbrev pub Held : {S : Type 0} → State → Token S → Drive → Option End → State → Token S → Drive
     → Type 0
 Held m k d outcome n l e = (how : How) × HeldBy how m k (sized_of m.size d) outcome n l e
 
--- Core and token are in step.
+-- The token is not broken, and it is in step with the core (`IsInStep`).
 abbrev pub InStep : {S : Type 0} → State → Token S → Drive → Type 0
 InStep m k d = (k.broken ≡ false) × IsInStep m k.limits k.number k.seen d
 
--- If the caller's entries have rows, its seat fits the drive.
+-- If the caller's entries give it a seat, this seat fits the drive.
 abbrev pub FitsIf : Option Seat → Call → Phase → Type 0
 FitsIf None call phase = Unit {0}
 FitsIf (Some s) call phase = SuitsSeat s call phase
 
--- A call in progress; the entries `base` were seen before it.
+-- A call is in progress. Before the call its caller had seen the entries `base`, and since then the
+-- entries that its drive has made. The caller's seat fits the drive.
 pub record IsUnderway (base seen : List Entry) (d : Drive) : Type 0 where
   pub entries : seen ≡ base ++ made d
   pub fits : FitsIf (seat_after seen) d.call d.phase
 
--- The effect of taking a turn. `taken` says whether there was room for what the turn may add.
--- Without this room, nothing is done. That happens only to a call that has added nothing yet and
--- may be refused with `NoMemory`.
+-- What taking a turn does. `taken` says whether there was room for what the turn may add. If there
+-- was none, nothing is done. Then the call has added nothing yet, and it may be refused with
+-- `NoMemory`.
 pub record TurnTaken (tried : Option Trial) (m : State) (seen : List Entry) (d : Drive)
     (turn : Turn) (taken : Bool) (n : State) (seen' : List Entry) (e : Drive) : Type 0 where
   pub took : taken ≡ true → TakesTurn tried m seen d turn n seen' e
@@ -155,8 +157,8 @@ abbrev pub MayEnd : Call → End → Type 0
 MayEnd call (ends.Refused OutOfStep) = Unit {0}
 MayEnd call outcome = is_odd call outcome ≡ false
 
--- A call with this end; the entries `base` were seen before it. If the rule of shape has a row for
--- each seen entry, a call that ended out of step has committed nothing.
+-- A call has ended with this end. Before the call its caller had seen the entries `base`. If the
+-- rule of shape allows each seen entry, a call that ended out of step has committed nothing.
 pub record HasRun (base seen : List Entry) (c : ℕ) (call : Call) (outcome : End) : Type 0 where
   pub added : List Entry
   pub entries : seen ≡ base ++ added

@@ -30,9 +30,9 @@ pub record Noted : Type 0 where
   pub room : ℕ
   pub save_room : ℕ
 
--- The seat is the one that the entries give, if each has a row; `txn` is the number of the last
--- transaction that they begin; there is room for all that the caller owes; and the share, of one
--- part, counts the entries.
+-- If the rule of shape allows each entry, the seat is the one that the entries give. `txn` is the
+-- number of the last transaction that the entries begin. There is room for all entries that the
+-- caller owes. The share has one part and counts the entries.
 pub record IsNoted (entries : Vec Entry) (seat : RoomySeat) (whole : Bool) (txn parts amount : ℕ) :
     Type 0 where
   pub fits : whole ≡ is_some (seat_after entries.items)
@@ -58,13 +58,13 @@ abbrev pub is_save : Step → Bool
 is_save (Save c) = true
 is_save step = false
 
--- There is room for the entry and the savepoint that a step may add, and for all that is owed after
--- it.
+-- There is room for the entry and the savepoint that a step may add, and for all entries that are
+-- owed after the step.
 pub record HasRoomFor (seen : Noted) (step : Step) : Type 0 where
   pub all : owed_by (seat_after seen.entries) + reserved step ≤ seen.room
   pub one : adds_entry step ≡ true → 0 < seen.room
   pub save : is_save step ≡ true → 0 < seen.save_room
 
--- The entry that a step adds with this answer, if it adds one, is small.
+-- If a step with this answer adds an entry, the entry is small.
 abbrev pub AddsSmall : Step → Answer → Type 0
 AddsSmall step answer = (e : Entry) → e ∷ [] ≡ entries_of step answer → is_small e ≡ true

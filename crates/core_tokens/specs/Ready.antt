@@ -12,14 +12,14 @@ use Rattle.txn_drive.specs.declared.call.Call.TheVariants as calls
 use Rattle.txn_drive.specs.Drives.{first_step}
 use Rattle.core_tokens.specs.Tokens.{Token}
 
--- The refusal of a call for help whose key is bad; `half` says whether the map takes only half
--- keys.
+-- `BadKey` for a call for help with a bad key, and `None` for any other call. `half` says whether
+-- the map takes only half keys.
 abbrev pub refusal_of_help : Bool → Call → Option Refusal
 refusal_of_help half (calls.Help key) = if is_bad_key half key then Some BadKey else None
 refusal_of_help half call = None
 
--- The refusal of a call by the token: `OutOfStep` if the token is broken or its entries give it no
--- seat; else the refusal by this seat; else the refusal of help with a bad key.
+-- The token's refusal of a call: `OutOfStep` if the token is broken or its entries give it no seat;
+-- else the refusal that this seat gives; else `BadKey` for help with a bad key.
 abbrev pub refused_at : Bool → Bool → Option Seat → Call → Option Refusal
 refused_at half true seat call = Some OutOfStep
 refused_at half false None call = Some OutOfStep
@@ -29,9 +29,9 @@ refused_at half false (Some s) call =
 abbrev pub refused_by : {S : Type 0} → Token S → Call → Option Refusal
 refused_by k call = refused_at k.limits.half k.broken (seat_after k.seen) call
 
--- A token that lets a call pass but is not ready for it. Either memory was refused for one more
--- right or one more level, and the token is unchanged. Or the side value does not have the level of
--- a return, and the token breaks and is otherwise unchanged.
+-- A token that does not refuse a call but is not ready for it. Either memory was refused for one
+-- more right or one more level, and the token is unchanged. Or the side value does not have the
+-- level to which the call returns, and the token breaks and is otherwise unchanged.
 abbrev pub Lacks : {S : Type 0} → Token S → Call → Refusal → Token S → Type 0
 Lacks k (calls.Op op) refusal l = (refusal ≡ NoMemory) × (l ≡ k)
 Lacks k calls.Save refusal l = (refusal ≡ NoMemory) × (l ≡ k)
@@ -39,8 +39,8 @@ Lacks k (calls.Back level) refusal l =
     (refusal ≡ OutOfStep) × (length k.side.levels ≤ level) × (l ≡ record k { broken = true })
 Lacks k call refusal l = ⊥
 
--- A token that was not made ready for a call. Either it refuses the call and is unchanged, or it
--- lacks what the call needs.
+-- A token that was not made ready for a call. Either the token refuses the call and is unchanged,
+-- or the token lacks what the call needs (`Lacks`).
 abbrev pub IsUnready : {S : Type 0} → Token S → Call → Refusal → Token S → Type 0
 IsUnready k call refusal l =
     ((refused_by k call ≡ Some refusal) × (l ≡ k))

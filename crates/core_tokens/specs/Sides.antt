@@ -1,4 +1,4 @@
--- The effect of a call on its caller's side value. `words` are the words of a value.
+-- What a call does to its caller's side value. `words` gives the words of a side value.
 use Rattle.std.specs.Prelude.{ℕ, ◌<◌, List, length}
 use Rattle.txn_words.specs.declared.answer.Answer.TheVariants as answers
 use Rattle.txn_drive.specs.declared.call.Call.{Call}
@@ -8,7 +8,7 @@ use Rattle.txn_drive.specs.declared.«end».End.TheVariants as ends
 use Rattle.undo_log.specs.SideValue.{Leveled}
 use Rattle.undo_log.specs.Sides.{IsSameSide, IsSettled, HasLevel, IsBackAt}
 
--- The effect of the end of a call on the side value.
+-- What the end of a call does to the side value.
 abbrev pub MovesSide : {S : Type 0} → (S → List ℕ) → End → Leveled S → Leveled S → Type 0
 MovesSide words (ends.Answered (answers.Began t)) a b = IsSettled words a b
 MovesSide words (ends.Answered (answers.Committed p)) a b = IsSettled words a b
@@ -18,8 +18,8 @@ MovesSide words (ends.Answered answers.Aborted) a b = IsBackAt words 0 a b
 MovesSide words (ends.Busy holder) a b = IsBackAt words 0 a b
 MovesSide words outcome a b = IsSameSide a b
 
--- The side value can follow an end: there is room for a level that is to be made, and a level that
--- is to be restored exists.
+-- The side value can follow an end. If the end makes a level, there is room for it. If the end
+-- restores a level, this level exists.
 abbrev pub CanFollow : {S : Type 0} → End → Leveled S → Type 0
 CanFollow (ends.Answered (answers.Saved n)) side = 0 < side.save_room
 CanFollow (ends.Answered (answers.Returned n)) side = n < length side.levels

@@ -38,7 +38,7 @@ abbrev pub is_help : Call → Bool
 is_help (calls.Help key) = true
 is_help call = false
 
--- The refusals with which a call may end after its token has let it pass.
+-- Whether a call that its token has not refused may end with this refusal.
 abbrev pub may_refuse : Call → Refusal → Bool
 may_refuse calls.Begin NoMemory = true
 may_refuse (calls.Op op) NoMemory = true
@@ -55,7 +55,7 @@ abbrev pub is_odd : Call → End → Bool
 is_odd call (ends.Refused refusal) = not (may_refuse call refusal)
 is_odd call outcome = false
 
--- The seat fits the drive. Before the first step of the call is answered, there is a value of
+-- The seat fits the drive. If the first step of the call has not been answered, there is a value of
 -- `half` for which the seat does not refuse this step. While the drive works, the seat has the
 -- phase of the work.
 abbrev pub SuitsSeat : Seat → Call → Phase → Type 0
@@ -70,7 +70,7 @@ undone_of (Seeking work again) = undone_in work
 undone_of (Acting work again) = undone_in work
 undone_of phase = 0
 
--- A drive that doubles was told this size.
+-- If the drive is in the phase that doubles the table, it has noted this size.
 abbrev pub IsSized : ℕ → Phase → Type 0
 IsSized size (Doubling seen) = seen ≡ size
 IsSized size phase = Unit {0}
@@ -88,8 +88,8 @@ Suits m s c call (Last work answer) = is_odd call (end_last call work answer) �
 Suits m s c call (Refused refusal) = is_odd call (ends.Refused refusal) ≡ false
 Suits m s c call phase = (is_help call ≡ true) × HelpSuits m c phase
 
--- The core has these limits, the caller's entries are those that were seen, and the caller's seat,
--- cursor and helper fit the drive's phase.
+-- The core has these limits, the caller's entries in the core's history are those that were seen,
+-- and the caller's seat, cursor and helper fit the drive's phase.
 pub record IsInStep (m : State) (limits : Sizes) (c : ℕ) (seen : List Entry) (d : Drive) : Type 0
   where
     pub same_limits : m.limits ≡ limits

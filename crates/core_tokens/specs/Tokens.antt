@@ -59,31 +59,33 @@ pub record IsSameButSide {S : Type 0} (k l : Token S) : Type 0 where
   pub claims : IsSameClaims k l
   pub broken : l.broken ≡ k.broken
 
--- The seat of a pass or of a caller has the number of the pass or caller, and there is a word for
--- each stripe.
+-- The seat of a pass or a caller has the same number as the pass or the caller, and there is a word
+-- for each stripe.
 pub record IsNumbered (number : ℕ) (limits : Sizes) (claims : Claimed) : Type 0 where
   pub number_is : claims.seat.number ≡ number
   pub stripes : claims.stripes ≡ limits.stripes
 
--- A pass has tried nothing.
+-- The claims of a pass that has not made its caller: they have the pass's number, no word was
+-- tried, and no right is held.
 pub record IsUnused (number : ℕ) (limits : Sizes) (claims : Claimed) : Type 0 where
   pub seat : IsNumbered number limits claims
   pub idle : IsIdle claims
 
--- Whether no transaction is open at a seat; `true` if the entries give no seat.
+-- Whether no transaction is open at a seat. Also true if there is no seat.
 abbrev pub is_over : Option Seat → Bool
 is_over None = true
 is_over (Some s) = is_closed s.phase
 
--- If the call is an operation, the caller's last trial was of the stripe of its key.
+-- If the call is an operation, the caller's last trial was of the stripe to which the operation's
+-- key belongs.
 abbrev pub HasTried : {S : Type 0} → Token S → Call → Type 0
 HasTried k call = HasTriedFor k.claims.tried k.limits.stripes call
 
--- If the next step of a drive asks for an operation, the caller's last trial was of the stripe of
--- its key.
+-- If the next step of a drive asks for an operation, the caller's last trial was of the stripe to
+-- which the operation's key belongs.
 abbrev pub HasTriedNext : {S : Type 0} → Token S → Drive → Type 0
 HasTriedNext k d = HasTriedIf k.claims.tried k.limits.stripes (step_of d)
 
--- The history has as many entries as all callers have seen.
+-- The history has as many entries as all callers together have seen.
 abbrev pub AreCounted : {S : Type 0} → List Entry → List (Token S) → Type 0
 AreCounted h ks = length h ≡ sum_by (λ k. length k.seen) ks

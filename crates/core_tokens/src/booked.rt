@@ -19,11 +19,11 @@ use undo_log::Side;
 /// keeps both under its lock.
 ///
 /// A contract sees the core as `core`. The type guarantees that the core's stripes are words, and
-/// that the book's total is the length of the history. So a core with another number of entries
-/// cannot be put here without the callers' shares. The ledger's name `L` says whose book it is.
+/// that the book's total is the length of the history. So without the callers' shares, nobody can
+/// put a core with another number of entries here. `L` names the ledger of this book.
 #[derive(Drop)]
 pub struct Booked<L: Ledger> {
-    /// The core.
+    /// The core that the callers share.
     pub core: Core,
     pub(crate) book: Book<L>,
     pub(crate) none: Share<L>,
@@ -45,7 +45,8 @@ impl<L: Ledger> Booked<L> {
     ///
     /// # Cost
     ///
-    /// Time and memory in proportion to the callers, the stripes and the largest number of buckets.
+    /// Time and memory in proportion to the number of callers, the number of stripes and the
+    /// largest number of buckets.
     pub fn new(
         alloc: Global,
         blank: Blank,
@@ -61,12 +62,12 @@ impl<L: Ledger> Booked<L> {
         Booked::with_room(alloc, blank, limits, Room::default())
     }
 
-    /// Makes what `new` makes, and takes this room at once. If memory for the room is refused, no
-    /// room is taken, and the history, the table and the logs grow as they are used.
+    /// Makes what `new` makes, and takes the memory for `room` at once. If this memory is refused,
+    /// no room is taken, and the history, the table and the logs grow as they are used.
     ///
     /// # Errors
     ///
-    /// `NoMemory` if memory is refused for anything else.
+    /// `NoMemory` if memory is refused for anything but the room.
     ///
     /// # Cost
     ///
@@ -96,12 +97,12 @@ impl<L: Ledger> Booked<L> {
         Ok((booked, passes))
     }
 
-    /// Takes the core out; `callers` must be the callers of all passes. The core's history has as
-    /// many entries as these callers have seen. Core and callers are unchanged.
+    /// Returns the core. `callers` must be the callers of all passes. The core's history has as
+    /// many entries as these callers have seen together. The core and the callers are unchanged.
     ///
     /// # Cost
     ///
-    /// Time in proportion to the callers; takes no memory.
+    /// Time in proportion to the number of callers; takes no memory.
     pub fn into_core<S: Side>(self, callers: &mut [Caller<L, S>]) -> Core
         requires { length callers.old ≡ L.parts }
         ensures core { result ≡ self.core }
@@ -118,8 +119,8 @@ impl<L: Ledger> Booked<L> {
     }
 }
 
-/// Lends the shares of all callers to one share, so that this share counts all that the book has,
-/// and then gives the shares back.
+/// Moves the shares of all callers into `all` for a moment, which shows that together they count
+/// everything in the book, and then gives each caller its share back.
 fn gather<L: Ledger, S: Side>(callers: &mut [Caller<L, S>], all: &mut Share<L>, book: &mut Book<L>)
     requires { all.old.parts + length callers.old ≡ L.parts }
     ensures total { all.old.amount + sum_by (λ k. length k.seen) callers.old ≡ book.old.total }

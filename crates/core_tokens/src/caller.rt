@@ -1,7 +1,7 @@
 //! A caller's token: the entries that its calls added, its rights to stripes and its side value.
-//! Each part has a type with its own invariant. Here one call changes the parts together, and a
-//! token breaks only here. Invariant: the token has a word for each stripe of its map, and unless
-//! it is broken, the rule of shape has a row for each entry that it saw.
+//! Each of these three has a type with its own invariant. A call of `Caller` changes them together,
+//! and only such a call breaks a token. Invariant: the token has a word for each stripe of its map.
+//! Unless the token is broken, the rule of shape allows each entry that it saw.
 ghost use Rattle.std.specs.Prelude.{◌≡◌, ◌≢◌, ◌<◌, true, false, is_some, length, unwrap_or, Some};
 ghost use Rattle.std.specs.Prelude.{None, [], ◌∷◌, List, ◌+◌, IfSome, IfNone, IfErr, OnOk, OnErr};
 ghost use Rattle.txn_words.specs.declared.entry.Entry.{Entry};
@@ -33,13 +33,14 @@ use undo_log::{Side, SideJob, SideValue};
 /// The token of one caller of a shared map. It cannot be cloned, so each caller's number has at
 /// most one token.
 ///
-/// A contract sees its number, the limits of its map, its side value, and whether it is `broken`. A
-/// call that falls out of step breaks the token, and from then on each call is refused with
-/// `Refusal::OutOfStep`. In `seen` a contract sees the entries that the token's calls have added,
-/// and in `claims` the stripes whose rights it holds and all words that it has tried.
+/// A contract sees the token's number, the limits of its map, its side value, and whether it is
+/// `broken`. A call breaks the token if it finds that the token does not agree with the core or
+/// with its side value. From then on each call is refused with `Refusal::OutOfStep`. In `seen` a
+/// contract sees the entries that the token's calls have added. In `claims` it sees the stripes to
+/// which the token has the right, and all words that the token has tried.
 ///
-/// It keeps its rights until its transaction has committed or aborted. A broken token keeps them
-/// for good. A token that is dropped loses them, and their stripes stay held.
+/// The token keeps its rights until its transaction has committed or aborted. A broken token keeps
+/// them permanently. If the token is dropped, its rights are lost, and their stripes stay held.
 #[derive(Drop)]
 pub struct Caller<L: Ledger, S: Side> {
     number: u64,
@@ -110,16 +111,16 @@ impl<L: Ledger, S: Side> Caller<L, S> {
         self.number
     }
 
-    /// The limits of its map.
+    /// The limits of the caller's map.
     pub fn limits(&self) -> Limits
         ensures { result ≡ self.now.limits }
     {
         self.limits
     }
 
-    /// The entries that its calls have added, in order. Unless the token is broken, the rule of
-    /// shape has a row for each. They are packed: `txn_trace::Unpacked` goes over them as values of
-    /// `Entry`.
+    /// The entries that the caller's calls have added, in order. Unless the token is broken, the
+    /// rule of shape allows each of them. The entries are packed; iterate over them with
+    /// `txn_trace::Unpacked` to read them as values of `Entry`.
     pub fn seen(&self) -> &[SmallEntry]
         ensures seen { result.now ≡ self.now.seen }
         ensures rows { self.now.broken ≡ false → is_some (seat_after self.now.seen) ≡ true }
@@ -127,7 +128,7 @@ impl<L: Ledger, S: Side> Caller<L, S> {
         self.seen.entries()
     }
 
-    /// Makes room in `seen` for this many more entries, so that it need not grow while they are
+    /// Makes room in `seen` for `entries` more entries, so that `seen` need not grow while they are
     /// added. If `is_written`, the room is also written, so that no later entry is the first to
     /// touch a page of memory. The token is unchanged.
     ///
@@ -137,16 +138,16 @@ impl<L: Ledger, S: Side> Caller<L, S> {
     ///
     /// # Cost
     ///
-    /// At most one allocation, with a copy of the entries if there are any; if the room is written,
-    /// time in proportion to it.
+    /// At most one allocation, and a copy of the entries that are there. If the room is written,
+    /// also time in proportion to the room.
     pub fn reserve(&mut self, entries: usize, is_written: bool) -> Result<(), AllocError>
         ensures { self.new ≡ self.old }
     {
         self.seen.reserve_entries(entries, is_written)
     }
 
-    /// Whether it has no transaction open and may begin one. For a broken token, which may do
-    /// nothing, the answer tells only what its entries say.
+    /// Whether the caller has no transaction open and may begin one. A broken token may do nothing,
+    /// so for a broken token the result only describes the entries in `seen`.
     pub fn is_idle(&self) -> bool
         ensures { result ≡ is_over (seat_after self.now.seen) }
     {
@@ -164,13 +165,13 @@ impl<L: Ledger, S: Side> Caller<L, S> {
         self.side.words()
     }
 
-    /// Takes the drive's next turn on the core, and answers the end of the call if the drive has
-    /// ended, with this turn or before. Nobody else has the core during the turn.
+    /// Takes the drive's next turn on the core. If the drive has ended, with this turn or before
+    /// it, returns the end of the call. Nobody else has the core during the turn.
     ///
     /// The core takes only the steps of the turn, and `seen` gains only their entries. An operation
-    /// is asked for by its stripe's right, or by the word that was tried last, so call `make_ready`
-    /// or `try_word` once before its first turn. The side value and the rights are unchanged:
-    /// `follow` changes them as the end of the call requires.
+    /// asks with the right to its stripe, or with the word that was tried last. So call
+    /// `make_ready` or `try_word` once before its first turn. The side value and the rights are
+    /// unchanged: `follow` changes them as the end of the call requires.
     ///
     /// # Errors
     ///
@@ -179,7 +180,7 @@ impl<L: Ledger, S: Side> Caller<L, S> {
     /// - `OutOfStep` if the core does not have as many stripes as the map has words: no step is
     ///   taken, and the token breaks;
     /// - `NoMemory` if memory is refused for room in `seen`: no step is taken;
-    /// - `NoMemory`, `StampsUsedUp` or `StaleWord` if the core refuses the step with it;
+    /// - `NoMemory`, `StampsUsedUp` or `StaleWord` if the core gives this refusal to the step;
     /// - `OutOfStep` if the core's answer is impossible in the token's state, or if the token would
     ///   have refused the call, for instance help with a bad key: the token breaks.
     ///
@@ -187,7 +188,7 @@ impl<L: Ledger, S: Side> Caller<L, S> {
     ///
     /// # Cost
     ///
-    /// That of the one or two steps, and otherwise amortized constant time; may take memory, for
+    /// The cost of the one or two steps, and otherwise amortized constant time. May take memory for
     /// the steps and for `seen`.
     pub fn hold(&mut self, booked: &mut Booked<L>, drive: &mut Drive) -> Option<End>
         requires caller { drive.old.caller ≡ self.old.number }
@@ -216,14 +217,15 @@ impl<L: Ledger, S: Side> Caller<L, S> {
         if !take_turn(&mut self.seen, &self.claims, booked, drive, turn) {
             return Some(End::Refused(Refusal::NoMemory));
         }
-        // The history is legal.
+        // This call is made only for its contract, which says that the history is legal.
         let _core = booked.core.trace();
         let end = drive.ended();
         self.is_broken = breaks(self.seen.is_whole(), drive.call, end);
         end_in(self.is_broken, end)
     }
 
-    /// The refusal of a call by the token, before any step.
+    /// The token's refusal of a call before any step, or `None` if the token does not refuse the
+    /// call.
     fn refusal(&self, call: Call) -> Option<Refusal>
         ensures refusal { result ≡ refused_by self.now call }
         ensures sound { IfNone result (self.now.broken ≡ false) }
@@ -235,39 +237,39 @@ impl<L: Ledger, S: Side> Caller<L, S> {
         by_seat.or(help_refusal(self.limits, call))
     }
 
-    /// The number of the last transaction that it began, or 0 if it has begun none.
+    /// The number of the last transaction that the caller began, or 0 if the caller has begun none.
     pub fn txn(&self) -> u64
         ensures { result ≡ last_txn self.now.seen }
     {
         self.seen.txn()
     }
 
-    /// The number of savepoints of its transaction. A broken token may have seen entries that its
-    /// phase does not allow; these do not change the answer.
+    /// The number of savepoints of the caller's transaction. A broken token may have seen entries
+    /// that its phase does not allow. Such entries do not change the result.
     pub fn levels(&self) -> u64
         ensures { (s : Seat) → seat_after self.now.seen ≡ Some s → length s.kept ≡ result + 1 }
     {
         self.seen.levels()
     }
 
-    /// Tries the word of the stripe of an operation's key, unless the token has the stripe's right.
-    /// `make_ready` does the same for a call that is an operation. A user of `hold` that makes no
-    /// other calls needs only `try_word`.
+    /// Tries the word of the stripe to which an operation's key belongs, unless the token has the
+    /// right to this stripe. `make_ready` does the same if its call is an operation. Code that uses
+    /// `hold` only for operations needs only `try_word`.
     ///
     /// If the word was free, the token has the right now, and keeps it until its transaction has
-    /// committed or aborted. If not, the token remembers the word, and asks by it.
+    /// committed or aborted. If not, the token remembers the word and asks with it.
     ///
     /// # Errors
     ///
-    /// No word was tried, and the token is unchanged:
-    /// - the refusal of the operation by the token, as `make_ready` answers it: so a token without
-    ///   a transaction tries no word;
-    /// - then `NoMemory` if memory is refused for one more right.
+    /// In both cases no word was tried, and the token is unchanged:
+    /// - The token's refusal of the operation, as `make_ready` gives it. So a token without a
+    ///   transaction tries no word.
+    /// - After that test, `NoMemory` if memory is refused for one more right.
     ///
     /// # Cost
     ///
-    /// Time in proportion to the rights that it holds, and at most one try of one word; takes
-    /// memory only if there is no room for one more right.
+    /// Time in proportion to the number of rights that the token has, and at most one try of one
+    /// word. Takes memory only if there is no room for one more right.
     pub fn try_word(&mut self, op: Op) -> Result<(), Refusal>
         ensures same { IsSameSeen self.old self.new }
         ensures side { self.new.side ≡ self.old.side }
@@ -297,30 +299,30 @@ impl<L: Ledger, S: Side> Caller<L, S> {
         Ok(())
     }
 
-    /// Makes the token ready for the holds of a call, if it does not refuse the call: tries the
-    /// word of an operation, as `try_word` does, makes room for the level that a save adds to the
-    /// side value, and tests that the level of a return exists. No step is taken, and `seen` and
-    /// the side value with its levels are unchanged.
+    /// Makes the token ready for the holds of a call, if the token does not refuse the call. For an
+    /// operation, tries the word as `try_word` does. For a save, makes room for the level that it
+    /// adds to the side value. For a return to a level, tests that this level exists. No step is
+    /// taken, and `seen` and the side value with its levels are unchanged.
     ///
-    /// If the last `reserve` wrote its room, it also makes and writes room in `seen` for all entries
-    /// of the call, so that no hold is the first to touch a page of it. If memory is refused for
-    /// that, each hold makes its own room.
+    /// If the last `reserve` wrote its room, `make_ready` also makes and writes room in `seen` for
+    /// all entries of the call, so that no hold is the first to touch a page of this room. If
+    /// memory for it is refused, each hold makes its own room.
     ///
     /// # Errors
     ///
-    /// - The refusal of the call by the token: `OutOfStep` if it is broken; else the first refusal
-    ///   that the entries in `seen` give; else `BadKey` for help with a bad key. The token is
-    ///   unchanged.
-    /// - Then `NoMemory` if memory is refused, for one more right or for the level of a save: no
-    ///   word was tried, and the token is unchanged.
-    /// - `OutOfStep` if the side value does not have the level of a return, which breaks the token;
-    ///   all else is unchanged.
+    /// - The token's refusal of the call: `OutOfStep` if the token is broken; else the first
+    ///   refusal that the entries in `seen` give; else `BadKey` for help with a bad key. The token
+    ///   is unchanged.
+    /// - After that test, `NoMemory` if memory is refused for one more right or for the level of a
+    ///   save. No word was tried, and the token is unchanged.
+    /// - `OutOfStep` if the side value does not have the level to which the call returns. The token
+    ///   breaks, and all else is unchanged.
     ///
     /// # Cost
     ///
-    /// That of `try_word` for an operation, and amortized constant time; takes memory only if there
-    /// is no room for one more right, for the level of a save, or, if the last `reserve` wrote its
-    /// room, in `seen`.
+    /// For an operation, the cost of `try_word`. Otherwise amortized constant time. Takes memory
+    /// only if there is no room for one more right or for the level of a save, or, if the last
+    /// `reserve` wrote its room, no room in `seen`.
     pub fn make_ready(&mut self, call: Call) -> Result<(), Refusal>
         ensures free { OnOk result (refused_by self.old call ≡ None) }
         ensures same { OnOk result (IsSameSeen self.old self.new) }
@@ -351,18 +353,18 @@ impl<L: Ledger, S: Side> Caller<L, S> {
         }
     }
 
-    /// Changes the side value as the end of a call requires, and gives back all rights if the call
-    /// has ended its transaction. `seen` is unchanged. The side value may change only if a begin, a
+    /// Changes the side value as the end of a call requires. Gives back all rights if the call has
+    /// ended its transaction. `seen` is unchanged. The side value may change only if a begin, a
     /// commit, an abort, a save or a return was answered, or if an operation was busy.
     ///
-    /// Pass the end that the last hold of the call has answered: after any other end, side value
-    /// and rights do not agree with the token's entries.
+    /// Pass the end that the last hold of the call has returned. After any other end, the side
+    /// value and the rights do not agree with the token's entries.
     ///
     /// # Cost
     ///
     /// A step for each right that is given back and for each savepoint and side job that is
-    /// dropped, and a run of each side job that takes a change back; takes no memory but what these
-    /// runs take.
+    /// dropped, and one run of each side job that takes a change back. Takes no memory except what
+    /// these runs take.
     pub fn follow(&mut self, end: End)
         requires { CanFollow end self.old.side }
         ensures same { IsSameSeen self.old self.new }
@@ -370,7 +372,7 @@ impl<L: Ledger, S: Side> Caller<L, S> {
         ensures claims { self.new.claims ≡ claims_at end self.old.claims }
     {
         self.claims.follow(end);
-        // The side value has a level 0.
+        // By the contract of `level`, the side value has a level 0.
         let _levels = self.side.level();
         match end {
             End::Answered(Answer::Began(_) | Answer::Committed(_)) => self.side.settle(),
@@ -385,20 +387,20 @@ impl<L: Ledger, S: Side> Caller<L, S> {
 
     /// Changes the side value, and logs the job that takes the change back.
     ///
-    /// The words of the side value now must be the job's `before`, and the words of the value that
-    /// `change` answers must be the job's `after`. No transaction is needed: a change that is made
-    /// outside of one stays. Nothing is added to `seen`.
+    /// The words of the present side value must be the job's `before`, and the words of the value
+    /// that `change` returns must be the job's `after`. No transaction is needed: a change that is
+    /// made outside of a transaction is not taken back. Nothing is added to `seen`.
     ///
     /// # Errors
     ///
-    /// The change was not called, nothing has changed, and change and job are returned:
+    /// `change` was not called, nothing has changed, and `change` and `job` are returned:
     /// - `OutOfStep` if the token is broken;
     /// - `NoMemory` if memory is refused.
     ///
     /// # Cost
     ///
-    /// One call of `change`, and otherwise amortized constant time; takes memory only if there is
-    /// no room for a change.
+    /// One call of `change`, and otherwise amortized constant time. Takes memory only if there is
+    /// no room to log one more change.
     pub fn change<F: FnOnce(S) -> S>(
         &mut self,
         change: F,
@@ -430,7 +432,7 @@ impl<L: Ledger, S: Side> Caller<L, S> {
     }
 }
 
-/// The first step of a call. The caller's seat refuses the call if it refuses this step.
+/// The first step of a call. The caller's seat refuses the call if it refuses this first step.
 fn first_step(call: Call) -> Step
     ensures { result ≡ first_step 0 call }
 {
@@ -445,7 +447,7 @@ fn first_step(call: Call) -> Step
     }
 }
 
-/// The refusal of a call for help whose key is bad.
+/// `BadKey` for a call for help with a bad key, and `None` for any other call.
 fn help_refusal(limits: Limits, call: Call) -> Option<Refusal>
     ensures { result ≡ refusal_of_help limits.half call }
 {

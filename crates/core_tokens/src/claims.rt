@@ -1,7 +1,8 @@
-//! The rights to stripes that a caller holds, and the word that it tried last: an operation is
-//! asked for by one of these. They are kept apart from `seen`, since words are tried and rights are
-//! given back between holds, and a hold changes none of them. Invariant: a right that the last
-//! trial found is at the position that the trial names, so asking by it takes constant time.
+//! The rights to stripes that a caller has, and the word that it tried last. An operation asks with
+//! one of the rights or with the word. Both are kept apart from `seen`, since words are tried and
+//! rights are given back between holds, and a hold changes neither. Invariant: a right that the
+//! last trial found is at the position that the trial names, so asking with this right takes
+//! constant time.
 ghost use Rattle.std.specs.Prelude.{◌≡◌, ◌<◌, [], true, None, IfErr, OnOk};
 ghost use Rattle.txn_trace.specs.Locks.{stripe_of};
 ghost use Rattle.txn_words.specs.Map.{key_of};
@@ -16,10 +17,10 @@ use std::marker::Model;
 use std::sync::Arc;
 use txn_trace::{Answer, Op, Step};
 
-/// The claims of a caller to stripes: its seat at the map's words, the rights of the stripes that
-/// it holds, and what it found at the last word that it tried.
+/// A caller's claims to stripes: its seat at the map's words, its rights to the stripes that it
+/// holds, and what it found at the last word that it tried.
 ///
-/// Dropping it loses its rights: their stripes stay held.
+/// If the claims are dropped, the rights are lost, and their stripes stay held.
 #[derive(Drop)]
 pub(crate) struct Claims {
     words: Arc<KeyWords, Global>,
@@ -66,7 +67,7 @@ impl Claims {
         }
     }
 
-    /// Tries the word of a stripe, unless the caller has the stripe's right.
+    /// Tries the word of a stripe, unless the caller has the right to the stripe.
     ///
     /// # Errors
     ///
@@ -82,8 +83,8 @@ impl Claims {
         Ok(())
     }
 
-    /// Takes a step of the caller on a core. An operation is asked for by the right that the last
-    /// trial found, or else by the word that it found.
+    /// Takes a step of the caller on a core. A step that asks for an operation uses the right that
+    /// the last trial found. If the trial found a word instead, the step uses this word.
     #[inline(always)]
     pub(crate) fn step(&self, core: &mut Core, step: Step) -> Answer
         requires words { core.old.words ≡ true }
@@ -101,8 +102,8 @@ impl Claims {
         }
     }
 
-    /// Asks for an operation by the right that the last trial found, or else by the word that it
-    /// found.
+    /// Asks for an operation with the right that the last trial found. If the trial found a word
+    /// instead, asks with this word.
     fn ask(&self, core: &mut Core, caller: u64, op: Op) -> Answer
         requires words { core.old.words ≡ true }
         requires stripes { core.old.limits.stripes ≡ self.now.stripes }
@@ -119,8 +120,8 @@ impl Claims {
         }
     }
 
-    /// Gives back all rights if a call has ended its transaction, in time in proportion to the
-    /// rights.
+    /// If a call has ended its transaction, gives back all rights, in time in proportion to their
+    /// number.
     pub(crate) fn follow(&mut self, end: End)
         ensures { self.new ≡ claims_at end self.old }
     {

@@ -1,6 +1,6 @@
 //! The ends that a call may have. Any other end shows that the core and the token are out of step,
-//! and breaks the token. These are functions of values, without core or token. A commit or an abort
-//! must not be refused once its token has let it pass.
+//! and breaks the token. The functions here take values, but no core and no token. If a token has
+//! not refused a commit or an abort, the core must not refuse it either.
 ghost use Rattle.std.specs.Prelude.{◌≡◌, ◌||◌, not};
 ghost use Rattle.core_tokens.specs.Suits.{is_odd, may_refuse};
 ghost use Rattle.core_tokens.specs.Holds.{end_in, odd_if};
@@ -8,15 +8,16 @@ ghost use Rattle.core_tokens.specs.Holds.{end_in, odd_if};
 use boost_core::{Call, End};
 use txn_trace::Refusal;
 
-/// Whether a token breaks after a turn: an entry that it saw has no row, or its call must not have
-/// this end.
+/// Returns true if a token breaks after a turn: if the rule of shape does not allow an entry that
+/// the token saw (`is_whole` is false), or if the token's call must not have this end.
 pub(crate) fn breaks(is_whole: bool, call: Call, end: Option<End>) -> bool
     ensures { result ≡ (not is_whole || odd_if call end) }
 {
     !is_whole || odd_if(call, end)
 }
 
-/// The answer of a hold after its turn: the call is out of step if the token is broken.
+/// What a hold returns after its turn: the refusal `OutOfStep` if the token is broken, otherwise
+/// the drive's end, if the drive has ended.
 pub(crate) fn end_in(is_broken: bool, end: Option<End>) -> Option<End>
     ensures { result ≡ end_in is_broken end }
 {
@@ -46,7 +47,7 @@ fn is_odd(call: Call, end: End) -> bool
     }
 }
 
-/// Whether a call may end with this refusal after its token has let it pass.
+/// Whether a call that its token has not refused may end with this refusal.
 fn may_refuse(call: Call, refusal: Refusal) -> bool
     ensures { result ≡ may_refuse call refusal }
 {

@@ -1,10 +1,10 @@
-//! The laws of holds: a function that does nothing, with a contract about the holds of a call for
-//! help. Each clause is about one hold, so the clauses also serve those who call `hold` themselves.
-//! Together they say, over all holds of the call, which bucket it initialises. The contract of
-//! `Caller::hold` cannot say this, since it covers a single hold. Each clause assumes `Held`, which
-//! that contract ensures. The clauses about the last hold, `stored` and `at_once`, also assume that
-//! the core is `IsWhole`. If the last hold is not the first (`stored`), the core and the token must
-//! also be in step.
+//! The law of holds: the contract of a function that does nothing. It is about the holds of a call
+//! for help. Each clause is about one hold, so the clauses also serve those who call `hold`
+//! themselves. Together the clauses say which bucket the call initialises, over all its holds. The
+//! contract of `Caller::hold` cannot say this, since it covers a single hold. Each clause assumes
+//! `Held`, which that contract ensures. The clauses about the last hold, `stored` and `at_once`,
+//! also assume that the core is `IsWhole`. The clause `stored` is for a last hold that is not the
+//! first. It assumes, in addition, that the core and the token are in step.
 ghost use Rattle.std.specs.Prelude.{◌≡◌, ◌%◌, ℕ, true, Some, None};
 ghost use Rattle.txn_drive.specs.declared.drive.Drive.{Drive};
 ghost use Rattle.txn_drive.specs.declared.«end».End.TheVariants.{Helped};
@@ -16,15 +16,15 @@ ghost use Rattle.core_tokens.specs.Tokens.{Token};
 
 use undo_log::Side;
 
-/// A call for help ends well only after the bucket of its key is initialised.
+/// A call for help ends with `Helped` only after the bucket of its key is initialised.
 ///
-/// After its first hold, the call heads for the key's bucket at the size of the core after this
-/// hold (`heads`). Each further hold that does not end the call keeps to this bucket (`stays`). If
-/// the core and the token are in step before the hold that ends the call well, the bucket is stored
-/// after that hold (`stored`). If the first hold ends the call well, the bucket is stored in any
-/// case (`at_once`).
+/// The first hold gives the call its bucket: the bucket of the key at the size that the core has
+/// after this hold (`heads`). Each further hold that does not end the call keeps this bucket
+/// (`stays`). If a further hold ends the call with `Helped`, and the core and the token were in
+/// step before that hold, the bucket is stored after it (`stored`). If the first hold ends the call
+/// with `Helped`, the bucket is stored in any case (`at_once`).
 ///
-/// The contract is the law; the function does nothing.
+/// The law is the contract of this function, which does nothing.
 pub fn helped<S: Side>()
     ensures heads { (key : ℕ) (m n : State) (k l : Token S) (d e : Drive) → BeginsHelp key d
         → Held m k d None n l e → Heads key n.size e }

@@ -1,29 +1,31 @@
 //! Tokens: each is one caller of a core that other callers use too. This crate takes no lock.
 //!
 //! - A *token*, `Caller`, is one caller. `Booked::new` makes a core with a `Pass` for each caller's
-//!   number, and each pass makes the token of its number once. A token keeps in `seen` the entries
-//!   that its calls have added to the history. It also has a side value: the changes that a
-//!   transaction makes to it are taken back with the transaction's other changes.
-//! - A *hold* is one turn of a call: one or two steps of the core. Whoever calls `Caller::hold` has
-//!   the core until it answers: the core makes the moves of the turn, and `seen` gains their
-//!   entries. Other callers may take their steps between any two holds.
-//! - A call is `make_ready`, its holds until one answers the end, and `follow` with this end.
+//!   number, and each pass makes the one token with its number. A token keeps in `seen` the entries
+//!   that its calls have added to the history. It also has a side value. When a transaction's
+//!   changes are taken back, its changes of the side value are taken back too.
+//! - A *hold* is one turn of a call: one or two steps of the core. Code that calls `Caller::hold`
+//!   has the core until `hold` returns: the core makes the moves of the turn, and `seen` gains
+//!   their entries. Other callers may take their steps between any two holds.
+//! - To make a call, call `make_ready`, then `hold` until it returns an end, then `follow` with
+//!   this end.
 //! - Unless its token has the right to the stripe of its key, an operation first tries the stripe's
 //!   *word*, an atomic word beside the core that says who holds the stripe. If the word was free,
-//!   the token has the right from then on, and asks the core by this right. If not, the token asks
-//!   by the word. The operation is then busy with the caller that the word names, unless the core
-//!   refuses it. A token keeps its rights until its transaction has committed or aborted, and
-//!   `follow` gives all of them back. So a Busy entry may name a caller whose transaction has just
-//!   ended.
+//!   the token has the right from then on, and asks the core with this right. If not, the token
+//!   asks with the word. Unless the core refuses this, the operation is then busy with the caller
+//!   that the word names. A token keeps its rights until its transaction has committed or aborted;
+//!   then `follow` gives all of them back. So a Busy entry may name a caller whose transaction has
+//!   just ended.
 //! - Between two holds a token knows of the core only its own entries, and the seat that they give
-//!   it. If the core gives an answer that these rule out, the call ends with `OutOfStep`, and so
-//!   does every later call of the token.
+//!   it. If the core gives an answer that the entries rule out, the call ends with `OutOfStep`, and
+//!   so does every later call of the token.
 //! - No entry can be added without a token: a ledger counts the entries, `Booked` has the ledger's
-//!   book, and each token has a share. So the history of the core that `Booked::into_core` takes
-//!   out has as many entries as the tokens saw. The ledger is `std`'s `sync::ledger`. Its name `L`
-//!   is the first parameter of `Booked`, `Pass` and `Caller`, and is picked as `sync::ledger` says.
-//! - `laws::helped` is about the holds of a call for help: if the call ends well, the bucket of its
-//!   key is initialised.
+//!   book, and each token has a share. So the history of the core that `Booked::into_core` returns
+//!   has as many entries as the tokens saw together. The ledger is `std`'s `sync::ledger`. Its name
+//!   `L` is the first parameter of `Booked`, `Pass` and `Caller`, and is picked as `sync::ledger`
+//!   says.
+//! - `laws::helped` is about the holds of a call for help: if the call ends with `Helped`, the
+//!   bucket of its key is initialised.
 //!
 //! This crate is separate since nothing in it waits: the crates above say how callers take turns at
 //! the core. Calls take constant time and no memory unless they say otherwise.

@@ -1,7 +1,7 @@
-//! The side value of callers that need none. With it, the calls of `Caller` are written only once,
-//! for callers with and without a side value. It is defined here, since `undo_log` has only the
-//! trait that it implements. Invariant: its four words are 0 before and after each job, so no
-//! return changes it.
+//! `NoSide`, the side value of callers that need none. With it, the calls of `Caller` are written
+//! only once, for callers with and without a side value. It is defined here, since `undo_log` has
+//! only the trait. Invariant: the four words of `NoSide` are 0 before and after each job, so no
+//! return to a level changes them.
 use undo_log::Side;
 
 /// The side value of callers that keep nothing beside the map. Its words never change.

@@ -1,6 +1,6 @@
 //! A pass: the right to be the caller with a certain number. The pass has the number's part of the
 //! ledger and the number's seat at the words. A core has one pass for each caller's number, and
-//! `Booked::into_core` needs the callers of all passes to take the core out.
+//! `Booked::into_core` needs the callers of all passes to return the core.
 ghost use Rattle.std.specs.Prelude.{◌≡◌, false, [], ◌∷◌, IfErr, IfOk, map};
 ghost use Rattle.std.specs.List.{range_with_len};
 ghost use Rattle.key_words.specs.Seats.{AreSeats, stripes_of};
@@ -18,8 +18,8 @@ use undo_log::Side;
 
 /// The right to be the caller with a certain number. It cannot be cloned.
 ///
-/// A contract sees its number, the limits of its map and which words the map has. It has one part
-/// of the map's ledger, and the number's seat at these words.
+/// A contract sees the pass's number, the limits of its map and which words the map has. The pass
+/// has one part of the map's ledger, and the number's seat at these words.
 #[derive(Drop)]
 pub struct Pass<L: Ledger> {
     number: u64,
@@ -64,14 +64,15 @@ impl<L: Ledger> Pass<L> {
         }
     }
 
-    /// The number.
+    /// The number of the caller that this pass makes.
     pub fn number(&self) -> u64
         ensures { result ≡ self.now.number }
     {
         self.number
     }
 
-    /// The caller with this number, which has seen no entries. This side value is its level 0.
+    /// Makes the caller with the pass's number. It has seen no entries, and `side` is the level 0
+    /// of its side value.
     pub fn caller<S: Side>(self, alloc: Global, side: S) -> Caller<L, S>
         ensures number { result.number ≡ self.number }
         ensures limits { result.limits ≡ self.limits }
@@ -117,8 +118,8 @@ pub(crate) fn words_of(
     Ok((words, seats))
 }
 
-/// A pass for each seat, in rising order of the numbers. Each pass gets one part of the share. The
-/// seats are taken out of their list, the last one first.
+/// A pass for each seat, in rising order of the seats' numbers. Each pass gets one part of the
+/// share. The seats are taken out of their list, the last one first.
 pub(crate) fn passes_of<L: Ledger>(
     alloc: Global,
     limits: Limits,

@@ -1,6 +1,7 @@
-//! The entries that a caller has seen, with its seat after them and its share of the ledger. They
-//! are one type, since `note` adds an entry to all three. Invariant: the share counts the entries,
-//! and there is room for all that the caller owes, so no commit or abort is refused memory here.
+//! The entries that a caller has seen, the caller's seat after these entries, and its share of the
+//! ledger. They are one type, since `note` adds an entry to all three. Invariant: the share counts
+//! the entries, and there is room for all entries that the caller owes, so no commit or abort is
+//! refused memory here.
 ghost use Rattle.std.specs.Prelude.{◌≡◌, ◌+◌, ◌<◌, ◌≤◌, ◌^◌, ℕ, true, [], ◌++◌, is_some, length};
 ghost use Rattle.std.specs.Prelude.{Some, OnOk, OnErr};
 ghost use Rattle.txn_words.specs.Entries.{entries_of};
@@ -20,14 +21,14 @@ use txn_trace::{
 };
 
 /// The number of entries for which a call needs room at its beginning, besides the entries that its
-/// caller owes. No call needs room for more than three entries. Of the steps of a call, only the
-/// first needs such room.
+/// caller owes. No call needs room for more than three of these entries, and only its first step
+/// needs it.
 const CALL: usize = 3;
 
 /// The entries that a caller's calls have added, in order, and the seat that they give it.
 ///
-/// The type guarantees that there is room for all that the caller owes, and that the share of the
-/// map's ledger counts the entries.
+/// The type guarantees that there is room for all entries that the caller owes, and that the share
+/// of the map's ledger counts the entries.
 #[derive(Drop)]
 pub(crate) struct Seen<L: Ledger> {
     entries: Vec<SmallEntry>,
@@ -81,28 +82,28 @@ impl<L: Ledger> Seen<L> {
         &self.entries
     }
 
-    /// Whether the rule of shape has a row for each entry.
+    /// Whether the rule of shape allows each entry.
     pub(crate) fn is_whole(&self) -> bool
         ensures { result ≡ is_some (seat_after self.now.entries) }
     {
         self.is_whole
     }
 
-    /// Whether no transaction is open.
+    /// Whether no transaction is open. Also true if the rule of shape does not allow some entry.
     pub(crate) fn is_over(&self) -> bool
         ensures { result ≡ is_over (seat_after self.now.entries) }
     {
         !self.is_whole || matches!(self.seat.phase(), Phase::Closed)
     }
 
-    /// The number of the last transaction that began.
+    /// The number of the caller's last transaction, or 0 if the caller has begun none.
     pub(crate) fn txn(&self) -> u64
         ensures { result ≡ last_txn self.now.entries }
     {
         self.txn
     }
 
-    /// The number of savepoints of its transaction.
+    /// The number of savepoints of the caller's transaction.
     pub(crate) fn levels(&self) -> u64
         ensures { (s : Standing) → seat_after self.now.entries ≡ Some s
             → length s.kept ≡ result + 1 }
@@ -110,7 +111,8 @@ impl<L: Ledger> Seen<L> {
         self.seat.levels()
     }
 
-    /// The refusal of a step by the caller's seat, with these limits.
+    /// The refusal that the caller's seat gives to a step under these limits, if it refuses the
+    /// step.
     pub(crate) fn refusal(&self, limits: Limits, step: Step) -> Option<Refusal>
         ensures { (s : Standing) → seat_after self.now.entries ≡ Some s
             → result ≡ refusal_in limits.half s step }
@@ -118,7 +120,7 @@ impl<L: Ledger> Seen<L> {
         self.seat.refusal(limits, step)
     }
 
-    /// Makes room for this many more entries, and writes the room if `is_written`.
+    /// Makes room for `entries` more entries, and writes the room if `is_written`.
     ///
     /// # Errors
     ///
@@ -134,9 +136,10 @@ impl<L: Ledger> Seen<L> {
         make_room(&mut self.entries, entries, is_written)
     }
 
-    /// If `reserve_entries` last wrote its room: makes and writes room for all entries that a call
-    /// may add, and for its savepoint if it is a save, so that no hold is the first to touch a page
-    /// of it. Otherwise, or if memory is refused, the holds make the room.
+    /// If the last `reserve_entries` wrote its room, makes and writes room for all entries that the
+    /// call may add, and for the savepoint of a save. Then no hold is the first to touch a page of
+    /// this room. If the last `reserve_entries` did not write, or if memory is refused, the holds
+    /// make the room.
     pub(crate) fn make_call_room(&mut self, call: Call)
         requires { is_some (seat_after self.old.entries) ≡ true }
         ensures { self.new.entries ≡ self.old.entries }
@@ -144,7 +147,7 @@ impl<L: Ledger> Seen<L> {
         if !self.is_written {
             return;
         }
-        // There is room for all that is owed.
+        // By the contract of `entries`, there is room for all entries that are owed.
         let _seen = self.entries();
         let wanted = self.seat.owed() as usize + CALL;
         if self.entries.capacity() - self.entries.len() < wanted {
@@ -155,8 +158,8 @@ impl<L: Ledger> Seen<L> {
         }
     }
 
-    /// Makes room for the entry and the savepoint that a step may add, and for all that is owed
-    /// after it.
+    /// Makes room for the entry and the savepoint that a step may add, and for all entries that are
+    /// owed after the step.
     ///
     /// # Errors
     ///
@@ -168,7 +171,7 @@ impl<L: Ledger> Seen<L> {
         ensures ok { OnOk result (HasRoomFor self.new step) }
         ensures full { OnErr result (HasRoomFor self.old step → ⊥) }
     {
-        // There is room for all that is owed.
+        // By the contract of `entries`, there is room for all entries that are owed.
         let _seen = self.entries();
         if !adds_entry(step) {
             return Ok(());
@@ -181,7 +184,7 @@ impl<L: Ledger> Seen<L> {
         Ok(())
     }
 
-    /// Notes the entries of a step with this answer, and counts them in the book.
+    /// Adds the entries of a step with this answer to those seen, and counts them in the book.
     #[inline(always)]
     pub(crate) fn note(&mut self, book: &mut Book<L>, step: Step, answer: Answer)
         requires whole { is_some (seat_after self.old.entries) ≡ true }
@@ -191,7 +194,7 @@ impl<L: Ledger> Seen<L> {
         ensures book { book.new.total ≡ book.old.total + length (entries_of step answer) }
         ensures same { entries_of step answer ≡ [] → self.new ≡ self.old }
     {
-        // There is room for all that is owed.
+        // By the contract of `entries`, there is room for all entries that are owed.
         let _seen = self.entries();
         let Some(entry) = entry_of(step, answer) else {
             return;

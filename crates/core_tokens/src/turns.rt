@@ -1,8 +1,8 @@
 //! The turns of a drive on the core. One function, `take`, takes a step on the core, adds its
-//! entries to `seen`, counts them in the book, and tells the drive the answer, so that none of the
-//! four misses a step; `Caller::hold` tests the token before and after. Room for the entries
-//! of a turn is made before its first step: if memory for the room is refused, core, entries and
-//! drive are unchanged.
+//! entries to `seen`, counts them in the book, and gives the drive the answer, so that none of the
+//! four misses a step. `Caller::hold` tests the token before and after. Room for the entries of a
+//! turn is made before its first step. If memory for the room is refused, the core, the entries and
+//! the drive are unchanged.
 ghost use Rattle.std.specs.Prelude.{◌≡◌, ℕ, true, false, Some, List, [], is_some};
 ghost use Rattle.txn_words.specs.declared.entry.Entry.{Entry};
 ghost use Rattle.txn_words.specs.declared.refusal.Refusal.{Refusal};
@@ -22,9 +22,9 @@ use boost_core::{Drive, Turn};
 use std::sync::ledger::Ledger;
 use txn_trace::{Answer, Step};
 
-/// Takes a turn if there is room for what it may add, and says whether there was. An operation
-/// takes the steps `Ask`, `Seek` and `Act`. Each of these steps has its own arm, so that `take_one`
-/// is compiled for it.
+/// Takes a turn if there is room for what the turn may add. Returns whether there was room. An
+/// operation takes the steps `Ask`, `Seek` and `Act`. Each of these steps has its own arm, so that
+/// `take_one` is compiled for this step alone.
 pub(crate) fn take_turn<L: Ledger>(
     seen: &mut Seen<L>,
     claims: &Claims,
@@ -49,7 +49,8 @@ pub(crate) fn take_turn<L: Ledger>(
     }
 }
 
-/// Takes a turn of one step; compiled for each kind of step that it is called with.
+/// Takes a turn of one step. This function is compiled again for each kind of step it is called
+/// with.
 #[inline(always)]
 fn take_one<L: Ledger>(
     seen: &mut Seen<L>,
@@ -63,7 +64,7 @@ fn take_one<L: Ledger>(
     ensures { TurnTaken claims.now.tried booked.old.core seen.old.entries drive.old
         (Turn.One step) result booked.new.core seen.new.entries drive.new }
 {
-    // `seen` has room for all that is owed.
+    // By the contract of `entries`, `seen` has room for all entries that are owed.
     let _seen = seen.entries();
     if seen.reserve(step).is_err() {
         return false;
@@ -72,8 +73,8 @@ fn take_one<L: Ledger>(
     true
 }
 
-/// Takes the turn of two steps that the drive shows. The steps are not passed, since the calling
-/// function would then keep both of them on its stack in each hold.
+/// Takes the drive's next turn, which has two steps. The steps are not passed as arguments, since
+/// the calling function would then keep both of them on its stack in each hold.
 #[inline(never)]
 fn take_pair<L: Ledger>(
     seen: &mut Seen<L>,
@@ -93,7 +94,8 @@ fn take_pair<L: Ledger>(
     }
 }
 
-/// Takes a turn of two steps: the second is taken if the answer to the first was `Placed`.
+/// Takes a turn of two steps. The second step is taken only if the answer to the first was
+/// `Placed`.
 fn take_two<L: Ledger>(
     seen: &mut Seen<L>,
     claims: &Claims,
@@ -107,7 +109,7 @@ fn take_two<L: Ledger>(
     ensures { TurnTaken claims.now.tried booked.old.core seen.old.entries drive.old
         (Turn.Two first second) result booked.new.core seen.new.entries drive.new }
 {
-    // `seen` has room for all that is owed.
+    // By the contract of `entries`, `seen` has room for all entries that are owed.
     let _seen = seen.entries();
     if seen.reserve(second).is_err() {
         return false;
@@ -118,8 +120,8 @@ fn take_two<L: Ledger>(
     true
 }
 
-/// Takes a step, for which there is room, on the core. Adds the step's entries to `seen`, counts
-/// them in the book, and tells the drive the answer.
+/// Takes a step on the core. There must be room for what the step adds. Adds the step's entries to
+/// `seen`, counts them in the book, and gives the drive the answer.
 #[inline(always)]
 #[tactic(auto, using(crate::proofs::Claiming::tried_step))]
 fn take<L: Ledger>(
@@ -149,14 +151,14 @@ fn take<L: Ledger>(
         book,
         none: _,
     } = booked;
-    // The history is legal before and after the step, and each caller's number fits into a small
-    // entry.
+    // By the contracts of `trace` and `callers`, the history is legal before and after the step,
+    // and each caller's number fits into a small entry.
     let _before = core.trace();
     let answer = claims.step(core, step);
     let _after = core.trace();
     let _fits = core.limits().callers();
     seen.note(book, step, answer);
-    // There are fewer than 2^63 entries.
+    // By the contract of `entries`, there are fewer than 2^63 entries.
     let _seen = seen.entries();
     drive.told(answer);
     answer

@@ -1,4 +1,4 @@
--- The reader of JSON on a line.
+-- Lemmas about the JSON reader when it reads a line.
 use Rattle.std.proofs.Common.{◌≡◌, ℕ, ◌≤◌, false, List, length, Result, Ok, Err, refl, sym, ap, subst, ◌∙◌, arith}
 use Rattle.std.specs.Prelude.{Option, option_and_then}
 use Rattle.std.specs.Str.{IsUtf8}
@@ -31,7 +31,7 @@ pub entry_on-fails : (line text : List ℕ) (fault : FileFault) → length line 
 entry_on-fails line text fault short some is_text same h =
     subst (FailsAs fault) (sym (entry_on-text line text short some is_text same)) (fails_first fault (or_fault NotJson (read text)) entry_in h)
 
--- An answer that equals the definition's answer meets `Gives`.
+-- Every result meets `Gives` with itself.
 pub Gives-same : {A : Type 0} (r : Result A FileFault) → Gives (λ x. x) r r
 Gives-same (Ok x) = refl
 Gives-same (Err NotJson) = refl

@@ -28,7 +28,8 @@ is_blank line = list_all is_space line
 abbrev pub ranged_entry : Entry → Result (Option Entry) FileFault
 ranged_entry entry = if is_in_range entry then Ok (Some entry) else Err Limit
 
--- The entry that was found, if there is one and its callers are in range.
+-- The entry that was found. The fault is `Member` if there is no entry, and `Limit` if a caller is
+-- out of range.
 abbrev pub entry_found : Option Entry → Result (Option Entry) FileFault
 entry_found found = or_fault Member found >>= ranged_entry
 
@@ -36,8 +37,9 @@ entry_found found = or_fault Member found >>= ranged_entry
 abbrev pub entry_in : Data → Result (Option Entry) FileFault
 entry_in d = entry_found (option_and_then entry_of (elements_of d))
 
--- The entry on a line, none if the line is blank, or the line's first fault: it is too long, it is
--- not JSON, it is no entry, or a caller is out of range.
+-- The entry on a line, or none if the line is blank, or the line's first fault. The faults are, in
+-- this order: the line is too long, it is not JSON, it stands for no entry, or a caller is out of
+-- range.
 unfoldable pub entry_on : List ℕ → Result (Option Entry) FileFault
 entry_on line =
     if nat_le (length line) max_line

@@ -5,13 +5,14 @@ use Rattle.piece_files.specs.declared.file_fault.FileFault.{FileFault}
 use Rattle.txn_words.specs.declared.entry.Entry.{Entry}
 use Rattle.entry_lines.specs.EntryLine.{entry_on}
 
--- The lines of these bytes: the parts before, between and after line feeds. No line feed follows
--- the last line. It is empty if the bytes end with a line feed.
+-- Splits these bytes into lines at each line feed. The last line is the part after the last line
+-- feed, and is empty if the bytes end with a line feed.
 abbrev pub split_lines : List ℕ → List (List ℕ)
 split_lines bytes = slice_split (λ byte. byte == 10) bytes
 
--- The entries on the lines, up to the first line that is refused; and the number of that line with
--- its fault, if there is one. The first line has the given number, and a blank line is skipped.
+-- The entries on the lines before the first line that is refused, and that line's number and fault,
+-- if there is such a line. The first of the given lines has the given number. A blank line is
+-- skipped.
 unfoldable pub history_from : ℕ → List (List ℕ) → List Entry × Option (ℕ × FileFault)
 history_from number [] = ([], None)
 history_from number (line ∷ lines) = elim (entry_on line) [
@@ -22,6 +23,6 @@ history_from number (line ∷ lines) = elim (entry_on line) [
 ]
 
 -- The entries in these bytes, one for each line that is not blank, up to the first line that is
--- refused; and that line's number, counted from 1, with its fault.
+-- refused. If a line is refused, also its number, counted from 1, and its fault.
 abbrev pub history_of_lines : List ℕ → List Entry × Option (ℕ × FileFault)
 history_of_lines bytes = history_from 1 (split_lines bytes)

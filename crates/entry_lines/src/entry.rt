@@ -1,7 +1,7 @@
-//! An entry from the elements of its array, in the form of the newest version of history files.
-//! This module computes definitions of `txn_files`. It is not in `txn_files`, since the readers
-//! there take whole files. The elements were read before, so making the entry takes constant time
-//! and no memory.
+//! Makes an entry from the elements of its array. The array has the form that the newest version of
+//! history files gives the entry. The functions of this module compute definitions of `txn_files`.
+//! They are not in `txn_files`, since the readers there take whole files. Making an entry takes
+//! constant time and no memory, since its elements have already been read.
 ghost use Rattle.std.specs.Prelude.{◌≡◌, map, option_map};
 ghost use Rattle.piece_files.specs.Plain.{data_of};
 ghost use Rattle.txn_files.specs.Entries.{busy_of, entry_named, entry_of, transaction_entry};
@@ -10,7 +10,8 @@ ghost use Rattle.txn_files.specs.Operations.{op_at, op_of, put_if_at};
 use piece_files::{Plain, end_in, leading_optional_in, number_in, one_in, optional_in, word_in};
 use txn_words::{Entry, Op};
 
-/// The `put_if` of this key, read from the elements after the key, and the elements that are left.
+/// Reads a `put_if` with this key. `values` are the elements after the key. Returns the operation
+/// and the elements that follow it.
 #[tactic(auto, unfolding(txn_files::specs::Operations::put_if_at))]
 fn leading_put_if<'v, 'a>(key: u64, values: &'v [Plain<'a>]) -> Option<(Op, &'v [Plain<'a>])>
     ensures { option_map (λ x. (x.0, map data_of x.1.now)) result
@@ -20,7 +21,7 @@ fn leading_put_if<'v, 'a>(key: u64, values: &'v [Plain<'a>]) -> Option<(Op, &'v 
     number_in(rest).map(|(value, rest)| (Op::PutIf(key, expected, value), rest))
 }
 
-/// The operation with which elements begin, and the rest of the elements.
+/// Returns the operation that the elements begin with, and the elements that follow it.
 #[tactic(auto, unfolding(txn_files::specs::Operations::op_at))]
 fn leading_op<'v, 'a>(values: &'v [Plain<'a>]) -> Option<(Op, &'v [Plain<'a>])>
     ensures { option_map (λ x. (x.0, map data_of x.1.now)) result ≡ op_at (map data_of values.now) }
@@ -47,7 +48,7 @@ fn whole_op(values: &[Plain<'_>]) -> Option<Op>
     }
 }
 
-/// The Busy of this caller, read from the elements after the caller.
+/// The Busy entry with this caller. `values` are the elements after the caller.
 #[tactic(auto, unfolding(txn_files::specs::Entries::busy_of))]
 fn busy_entry(caller: u64, values: &[Plain<'_>]) -> Option<Entry>
     ensures { result ≡ busy_of caller (map data_of values.now) }
@@ -56,7 +57,8 @@ fn busy_entry(caller: u64, values: &[Plain<'_>]) -> Option<Entry>
     one_in(rest).map(|holder| Entry::Busy(caller, op, holder))
 }
 
-/// An entry of this name and caller that is about the course of a transaction.
+/// The Began, Saved, Leave, Returned, Committed or Aborted entry with this name and caller.
+/// `values` are the elements after the caller.
 #[tactic(auto, unfolding(txn_files::specs::Entries::transaction_entry))]
 fn entry_of_transaction(name: &str, caller: u64, values: &[Plain<'_>]) -> Option<Entry>
     ensures { result ≡ transaction_entry name.now caller (map data_of values.now) }
@@ -72,7 +74,7 @@ fn entry_of_transaction(name: &str, caller: u64, values: &[Plain<'_>]) -> Option
     }
 }
 
-/// An entry of this name and caller.
+/// The entry with this name and caller. `values` are the elements after the caller.
 #[tactic(auto, unfolding(txn_files::specs::Entries::entry_named))]
 fn entry_named(name: &str, caller: u64, values: &[Plain<'_>]) -> Option<Entry>
     ensures { result ≡ entry_named name.now caller (map data_of values.now) }

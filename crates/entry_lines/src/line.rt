@@ -1,7 +1,7 @@
-//! Reads a line: the answer is its entry, or none if the line is blank, or the line's first fault.
-//! A line is read by itself, so a stream of lines needs only the memory for one. The line's length
-//! is tested first, so that memory is bounded. The entry's callers are tested last, against the
-//! limits of a map.
+//! Reads a line. The result is the line's entry, or none if the line is blank, or the line's first
+//! fault. Each line is read on its own, so reading many lines needs memory for one line only. The
+//! line's length is tested first, so that memory is bounded. The entry's callers are tested last,
+//! against the limits of a map.
 ghost use Rattle.std.specs.Prelude.{◌≡◌, ◌<◌, List, true, Some, None, Err, MatchResult, IfOk, IfSome, option_and_then};
 ghost use Rattle.std.specs.List.{list_all};
 ghost use Rattle.serde_json.specs.Data.{Data};
@@ -46,7 +46,7 @@ fn is_blank(line: &[u8]) -> bool
     line.iter().all(|byte| is_space(*byte))
 }
 
-/// Whether the callers of an entry are in range.
+/// Returns true if the entry's caller, and the holder that a Busy names, are below 64.
 fn is_in_range(entry: Entry) -> bool
     ensures test { result ≡ is_in_range entry }
     ensures caller { result ≡ true → caller_of entry < 64 }
@@ -58,7 +58,8 @@ fn is_in_range(entry: Entry) -> bool
     entry.caller() < Limits::MAX_CALLERS && is_named_in_range
 }
 
-/// The entry that was found, if there is one and its callers are in range.
+/// The entry that was found. Fails with `Member` if there is no entry, and with `Limit` if a caller
+/// is out of range.
 fn entry_in_range(found: Option<Entry>) -> Result<Option<Entry>, FileFault>
     ensures found { result ≡ entry_found found }
     ensures callers { IfOk result (λ found. IfSome found (λ entry. caller_of entry < 64)) }
@@ -113,9 +114,9 @@ fn entry_in_value(reader: &mut Reader<'_>) -> Result<Option<Entry>, Stop>
     }
 }
 
-/// The entry that a text stands for, if the text is an array in plain form, of 1 to 7 elements and
-/// with no white space before it. Answers `Some(None)` if this array is no entry, and `None` if the
-/// text is no such array.
+/// The entry that a text stands for. Returns `None` if the text is not an array in plain form, with
+/// 1 to 7 elements and no white space before the array. Returns `Some(None)` if the text is such an
+/// array, but stands for no entry.
 fn entry_in_plain(text: &str) -> Option<Option<Entry>>
     ensures { IfSome result (λ found. (d : Data) × (read text.now ≡ Some d)
         × (found ≡ option_and_then entry_of (elements_of d))) }
@@ -128,7 +129,7 @@ fn entry_in_plain(text: &str) -> Option<Option<Entry>>
     }
 }
 
-/// The entry that a text stands for, or none if the text is another value.
+/// The entry that a JSON text stands for, or `None` if the text stands for no entry.
 fn entry_in_text(text: &str, scratch: &mut Scratch<Global>) -> Result<Option<Entry>, FileFault>
     ensures { MatchResult result
         (λ found. (d : Data) × (read text.now ≡ Some d)
@@ -147,19 +148,19 @@ fn entry_in_text(text: &str, scratch: &mut Scratch<Global>) -> Result<Option<Ent
 }
 
 /// Reads the entry from a line, given without its line feed. The line has the array that a history
-/// file of the newest version has for the entry. Answers `Ok(None)` if the line is blank.
+/// file of the newest version has for the entry. Returns `Ok(None)` if the line is blank.
 ///
 /// # Errors
 ///
 /// The first of these, in this order:
 ///
 /// - `Limit` if the line has more than 1,000 bytes.
-/// - `NotJson` if it is not JSON as `piece_files::read_file` takes it.
-/// - `Member` if it is no entry.
+/// - `NotJson` if the line is not JSON that `piece_files::read_file` accepts.
+/// - `Member` if the line stands for no entry.
 /// - `Limit` if a caller, or the holder that the entry names, is above 63.
 ///
-/// `NoMemory` if memory is refused. It can replace any other answer, except for a line that is too
-/// long, blank or not UTF-8.
+/// `NoMemory` if memory is refused. It can replace any other result, unless the line is too long,
+/// blank or not UTF-8.
 ///
 /// # Cost
 ///

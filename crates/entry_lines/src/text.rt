@@ -1,6 +1,6 @@
-//! A history as lines, one for each entry: the text of a store that records its own history. A line
-//! depends on its entry only, so lines can be appended, and a text that is cut short can be read.
-//! The text is made as a whole, in time and memory in proportion to the entries.
+//! A history as lines, one for each entry: the text of a store that records its own history. Each
+//! line depends only on its own entry, so lines can be appended, and a text that was cut off can
+//! still be read. The text is made as a whole, in time and memory in proportion to the entries.
 ghost use Rattle.std.specs.Prelude.{◌≡◌, [], ◌∷◌, ◌++◌, decimal, OnOk, IfOk, string_bytes};
 ghost use Rattle.std.specs.List.{join_with_byte};
 ghost use Rattle.txn_files.specs.HistoryText.{array_text, comma, optional_text, quoted};
@@ -50,7 +50,7 @@ impl fmt::Display for Elements {
     }
 }
 
-/// Adds the line of a Busy.
+/// Adds the line of a Busy entry.
 fn put_busy(text: &mut String, caller: u64, op: Op, holder: u64) -> Result<(), AllocError>
     ensures { OnOk result (string_bytes text.new
         ≡ string_bytes text.old ++ line_of (entries.Busy caller op holder)) }
@@ -58,7 +58,7 @@ fn put_busy(text: &mut String, caller: u64, op: Op, holder: u64) -> Result<(), A
     writeln!(text, "[\"busy\",{caller},{},{holder}]", Elements(op))
 }
 
-/// Adds a line with a name, a caller and a number.
+/// Adds the line of an entry that consists of a name, a caller and a number.
 fn put_numbered(text: &mut String, name: &str, caller: u64, number: u64) -> Result<(), AllocError>
     ensures { OnOk result (string_bytes text.new ≡ string_bytes text.old
         ++ (array_text (quoted name.now ∷ decimal caller ∷ decimal number ∷ []) ++ 10 ∷ [])) }
@@ -84,8 +84,8 @@ fn put_line(text: &mut String, entry: Entry) -> Result<(), AllocError>
     }
 }
 
-/// A history as lines, one for each entry, such as `["began",0,1]`, each with its line feed.
-/// Reading them restores the history if the callers and holders are below 64.
+/// The text of a history: one line for each entry, such as `["began",0,1]`, followed by a line
+/// feed. If all callers and holders are below 64, reading the lines gives the history back.
 ///
 /// # Errors
 ///

@@ -1,6 +1,6 @@
-//! Calls `audit` on two histories, which are written out as entries: one that is legal, and one
-//! that is not. They differ only in the last reply. No map is needed to judge them, so this example
-//! is apart from those that run a map.
+//! Calls `audit` on two histories that are written out as entries. One is legal and the other is
+//! not. They differ only in the last reply. Judging a history needs no map, so this example is
+//! separate from those that run a map.
 use audit::is_legal;
 use std::io;
 use std::io::Print;
@@ -17,8 +17,8 @@ fn say<R: Print + AllocGlobal>(rt: &R, what: &str, history: &[Entry]) -> io::Res
     }
 }
 
-/// Prints whether this history is legal: caller 0 puts a value, and caller 1 gets it. Then gives
-/// the get a different reply, and prints whether the history is still legal.
+/// Judges a history in which caller 0 puts a value and caller 1 gets it, and prints whether the
+/// history is legal. Then gives the get a different reply, and does the same again.
 pub(crate) fn show<R: Print + AllocGlobal>(rt: &R) -> io::Result<()> {
     let mut history = [
         Entry::Began(0, 1),

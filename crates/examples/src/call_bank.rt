@@ -49,7 +49,7 @@ fn work<R: Print + AllocGlobal>(rt: &R, accounts: &mut OwnedMap) -> Result<()> {
     Ok(())
 }
 
-/// Works on a new map of two callers.
+/// Does the work of this example on a new map with two callers.
 pub(crate) fn show<R: Print + AllocGlobal>(rt: &R) -> Result<()> {
     let mut accounts = OwnedMap::new(rt.alloc(), Limits::new(2, 8, 8)?)?;
     work(rt, &mut accounts)

@@ -18,7 +18,7 @@ const VISITS: [Visit; 4] = [
     Visit { key: 7, value: 73 },
 ];
 
-/// Prints the value that a visitor put, and the one that it got.
+/// Prints the value that a visitor put and the value that the visitor got.
 fn say<R: Print + AllocGlobal>(rt: &R, visit: Visit, answer: Answer) -> io::Result<()> {
     match answer {
         Ok(Some(got)) => println!(rt; "put {}, got {got}", visit.value),

@@ -16,7 +16,7 @@ use txn_words::{Limits, Refusal};
 
 /// The number of workers. Each has its own thread.
 const WORKERS: u64 = 4;
-/// The number of jobs. Their keys are the numbers below it.
+/// The number of jobs. The key of a job is a number below this one.
 const JOBS: u64 = 12;
 /// The key whose value counts the jobs that were done.
 const DONE: u64 = 100;
@@ -38,7 +38,7 @@ fn fill<L: Ledger, R: Wait>(t: &mut Transaction<'_, L, R>) -> Result<(), Stop>
     Ok(())
 }
 
-/// Claims a job, if it waits, and answers whether the job was claimed.
+/// Claims a job if it waits. Returns true if the job was claimed.
 fn claim<L: Ledger, R: Wait>(t: &mut Transaction<'_, L, R>, job: u64) -> Result<bool, Stop>
     ensures { Keeps t.old.me t.new.me }
 {
@@ -67,7 +67,7 @@ enum Task {
     Finish(u64),
 }
 
-/// Does the task, and answers whether it has claimed a job.
+/// Does the task. Returns true if the task has claimed a job.
 fn do_task<L: Ledger, R: Wait>(t: &mut Transaction<'_, L, R>, task: Task) -> Result<bool, Stop>
     ensures { Keeps t.old.me t.new.me }
 {
@@ -84,7 +84,8 @@ fn do_task<L: Ledger, R: Wait>(t: &mut Transaction<'_, L, R>, task: Task) -> Res
     }
 }
 
-/// Does the task in a transaction, which is tried again as often as it takes.
+/// Does the task in a transaction. If the transaction is aborted, it is tried again, as often as
+/// needed.
 fn commit<L: Ledger, R: Wait>(t: &mut Transaction<'_, L, R>, task: Task) -> Result<bool, Stop> {
     let does = |t: &mut Transaction<'_, L, R>| do_task(t, task);
     let (claimed, _) = transact(&mut *t, Retry::FOREVER, does)?;
@@ -147,8 +148,8 @@ impl<R: Wait> Work<R> for Worker {
     }
 }
 
-/// Has the filler fill the queue and the workers do all jobs, and answers the core. The filler has
-/// a caller too.
+/// Lets the filler fill the queue and the workers do all jobs, and returns the core. The filler
+/// needs a caller too.
 fn do_all<R: Threads + Wait + Sync>(rt: &R, alloc: Global) -> Result<Core, Refusal> {
     let limits = Limits::new(WORKERS + 1, 8, 8)?;
     let workers = Vec::from_slice(alloc, &[Worker; WORKERS as usize])?;
@@ -159,7 +160,7 @@ fn do_all<R: Threads + Wait + Sync>(rt: &R, alloc: Global) -> Result<Core, Refus
     }
 }
 
-/// The number of jobs that are finished, and the count of jobs that were done.
+/// The number of jobs in the state `FINISHED`, and the value of the key `DONE`.
 fn finished(alloc: Global, core: &Core) -> Result<(u64, u64), AllocError> {
     let mut jobs = 0u64;
     let mut count = 0u64;

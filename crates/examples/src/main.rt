@@ -1,9 +1,9 @@
-//! Calls the libraries `bank`, `audit` and `visits`, has threads move sums between the accounts of
-//! one map and take jobs from another map, and runs the files of the folder `examples`. The output
-//! of each example begins with a line: the example's name, or its command and its file.
+//! Calls the libraries `bank`, `audit` and `visits`. Lets threads move sums between the accounts of
+//! one map and take jobs from another map. Runs the files of the folder `examples`. The output of
+//! each example begins with a line: the example's name, or its command and its file.
 //!
 //! The gate compares the output with the file `stdout`, which was written by hand. So what the
-//! documentation says of the examples stays true. Nothing is promised of this program.
+//! documentation says about the examples remains true. This program itself has no contract.
 #![tactic(auto)]
 
 mod call_audit;

@@ -1,9 +1,9 @@
 //! Four threads move sums between the accounts of one map, and the sum of all accounts stays the
 //! same.
 //!
-//! Each transfer is one transaction, which reads two accounts and, if they differ and the sum can
-//! be moved, writes both. If another thread has a key's stripe, the transaction is aborted and
-//! tried again, as often as it takes.
+//! Each transfer is one transaction. It reads two accounts and, if they differ and the sum can be
+//! moved, writes both. If another thread holds a key's stripe, the transaction is aborted and tried
+//! again, as often as needed.
 ghost use Rattle.shared_transactions.specs.Keeps.{Keeps};
 
 use boost_core::Core;
@@ -19,7 +19,7 @@ use txn_words::{Limits, Refusal};
 
 /// The number of threads. Each has its own caller.
 const THREADS: u64 = 4;
-/// The number of accounts. Their keys are the numbers below it.
+/// The number of accounts. The key of an account is a number below this one.
 const ACCOUNTS: u64 = 8;
 /// The first balance of each account.
 const OPENING: u64 = 100;
@@ -37,7 +37,7 @@ fn open<L: Ledger, R: Wait>(t: &mut Transaction<'_, L, R>) -> Result<(), Stop>
     Ok(())
 }
 
-/// A sum that goes from one account to another.
+/// A sum to move from one account to another.
 #[derive(Clone, Copy)]
 struct Transfer {
     from: u64,
@@ -113,7 +113,7 @@ impl<R: Wait> Work<R> for Transfers {
     }
 }
 
-/// Opens the accounts, makes all transfers, and answers the core. The opening needs a caller too.
+/// Opens the accounts, makes all transfers, and returns the core. The opening needs a caller too.
 fn play_all<R: Threads + Wait + Sync>(rt: &R, alloc: Global) -> Result<Core, Refusal> {
     let limits = Limits::new(THREADS + 1, 8, 8)?;
     let works = Vec::from_slice(alloc, &[Transfers { rounds: TRANSFERS }; THREADS as usize])?;

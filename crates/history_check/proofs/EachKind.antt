@@ -1,5 +1,5 @@
--- For each kind of entry: the meaning of a legal history with one more entry of this kind, if that
--- entry breaks no rule.
+-- For each kind of entry: the seat, the log, the maps and the holders after a legal history and one
+-- more entry of this kind, if that entry breaks no rule.
 use Rattle.std.proofs.Common.{◌≡◌, ℕ, ◌+◌, ◌-◌, ◌<◌, ◌==◌, ◌&&◌, Bool, true, false, cond, not, List, [], ◌∷◌, ◌++◌, take, length, slice_index, refl, ap, sym, ◌∙◌, Some, None, Option, is_some, arith}
 use Rattle.std.specs.Prelude.{nat_eq, nat_lt}
 use Rattle.std.specs.Option.{option_eq}
@@ -26,7 +26,8 @@ use Rattle.txn_trace.proofs.Entries as entries
 use Rattle.txn_trace.proofs.Settled.{settled}
 use Rattle.history_check.specs.Callers.{goal_of}
 
--- An entry that breaks no rule is in right shape, has the right reply, and keeps the rule of locks.
+-- If an entry breaks no rule, it has the right shape and the right reply, and it keeps the rule of
+-- locks.
 pub breaks_none : (holder : Holder) (stripes : ℕ) (g : List Entry) (e : Entry) → broken holder stripes g e ≡ None → (is_shaped g e ≡ true) × (replies_hold (g ++ e ∷ []) ≡ true) × (is_locked holder stripes g e ≡ true)
 breaks_none holder stripes g e is = at (is_shaped g e) (replies_hold (g ++ e ∷ [])) (is_locked holder stripes g e) is
   where
@@ -36,12 +37,13 @@ breaks_none holder stripes g e is = at (is_shaped g e) (replies_hold (g ++ e ∷
     at true true false h = absurd (cc (h))
     at true true true h = (refl, refl, refl)
 
--- The rule that an entry breaks, by the three tests.
+-- If the three tests of an entry give `a`, `b` and `c`, these determine which rule the entry
+-- breaks.
 pub broken_by : (holder : Holder) (stripes : ℕ) (g : List Entry) (e : Entry) (a b c : Bool) → is_shaped g e ≡ a → replies_hold (g ++ e ∷ []) ≡ b → is_locked holder stripes g e ≡ c
     → broken holder stripes g e ≡ cond {A = Option ℕ} (not a) (Some 3) (cond {A = Option ℕ} (not b) (Some 1) (cond {A = Option ℕ} (not c) (Some 2) None))
 broken_by holder stripes g e a b c shaped right locked = λ i. cond {A = Option ℕ} (not (shaped i)) (Some 3) (cond {A = Option ℕ} (not (right i)) (Some 1) (cond {A = Option ℕ} (not (locked i)) (Some 2) None))
 
--- The phases in which each kind of entry is allowed.
+-- The next lemmas say for each kind of entry in which phases it is allowed.
 only_closed : (s : Seat) (q : Phase) (c t : ℕ) → is_some (row s q (Began c t)) ≡ true → q ≡ Closed
 only_closed s Closed c t h = refl
 only_closed s _ c t h = absurd (false≢true h)
@@ -84,7 +86,7 @@ undone_from s (LeavingTo n) c h = inl (n, refl, ltb-true _ _ (some_if (nat_lt (s
 undone_from s LeavingToEnd c h = inr (refl, ltb-true _ _ (some_if (nat_lt 0 s.standing) _ h))
 undone_from s _ c h = absurd (false≢true h)
 
--- If a change is taken back, at least one change stands.
+-- If an Undone entry is allowed, at least one change stands.
 pub undone_some : (s : Seat) (q : Phase) (c : ℕ) → is_some (row s q (Undone c)) ≡ true → 0 < s.standing
 undone_some s q c h = elim (undone_from s q c h) [
   | inl to ↦ (let more = to.2 in omega arith)
@@ -171,8 +173,8 @@ module _ {holder : Holder} (stripes : ℕ) (g : List Entry) (legal : IsLegal hol
       let from = aborted_from seat seat.phase c (in_row (Aborted c) refl (breaks_none holder stripes g (Aborted c) fine).0).0 in
       entries.aborted stripes g legal c seat seat_is from.0 from.1
 
-  -- If the caller waits for an operation and a Did has the right shape, the Did's reply is right
-  -- exactly if it is the reply of the map as it is now.
+  -- If the caller waits for an operation and a Did entry has the right shape, its reply is right
+  -- exactly if the map as it is now gives this reply.
   pub did_right : (op : Op) (x : Option ℕ) → seat.phase ≡ Waiting op → is_shaped g (Did c x) ≡ true → replies_hold (g ++ Did c x ∷ []) ≡ option_eq nat_eq x (reply_of (now g) op)
   did_right op x waits shaped =
       replies_hold-push stripes g legal (Did c x) shaped

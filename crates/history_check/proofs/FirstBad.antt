@@ -1,4 +1,4 @@
--- The first bad entry of a history with one more entry, and what a verdict says.
+-- The first bad entry after one more entry is added to a history, and what a verdict says.
 use Rattle.std.proofs.Common.{◌≡◌, ℕ, suc, ◌+◌, true, false, List, [], ◌∷◌, ◌++◌, length, refl, ap, sym, ◌∙◌, Some, None, Option, is_some, arith, append_assoc}
 use Rattle.std.specs.Prelude.{◌↔◌}
 use Rattle.std.specs.Option.{SomeIff}
@@ -23,8 +23,9 @@ pub next_is : (o : Option ℕ) (P : Type 0) (v x : ℕ) → SomeIff o P v → o 
 next_is None P v x may is = absurd (cc is)
 next_is (Some y) P v x may is = let same : y ≡ x = cc is in sym same ∙ may.1
 
--- The first bad entry when one more entry, with index `i`, is added: an earlier bad entry stays the
--- first one. If there is none, the added entry is the first bad one if it breaks a rule (`rule`).
+-- The first bad entry after one more entry, with index `i`, is added. If there was a bad entry
+-- before, it remains the first one. If there was none and the added entry breaks a rule (`rule`),
+-- the added entry is the first bad one.
 abbrev then_bad : Option (ℕ × ℕ) → Option ℕ → ℕ → Option (ℕ × ℕ)
 then_bad (Some bad) rule i = Some bad
 then_bad None (Some rule) i = Some (i, rule)
@@ -59,7 +60,7 @@ module _ (broken : List Entry → Entry → Option ℕ) where
       let here : 0 + length h ≡ i = omega (arith, index) in
       first_bad_by-push [] h e 0 ∙ (λ j. then_bad (none j) (breaks j) (here j))
 
-  -- The state of a checker tells the entries if none is bad.
+  -- If no entry is bad, the checker's state is the one after all entries (`told`).
   pub told_of : (told : Type 0) (h : List Entry) (fed : ℕ) (bad : Option (ℕ × Rule)) → first_bad_by broken [] h 0 ≡ None → FedBy broken told h fed bad → told
   told_of told h fed None none is = is.0
   told_of told h fed (Some bad) none is = absurd (cc (sym none ∙ is))

@@ -1,4 +1,5 @@
--- The stripes: which lock entries are legal, and who holds each stripe after them.
+-- Stripes: which Asked and Busy entries keep the rule of locks, and who holds each stripe after an
+-- entry.
 use Rattle.std.proofs.Common.{◌≡◌, ◌≢◌, ℕ, ◌<◌, ◌%◌, ◌==◌, ◌&&◌, Bool, true, false, not, cond, List, refl, ap, sym, ◌∙◌, Some, None, Option, arith}
 use Rattle.std.specs.Prelude.{nat_eq}
 use Rattle.std.specs.Option.{option_eq}
@@ -33,8 +34,8 @@ busy-own {holder} stripes h legal c op x is =
     is_locked-busy holder stripes h c op x legal.shape legal.locks
     ∙ ap (λ b. not b && elim holder as (λ r. Bool) [ Now ↦ option_eq nat_eq (holder_of stripes (stripe_of stripes (key_of op)) h) (Some x) | Begun ↦ has_begun x h ]) (eq-eqb x c is)
 
--- By the rule Begun, a Busy that names another caller is legal exactly if that caller has begun a
--- transaction.
+-- If `holder` is `Begun`, a Busy entry that names another caller is legal exactly if that caller
+-- has begun a transaction.
 pub busy-begun : {holder : Holder} (stripes : ℕ) (h : List Entry) → IsLegal holder stripes h → (c : ℕ) (op : Op) → holder ≡ Begun → (x : ℕ) → x ≢ c → is_locked holder stripes h (Busy c op x) ≡ has_begun x h
 busy-begun {holder} stripes h legal c op begun x other =
     is_locked-busy holder stripes h c op x legal.shape legal.locks
@@ -69,8 +70,8 @@ module _ {holder : Holder} (stripes : ℕ) (h : List Entry) (legal : IsLegal hol
     pub asked-refused : (other : ℕ) (new : List (Option ℕ)) → locks.Refuses c (key % live.stripes) other live.locks new → is_locked holder stripes h (Asked c op) ≡ false
     asked-refused other new is = is_locked-asked holder stripes h c op legal.shape legal.locks ∙ ap asked_test (sym held ∙ is.held) ∙ ne_eqb other c is.by_another
 
-    -- By the rule Now, a Busy that names another caller is legal exactly if that caller holds the
-    -- stripe.
+    -- If `holder` is `Now`, a Busy entry that names another caller is legal exactly if that caller
+    -- holds the stripe.
     pub busy-held : holder ≡ Now → (x : ℕ) → x ≢ c → is_locked holder stripes h (Busy c op x) ≡ option_eq nat_eq (locks.holder_of live.locks (key % live.stripes)) (Some x)
     busy-held now x other =
         is_locked-busy holder stripes h c op x legal.shape legal.locks

@@ -20,17 +20,18 @@ use Rattle.history_check.proofs.Seating.{each-set, if_some, at_some}
 pub is_at-nat : (k q : ℕ) → is_at (nat_cmp k) q ≡ (q == k)
 is_at-nat k q = (eq_by_cmp_equiv nat_cmp_total).symm k q ∙ unsigned_tied q k
 
--- If a key is set or removed in the map and likewise in a sorted map, the sorted map stays right.
+-- If a key is set or removed both in the map and in a sorted map, `HasOf` still holds.
 has_of-set_at : (m : Map) (r : ℕ) (old new : BTreeMap ℕ ℕ) (k : ℕ) (v : Option ℕ) → HasOf m r old → ((q : ℕ) → value_at nat_cmp new q ≡ cond (is_at (nat_cmp k) q) v (value_at nat_cmp old q)) → HasOf (set_at m k v) r new
 has_of-set_at m r old new k v has updates q at =
     updates q ∙ (λ i. cond (is_at-nat k q i) v (has q at i)) ∙ sym (get-set_at m k v q)
 
--- If a key is set or removed in the map, the sorted maps of other remainders stay right.
+-- If a key is set or removed in the map, `HasOf` still holds for the sorted maps of other
+-- remainders.
 has_of-other : (m : Map) (r : ℕ) (values : BTreeMap ℕ ℕ) (k : ℕ) (v : Option ℕ) → r ≢ k % 1021 → HasOf m r values → HasOf (set_at m k v) r values
 has_of-other m r values k v other has q at =
     has q at ∙ sym (get-set_at m k v q ∙ ap (λ b. cond b v (get m q)) (ne_eqb q k (λ is. other (sym at ∙ ap (λ x. x % 1021) is))))
 
--- A read at the remainder of a key gives the sorted map of this remainder.
+-- Reading `values` at a key's remainder gives the sorted map for this remainder.
 map_at : (values : Values) (k : ℕ) (tree : BTreeMap ℕ ℕ) → tree ≡ get_or values.maps.items (k % 1021) tree → slice_get values.maps.items (k % 1021) ≡ Some tree
 map_at values k tree is =
     let below : k % 1021 < 1021 = omega arith in
@@ -41,8 +42,8 @@ map_at values k tree is =
 pub has-get : (m : Map) (values : Values) (k : ℕ) (tree : BTreeMap ℕ ℕ) → Have m values → tree ≡ get_or values.maps.items (k % 1021) tree → value_at nat_cmp tree k ≡ get m k
 has-get m values k tree has is = at_some (HasOf m (k % 1021)) (slice_get values.maps.items (k % 1021)) tree (map_at values k tree is) (has (k % 1021)) k refl
 
--- If a key is set or removed in the map and likewise in the sorted map of its remainder, all sorted
--- maps stay right.
+-- If a key is set or removed both in the map and in the sorted map of the key's remainder, `Have`
+-- still holds.
 pub has-set_at : (m : Map) (old : Values) (k : ℕ) (v : Option ℕ) (tree tree' : BTreeMap ℕ ℕ) → Have m old → tree ≡ get_or old.maps.items (k % 1021) tree
     → ((q : ℕ) → value_at nat_cmp tree' q ≡ cond (is_at (nat_cmp k) q) v (value_at nat_cmp tree q)) → (r : ℕ) → IfSome (slice_get (set old.maps.items (k % 1021) tree') r) (HasOf (set_at m k v) r)
 has-set_at m old k v tree tree' has is updates r =
@@ -50,7 +51,7 @@ has-set_at m old k v tree tree' has is updates r =
     each-set (HasOf (set_at m k v)) old.maps.items (k % 1021) tree' (has_of-set_at m (k % 1021) tree tree' k v here updates)
     (λ s other. if_some (HasOf m s) (HasOf (set_at m k v) s) (slice_get old.maps.items s) (λ t. has_of-other m s t k v other) (has s)) r
 
--- Sorted maps without keys are right for the empty map.
+-- If all sorted maps are empty, `HasOf` holds for each of them and the empty map.
 pub bare_has : (trees : List (BTreeMap ℕ ℕ)) → All IsEmpty trees → (r k : ℕ) → IfSome (slice_get trees k) (HasOf empty r)
 bare_has [] all r k = tt
 bare_has (x ∷ xs) all r zero = λ q at. ap (lookup (is_at (nat_cmp q))) (All-head IsEmpty x xs all)

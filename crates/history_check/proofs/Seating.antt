@@ -1,4 +1,4 @@
--- The table of callers after one more entry, and after a change of a caller that adds no entry.
+-- The table of callers after one more entry, and after one caller changes without an entry.
 use Rattle.std.proofs.Common.{get_or, vec_len, ◌≡◌, ◌≢◌, ◌||◌, ℕ, zero, suc, ◌<◌, drop, length, List, [], ◌∷◌, ◌++◌, true, ap, sym, subst, ◌∙◌, Some, None, Option, arith, is_some, refl}
 use Rattle.std.specs.Prelude.{slice_get}
 use Rattle.std.specs.Option.{IfSome, option_and_then}
@@ -26,8 +26,8 @@ use Rattle.history_check.specs.Callers.{seat_of, log_in, Enters, HasRoom, HasRoo
 use Rattle.history_check.specs.Logs.{log_entered, log_replied}
 use Rattle.history_check.proofs.EachKind.{did_waits, undone_some}
 
--- If the written element has its property, and all other elements had theirs before, each element
--- has its property after the write.
+-- If `P i` holds for the written element, and `P k` held before for every other element, then `P k`
+-- holds for every element after the write.
 pub each-set : {A : Type 0} (P : ℕ → A → Type 0) (xs : List A) (i : ℕ) (a : A) → P i a → ((k : ℕ) → k ≢ i → IfSome (slice_get xs k) (P k)) → (k : ℕ) → IfSome (slice_get (set xs i a) k) (P k)
 each-set P [] i a here others k = tt
 each-set P (x ∷ xs) zero a here others zero = here
@@ -47,11 +47,11 @@ pub if_some : {A : Type 0} (P Q : A → Type 0) (o : Option A) → ((a : A) → 
 if_some P Q None to is = tt
 if_some P Q (Some a) to is = to a is
 
--- If an optional element has a property, the element that is there has it.
+-- If an optional element is `Some a` and has a property, `a` has this property.
 pub at_some : {A : Type 0} (P : A → Type 0) (o : Option A) (a : A) → o ≡ Some a → IfSome o P → P a
 at_some P o a is holds = subst (λ r. IfSome r P) is holds
 
--- The caller at an index of the table.
+-- A caller that is read at an index below 64 is in the table at this index.
 caller_at : (callers : Callers) (c : ℕ) (caller : Caller) → c < 64 → caller ≡ get_or callers.table.items c caller → slice_get callers.table.items c ≡ Some caller
 caller_at callers c caller below is = slice_get_read callers.table.items (vec_len callers.table) c caller callers.table.ok.0 (let all : vec_len callers.table ≡ 64 = callers.all in omega arith) is
 
@@ -61,7 +61,8 @@ sits_at h callers c caller entered below is = at_some (Sits h c) (slice_get call
 pub room_at : (e : Entry) (callers : Callers) (caller : Caller) → HasRoomFor e callers → caller_of e < 64 → caller ≡ get_or callers.table.items (caller_of e) caller → HasRoom e caller
 room_at e callers caller room below is = at_some (HasRoom e) (slice_get callers.table.items (caller_of e)) caller (caller_at callers (caller_of e) caller below is) room
 
--- An entry of the right shape has a row at its caller's seat, and the right number.
+-- If an entry has the right shape, the rule of shape has a row for it at its caller's seat, and its
+-- number is right.
 pub in_row : (h : List Entry) (e : Entry) (seat : Seat) → seat_after (own (caller_of e) h) ≡ Some seat → is_shaped h e ≡ true → (is_some (row seat seat.phase e) ≡ true) × (is_numbered h e ≡ true)
 in_row h e seat seat_is shaped = and_parts (is_some (row seat seat.phase e)) (is_numbered h e) (sym (is_shaped_is h e seat seat_is) ∙ shaped)
 
@@ -73,7 +74,7 @@ seat_there h e shaped = at (seat_after (own (caller_of e) h)) refl (shaped_seat 
     at None is some = absurd (false≢true some)
     at (Some seat) is some = (seat, is)
 
--- A Did has the right shape only if an operation waits.
+-- A Did entry has the right shape only if its caller waits for an operation.
 pub did_asked : (h : List Entry) (c : ℕ) (x : Option ℕ) (q : Phase) → IsIn h c q → is_shaped h (Did c x) ≡ true → ((op : Op) → q ≡ Waiting op → ⊥) → ⊥
 did_asked h c x q there shaped not_waiting =
     let waits = did_waits there.seat there.seat.phase c x (in_row h (Did c x) there.seat there.seat_is shaped).0 in
@@ -87,7 +88,7 @@ pub first_then : {A : Type 0} (xs : List A) (x : A) → slice_get xs 0 ≡ Some 
 first_then [] x is = absurd (cc is)
 first_then (y ∷ ys) x is = let same : y ≡ x = cc is in ap (λ z. z ∷ ys) same
 
--- An Undone has the right shape only if a change stands.
+-- An Undone entry has the right shape only if its caller has a standing change.
 pub undone_newest : (h : List Entry) (c : ℕ) → is_shaped h (Undone c) ≡ true → slice_get (log_of c h) 0 ≡ None → ⊥
 undone_newest h c shaped none =
     let seat = seat_there h (Undone c) shaped in
@@ -95,7 +96,7 @@ undone_newest h c shaped none =
     let empty : seat.0.standing ≡ 0 = sym (length-log_of h c seat.0 seat.1) ∙ ap length (no_first (log_of c h) none) in
     omega arith
 
--- The log after an entry, computed from the log and the phase before the entry.
+-- `log_entered` computes the log after an entry from the log and the phase before it.
 log_did-is : (phase : Phase) (log : Log) (c : ℕ) (x : Option ℕ) (s : Seat) → PhaseLogged phase log → is_some (row s phase (Did c x)) ≡ true → (log_did log log.pending x).standing ≡ log_replied phase log.standing x
 log_did-is (Waiting op) log c x s pending there = ap (λ p. (log_did log p x).standing) pending
 log_did-is _ log c x s pending there = absurd (false≢true there)
@@ -115,7 +116,8 @@ log_step-is phase log (Aborted c) s pending there = refl
 pub log_entered-is : (g : List Entry) (e : Entry) (seat : Seat) → seat_after (own (caller_of e) g) ≡ Some seat → is_some (row seat seat.phase e) ≡ true → log_of (caller_of e) (g ++ e ∷ []) ≡ log_entered seat.phase (log_of (caller_of e) g) e
 log_entered-is g e seat seat_is there = log_of-own g e ∙ log_step-is seat.phase (log_after (own (caller_of e) g)) e seat (seat_logged (own (caller_of e) g) seat seat_is).phase there
 
--- If the caller of an entry is changed as the entry says, the table has taken in the entry.
+-- If the entry's caller and the counts change as the entry says, `HaveEntered` holds with the entry
+-- added.
 pub entered-push : (h : List Entry) (e : Entry) (old new : Callers) (before after : Caller) → HaveEntered h old → is_shaped h e ≡ true → caller_of e < 64 → Sits h (caller_of e) before
     → (is_some (row (seat_of before) (seat_of before).phase e) ≡ true → Enters e before after) → new.table.items ≡ set old.table.items (caller_of e) after
     → new.began ≡ how_many is_began (h ++ e ∷ []) → new.committed ≡ how_many is_commit (h ++ e ∷ []) → HaveEntered (h ++ e ∷ []) new
@@ -140,7 +142,8 @@ entered-push h e old new before after entered shaped below sits enters table_is 
     goes : Enters e before after
     goes = enters there
 
--- The table has taken in the same entries if the caller's seat, log and `has_begun` stay the same.
+-- If a caller's seat, log and `has_begun` do not change, `HaveEntered` holds for the same entries
+-- as before.
 pub entered-same : (h : List Entry) (old new : Callers) (c : ℕ) (before after : Caller) → HaveEntered h old → Sits h c before → seat_of after ≡ seat_of before → log_in after ≡ log_in before → after.has_begun ≡ before.has_begun
     → new.table.items ≡ set old.table.items c after → new.began ≡ old.began → new.committed ≡ old.committed → HaveEntered h new
 entered-same h old new c before after entered sits seat log begun table_is begins commits = record {

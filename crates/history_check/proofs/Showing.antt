@@ -22,8 +22,8 @@ module _ {holder : Holder} (stripes : ℕ) (h : List Entry) (legal : IsLegal hol
   pub fine : is_locked holder stripes h e ≡ true → broken holder stripes h e ≡ None
   fine locked = broken_by holder stripes h e true true true shaped answered locked
 
-  -- If a live map has the values and holders that the law of the entry's kind gives, it shows the
-  -- history with the entry added.
+  -- If a live map has the values and holders that `Next` gives for the entry, it shows the history
+  -- with the entry added.
   pub followed : (new : LiveMap) (seat : Seat) (log : List (ℕ × Option ℕ)) (committed current : Map) (held : ℕ → Option ℕ) → is_locked holder stripes h e ≡ true → Next holder stripes h e seat log committed current held
       → new.holder ≡ live.holder → new.stripes ≡ live.stripes → Have current new.values → ((s : ℕ) → s < stripes → locks.holder_of new.locks s ≡ held s) → FollowsAt holder stripes h e true new
   followed new seat log committed current held locked next holder_is stripes_are has holds = record {
@@ -63,7 +63,8 @@ followed_still stripes h legal live shows (Undone c) shaped answered _ _ _ not_u
 followed_still stripes h legal live shows (Committed c p) shaped answered _ _ _ _ not_committed _ = absurd (not_committed c p refl)
 followed_still stripes h legal live shows (Aborted c) shaped answered _ _ _ _ _ not_aborted = absurd (not_aborted c refl)
 
--- A Busy changes neither the map nor the stripes, so the live map keeps its content.
+-- A Busy entry changes neither the map nor the stripes. So `FollowsAt` holds for a live map with
+-- the same content.
 pub busy_followed : {holder : Holder} (stripes : ℕ) (h : List Entry) (legal : IsLegal holder stripes h) (live : LiveMap) (shows : Shows holder stripes h live) (c : ℕ) (op : Op) (x : ℕ) → is_shaped h (Busy c op x) ≡ true → replies_hold (h ++ Busy c op x ∷ []) ≡ true
     → (right : Bool) (new : LiveMap) → is_locked holder stripes h (Busy c op x) ≡ right → new.holder ≡ live.holder → new.stripes ≡ live.stripes → Have (now h) new.values → ((s : ℕ) → s < stripes → locks.holder_of new.locks s ≡ holder_of stripes s h)
     → FollowsAt holder stripes h (Busy c op x) right new
@@ -76,6 +77,6 @@ busy_followed stripes h legal live shows c op x shaped answered right new locked
       (followed stripes h legal live shows e shaped answered new _ _ _ _ _ (locked ∙ r) next holder_is stripes_are has holds).shows refl;
 }
 
--- `FollowsAt` holds of an entry if it holds of an equal entry.
+-- If `FollowsAt` holds for an entry, it holds for an equal entry.
 pub of_entry : {holder : Holder} {stripes : ℕ} {h : List Entry} {right : Bool} {new : LiveMap} {e kind : Entry} → e ≡ kind → FollowsAt holder stripes h kind right new → FollowsAt holder stripes h e right new
 of_entry {holder} {stripes} {h} {right} {new} {e} {kind} is follows = subst (λ f. FollowsAt holder stripes h f right new) (sym is) follows

@@ -14,8 +14,8 @@ use Rattle.history_check.specs.declared.caller.Caller.{Caller}
 use Rattle.history_check.specs.declared.callers.Callers.{Callers}
 use Rattle.history_check.specs.Logs.{is_did, log_entered}
 
--- The phase of a caller that goes back to this level. If no level is given, the caller takes all
--- changes back and ends its transaction.
+-- The phase of a caller that is going back to this level. If no level is given, the caller takes
+-- back all its changes and ends its transaction.
 abbrev pub goal_of : Option ℕ → Phase
 goal_of None = LeavingToEnd
 goal_of (Some level) = LeavingTo level
@@ -24,18 +24,19 @@ goal_of (Some level) = LeavingTo level
 abbrev pub seat_of : Caller → Seat
 seat_of caller = caller.seat.seat
 
--- The changes that stand, newest first.
+-- The standing changes of a caller, newest first.
 abbrev pub log_in : Caller → List (ℕ × Option ℕ)
 log_in caller = reverse caller.changes.items
 
--- The seat and the changes are those after the entry. The caller has begun a transaction if it had
--- begun one before, or if the entry begins one.
+-- `new` has the seat and the changes that `old` has after the entry. `new` has begun a transaction
+-- if `old` had, or if the entry begins one.
 pub record Enters (e : Entry) (old new : Caller) : Type 0 where
   pub seat : row (seat_of old) (seat_of old).phase e ≡ Some (seat_of new)
   pub log : log_in new ≡ log_entered (seat_of old).phase (log_in old) e
   pub begun : new.has_begun ≡ (old.has_begun || is_began e)
 
--- There is room for the change that a Did may add, and for the savepoint that a Saved adds.
+-- There is room for the change that a Did entry may add, and for the savepoint that a Saved entry
+-- adds.
 pub record HasRoom (e : Entry) (caller : Caller) : Type 0 where
   pub change : is_did e ≡ true → vec_len caller.changes < vec_capacity caller.changes
   pub level : is_saved e ≡ true → 0 < caller.seat.room
@@ -47,7 +48,7 @@ pub record Sits (h : List Entry) (c : ℕ) (caller : Caller) : Type 0 where
   pub log : log_of c h ≡ log_in caller
   pub begun : has_begun c h ≡ caller.has_begun
 
--- The entries `h` have the right shape, and the table `callers` has taken them in. Each caller has
+-- The entries `h` have the right shape, and were entered in the table `callers`. Each caller has
 -- the seat and the log that its own entries give it. `began` and `committed` are the numbers of all
 -- Began and Committed entries.
 pub record HaveEntered (h : List Entry) (callers : Callers) : Type 0 where
@@ -61,7 +62,7 @@ pub record HaveEntered (h : List Entry) (callers : Callers) : Type 0 where
 abbrev pub HasRoomFor : Entry → Callers → Type 0
 HasRoomFor e callers = IfSome (slice_get callers.table.items (caller_of e)) (HasRoom e)
 
--- A caller is in this phase.
+-- After the history, the caller is in this phase.
 pub record IsIn (h : List Entry) (c : ℕ) (phase : Phase) : Type 0 where
   pub seat : Seat
   pub seat_is : seat_after (own c h) ≡ Some seat

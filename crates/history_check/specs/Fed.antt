@@ -8,7 +8,7 @@ use Rattle.history_check.specs.FirstBad.{FedBy}
 use Rattle.history_check.specs.States.{Tells}
 
 -- The checker was fed these entries, in this order. They are entries of a map with `stripes`
--- stripes, and `holder` says whom a Busy may name.
+-- stripes, and `holder` says which callers a Busy entry may name.
 abbrev pub IsFed : Holder → ℕ → List Entry → Checker → Type 0
 IsFed holder stripes h checker =
     FedBy (broken holder stripes) (Tells holder stripes h checker.state) h checker.fed checker.bad

@@ -12,8 +12,8 @@ use Rattle.history_check.specs.declared.live_map.LiveMap.{LiveMap}
 use Rattle.history_check.specs.Callers.{HaveEntered}
 use Rattle.history_check.specs.Remainders.{Have}
 
--- The live map has the values of the map now, and its stripes have the holders that the history
--- gives them.
+-- The live map shows the history: it has the values of the map after the history, and each stripe
+-- has the holder that the history gives it.
 pub record Shows (holder : Holder) (stripes : ℕ) (h : List Entry) (live : LiveMap) : Type 0 where
   pub holder_is : live.holder ≡ holder
   pub stripes_are : live.stripes ≡ stripes
@@ -26,8 +26,9 @@ StillShows old new =
     (holder : Holder) (stripes : ℕ) (h : List Entry)
     → Shows holder stripes h old → Shows holder stripes h new
 
--- `right` says whether an entry of the right shape and reply, after a legal history, keeps the rule
--- of locks. If it does, the new map shows the history with this entry added.
+-- `right` is true exactly if the entry keeps the rule of locks after the history. If `right` is
+-- true, the new map shows the history with this entry added. This is said only of a legal history,
+-- and of an entry whose shape and reply are right.
 pub record FollowsAt (holder : Holder) (stripes : ℕ) (h : List Entry) (e : Entry) (right : Bool)
     (new : LiveMap) : Type 0 where
   pub locked : is_locked holder stripes h e ≡ right

@@ -1,4 +1,5 @@
--- The values of a checker, which lie in several sorted maps, and the map of the definitions.
+-- How the values of a checker, which are in several sorted maps, agree with the map of the
+-- definitions.
 use Rattle.std.specs.Prelude.{◌≡◌, ℕ, ◌%◌, slice_get}
 use Rattle.std.specs.Option.{IfSome}
 use Rattle.std.specs.Ordering.{nat_cmp}
@@ -11,8 +12,8 @@ abbrev pub HasOf : Map → ℕ → BTreeMap ℕ ℕ → Type 0
 HasOf m remainder values =
     (key : ℕ) → key % 1021 ≡ remainder → value_at nat_cmp values key ≡ get m key
 
--- Each of the sorted maps has the values of the keys of its remainder, so together they have those
--- of all keys.
+-- Each sorted map has the values of the keys with its remainder. So together the sorted maps have
+-- the values of all keys.
 abbrev pub Have : Map → Values → Type 0
 Have m values =
     (remainder : ℕ) → IfSome (slice_get values.maps.items remainder) (HasOf m remainder)

@@ -9,26 +9,27 @@ use Rattle.history_check.specs.Callers.{HaveEntered}
 use Rattle.history_check.specs.LiveMaps.{Shows}
 use Rattle.history_check.specs.Verdicts.{number_of}
 
--- The entries are a legal history, and the state has the callers and the live map that this history
--- leaves.
+-- The state tells the entries: they are a legal history, and the state has the callers and the live
+-- map as they are after this history.
 pub record Tells (holder : Holder) (stripes : ℕ) (h : List Entry) (state : State) : Type 0 where
   pub legal : IsLegal holder stripes h
   pub entered : HaveEntered h state.callers
   pub shows : Shows holder stripes h state.map
 
--- The new state tells each history that the old one tells.
+-- If the old state is right for a history (`Tells`), the new state is right for it too.
 abbrev pub Stays : State → State → Type 0
 Stays old new =
     (holder : Holder) (stripes : ℕ) (h : List Entry)
     → Tells holder stripes h old → Tells holder stripes h new
 
--- If a rule is named, the entry breaks it after the history. If none is named, the new state tells
--- the history with the entry added.
+-- If a rule is given, the entry breaks this rule after the history. If no rule is given, the new
+-- state is right (`Tells`) for the history with the entry added.
 abbrev pub Judged : Holder → ℕ → List Entry → Entry → Option Rule → State → Type 0
 Judged holder stripes h e None new = Tells holder stripes (h ++ e ∷ []) new
 Judged holder stripes h e (Some rule) new = broken holder stripes h e ≡ Some (number_of rule)
 
--- The entry is judged as `Judged` says after each history that the old state tells.
+-- For each history for which the old state is right (`Tells`), the entry is judged as `Judged`
+-- says.
 abbrev pub Judges : Entry → State → Option Rule → State → Type 0
 Judges e old rule new =
     (holder : Holder) (stripes : ℕ) (h : List Entry)

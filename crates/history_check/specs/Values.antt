@@ -1,4 +1,4 @@
--- A map of values and the map of the definitions.
+-- When a sorted map agrees with the map of the definitions.
 use Rattle.std.specs.Prelude.{◌≡◌, ℕ}
 use Rattle.std.specs.Ordering.{nat_cmp}
 use Rattle.std.specs.BTreeMap.{BTreeMap, get as value_at}

@@ -25,26 +25,26 @@ verdict_words (Legal commits running) =
 verdict_words (Illegal entry rule) =
     codes "illegal entry " ++ (decimal entry ++ (codes " " ++ rule_words rule))
 
--- The line of a verdict.
+-- The line that gives a verdict: its text and a line feed.
 abbrev pub verdict_line : Verdict → List ℕ
 verdict_line outcome = verdict_words outcome ++ 10 ∷ []
 
--- A verdict of the checker, as a verdict of the definitions.
+-- Translates a verdict of the checker into a verdict of the definitions.
 abbrev pub meaning_of : Verdict → legal.Verdict
 meaning_of (Legal commits running) = legal.Legal commits running
 meaning_of (Illegal entry rule) = legal.Illegal entry (number_of rule)
 
--- Whether a verdict is that the history is legal.
+-- True exactly if the verdict says that the history is legal.
 abbrev pub says_legal : Verdict → Bool
 says_legal (Legal commits running) = true
 says_legal (Illegal entry rule) = false
 
--- The verdict is that the history is legal.
+-- The verdict says that the history is legal.
 abbrev pub SaysLegal : Verdict → Type 0
 SaysLegal outcome = IsTrue (says_legal outcome)
 
--- The outcome is the definitions' verdict on the history, and it says legal exactly if the history
--- is legal.
+-- The outcome means the same as the definitions' verdict on the history. It says that the history
+-- is legal exactly if the history is legal by the definitions.
 pub record IsVerdictOn (holder : Holder) (stripes : ℕ) (h : List Entry) (outcome : Verdict) :
     Type 0 where
   pub meaning : meaning_of outcome ≡ legal.verdict holder stripes h

@@ -1,7 +1,7 @@
 //! The state of a caller after its entries so far: its seat, whether it has begun a transaction,
-//! and the value before each of its standing changes. An Undone drops the newest change.
-//! Transactions are numbered in `callers.rt`, across all callers. Invariant: the number of standing
-//! changes in the seat is the number of changes that are noted.
+//! and the value before each of its standing changes, which are those that no Undone has taken
+//! back. `callers.rt` numbers the transactions, across all callers. Invariant: the seat's number of
+//! standing changes is the number of changes that are noted.
 ghost use Rattle.std.specs.Prelude.{◌≡◌, ◌<◌, [], true, false, reverse, slice_get, vec_len, vec_capacity, is_some, OnOk};
 ghost use Rattle.txn_words.specs.Kinds.{is_began};
 ghost use Rattle.txn_words.specs.Shape.{closed_seat, row};
@@ -11,8 +11,8 @@ ghost use Rattle.history_check.specs.Logs.{is_did, log_entered};
 use std::alloc::{AllocError, Global};
 use txn_trace::{Entry, Phase, Reply, Seat};
 
-/// A caller: its seat, whether it has begun a transaction, and for each change that stands the key
-/// and the value before the change, oldest first.
+/// A caller: its seat, and whether it has begun a transaction. `changes` has the key of each
+/// standing change and the key's value before the change, oldest change first.
 #[derive(Drop)]
 pub(crate) struct Caller {
     pub(crate) seat: Seat,
@@ -52,7 +52,7 @@ impl Caller {
         !matches!(self.seat.phase(), Phase::Closed)
     }
 
-    /// Whether the caller's next entry may be this one.
+    /// Returns true if this entry may be the caller's next entry.
     #[inline(always)]
     pub(crate) fn allows(&self, entry: &Entry) -> bool
         ensures { result ≡ is_some (row (seat_of self.now) (seat_of self.now).phase entry.now) }
@@ -60,7 +60,7 @@ impl Caller {
         self.seat.allows(entry)
     }
 
-    /// The newest change that stands: its key and the value before it.
+    /// The newest standing change: its key, and the key's value before the change.
     #[inline(always)]
     pub(crate) fn newest(&self) -> Option<(u64, Reply)>
         ensures { result ≡ slice_get (log_in self.now) 0 }
@@ -68,7 +68,8 @@ impl Caller {
         self.changes.last().copied()
     }
 
-    /// Makes room for the change that a Did may add, or for the savepoint that a Saved adds.
+    /// Makes room for the change that a Did entry may add, or for the savepoint that a Saved entry
+    /// adds.
     #[inline(always)]
     pub(crate) fn reserve(&mut self, entry: &Entry) -> Result<(), AllocError>
         ensures seat { seat_of self.new ≡ seat_of self.old }
@@ -83,7 +84,7 @@ impl Caller {
         }
     }
 
-    /// Enters an entry that `allows` accepts, for which there is room.
+    /// Enters an entry. The caller must allow the entry and must have room for it.
     #[inline(always)]
     pub(crate) fn enter(&mut self, entry: Entry)
         requires { HasRoom entry self.old }
@@ -106,8 +107,8 @@ fn begins(entry: Entry) -> bool
     matches!(entry, Entry::Began(..))
 }
 
-/// Notes a change that an entry makes in this phase. An Undone drops the newest change; a Began, a
-/// Committed and an Aborted drop all.
+/// Notes the change that a Did entry may make in this phase. An Undone entry drops the newest
+/// change. A Began, Committed or Aborted entry drops all changes.
 #[inline(always)]
 fn note(changes: &mut Vec<(u64, Reply)>, phase: Phase, entry: Entry)
     requires { is_did entry ≡ true → vec_len changes.old < vec_capacity changes.old }

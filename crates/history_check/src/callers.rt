@@ -1,6 +1,6 @@
-//! The callers of a history: the judge of the rule of shape, which both judges of replies use. It
-//! keeps each caller's seat and changes, and how many transactions began and committed; an entry
-//! takes amortized constant time.
+//! The callers of a history. They are the judge of the rule of shape, and both judges of replies
+//! use them. They keep each caller's seat and changes, and how many transactions have begun and
+//! committed. An entry takes amortized constant time.
 ghost use Rattle.std.specs.Prelude.{◌≡◌, ℕ, ◌+◌, ◌<◌, ◌==◌, ◌++◌, [], ◌∷◌, List, length, true, slice_get, IfOk, OnOk, vec_len};
 ghost use Rattle.txn_words.specs.Kinds.{caller_of, is_began, is_commit};
 ghost use Rattle.txn_words.specs.Shape.{how_many, is_numbered, is_shaped};
@@ -11,19 +11,19 @@ use key_locks::CALLERS;
 use std::alloc::{AllocError, Global};
 use txn_trace::{Entry, Phase, Reply};
 
-/// The 64 callers of a history: the seat of each, with the changes of its transaction that stand,
-/// and how many transactions began and committed.
+/// The 64 callers of a history. Each has its seat, and the standing changes of its transaction.
+/// Also counts how many transactions began and committed.
 ///
-/// It is the judge of the rule of shape: `has_shape` says whether an entry may follow, and `enter`
-/// takes in an entry that may follow. In a contract, `HaveEntered h callers` says that `callers`
-/// has taken in the entries `h`, and that these entries have the right shape.
+/// This type is the judge of the rule of shape. `has_shape` returns true if an entry may follow,
+/// and `enter` adds an entry that may follow. In a contract, `HaveEntered h callers` says that the
+/// entries `h` were added to `callers`, and that they have the right shape.
 #[derive(Drop)]
 pub struct Callers {
     /// How many transactions began.
     began: u64,
     /// How many transactions committed.
     committed: u64,
-    /// Each caller, by its number.
+    /// Each caller, at the index of its number.
     table: Vec<Caller>,
     ghost all: { vec_len table ≡ 64 },
 }
@@ -34,7 +34,7 @@ impl Callers {
     ghost use Rattle.txn_trace.specs.Log.{log_of};
     ghost use Rattle.history_check.specs.Callers.{HaveEntered, IsIn, HasRoomFor};
 
-    /// The callers before the first entry.
+    /// All callers before the first entry of a history.
     ///
     /// # Errors
     ///
@@ -83,8 +83,9 @@ impl Callers {
             .count() as u64
     }
 
-    /// Whether the entry has the right shape: the rule of shape (`row` of `txn_words`) has a row
-    /// for it after its caller's entries, and its number is right.
+    /// Returns true if the entry has the right shape: the rule of shape (`row` of `txn_words`) has
+    /// a row for the entry after its caller's earlier entries, and the number of a Began or
+    /// Committed entry is the next one.
     ///
     /// # Cost
     ///
@@ -112,7 +113,8 @@ impl Callers {
         self.table[caller as usize].phase()
     }
 
-    /// The newest change of a caller's transaction that stands: its key and the value before it.
+    /// The newest standing change of a caller's transaction: its key, and the key's value before
+    /// the change.
     ///
     /// # Cost
     ///
@@ -126,7 +128,8 @@ impl Callers {
         self.table[caller as usize].newest()
     }
 
-    /// Whether a caller, of any number, has begun a transaction.
+    /// Returns true if the caller has ever begun a transaction. Any number may be given for the
+    /// caller.
     ///
     /// # Cost
     ///
@@ -141,8 +144,8 @@ impl Callers {
         }
     }
 
-    /// Makes room for the change that a Did may add, or for the savepoint that a Saved adds. The
-    /// entry is not entered yet.
+    /// Makes room for the change that a Did entry may add, or for the savepoint that a Saved entry
+    /// adds. Does not enter the entry.
     ///
     /// # Errors
     ///
@@ -180,7 +183,8 @@ impl Callers {
     }
 }
 
-/// Whether a transaction that begins or commits has the next number.
+/// Returns true if the entry neither begins nor commits a transaction, or if it has the next number
+/// of its kind.
 #[inline(always)]
 fn has_next_number(began: u64, committed: u64, entry: &Entry) -> bool
     ensures { (h : List Entry) →
@@ -202,7 +206,8 @@ fn is_next(before: u64, number: u64) -> bool
     before.checked_add(1) == Some(number)
 }
 
-/// How many transactions began, this entry included. The entry's number is right.
+/// How many transactions have begun, including the one that this entry may begin. The entry's
+/// number must be right.
 #[inline(always)]
 fn began_after(began: u64, entry: Entry) -> u64
     ensures { (h : List Entry) → began ≡ how_many is_began h → is_numbered h entry ≡ true →
@@ -214,7 +219,8 @@ fn began_after(began: u64, entry: Entry) -> u64
     }
 }
 
-/// How many transactions committed, this entry included. The entry's number is right.
+/// How many transactions have committed, including the one that this entry may commit. The entry's
+/// number must be right.
 #[inline(always)]
 fn committed_after(committed: u64, entry: Entry) -> u64
     ensures { (h : List Entry) → committed ≡ how_many is_commit h → is_numbered h entry ≡ true →

@@ -1,6 +1,7 @@
-//! The checker that is fed entry by entry: a state, the number of entries so far, and the first bad
-//! entry. The state judges one entry, and this module keeps the verdict. Once an entry breaks a
-//! rule, no later entry changes the verdict. If memory is refused, the entry may be fed again.
+//! The checker that is fed entry by entry. It has a state, the number of entries so far, and the
+//! first bad entry. The state judges one entry, and the checker stores the verdict. Once an entry
+//! breaks a rule, no later entry changes the verdict. If memory is refused, the entry may be fed
+//! again.
 ghost use Rattle.std.specs.Prelude.{◌≡◌, ℕ, ◌<◌, ◌++◌, [], ◌∷◌, List, IfOk, OnOk, OnErr};
 ghost use Rattle.txn_words.specs.Kinds.{caller_of};
 ghost use Rattle.txn_words.specs.declared.holder.Holder.{Holder};
@@ -12,16 +13,17 @@ use crate::verdict::{Rule, Verdict};
 use std::alloc::{AllocError, Global};
 use txn_trace::{Entry, Holder};
 
-/// A checker that is fed the entries of a history one after another, and keeps none of them.
+/// A checker that is fed the entries of a history one after another. It does not store the entries.
 ///
 /// In a contract, `IsFed holder stripes h checker` says that the checker was fed the entries `h` of
-/// a map with `stripes` stripes, and that `holder` says whom a Busy may name.
+/// a map with `stripes` stripes. `holder` says which callers a Busy entry may name.
 #[derive(Drop)]
 pub struct Checker {
     state: State,
-    /// How many entries were fed before the first bad one, so far.
+    /// The number of entries that were fed before the first bad entry, or of all entries if none is
+    /// bad.
     fed: u64,
-    /// The first bad entry and the rule that it breaks.
+    /// The index of the first bad entry and the rule that it breaks, if an entry is bad.
     bad: Option<(u64, Rule)>,
 }
 
@@ -32,8 +34,8 @@ impl Checker {
     ghost use Rattle.history_check.specs.Callers.{HaveEntered};
     ghost use Rattle.history_check.specs.Fed.{IsFed};
 
-    /// A checker of the history of a map with `stripes` stripes, before the first entry; `holder`
-    /// says whom its Busy entries may name.
+    /// A checker before the first entry, for the history of a map with `stripes` stripes. `holder`
+    /// says which callers a Busy entry may name.
     ///
     /// # Errors
     ///
@@ -41,8 +43,7 @@ impl Checker {
     ///
     /// # Cost
     ///
-    /// Time and memory in proportion to the stripes, for 64 callers and for 1,021 maps without
-    /// keys.
+    /// Time and memory in proportion to the stripes, and for 64 callers and 1,021 empty maps.
     pub fn new(alloc: Global, stripes: u64, holder: Holder) -> Result<Checker, AllocError>
         requires { 0 < stripes }
         ensures { IfOk result (IsFed holder stripes []) }
@@ -60,15 +61,16 @@ impl Checker {
     ///
     /// # Errors
     ///
-    /// `AllocError` if memory is refused, or if 2^64 - 1 entries were fed. Then the entry was not
-    /// fed, and may be fed again.
+    /// `AllocError` if memory is refused, or if 2^64 - 1 entries were fed and none of them is bad.
+    /// Then the entry was not fed, and may be fed again.
     ///
     /// # Cost
     ///
-    /// Amortized time in proportion to the logarithm of the number of keys. A Committed or an
-    /// Aborted also takes time in proportion to the stripes that it gives back and the changes that
-    /// stood. Takes memory only for a Did (also for a Did that changes nothing), an Undone or a
-    /// Saved. After the first bad entry a call takes constant time and no memory.
+    /// Amortized time in proportion to the logarithm of the number of keys. A Committed or Aborted
+    /// entry also takes time in proportion to the stripes that it gives back and to the
+    /// transaction's standing changes. Only a Did entry (even one that changes nothing), an Undone
+    /// entry or a Saved entry takes memory. After the first bad entry, a call takes constant time
+    /// and no memory.
     #[inline(always)]
     pub fn feed(&mut self, entry: &Entry) -> Result<(), AllocError>
         requires { caller_of entry.now < 64 }
@@ -106,8 +108,8 @@ impl Checker {
         }
     }
 
-    /// The callers after the entries so far, as long as no entry is bad. A caller's phase says
-    /// which of its entries may follow.
+    /// If no entry is bad, the callers after the entries so far. A caller's phase says which
+    /// entries of this caller may follow.
     ///
     /// # Cost
     ///
@@ -119,8 +121,8 @@ impl Checker {
         &self.state.callers
     }
 
-    /// The value of a key in the map as it is now, as long as no entry is bad. It is the reply that
-    /// is due to the next operation on the key.
+    /// If no entry is bad, the value of a key in the map as it is now. This is also the right reply
+    /// to the next operation on the key.
     ///
     /// # Cost
     ///

@@ -1,6 +1,7 @@
 //! The check of a whole history in memory: a checker is fed every entry. Only this module takes
-//! lists of entries. Packed entries are unpacked one at a time, so a check takes no memory besides
-//! the checker's. After a bad entry the check reads on, in constant time for each entry.
+//! lists of entries. Packed entries are unpacked one at a time, so a check takes only the memory of
+//! its checker. After a bad entry the check still reads the remaining entries, in constant time for
+//! each.
 ghost use Rattle.std.specs.Prelude.{◌<◌, IfOk};
 ghost use Rattle.std.specs.List.{All};
 ghost use Rattle.txn_words.specs.Kinds.{caller_of};
@@ -11,13 +12,13 @@ use crate::verdict::Verdict;
 use std::alloc::{AllocError, Global};
 use txn_trace::{Entry, Holder, SmallEntry};
 
-/// Judges a whole history of a map with `stripes` stripes, whose callers are below 64; `holder`
-/// says whom its Busy entries may name.
+/// Judges a whole history of a map with `stripes` stripes. All callers must be below 64. `holder`
+/// says which callers a Busy entry may name.
 ///
-/// The verdict is `Legal`, with the number of commits and of callers that are in a transaction at
-/// the end, exactly if the history is legal. Otherwise it is `Illegal`, with the index, from 0, of
-/// the first entry that breaks a rule, and the first rule that it breaks, in the order shape,
-/// replies, locks.
+/// If the history is legal, the verdict is `Legal`, with the number of commits and the number of
+/// callers that are in a transaction at the end. If it is not legal, the verdict is `Illegal`. It
+/// then has the index (from 0) of the first entry that breaks a rule, and the first rule that this
+/// entry breaks, in the order shape, replies, locks.
 ///
 /// # Errors
 ///
@@ -25,10 +26,10 @@ use txn_trace::{Entry, Holder, SmallEntry};
 ///
 /// # Cost
 ///
-/// Each entry takes time in proportion to the logarithm of the number of keys. A Committed or an
-/// Aborted also takes time in proportion to the stripes that it gives back and the changes that
-/// stood. Memory is in proportion to the stripes, and to the greatest numbers of keys, of changes
-/// that can be taken back and of savepoints at one time.
+/// Each entry takes time in proportion to the logarithm of the number of keys. A Committed or
+/// Aborted entry also takes time in proportion to the stripes that it gives back and to the
+/// transaction's standing changes. Memory is in proportion to the stripes, and to the greatest
+/// numbers of keys, of changes that can be taken back and of savepoints at one time.
 pub fn check(
     alloc: Global,
     entries: &[Entry],
@@ -54,7 +55,7 @@ pub fn check(
 ///
 /// # Cost
 ///
-/// That of `check`.
+/// The cost of `check`.
 pub fn check_packed(
     alloc: Global,
     entries: &[SmallEntry],

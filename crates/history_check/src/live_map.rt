@@ -1,6 +1,6 @@
-//! The judge of replies and of locks: the map as it is now, and who holds its stripes. It is
-//! separate from the judge of shape, since `serial_check` uses the judge of shape and not this one.
-//! One map serves all open transactions: while the history is legal, they hold different stripes.
+//! The judge of replies and of locks: the map as it is now, and who holds its stripes. This judge
+//! is separate from the judge of shape, since `serial_check` uses the judge of shape only. One map
+//! serves all open transactions: while the history is legal, they hold different stripes.
 ghost use Rattle.std.specs.Prelude.{◌≡◌, ℕ, ◌<◌, ◌++◌, [], ◌∷◌, List, length, true, IfOk, OnOk, OnErr};
 ghost use Rattle.txn_words.specs.Kinds.{caller_of};
 ghost use Rattle.txn_trace.specs.Legal.{IsLegal};
@@ -12,10 +12,10 @@ use key_locks::{KeyLocks, LockAnswer};
 use std::alloc::{AllocError, Global};
 use txn_trace::{Entry, Holder, Op, Phase};
 
-/// The map as it is now, with what open transactions changed, and the holder of each stripe.
+/// The map as it is now, including the changes of open transactions, and the holder of each stripe.
 #[derive(Drop)]
 pub(crate) struct LiveMap {
-    /// Whom a Busy may name.
+    /// Which callers a Busy entry may name.
     pub(crate) holder: Holder,
     /// The number of stripes.
     pub(crate) stripes: u64,
@@ -47,7 +47,8 @@ impl LiveMap {
         })
     }
 
-    /// Whether a Did has the reply that the map as it is now gives; `true` for any other entry.
+    /// Returns true if a Did entry has the reply that the map as it is now gives. Returns true for
+    /// every entry of another kind.
     #[inline(always)]
     pub(crate) fn is_answered(&self, callers: &Callers, entry: &Entry) -> bool
         requires { caller_of entry.now < 64 }
@@ -64,8 +65,8 @@ impl LiveMap {
         }
     }
 
-    /// Judges an entry whose shape and reply are right. If the entry keeps the rule of locks, it is
-    /// applied, and the answer is `true`. Otherwise the answer is `false`.
+    /// Judges an entry whose shape and reply are right. If the entry keeps the rule of locks,
+    /// applies it and returns `true`. Otherwise returns `false`.
     #[inline(always)]
     pub(crate) fn follow(&mut self, callers: &Callers, entry: &Entry) -> Result<bool, AllocError>
         requires { caller_of entry.now < 64 }
@@ -93,8 +94,8 @@ impl LiveMap {
         Ok(true)
     }
 
-    /// Takes the stripe of an operation's key for the caller, or answers `false` if another caller
-    /// holds it.
+    /// Takes the stripe of the operation's key for the caller. Returns `false` if another caller
+    /// holds the stripe.
     #[inline(always)]
     fn ask(&mut self, caller: u64, op: Op) -> bool
         requires { caller < 64 }
@@ -108,7 +109,7 @@ impl LiveMap {
         }
     }
 
-    /// Whether the rule of locks lets a Busy of `caller` name `named`.
+    /// Returns true if the rule of locks allows a Busy entry of `caller` to name `named`.
     #[inline(always)]
     fn may_name(&self, callers: &Callers, caller: u64, op: Op, named: u64) -> bool
         ensures { FollowsEntry (Entry.Busy caller op named) callers.now self.now result self.now }

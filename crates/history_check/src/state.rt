@@ -1,6 +1,7 @@
 //! The state of a checker: the callers and the live map. They judge each entry: first its shape,
-//! then its reply, then its locks. The checker notes the first bad entry, and never asks the state
-//! again. A contract sees the history that the state tells; no list of the entries is kept.
+//! then its reply, then its locks. The checker notes the first bad entry, and does not use the
+//! state after that. In a contract, `Tells` says which history the state stands for. No list of the
+//! entries is kept.
 ghost use Rattle.std.specs.Prelude.{◌<◌, [], IfOk, OnErr};
 ghost use Rattle.txn_words.specs.Kinds.{caller_of};
 
@@ -10,12 +11,12 @@ use crate::verdict::Rule;
 use std::alloc::{AllocError, Global};
 use txn_trace::{Entry, Holder};
 
-/// The state of a legal history, enough to judge the next entry.
+/// The state after a legal history. It is enough to judge the next entry.
 #[derive(Drop)]
 pub(crate) struct State {
-    /// The callers, by which shape is judged.
+    /// The callers, which judge the shape of an entry.
     pub(crate) callers: Callers,
-    /// The map, by which replies and locks are judged.
+    /// The live map, which judges an entry by the rules of replies and locks.
     pub(crate) map: LiveMap,
 }
 
@@ -33,14 +34,15 @@ impl State {
         })
     }
 
-    /// Takes the entry in, or answers with the rule that it breaks.
+    /// Judges the entry. If it breaks a rule, returns the rule. Otherwise enters the entry and
+    /// returns `None`.
     #[inline(always)]
     pub(crate) fn take_in(&mut self, entry: &Entry) -> Result<Option<Rule>, AllocError>
         requires { caller_of entry.now < 64 }
         ensures ok { IfOk result (λ rule. Judges entry.now self.old rule self.new) }
         ensures err { OnErr result (Stays self.old self.new) }
     {
-        // Each kind of entry has its own arm, so that `judge` is compiled for it separately.
+        // Each kind of entry has its own arm, so that `judge` is compiled separately for each kind.
         match *entry {
             Entry::Began(caller, txn) => self.judge(&Entry::Began(caller, txn)),
             Entry::Asked(caller, op) => self.judge(&Entry::Asked(caller, op)),
@@ -55,7 +57,8 @@ impl State {
         }
     }
 
-    /// Judges an entry of any kind, and enters it if it breaks no rule.
+    /// Judges an entry of any kind. If it breaks a rule, returns the rule. Otherwise enters the
+    /// entry.
     #[inline(always)]
     fn judge(&mut self, entry: &Entry) -> Result<Option<Rule>, AllocError>
         requires { caller_of entry.now < 64 }

@@ -9,14 +9,14 @@ use std::alloc::{AllocError, Global};
 use std::collections::BTreeMap;
 use txn_trace::Op;
 
-/// The number of sorted maps. It is a prime, so that keys at equal distances are spread over the
-/// maps too.
+/// The number of sorted maps. It is a prime, so keys at equal distances from each other are also
+/// spread over the maps.
 const MAPS: u64 = 1021;
 
 /// The values of the keys.
 #[derive(Drop)]
 pub(crate) struct Values {
-    /// For each remainder on division by 1021, the values of the keys with this remainder.
+    /// The map at index `r` has the values of the keys with remainder `r` on division by 1021.
     pub(crate) maps: Vec<BTreeMap<u64, u64>>,
     ghost all: { vec_len maps ≡ 1021 },
 }
@@ -53,7 +53,7 @@ impl Values {
         Ok(())
     }
 
-    /// Takes a key's value away. Costs the logarithm of the number of keys.
+    /// Removes a key and its value. Costs the logarithm of the number of keys.
     fn remove(&mut self, key: u64)
         ensures { (m : Map) → Have m self.old → Have (set_at m key None) self.new }
     {
@@ -79,7 +79,8 @@ impl Values {
         Ok(())
     }
 
-    /// Restores the value that a key had. Costs the logarithm of the number of keys.
+    /// Gives a key the value that it had before a change, or removes the key if it had none. Costs
+    /// the logarithm of the number of keys.
     #[inline(always)]
     pub(crate) fn restore(&mut self, key: u64, before: Option<u64>) -> Result<(), AllocError>
         ensures ok { OnOk result ((m : Map) → Have m self.old →

@@ -1,22 +1,22 @@
 //! The verdict on a history and the rule that an entry breaks, with the texts that `check` prints.
-//! The judge by locks and the judge by the order of commits both answer a `Verdict`, so this module
-//! uses neither judge. Each text is proved to be the one that the specs give
-//! (`specs/Verdicts.antt`).
+//! The judge by locks and the judge by the order of commits both return a `Verdict`, so this module
+//! uses neither judge. Proved: each text is the one that the specs give (`specs/Verdicts.antt`).
 ghost use Rattle.std.specs.Prelude.{◌≡◌};
 ghost use Rattle.history_check.specs.Verdicts.{number_of};
 
 use std::error::Error;
 use std::fmt;
 
-/// A rule that an entry of a history may break, with its number. It is printed as `rule 1`.
+/// A rule that an entry of a history may break. It is printed with its number, such as `rule 1`.
 #[derive(Clone, Copy, Debug, PartialEq, Eq)]
 pub enum Rule {
     /// Each open transaction has the same replies as if it ran alone on the map that the committed
     /// transactions leave. This includes the replies of operations that it has taken back. The
     /// judge by the order of commits applies this rule only to a transaction that commits.
     Replies = 1,
-    /// A stripe of keys belongs to one open transaction at a time: an Asked finds no other holder,
-    /// and a Busy names another caller that holds the stripe, or that has begun a transaction.
+    /// A stripe of keys belongs to one open transaction at a time. An Asked entry finds no other
+    /// holder. A Busy entry names another caller, which holds the stripe or has begun a
+    /// transaction. `Holder` says which of the two is required.
     Locks = 2,
     /// Each caller's entries have the right shape (`row` of `txn_words`), and transactions and
     /// commits are numbered from 1.

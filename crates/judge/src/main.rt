@@ -1,6 +1,6 @@
-//! The program `judge`: it hands the memory, the files and the outputs of a process to
-//! `judge_line::run`, which decides what is done with them and answers the exit status. `run` is in
-//! another crate, so that tests can call it without a process.
+//! The program `judge`. It gives the memory, the files and the outputs of the process to
+//! `judge_line::run`, which does the work and returns the exit status. `run` is in another crate,
+//! so that tests can call it without a process.
 #![tactic(auto)]
 
 use judge_line::{Host, run};

@@ -24,7 +24,8 @@ OfAll-early P None b xs p h = (xs ++ [], tt, h [])
 OfAll-early P (Some us) None xs p h = absurd p
 OfAll-early P (Some us) (Some vs) xs p h = (us, refl, subst P (sym p) (h vs))
 
--- If the reader is at its end, and the bytes that were read have a property, all bytes have it.
+-- If the reader is at its end, a property of the bytes that were read holds of all bytes that the
+-- reader had left.
 pub OfAll-read : (P : List ℕ → Type 0) (a b : Option (List ℕ)) (xs : List ℕ) → Consumes a b xs → IsAtEnd b → P xs → (bytes : List ℕ) × IfSome a (λ all. bytes ≡ all) × P bytes
 OfAll-read P None b xs p end h = (xs, tt, h)
 OfAll-read P (Some us) None xs p end h = absurd p

@@ -41,7 +41,8 @@ broken_at xs i e =
     let rest : drop i xs ≡ 10 ∷ drop (i + 1) xs = drop-cons xs i 0 p.0 ∙ ap (λ y. y ∷ drop (suc i) xs) ten ∙ ap (λ n. 10 ∷ drop n xs) (sym (add-one i)) in
     (p.0, sym (take-append-drop i xs) ∙ ap (λ ys. take i xs ++ ys) rest)
 
--- A line and its line feed go from the rest of a chunk to the part that is done.
+-- If a line and its line feed are moved from the rest of a chunk to the part that is done, the two
+-- parts still make up the chunk.
 pub cut_line : (chunk done rest : List ℕ) (i n : ℕ) → chunk ≡ done ++ rest → position is_break rest ≡ Some i → n ≡ length rest → chunk ≡ (done ++ (take i rest ++ 10 ∷ [])) ++ take (n - (i + 1)) (drop (i + 1) rest)
 cut_line chunk done rest i n is e long =
     let b = broken_at rest i e in
@@ -58,7 +59,7 @@ first_split : (x : ℕ) (xs : List ℕ) (b : Bool) → is_break x ≡ b → (fir
 first_split x xs true e first rest is = ([], split_lines xs, slice_split-cons_yes is_break x xs e)
 first_split x xs false e first rest is = (x ∷ first, rest, slice_split-cons_no is_break x xs e ∙ ap (onto_first x) is)
 
--- There is a first line.
+-- `split_lines` always gives a first line.
 pub some_line : (xs : List ℕ) → (first : List ℕ) × (rest : List (List ℕ)) × (split_lines xs ≡ first ∷ rest)
 some_line [] = ([], [], refl)
 some_line (x ∷ xs) = let s = some_line xs in first_split x xs (is_break x) refl s.0 s.1 s.2
@@ -108,7 +109,7 @@ pub long_line : (line : List ℕ) → 1000 < length line → entry_on line ≡ E
 unfolding entry_on
 long_line line more = let long : nat_le (length line) 1000 ≡ false = grind (arith, nat_tests, more) in rw long refl
 
--- An empty line is passed over.
+-- An empty last line has no entry and is not refused.
 pub history-empty : (n : ℕ) → history_from n ([] ∷ []) ≡ ([], None)
 history-empty n = history-read n [] [] None blank_line ∙ ap (ahead []) (history-none (n + 1))
 
@@ -120,7 +121,7 @@ history-ended : (n : ℕ) (lines : List (List ℕ)) → history_from n (lines ++
 history-ended n [] = history-empty n ∙ sym (history-none n)
 history-ended n (line ∷ lines) = empty_last n line lines (entry_on line) refl (history-ended (n + 1) lines)
 
--- A last line feed changes nothing.
+-- One more line feed at the end changes neither the entries nor the refused line.
 pub last_line : (bytes : List ℕ) → history_of_lines (bytes ++ 10 ∷ []) ≡ history_of_lines bytes
 last_line bytes = ap (history_from 1) (lines_ended bytes) ∙ history-ended 1 (split_lines bytes)
 

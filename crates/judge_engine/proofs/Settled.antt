@@ -1,4 +1,4 @@
--- A bad entry stays the first bad one, whatever follows.
+-- The first bad entry of a history is still the first bad one, whatever entries follow.
 use Rattle.std.proofs.Common.{◌≡◌, ℕ, ◌+◌, List, [], ◌∷◌, ◌++◌, Option, Some, None, refl, ◌∙◌}
 use Rattle.std.proofs.lemmas.Bool.{false≢true}
 use Rattle.txn_words.specs.declared.entry.Entry.{Entry}

@@ -1,4 +1,4 @@
--- The bytes that a watcher took in, and the verdict on them.
+-- The bytes that a watcher was given, and the verdict on them.
 use Rattle.std.proofs.Common.{◌≡◌, ℕ, ◌+◌, true, false, List, [], ◌∷◌, ◌++◌, Option, Some, None, is_some, refl, sym, ap, subst, ◌∙◌, append-nil}
 use Rattle.std.proofs.lemmas.Bool.{false≢true}
 use Rattle.txn_words.specs.declared.entry.Entry.{Entry}
@@ -40,7 +40,7 @@ settled basis bytes more w outcome entry rule is t v =
     let there : IsVerdictBy basis (history_of_lines (bytes ++ more)).0 (Illegal entry rule) = subst (λ es. IsVerdictBy basis es (Illegal entry rule)) (sym past.1) stays in
     subst (IsJudgedLines basis (bytes ++ more)) (sym is) (record { verdict = there; whole = λ no. absurd (false≢true no) })
 
--- After a line is read, the watcher stands at the start of the next line.
+-- After a line is read, the watcher is at the start of the next line.
 pub line_done : (bytes : List ℕ) (h : List Entry) (part : List ℕ) (n next : ℕ) (refused : Option (ℕ × FileFault)) → part ≡ [] → next ≡ n + 1 → is_some refused ≡ false → HasWatched bytes h [] (n + 1) None → HasWatched bytes h part next refused
 line_done bytes h part n next None empty is e s = rw (empty, is) s
 line_done bytes h part n next (Some r) empty is e s = absurd (cc e)

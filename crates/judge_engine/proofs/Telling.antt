@@ -43,7 +43,7 @@ lines_push workers n (x ∷ os) o =
     moved : (n k : ℕ) → suc n + k ≡ n + suc k
     moved n k = omega arith
 
--- One more outcome adds its line behind the lines of the outcomes before it.
+-- One more outcome adds its line after the lines of the outcomes before it.
 pub lines_more : (workers : ℕ) (os : List Outcome) (i : ℕ) (d : Outcome) → i < length os → outcome_lines workers 0 (take (i + 1) os) ≡ outcome_lines workers 0 (take i os) ++ outcome_line workers i (get_or os i d)
 lines_more workers os i d within =
     let len = length-take-le i os (omega arith) in
@@ -59,7 +59,7 @@ grown_lines new old start workers os i d line before within =
     line ∙ ap (λ t. t ++ outcome_line workers i (get_or os i d)) before ∙ append_assoc start (outcome_lines workers 0 (take i os)) (outcome_line workers i (get_or os i d))
     ∙ ap (λ m. start ++ m) (sym (lines_more workers os i d within))
 
--- Why there are no scripts: the script file or memory was refused.
+-- If the script file or memory was refused, `FailsForScripts` holds of the fault.
 pub fails_scripts : (left : Option (List ℕ)) (bytes : List ℕ) (fault : FileFault) → IfSome left (λ all. bytes ≡ take max_read all) → FailsAs fault (scripts_of bytes) → FailsForScripts left (of_scripts fault)
 fails_scripts left bytes files.NoMemory known fails = tt
 fails_scripts left bytes files.NotJson known fails = (bytes, known, fails)
@@ -67,7 +67,7 @@ fails_scripts left bytes files.Member known fails = (bytes, known, fails)
 fails_scripts left bytes (files.Piece part i) known fails = (bytes, known, fails)
 fails_scripts left bytes files.Limit known fails = (bytes, known, fails)
 
--- Why there is no history: the history file or memory was refused.
+-- If the history file or memory was refused, `FailsForHistory` holds of the fault.
 pub fails_history : (left : Option (List ℕ)) (bytes : List ℕ) (fault : FileFault) → IfSome left (λ all. bytes ≡ take max_read all) → FailsAs fault (history_of bytes) → FailsForHistory left (of_history fault)
 fails_history left bytes files.NoMemory known fails = tt
 fails_history left bytes files.NotJson known fails = (bytes, known, fails)
@@ -75,7 +75,7 @@ fails_history left bytes files.Member known fails = (bytes, known, fails)
 fails_history left bytes (files.Piece part i) known fails = (bytes, known, fails)
 fails_history left bytes files.Limit known fails = (bytes, known, fails)
 
--- The text of the right outcomes is a report on the two files.
+-- If the outcomes are right (`AreOutcomes`), their text is a report on the two files.
 pub told : (scripts history : Option (List ℕ)) (work : Work) (entries read : List Entry) (found seen : List Outcome) (workers : ℕ) (text : List ℕ) (well : Bool)
     → OfFile scripts (λ bytes. scripts_of bytes ≡ Ok work) → OfFile history (HistoryOf entries) → read ≡ entries → AreOutcomes work.sizes.callers work.scripts read found
     → workers ≡ work.sizes.callers → seen ≡ found → text ≡ outcomes_text workers seen → ((well ≡ true) ↔ IsWell work.scripts found) → TellsOutcomes scripts history text well

@@ -23,8 +23,8 @@ abbrev pub IsLegalBy : Basis → List Entry → Type 0
 IsLegalBy (Locks stripes holder) h = IsLegal holder stripes h
 IsLegalBy Commits h = IsSerializable h
 
--- The outcome is the definitions' verdict on the history by these rules, and it says legal exactly
--- if the history is legal by them.
+-- The outcome is the verdict that the definitions give on the history by these rules. It says legal
+-- exactly if the history is legal by these rules.
 abbrev pub IsVerdictBy : Basis → List Entry → Verdict → Type 0
 IsVerdictBy (Locks stripes holder) h outcome = locks_verdicts.IsVerdictOn holder stripes h outcome
 IsVerdictBy Commits h outcome = commits_verdicts.IsVerdictOn h outcome

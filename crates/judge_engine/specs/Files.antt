@@ -1,4 +1,4 @@
--- The answers about a history file.
+-- The verdict on a history file, and the reasons why there is none.
 use Rattle.std.specs.Prelude.{◌≡◌, ℕ, Bool, true, false, List, take, Option, Ok, Err, IfSome}
 use Rattle.txn_words.specs.declared.entry.Entry.{Entry}
 use Rattle.txn_files.specs.HistoryFile.{history_of, holder_rule}
@@ -33,17 +33,17 @@ IsUnjudgedFile bytes Read = Unit {0}
 IsUnjudgedFile bytes (Line number fault) = ⊥
 IsUnjudgedFile bytes Write = ⊥
 
--- The bytes that were read have this property. They are all that the reader had left, but at most
+-- `P` holds of the bytes that were read. These are all bytes that the reader had left, but at most
 -- one more than a file may have.
 abbrev pub OfFile : Option (List ℕ) → (List ℕ → Type 0) → Type 0
 OfFile remaining P = (bytes : List ℕ) × IfSome remaining (λ all. bytes ≡ take max_read all) × P bytes
 
--- The verdict on the history file that was still to be read from a reader.
+-- The verdict on the history file that a reader gives.
 abbrev pub Checks : Bool → Option (List ℕ) → Verdict → Type 0
 Checks by_commits remaining outcome =
     OfFile remaining (λ bytes. IsJudgedFile by_commits bytes outcome)
 
--- Why there is no verdict on the history file that was still to be read from a reader.
+-- Why there is no verdict on the history file that a reader gives.
 abbrev pub FailsToCheck : Option (List ℕ) → Fault → Type 0
 FailsToCheck remaining (Input fault) =
     OfFile remaining (λ bytes. IsUnjudgedFile bytes (Input fault))
@@ -52,8 +52,8 @@ FailsToCheck remaining Read = Unit {0}
 FailsToCheck remaining (Line number fault) = ⊥
 FailsToCheck remaining Write = ⊥
 
--- Why there is no explanation of the history file that was still to be read from a reader: there is
--- no verdict on the file, or a write failed.
+-- Why there is no explanation of the history file that a reader gives: there is no verdict on the
+-- file, or a write failed.
 abbrev pub FailsToExplain : Option (List ℕ) → Fault → Type 0
 FailsToExplain remaining (Input fault) =
     OfFile remaining (λ bytes. IsUnjudgedFile bytes (Input fault))

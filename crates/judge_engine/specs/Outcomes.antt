@@ -73,7 +73,7 @@ outcome_line workers n outcome =
     codes "script " ++ (decimal n ++ (codes " worker " ++ (decimal (n % workers)
     ++ (codes " " ++ (outcome_words outcome ++ 10 ∷ [])))))
 
--- The lines of the scripts from this number on.
+-- The lines of these outcomes. The first outcome is that of the script with this number.
 abbrev pub outcome_lines : ℕ → ℕ → List Outcome → List ℕ
 outcome_lines workers n [] = []
 outcome_lines workers n (outcome ∷ more) =
@@ -86,7 +86,7 @@ counts_line os =
     ++ (decimal (how_many kinds.Aborted os) ++ (codes " aborted "
     ++ (decimal (how_many kinds.GivenUp os) ++ (codes " given up" ++ 10 ∷ [])))))
 
--- All lines.
+-- The whole text: the lines of all outcomes, and the line of the counts.
 abbrev pub outcomes_text : ℕ → List Outcome → List ℕ
 outcomes_text workers os = outcome_lines workers 0 os ++ counts_line os
 
@@ -102,7 +102,7 @@ IsWell scripts os = (n : ℕ) (script : List Action) → slice_get scripts n ≡
     → slice_get os n ≡ Some outcomes.GivenUp → has_abort script ≡ true
 
 -- The text has the outcomes that the scripts of a script file have in the history of a history
--- file. `well` is whether each script that is given up has an abort.
+-- file. `well` is true exactly if each script that is given up has an abort.
 pub record IsOutcomesText (scripts history text : List ℕ) (well : Bool) : Type 0 where
   pub work : Work
   pub stripes : ℕ
@@ -115,7 +115,7 @@ pub record IsOutcomesText (scripts history text : List ℕ) (well : Bool) : Type
   pub text_is : text ≡ outcomes_text work.sizes.callers found
   pub well_is : (well ≡ true) ↔ IsWell work.scripts found
 
--- A report on the two files that were still to be read, each from a reader of its own.
+-- The text and `well` are a report on two files, each read from its own reader.
 abbrev pub TellsOutcomes : Option (List ℕ) → Option (List ℕ) → List ℕ → Bool → Type 0
 TellsOutcomes scripts history text well =
     OfFile scripts (λ left. OfFile history (λ right. IsOutcomesText left right text well))
@@ -125,14 +125,14 @@ abbrev pub HistoryOf : List Entry → List ℕ → Type 0
 HistoryOf entries bytes =
     (stripes : ℕ) × (version : ℕ) × (history_of bytes ≡ Ok (stripes, entries, version))
 
--- Why there are no scripts in the file that was still to be read from a reader.
+-- Why there are no scripts in the file that a reader gives.
 abbrev pub FailsForScripts : Option (List ℕ) → OutcomesFault → Type 0
 FailsForScripts left (Scripts fault) = OfFile left (λ bytes. scripts_of bytes ≡ Err fault)
 FailsForScripts left ScriptsRead = Unit {0}
 FailsForScripts left NoMemory = Unit {0}
 FailsForScripts left fault = ⊥
 
--- Why there is no history in the file that was still to be read from a reader.
+-- Why there is no history in the file that a reader gives.
 abbrev pub FailsForHistory : Option (List ℕ) → OutcomesFault → Type 0
 FailsForHistory left (History fault) = OfFile left (λ bytes. history_of bytes ≡ Err fault)
 FailsForHistory left HistoryRead = Unit {0}
@@ -145,9 +145,9 @@ abbrev pub WritesOutcomes : Option (List ℕ) → Option (List ℕ) → Option (
 WritesOutcomes scripts history old new well =
     (text : List ℕ) × TellsOutcomes scripts history text well × Appends old new text
 
--- The output at a fault. If a write failed, there is a text as `TellsOutcomes` says, and nothing is
--- stated of the output. At any other fault nothing is written; if a file is refused, the fault is
--- the one that `scripts_of` or `history_of` answers.
+-- The output after a fault. If a write failed, `TellsOutcomes` holds of the text that was to be
+-- written, and nothing is said about the output. After any other fault nothing was written. If a
+-- file was refused, the fault is the one that `scripts_of` or `history_of` gives.
 abbrev pub LeavesOutcomes : Option (List ℕ) → Option (List ℕ) → Option (List ℕ)
     → Option (List ℕ) → OutcomesFault → Type 0
 LeavesOutcomes scripts history old new (Scripts fault) =

@@ -1,4 +1,4 @@
--- The entries that a watcher has read from the bytes that it took in.
+-- The entries that a watcher has read from the bytes that it was given.
 use Rattle.std.specs.Prelude.{◌≡◌, ℕ, List, ◌++◌, Option, Some, None}
 use Rattle.txn_words.specs.declared.entry.Entry.{Entry}
 use Rattle.piece_files.specs.declared.file_fault.FileFault.{FileFault}
@@ -15,7 +15,7 @@ ahead h more = (h ++ more.0, more.1)
 
 -- If no line was refused, the bytes have the entries `h`, and then `part`, the beginning of line
 -- `number`. If a line was refused, the bytes have the entries `h` before that line, and `refused`
--- has its number and its fault. In either case, this stays true whatever bytes follow.
+-- has the line's number and its fault. In either case, this stays true whatever bytes follow.
 abbrev pub HasWatched : List ℕ → List Entry → List ℕ → ℕ → Option (ℕ × FileFault) → Type 0
 HasWatched bytes h part number None =
     IsUnbroken part × ((more : List ℕ) → history_of_lines (bytes ++ more)
@@ -23,7 +23,7 @@ HasWatched bytes h part number None =
 HasWatched bytes h part number (Some refused) =
     (more : List ℕ) → history_of_lines (bytes ++ more) ≡ (h, Some refused)
 
--- The watcher took in these bytes, and judges by these rules.
+-- The watcher was given these bytes, and judges by these rules.
 pub record TookIn (basis : Basis) (bytes : List ℕ) (watcher : Watcher) : Type 0 where
   pub entries : List Entry
   pub fed : IsFedBy basis entries watcher.judge

@@ -10,8 +10,8 @@ use Rattle.judge_engine.specs.declared.fault.Fault.{Fault}
 use Rattle.judge_engine.specs.declared.fault.Fault.TheVariants.{Input, Line, NoMemory, Read, Write}
 use Rattle.judge_engine.specs.Bases.{IsLegalBy, IsVerdictBy}
 
--- The verdict on entries that were found, up to the first line that is refused, if there is one.
--- The verdict is legal only if no line is refused.
+-- The verdict on the entries that were found. If a line is refused, these are the entries before
+-- the first refused line. The verdict is legal only if no line is refused.
 pub record IsJudged (basis : Basis) (found : List Entry × Option (ℕ × FileFault))
     (outcome : Verdict) : Type 0 where
   pub verdict : IsVerdictBy basis found.0 outcome
@@ -21,8 +21,8 @@ pub record IsJudged (basis : Basis) (found : List Entry × Option (ℕ × FileFa
 abbrev pub IsJudgedLines : Basis → List ℕ → Verdict → Type 0
 IsJudgedLines basis bytes outcome = IsJudged basis (history_of_lines bytes) outcome
 
--- The line of this number is the first that is refused, with this fault, and the entries before it
--- are legal.
+-- The first line that is refused has this number and this fault, and the entries before it are
+-- legal.
 pub record IsRefusedLine (basis : Basis) (found : List Entry × Option (ℕ × FileFault))
     (number : ℕ) (fault : FileFault) : Type 0 where
   pub line : found.1 ≡ Some (number, fault)
@@ -37,7 +37,7 @@ HasNoVerdict basis found Read = Unit {0}
 HasNoVerdict basis found (Input fault) = ⊥
 HasNoVerdict basis found Write = ⊥
 
--- Why there is no verdict on the lines of bytes.
+-- Why there is no verdict on the lines of these bytes.
 abbrev pub IsUnjudged : Basis → List ℕ → Fault → Type 0
 IsUnjudged basis bytes fault = HasNoVerdict basis (history_of_lines bytes) fault
 
@@ -47,11 +47,11 @@ IsUnjudged basis bytes fault = HasNoVerdict basis (history_of_lines bytes) fault
 abbrev pub OfAll : Option (List ℕ) → (List ℕ → Type 0) → Type 0
 OfAll remaining P = (bytes : List ℕ) × IfSome remaining (λ all. bytes ≡ all) × P bytes
 
--- The verdict on the lines that were still to be read from a reader.
+-- The verdict on the lines that a reader gives.
 abbrev pub Watches : Basis → Option (List ℕ) → Verdict → Type 0
 Watches basis remaining outcome = OfAll remaining (λ bytes. IsJudgedLines basis bytes outcome)
 
--- Why there is no verdict on the lines that were still to be read from a reader.
+-- Why there is no verdict on the lines that a reader gives.
 abbrev pub FailsToWatch : Basis → Option (List ℕ) → Fault → Type 0
 FailsToWatch basis remaining (Line number fault) =
     OfAll remaining (λ bytes. IsRefusedLine basis (history_of_lines bytes) number fault)

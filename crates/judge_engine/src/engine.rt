@@ -1,6 +1,6 @@
-//! The commands of `judge` that answer a verdict, over a reader and a writer; other modules read,
-//! judge and write. Each command makes the whole text of a verdict before it writes. So a fault
-//! before the first write leaves the output unchanged, except that `why` writes the flaw of a
+//! The commands of `judge` that give a verdict. Each takes a reader and a writer; other modules
+//! read, judge and write. Each command makes the whole text of a verdict before it writes. So a
+//! fault before the first write leaves the output unchanged, except that `why` writes the flaw of a
 //! refused file. `watch` keeps a checker and a part of the input in memory; the others keep a whole
 //! file.
 ghost use Rattle.std.specs.Prelude.{IfOk, IfErr};
@@ -17,30 +17,31 @@ use crate::reading::{read_file, watch_lines};
 use std::alloc::Global;
 use std::io::{Read, Write};
 
-/// Reads entries, one a line, judges each as it is read, and writes the verdict:
-/// `legal C commits O open` at the end of the input, or `illegal entry I rule R` at the first bad
-/// entry. The verdict is one line, ended by a line feed, and nothing else is written. The answer is
-/// whether the history is legal.
+/// Reads entries, one per line, judges each as it is read, and writes the verdict: `legal C commits
+/// O open` at the end of the input, or `illegal entry I rule R` at the first bad entry. The verdict
+/// is one line, ended by a line feed, and nothing else is written. Returns whether the history is
+/// legal.
 ///
 /// Each line is an entry, written as in a history file of the newest version: as an array. Blank
-/// lines are passed over, and a last line without its line feed is read as a line. There may be any
+/// lines are skipped, and a last line without its line feed is read as a line. There may be any
 /// number of lines. Nothing is read after the bytes with the first bad entry. A read that failed is
 /// not tried again. A write is tried again only if it was interrupted.
 ///
 /// # Errors
 ///
-/// Nothing is written at any error but `Write`.
+/// Nothing is written at any error except `Write`.
 ///
 /// - `Line` for the first line that is refused, if no entry before it is bad: the line has more
 ///   than 1,000 bytes, is no entry, or names a caller above 63.
 /// - `Read` if a read fails.
 /// - `NoMemory` if memory is refused.
-/// - `Write` if a write fails or takes nothing: a proper beginning of the line is written.
+/// - `Write` if a write fails or takes nothing: the beginning of the verdict's line may be written,
+///   but not the whole line.
 ///
 /// # Cost
 ///
-/// That of the checker for each entry, and time in proportion to the bytes; memory for the checker,
-/// and 64 KB.
+/// The cost of the checker for each entry, and time in proportion to the number of bytes. Memory
+/// for the checker, and 64 KB.
 pub fn watch<R: Read, W: Write>(
     alloc: Global,
     basis: Basis,
@@ -59,23 +60,25 @@ pub fn watch<R: Read, W: Write>(
 }
 
 /// Reads a history file to its end, judges the history by the order of commits or by the locks of
-/// the file's stripes, and writes the verdict as `watch` does. The answer is whether the history is
+/// the file's stripes, and writes the verdict as `watch` does. Returns whether the history is
 /// legal.
 ///
 /// At most 16,777,217 bytes are read. A read or a write is tried again only if it was interrupted.
 ///
 /// # Errors
 ///
-/// Nothing is written at any error but `Write`.
+/// Nothing is written at any error except `Write`.
 ///
 /// - `Read` if a read fails.
 /// - `Input` if the file is refused.
 /// - `NoMemory` if memory is refused.
-/// - `Write` if a write fails or takes nothing: a proper beginning of the line is written.
+/// - `Write` if a write fails or takes nothing: the beginning of the verdict's line may be written,
+///   but not the whole line.
 ///
 /// # Cost
 ///
-/// That of the checker for each entry, and time and memory in proportion to the file.
+/// The cost of the checker for each entry, and time and memory in proportion to the size of the
+/// file.
 pub fn check<R: Read + Drop, W: Write>(
     alloc: Global,
     by_commits: bool,
@@ -94,7 +97,7 @@ pub fn check<R: Read + Drop, W: Write>(
 }
 
 /// Judges a history file as `check` does, and writes the verdict's line. If the history is illegal,
-/// lines that lead to the bad entry follow. The answer is whether the history is legal.
+/// lines that explain the bad entry follow. Returns whether the history is legal.
 ///
 /// If the file is refused, one line is written instead: the flaw that `bad_file` finds. Either the
 /// line says that the file is too long or no JSON, or it has the JSON path of the first place at
@@ -110,8 +113,8 @@ pub fn check<R: Read + Drop, W: Write>(
 ///
 /// # Cost
 ///
-/// A few times that of the checker for each entry, and time and memory in proportion to the file.
-/// For a file that is refused, the cost of `bad_file`.
+/// A few times the cost of the checker for each entry, and time and memory in proportion to the
+/// size of the file. For a file that is refused, the cost of `bad_file`.
 pub fn why<R: Read + Drop, W: Write>(
     alloc: Global,
     by_commits: bool,

@@ -14,7 +14,7 @@ use std::fmt;
 pub enum Fault {
     /// A history file was refused.
     Input(FileFault),
-    /// The line of this number, counted from 1, was refused.
+    /// The line with this number, counted from 1, was refused.
     Line(u64, FileFault),
     /// Memory was refused.
     NoMemory,
@@ -43,7 +43,7 @@ impl fmt::Display for Fault {
 impl std::error::Error for Fault {}
 
 impl Fault {
-    /// The exit status of the program: 3 for `Input` and `Line`, 4 for every other.
+    /// The exit status of the program: 3 for `Input` and `Line`, 4 for every other fault.
     ///
     /// # Cost
     ///

@@ -1,4 +1,4 @@
-//! The verdict on the bytes of a history file, and the lines that lead to its bad entry. No reader
+//! The verdict on the bytes of a history file, and the lines that explain the bad entry. No reader
 //! or writer is used here, so the contracts are about bytes only. `judge_file` drops the bytes
 //! before it judges; `explain_file` borrows them, so that `why` can search them for a flaw.
 ghost use Rattle.std.specs.Prelude.{◌<◌, IfOk, IfErr};
@@ -46,7 +46,8 @@ fn by_locks(
 ///
 /// # Cost
 ///
-/// That of the checker for each entry, and time and memory in proportion to the bytes.
+/// The cost of the checker for each entry, and time and memory in proportion to the number of
+/// bytes.
 pub(crate) fn judge_file(alloc: Global, by_commits: bool, bytes: Vec<u8>) -> Result<Verdict, Fault>
     ensures ok { IfOk result (IsJudgedFile by_commits bytes.items) }
     ensures err { IfErr result (IsUnjudgedFile bytes.items) }
@@ -60,7 +61,7 @@ pub(crate) fn judge_file(alloc: Global, by_commits: bool, bytes: Vec<u8>) -> Res
     Ok(by_locks(alloc, entries, stripes, holder_in(version))?)
 }
 
-/// The verdict on the history file with these bytes, and the lines that lead to the bad entry.
+/// The verdict on the history file with these bytes, and the lines that explain the bad entry.
 /// There are no lines if the history is legal.
 ///
 /// # Errors
@@ -69,7 +70,8 @@ pub(crate) fn judge_file(alloc: Global, by_commits: bool, bytes: Vec<u8>) -> Res
 ///
 /// # Cost
 ///
-/// A few times that of the checker for each entry, and time and memory in proportion to the bytes.
+/// A few times the cost of the checker for each entry, and time and memory in proportion to the
+/// number of bytes.
 pub(crate) fn explain_file(
     alloc: Global,
     by_commits: bool,

@@ -1,6 +1,6 @@
-//! One type for the checkers of `history_check` and `serial_check`, so that `Watcher` need not tell
-//! them apart. Each method passes its call on to the checker, and costs the same. `IsFedBy` says
-//! which entries a judge was fed, and by which rules it judges.
+//! `Judge`, one type for the checkers of `history_check` and `serial_check`, so that `Watcher` need
+//! not distinguish them. Each method makes one call of the checker, and costs the same. `IsFedBy`
+//! says which entries a judge was fed, and by which rules it judges.
 ghost use Rattle.std.specs.Prelude.{◌≡◌, ◌<◌, ◌++◌, [], ◌∷◌, List, IfOk, OnOk};
 ghost use Rattle.txn_words.specs.declared.entry.Entry.{Entry};
 ghost use Rattle.txn_words.specs.Kinds.{caller_of};
@@ -39,7 +39,7 @@ impl Judge {
         }
     }
 
-    /// Feeds it the next entry.
+    /// Feeds the judge the next entry.
     pub(crate) fn feed(&mut self, entry: &Entry) -> Result<(), AllocError>
         requires { caller_of entry.now < 64 }
         ensures { OnOk result ((basis : Basis) (h : List Entry) →

@@ -1,15 +1,15 @@
 //! The engines of the program `judge`, over any reader and any writer.
 //!
-//! `check` judges a history file, and writes the verdict as one line; `why` adds what leads to the
-//! bad entry, and writes the flaw of a refused file. `watch` reads entries, one a line, and judges
-//! each when it is read. All three judge by locks (`history_check`) or by the order of commits
-//! (`serial_check`).
-//! `tell_outcomes` writes the outcome of each script in a history, and judges nothing.
+//! `check` judges a history file, and writes the verdict as one line. `why` also writes lines that
+//! explain the bad entry or, if a file is refused, its flaw. `watch` reads entries, one per line,
+//! and judges each when it is read. All three judge by locks (`history_check`) or by the order of
+//! commits (`serial_check`). `tell_outcomes` writes the outcome of each script in a history, and
+//! judges nothing.
 //!
 //! Proved: the verdict is that of the definitions (`specs/Files.antt`, `specs/Watching.antt`), and
-//! the outcomes are those of `script_outcomes` (`specs/Outcomes.antt`). At any fault but a failed
-//! write, `check`, `watch` and `tell_outcomes` write nothing. What `why` writes beside the verdict
-//! is only tested.
+//! the outcomes are those of `script_outcomes` (`specs/Outcomes.antt`). At any fault except a
+//! failed write, `check`, `watch` and `tell_outcomes` write nothing. What `why` writes beside the
+//! verdict is only tested.
 //!
 //! `watch` keeps a checker and a part of the input in memory, and the others keep whole files.
 #![tactic(auto)]

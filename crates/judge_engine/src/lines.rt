@@ -1,6 +1,6 @@
-//! The lines that lead to a bad entry: each part of a reason of `bad_entry`, in words. They are
-//! apart from `file`, since their wording is tested and not proved. A reason that lists entries
-//! takes a few more passes over the history.
+//! The lines that explain a bad entry: each part of a reason that `bad_entry` gives, in words. This
+//! module is apart from `file`, since the wording of the lines is tested and not proved. A reason
+//! that lists entries takes a few more passes over the history.
 ghost use Rattle.std.specs.Prelude.{◌<◌, IfSome};
 ghost use Rattle.std.specs.List.{All};
 ghost use Rattle.txn_words.specs.Kinds.{caller_of};
@@ -12,7 +12,7 @@ use std::alloc::{AllocError, Global};
 use std::fmt;
 use txn_trace::{Entry, Holder, Phase, Reply, SmallEntry};
 
-/// A value, or none.
+/// A value, printed as `none` if there is no value.
 #[derive(Clone, Copy)]
 struct OrNone(Reply);
 
@@ -25,7 +25,7 @@ impl fmt::Display for OrNone {
     }
 }
 
-/// The transaction of a caller.
+/// A transaction and its caller, printed as the caller alone if there is no transaction.
 #[derive(Clone, Copy)]
 struct TxnOf(Option<u64>, u64);
 
@@ -38,7 +38,7 @@ impl fmt::Display for TxnOf {
     }
 }
 
-/// The fate of a change, in a word.
+/// The fate of a change, as one word.
 fn word_of(fate: Fate) -> &'static str {
     match fate {
         Fate::Open => "open",
@@ -58,7 +58,8 @@ fn put_entry(
     write!(text, "  {index} {line}")
 }
 
-/// Whether an entry asks for a key, answers such a request, or takes back a change of the key.
+/// Whether an entry asks for an operation on a key, answers such a request, or takes back a change
+/// of the key.
 fn is_on(callers: &Callers, entry: Entry, key: u64) -> bool
     requires { caller_of entry < 64 }
 {
@@ -98,7 +99,8 @@ fn put_entries_on(
     Ok(())
 }
 
-/// Adds the entries on a key since the last commit that changed its value.
+/// Adds the entries on a key since the last commit that changed the key's value, or all entries on
+/// the key if no commit has changed it.
 fn put_since_commit(
     alloc: Global,
     text: &mut String,
@@ -195,7 +197,7 @@ fn put_holder(text: &mut String, stripe: u64, holder: Option<Held>) -> Result<()
     }
 }
 
-/// Adds the line of the entries that a caller may add in this phase.
+/// Adds the line that says which entries a caller may add in this phase.
 fn put_shape(
     text: &mut String,
     caller: u64,
@@ -229,8 +231,8 @@ fn put_shape(
     }
 }
 
-/// Adds why a Busy may not name the caller that it names. Adds nothing for an entry of another
-/// kind.
+/// If the bad entry is a Busy, adds why it may not name the caller that it names. Adds nothing for
+/// an entry of another kind.
 fn put_named(text: &mut String, entry: Entry, holder: Holder) -> Result<(), AllocError> {
     let Entry::Busy(caller, _, named) = entry else {
         return Ok(());
@@ -297,7 +299,7 @@ fn put_reason(
     }
 }
 
-/// The lines that lead to the bad entry of a verdict by locks. There are none if the verdict is
+/// The lines that explain the bad entry of a verdict by locks. There are no lines if the verdict is
 /// legal.
 pub(crate) fn lines_by_locks(
     alloc: Global,
@@ -324,8 +326,8 @@ pub(crate) fn lines_by_locks(
     Ok(text)
 }
 
-/// The lines that lead to the bad entry of a verdict by the order of commits. There are none if the
-/// verdict is legal.
+/// The lines that explain the bad entry of a verdict by the order of commits. There are no lines if
+/// the verdict is legal.
 pub(crate) fn lines_by_commits(
     alloc: Global,
     entries: &[SmallEntry],
@@ -345,8 +347,8 @@ pub(crate) fn lines_by_commits(
     Ok(text)
 }
 
-/// The index of the bad entry, which is below the number of entries, and the rule that the entry
-/// breaks.
+/// If the verdict is illegal, the index of the bad entry and the rule that it breaks. The index is
+/// below `count`.
 fn bad_in(verdict: Verdict, count: usize) -> Option<(usize, Rule)>
     ensures { IfSome result (λ bad. bad.0 < count) }
 {

@@ -72,7 +72,7 @@ impl OutcomesFault {
     }
 }
 
-/// A kind of outcome, to count by.
+/// A kind of outcome. Outcomes are counted by kind.
 #[derive(Clone, Copy, Debug, PartialEq, Eq)]
 enum Kind {
     Committed,
@@ -131,7 +131,7 @@ fn is_well(scripts: &[Script], outcomes: &[Outcome]) -> bool
     true
 }
 
-/// The line of a script's outcome.
+/// Adds the line of a script's outcome.
 fn put_line(
     text: &mut String,
     workers: usize,
@@ -146,7 +146,7 @@ fn put_line(
     writeln!(text, "script {number} worker {worker} {outcome}")
 }
 
-/// The lines of the outcomes.
+/// Adds the lines of all outcomes.
 fn put_lines(text: &mut String, workers: usize, outcomes: &[Outcome]) -> Result<(), AllocError>
     requires { 0 < workers }
     ensures { OnOk result (string_bytes text.new
@@ -158,7 +158,7 @@ fn put_lines(text: &mut String, workers: usize, outcomes: &[Outcome]) -> Result<
     Ok(())
 }
 
-/// All lines: those of the outcomes, and the counts.
+/// The whole text: the lines of all outcomes, and the line of the counts.
 fn text_of(alloc: Global, workers: usize, outcomes: &[Outcome]) -> Result<String, AllocError>
     requires { 0 < workers }
     ensures { IfOk result (λ text. string_bytes text ≡ outcomes_text workers outcomes.now) }
@@ -199,7 +199,7 @@ fn of_history(fault: FileFault) -> OutcomesFault
     }
 }
 
-/// The scripts of the script file that is still to be read from a reader.
+/// Reads a script file from a reader, and returns its scripts.
 fn scripts_in<R: Read + Drop>(alloc: Global, input: R) -> Result<Scripts, OutcomesFault>
     ensures ok { IfOk result (λ work. OfFile (R.remaining input)
         (λ bytes. scripts_of bytes ≡ Ok work)) }
@@ -216,7 +216,7 @@ fn scripts_in<R: Read + Drop>(alloc: Global, input: R) -> Result<Scripts, Outcom
     }
 }
 
-/// The entries of the history file that is still to be read from a reader.
+/// Reads a history file from a reader, and returns its entries.
 fn entries_in<R: Read + Drop>(alloc: Global, input: R) -> Result<Vec<SmallEntry>, OutcomesFault>
     ensures ok { IfOk result (λ entries. OfFile (R.remaining input)
         (HistoryOf entries.items)) }
@@ -236,24 +236,26 @@ fn entries_in<R: Read + Drop>(alloc: Global, input: R) -> Result<Vec<SmallEntry>
 /// Reads a script file and a history file to their ends. Writes a line for each script, which says
 /// what became of the script in the history, such as `script 0 worker 0 committed 3 entry 17`,
 /// `script 1 worker 1 aborted entry 20` or `script 2 worker 0 given up`. Then writes a line with
-/// the counts, such as `1 committed 1 aborted 1 given up`, and nothing else. The answer is whether
-/// each script that is given up has an abort.
+/// the counts, such as `1 committed 1 aborted 1 given up`, and nothing else. Returns whether each
+/// script that is given up has an abort.
 ///
-/// The history is not judged. The script file is read first. At most 16,777,217 bytes of each file
-/// are read. A read or a write is tried again only if it was interrupted.
+/// The function does not test whether the history is legal. The script file is read first. At most
+/// 16,777,217 bytes of each file are read. A read or a write is tried again only if it was
+/// interrupted.
 ///
 /// # Errors
 ///
-/// Nothing is written at any error but `Write`.
+/// Nothing is written at any error except `Write`.
 ///
 /// - `ScriptsRead` if a read of the script file fails; `Scripts` if that file is refused.
 /// - `HistoryRead` if a read of the history file fails; `History` if that file is refused.
 /// - `NoMemory` if memory is refused.
-/// - `Write` if a write fails or takes nothing: a proper beginning of the lines is written.
+/// - `Write` if a write fails or takes nothing: the beginning of the lines may be written, but not
+///   all of them.
 ///
 /// # Cost
 ///
-/// Time and memory in proportion to the two files.
+/// Time and memory in proportion to the size of the two files.
 pub fn tell_outcomes<S: Read + Drop, H: Read + Drop, W: Write>(
     alloc: Global,
     scripts: S,

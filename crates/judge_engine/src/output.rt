@@ -14,7 +14,7 @@ use history_check::Verdict;
 use std::alloc::{AllocError, Global};
 use std::io::Write;
 
-/// The line of a verdict, of at most 61 bytes.
+/// The line of a verdict. It has at most 61 bytes.
 fn line_of(alloc: Global, verdict: Verdict) -> Result<String, AllocError>
     ensures { IfOk result (λ line. string_bytes line ≡ verdict_line verdict) }
 {
@@ -23,14 +23,14 @@ fn line_of(alloc: Global, verdict: Verdict) -> Result<String, AllocError>
     Ok(line)
 }
 
-/// Whether a verdict is that the history is legal. Constant time.
+/// Whether a verdict says that the history is legal. Constant time.
 fn is_legal(verdict: Verdict) -> bool
     ensures { result ≡ says_legal verdict }
 {
     matches!(verdict, Verdict::Legal { .. })
 }
 
-/// Writes the line of a verdict, and answers whether the verdict is that the history is legal.
+/// Writes the line of a verdict. Returns whether the verdict says that the history is legal.
 ///
 /// # Errors
 ///
@@ -39,7 +39,7 @@ fn is_legal(verdict: Verdict) -> bool
 ///
 /// # Cost
 ///
-/// A call of the writer for each part that it takes, and memory for the line.
+/// As many calls of the writer as it takes to write the line, and memory for the line.
 pub(crate) fn write_verdict<W: Write>(
     alloc: Global,
     verdict: Verdict,
@@ -56,7 +56,7 @@ pub(crate) fn write_verdict<W: Write>(
     }
 }
 
-/// Writes the line of a verdict and the lines after it, and answers whether the verdict is that the
+/// Writes the line of a verdict and the lines after it. Returns whether the verdict says that the
 /// history is legal.
 ///
 /// # Errors
@@ -66,7 +66,7 @@ pub(crate) fn write_verdict<W: Write>(
 ///
 /// # Cost
 ///
-/// A call of the writer for each part that it takes, and memory for the lines.
+/// As many calls of the writer as it takes to write the lines, and memory for the lines.
 pub(crate) fn write_explained<W: Write>(
     alloc: Global,
     verdict: Verdict,
@@ -86,9 +86,9 @@ pub(crate) fn write_explained<W: Write>(
     }
 }
 
-/// Writes the flaw of the history file with these bytes, in one line, if the fault is that the file
-/// is refused. The answer is `fault`, or `NoMemory` if memory is refused, or `Write` if the writer
-/// fails or takes nothing.
+/// If the fault is that a history file is refused, writes the flaw of the file with these bytes, in
+/// one line. Returns `fault`, or `NoMemory` if memory is refused, or `Write` if the writer fails or
+/// takes nothing.
 pub(crate) fn tell<W: Write>(alloc: Global, fault: Fault, bytes: &[u8], output: &mut W) -> Fault
     ensures { (result ≡ fault) ⊎ ((result ≡ faults.NoMemory) ⊎ (result ≡ faults.Write)) }
 {

@@ -1,6 +1,7 @@
-//! Only this module calls a reader; the others pass it on, or see only bytes. A file is read as a
-//! whole, up to one byte more than a file may have: that byte shows that the file is too long.
-//! Lines are read in chunks until an entry is bad, a line is refused, or the input ends.
+//! Only this module calls a reader; other modules pass a reader on, or see only bytes. A file is
+//! read as a whole, up to one byte more than a file may have: this extra byte shows that the file
+//! is too long. Lines are read in chunks until an entry is bad, a line is refused, or the input
+//! ends.
 ghost use Rattle.std.specs.Prelude.{◌≡◌, ◌<◌, [], length, take, IfOk, IfErr, IfSome};
 ghost use Rattle.judge_engine.specs.declared.basis.Basis.{Basis as TheBasis};
 ghost use Rattle.judge_engine.specs.Faults.{IsReadFault};
@@ -22,7 +23,7 @@ const CHUNK: usize = 65_536;
 /// One byte more than a file may have.
 const MAX_READ: u64 = 16_777_217;
 
-/// The bytes that are still to be read, but at most one more than a file may have.
+/// Reads the bytes that a reader has left, but at most one more than a file may have.
 ///
 /// # Errors
 ///
@@ -30,7 +31,7 @@ const MAX_READ: u64 = 16_777_217;
 ///
 /// # Cost
 ///
-/// Time and memory in proportion to the bytes.
+/// Time and memory in proportion to the number of bytes.
 pub(crate) fn read_file<R: Read + Drop>(alloc: Global, input: R) -> Result<Vec<u8>, Fault>
     ensures ok { IfOk result (λ bytes.
         IfSome (R.remaining input) (λ all. bytes.items ≡ take max_read all)) }
@@ -53,8 +54,8 @@ fn buffer(alloc: Global) -> Result<Vec<u8>, AllocError>
     vec![in alloc; 0u8; CHUNK]
 }
 
-/// Hands a new watcher all that a reader gives, until there is a verdict. `chunk` is the buffer of
-/// the reads.
+/// Gives a new watcher the bytes that a reader gives, until there is a verdict. `chunk` is the
+/// buffer for the reads.
 fn read_on<R: Read>(
     input: &mut R,
     watcher: &mut Watcher,
@@ -81,7 +82,7 @@ fn read_on<R: Read>(
     Err(Fault::Read)
 }
 
-/// The verdict on a reader's lines, each of which is an entry: at the first bad entry, or at the
+/// Reads lines, each of which is an entry, and returns the verdict at the first bad entry or at the
 /// end of the input.
 ///
 /// # Errors
@@ -92,8 +93,8 @@ fn read_on<R: Read>(
 ///
 /// # Cost
 ///
-/// That of the judge for each entry, and time in proportion to the bytes; memory for the judge, and
-/// 64 KB.
+/// The cost of the judge for each entry, and time in proportion to the number of bytes. Memory for
+/// the judge, and 64 KB.
 pub(crate) fn watch_lines<R: Read>(
     alloc: Global,
     basis: Basis,

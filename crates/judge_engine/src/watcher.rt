@@ -1,6 +1,6 @@
-//! The judgement of lines that arrive in chunks, without the reader that gives them. A chunk may
-//! end anywhere, so contracts speak of the bytes of all chunks together (`TookIn`). Between two
-//! chunks, a `Watcher` keeps at most `MAX_LINE` of these bytes: the start of an unfinished line.
+//! Judges lines that arrive in chunks; `reading.rt` calls the reader. A chunk may end anywhere, so
+//! contracts speak of the bytes of all chunks together (`TookIn`). Between two chunks, a `Watcher`
+//! keeps at most `MAX_LINE` of these bytes: the start of an unfinished line.
 ghost use Rattle.std.specs.Prelude.{◌≡◌, ◌++◌, [], ◌∷◌, ℕ, List, Option, Some, None, Ok, IfOk, IfErr, OnOk, IfSome, MatchResult};
 ghost use Rattle.std.specs.List.{position};
 ghost use Rattle.txn_words.specs.declared.entry.Entry.{Entry};
@@ -20,7 +20,7 @@ use history_check::Verdict;
 use piece_files::FileFault;
 use std::alloc::{AllocError, Global};
 
-/// How many bytes a line may have.
+/// The largest number of bytes that a line may have.
 const MAX_LINE: usize = 1000;
 
 /// The index of the first line feed.
@@ -30,8 +30,8 @@ fn first_break(bytes: &[u8]) -> Option<usize>
     bytes.iter().position(|byte| *byte == b'\n')
 }
 
-/// Feeds the judge the entry of a line, unless the line is blank. Answers the fault of a line that
-/// is refused.
+/// Feeds the judge the entry of a line, unless the line is blank. If the line is refused, returns
+/// the fault.
 fn read_line(
     judge: &mut Judge,
     scratch: &mut Scratch<Global>,
@@ -52,9 +52,9 @@ fn read_line(
     }
 }
 
-/// Reads lines that arrive in parts of any length. A watcher keeps the judge of the entries so far,
-/// the part of the present line that was read, and the first line that was refused. After a refused
-/// line nothing more is taken in.
+/// Reads lines that arrive in parts of any length. A watcher keeps the part of the present line
+/// that has arrived, the number and the fault of the first line that was refused, and a judge that
+/// was fed the entries so far. After a refused line, further bytes are ignored.
 #[derive(Drop)]
 pub(crate) struct Watcher {
     judge: Judge,
@@ -81,7 +81,7 @@ impl Watcher {
         })
     }
 
-    /// Takes in bytes of the present line.
+    /// Adds bytes to the present line. If the line becomes too long, it is refused.
     fn hold(&mut self, piece: &[u8]) -> Result<(), Fault>
         requires { IsUnbroken piece.now }
         ensures ok { OnOk result ((basis : Basis) (bytes : List ℕ) → TookIn basis bytes self.old →
@@ -99,7 +99,7 @@ impl Watcher {
         Ok(())
     }
 
-    /// Reads the present line; `rest` is the rest of it. If an earlier part of the line was kept,
+    /// Reads the present line, whose last part is `rest`. If an earlier part of the line was kept,
     /// the whole line is copied, unless it is too long.
     fn read_rest(&mut self, rest: &[u8]) -> Result<Option<FileFault>, Fault>
         ensures ok { IfOk result (λ fault. (basis : Basis) (h : List Entry) →
@@ -122,7 +122,7 @@ impl Watcher {
         Ok(refused)
     }
 
-    /// Takes in the rest of the present line, and its line feed.
+    /// Reads the last part of the present line, and its line feed.
     fn end_line(&mut self, piece: &[u8]) -> Result<(), Fault>
         requires { IsUnbroken piece.now }
         ensures line { OnOk result ((basis : Basis) (bytes : List ℕ) → TookIn basis bytes self.old →
@@ -143,7 +143,7 @@ impl Watcher {
         Ok(())
     }
 
-    /// Takes in bytes.
+    /// Reads the next bytes of the input.
     ///
     /// # Errors
     ///
@@ -151,8 +151,8 @@ impl Watcher {
     ///
     /// # Cost
     ///
-    /// That of the judge for each entry, and time in proportion to the bytes; memory for the judge
-    /// and for one line.
+    /// The cost of the judge for each entry, and time in proportion to the number of bytes. Memory
+    /// for the judge and for one line.
     pub(crate) fn take_in(&mut self, chunk: &[u8]) -> Result<(), Fault>
         ensures ok { OnOk result ((basis : Basis) (bytes : List ℕ) → TookIn basis bytes self.old →
             TookIn basis (bytes ++ chunk.now) self.new) }
@@ -166,8 +166,8 @@ impl Watcher {
         self.hold(rest)
     }
 
-    /// Answers the verdict if an entry is bad; no further byte can change that verdict. Answers
-    /// `None` if no entry is bad and no line is refused.
+    /// If an entry is bad, returns the verdict; no further byte can change it. Returns `None` if no
+    /// entry is bad and no line is refused.
     ///
     /// # Errors
     ///
@@ -191,7 +191,8 @@ impl Watcher {
         }
     }
 
-    /// The verdict if no further byte follows. A last line without its line feed is read as a line.
+    /// Ends the input, and returns the verdict. A last line without its line feed is read as a
+    /// line.
     ///
     /// # Errors
     ///
@@ -199,7 +200,7 @@ impl Watcher {
     ///
     /// # Cost
     ///
-    /// That of a line.
+    /// The cost of reading one line.
     pub(crate) fn end(&mut self) -> Result<Verdict, Fault>
         ensures { (basis : Basis) (bytes : List ℕ) → TookIn basis bytes self.old →
             MatchResult result (IsJudgedLines basis bytes) (IsUnjudged basis bytes) }

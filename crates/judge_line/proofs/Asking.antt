@@ -1,4 +1,4 @@
--- The call that the words ask for, by the parse of `clap`.
+-- The call that the words ask for, derived from how `clap` parses the words.
 use Rattle.std.proofs.Common.{◌≡◌, true, List, [], ◌∷◌, Option, refl, sym, ap, subst, ◌∙◌}
 use Rattle.std.specs.Prelude.{option_and_then}
 use Rattle.clap.specs.declared.error.Error.{Error}
@@ -21,13 +21,14 @@ by_kind : (kinds : Kinds) (found : Option (Text × List Row)) (kind : ErrorKind)
 by_kind [] found kind what among is = absurd among
 by_kind (first ∷ kinds) found kind what among is = (kind, among, is)
 
--- The call that the words ask for if the parse fails for another reason than refused memory.
+-- If the parse fails, and not because memory was refused, the words ask for the call that
+-- `answer_to` gives.
 pub refused : (app : App) (words : List Text) (error : Error) (what : Option Asked) → app ≡ command_line → (is_simple_and_free app ≡ true → HasKind (fault_of app words) error) → (kind_of error ≡ OutOfMemory → ⊥)
     → what ≡ answer_to (kind_of error) → Spells words what
 refused app words error what same fails other is =
     by_kind (fault_of command_line words) (subcommand_of command_line words) (kind_of error) what (fails_by command_line app words error simple_and_free same fails other) is
 
--- The call that the words ask for if the parse passes.
+-- If the parse succeeds, the words ask for the call of the command that was found.
 pub found : (app : App) (words : List Text) (met : Option (Text × List Row)) (what : Option Asked) → app ≡ command_line → (is_simple_and_free app ≡ true → fault_of app words ≡ []) → (is_simple app ≡ true → met ≡ subcommand_of app words)
     → what ≡ look met → Spells words what
 found app words met what same passes meets is =

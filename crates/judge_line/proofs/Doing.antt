@@ -1,5 +1,5 @@
--- The outcome of each command: its engine ran on the source, its engine failed, or the source was
--- not opened.
+-- How each command ends: its engine ran on the source, its engine failed, or the source was not
+-- opened.
 use Rattle.std.proofs.Common.{◌≡◌, ◌⊎◌, inl, inr, ℕ, Bool, List, Option, Some, None, Ok, Err, refl, sym, subst, ◌∙◌, codes}
 use Rattle.std.specs.Result.{IsErrAnd}
 use Rattle.std.specs.Io.KnownBytes.{Keeps}
@@ -23,19 +23,20 @@ pub keeps_same : (known : Option (List ℕ)) → Keeps known known
 keeps_same None = tt
 keeps_same (Some xs) = refl
 
--- The engine has failed.
+-- If the outcome is a fault of the engine, and `P` holds of the fault, `EndsWith` holds.
 failed : (IsDone : Bool → Type 0) (P : EngineFault → Type 0) (outcome : RunResult) (fault : EngineFault) → P fault → IsErrAnd outcome (λ e. e ≡ Fault fault) → EndsWith IsDone P outcome
 failed IsDone P (Ok well) fault holds err = absurd err
 failed IsDone P (Err e) fault holds err = subst (ByFault P) (sym err) holds
 
--- A source that is not opened: memory was refused, or a read failed.
+-- If a source was not opened, memory was refused or a read failed. If `P` holds of both faults,
+-- `EndsWith` holds.
 not_opened : (IsDone : Bool → Type 0) (P : EngineFault → Type 0) (outcome : RunResult) (failure : Failure) → P faults.NoMemory → P faults.Read → (failure ≡ Fault faults.NoMemory) ⊎ (failure ≡ Fault faults.Read)
     → IsErrAnd outcome (λ e. e ≡ failure) → EndsWith IsDone P outcome
 not_opened IsDone P (Ok well) failure memory read which err = absurd err
 not_opened IsDone P (Err e) failure memory read (inl is) err = subst (ByFault P) (sym (err ∙ is)) memory
 not_opened IsDone P (Err e) failure memory read (inr is) err = subst (ByFault P) (sym (err ∙ is)) read
 
--- `check`.
+-- How `check` ends.
 pub check_done : (by_commits : Bool) (name : Text) (files : Files) (bytes old new : Option (List ℕ)) (well : Bool) → Holds (files name) bytes → WritesLine (Checks by_commits bytes) well old new
     → RunsCall (asked.Check by_commits name) files old new (Ok well)
 check_done by_commits name files bytes old new well same = writes_line _ _ well old new (λ v. of_file (files name) bytes _ same)
@@ -51,7 +52,7 @@ pub check_not_opened : (by_commits : Bool) (name : Text) (files : Files) (old : 
 check_not_opened by_commits name files old outcome failure =
     not_opened (λ well. WritesLine (Checks by_commits (files name)) well old old) (LeavesOutput (Checks by_commits (files name)) (FailsToCheck (files name)) old old) outcome failure (keeps_same old) (keeps_same old)
 
--- `why`.
+-- How `why` ends.
 pub why_done : (by_commits : Bool) (name : Text) (files : Files) (bytes old new : Option (List ℕ)) (well : Bool) → Holds (files name) bytes → WritesLines (Checks by_commits bytes) well old new
     → RunsCall (asked.Why by_commits name) files old new (Ok well)
 why_done by_commits name files bytes old new well same = writes_lines _ _ well old new (λ v. of_file (files name) bytes _ same)
@@ -66,7 +67,7 @@ pub why_not_opened : (by_commits : Bool) (name : Text) (files : Files) (old : Op
 why_not_opened by_commits name files old outcome failure =
     not_opened (λ well. WritesLines (Checks by_commits (files name)) well old old) (FailsToExplain (files name)) outcome failure tt tt
 
--- `watch`.
+-- How `watch` ends.
 pub watch_done : (basis : Basis) (files : Files) (bytes old new : Option (List ℕ)) (well : Bool) → Holds (files (codes "-")) bytes → WritesLine (Watches basis bytes) well old new
     → RunsCall (asked.Watch basis) files old new (Ok well)
 watch_done basis files bytes old new well same = writes_line _ _ well old new (λ v. of_all (files (codes "-")) bytes _ same)
@@ -84,7 +85,7 @@ watch_not_opened basis files old outcome failure =
     let known = files (codes "-") in
     not_opened (λ well. WritesLine (Watches basis known) well old old) (LeavesOutput (Watches basis known) (FailsToWatch basis known) old old) outcome failure (keeps_same old) (keeps_same old)
 
--- `outcomes`.
+-- How `outcomes` ends.
 pub outcomes_done : (scripts history : Text) (files : Files) (left right old new : Option (List ℕ)) (well : Bool) → Holds (files scripts) left → Holds (files history) right → WritesOutcomes left right old new well
     → RunsCall (asked.Outcomes scripts history) files old new (Ok well)
 outcomes_done scripts history files left right old new well one two = writes_outcomes (files scripts) (files history) left right old new well one two

@@ -21,7 +21,7 @@ pub fits : (n : ℕ) → 1 ≤ n → n ≤ max_stripes → Some n ≡ in_range n
 fits n low high = sym (ap (λ (b : Bool). if b then Some n else None) (and_from _ _ (le-leb 1 n low) (le-leb n max_stripes high)))
 
 -- If the word is parsed as a number in range, it asks for that number of locks. Otherwise it asks
--- for none.
+-- for no number of locks.
 pub parsed : {E : Type 0} (word : List ℕ) (r : Result ℕ E) → ParsesUnsigned 64 10 word r → option_and_then in_range (result_ok r) ≡ stripes_in_word word
 parsed word (Ok n) parses =
     let ds = without_leading_plus word in

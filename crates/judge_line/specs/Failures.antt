@@ -6,7 +6,7 @@ use Rattle.judge_line.specs.declared.failure.TheConstants.{USAGE}
 use Rattle.judge_line.specs.declared.failure.Failure.{Failure}
 use Rattle.judge_line.specs.declared.failure.Failure.TheVariants.{Usage, Fault, Outcomes}
 
--- The exit status.
+-- The exit status after a failure.
 abbrev pub status_of : Failure → ℕ
 status_of Usage = 2
 status_of (Fault fault) = engine.status_of fault

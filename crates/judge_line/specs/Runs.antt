@@ -1,4 +1,4 @@
--- The effect of the words of a call, and how the program ends.
+-- What the program does for the words of a call, and how it ends.
 use Rattle.std.specs.Prelude.{◌≡◌, ◌⊎◌, ℕ, Bool, true, false, List, [], ◌∷◌, ◌++◌, Option, IfSome}
 use Rattle.std.specs.Prelude.{Some, None, Result, Ok, Err, MatchResult, codes}
 use Rattle.std.specs.Result.{IsErrAnd}
@@ -28,7 +28,7 @@ RunResult = Result Bool Failure
 abbrev pub Files : Type 0
 Files = Text → Option (List ℕ)
 
--- The failure is a fault of the engine with this property.
+-- The failure is a fault of the engine, and the fault has this property.
 abbrev pub ByFault : (Fault → Type 0) → Failure → Type 0
 ByFault P (failures.Fault fault) = P fault
 ByFault P failure = ⊥
@@ -40,8 +40,8 @@ EndsWith IsDone HasFailed outcome = MatchResult outcome IsDone (ByFault HasFaile
 abbrev pub Prints : Text → Option (List ℕ) → Option (List ℕ) → Bool → Type 0
 Prints text old new well = (well ≡ true) × Appends old new (text ++ 10 ∷ [])
 
--- The output if `outcomes` fails: as `LeavesOutcomes` says of its fault, or unchanged if memory was
--- refused before the engine was called.
+-- What standard output has if `outcomes` fails. After a fault of the engine, it is as
+-- `LeavesOutcomes` says. If memory was refused before the engine was called, it is unchanged.
 abbrev pub LeavesBoth : Option (List ℕ) → Option (List ℕ) → Option (List ℕ) → Option (List ℕ)
     → Failure → Type 0
 LeavesBoth scripts history old new (failures.Outcomes fault) =
@@ -50,7 +50,7 @@ LeavesBoth scripts history old new (failures.Fault fault) =
     (fault ≡ faults.NoMemory) × Keeps old new
 LeavesBoth scripts history old new failures.Usage = ⊥
 
--- The output and the outcome of a call with these files.
+-- The output and the outcome of a call. `files` gives the bytes of the files.
 abbrev pub RunsCall : Asked → Files → Option (List ℕ) → Option (List ℕ) → RunResult → Type 0
 RunsCall (Check by_commits file) files old new = EndsWith
     (λ well. WritesLine (Checks by_commits (files file)) well old new)
@@ -69,8 +69,8 @@ RunsCall Help files old new = EndsWith (Prints USAGE.now old new) (λ fault. fau
 RunsCall Version files old new = EndsWith (Prints VERSION.now old new)
     (λ fault. fault ≡ faults.Write)
 
--- Nothing was done: memory was refused, or the words, if they are known, give no call. Nothing was
--- written.
+-- Nothing was done and nothing was written. Either memory was refused, or the words ask for no call
+-- (if the words are known).
 abbrev pub DoesNothing : Option (List Text) → Option (List ℕ) → Option (List ℕ) → Failure → Type 0
 DoesNothing spoken old new failures.Usage =
     Keeps old new × IfSome spoken (λ words. Spells words None)
@@ -90,19 +90,19 @@ abbrev pub Runs : Option (List Text) → Files → Option (List ℕ) → Option 
 Runs spoken files old new outcome =
     DoesAsked spoken files old new outcome ⊎ IsErrAnd outcome (DoesNothing spoken old new)
 
--- `NoMemory` if an error of the system is that memory was refused, else the other failure.
+-- `NoMemory` if the error is that memory was refused, else the other failure.
 abbrev pub memory_or : ErrorKind → Failure → Failure
 memory_or OutOfMemory other = failures.Fault faults.NoMemory
 memory_or kind other = other
 
--- The exit status.
+-- The exit status after a run with this outcome.
 abbrev pub status_after : RunResult → ℕ
 status_after (Ok true) = 0
 status_after (Ok false) = 1
 status_after (Err failure) = status_of failure
 
--- The text on standard error. After a failure it is the message, if all of the message was taken.
--- If there was no failure, nothing is written.
+-- What is written to standard error. After a failure it is the failure's message, if the whole
+-- message was written (`is_told`). If there was no failure, nothing is written.
 abbrev pub TellsError : Option (List ℕ) → Option (List ℕ) → Bool → RunResult → Type 0
 TellsError old new is_told (Ok well) = Keeps old new × (is_told ≡ true)
 TellsError old new is_told (Err failure) =

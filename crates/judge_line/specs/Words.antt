@@ -19,9 +19,10 @@ use Rattle.judge_engine.specs.Bases.{HasStripes}
 use Rattle.judge_line.specs.declared.words.Call.{Call}
 use Rattle.judge_line.specs.declared.words.Call.TheVariants as calls
 
--- A call: to judge the history file with a name, by the order of commits or by locks, or to judge
--- it and say why it is bad; to judge the entries of standard input by given rules; to tell the
--- outcomes of a script file in a history file; or to show the usage or the version.
+-- A call of the program. `Check` judges the history file with this name, by the order of commits or
+-- by locks. `Why` does so too, and says what leads to the bad entry. `Watch` judges the entries of
+-- standard input by these rules. `Outcomes` says what became of each script of a script file in a
+-- history file. `Help` and `Version` show the usage and the version.
 pub data Asked : Type 0 where
   Check : Bool → Text → Asked
   Why : Bool → Text → Asked
@@ -84,13 +85,13 @@ command_line =
     let watch = with_subcommand outcomes watching.top in
     with_subcommand watch (over_history (codes "why")).top
 
--- Whether a flag was found and is set.
+-- True if the flag was found and is set.
 abbrev pub is_set : Option Text → Bool
 is_set None = false
 is_set (Some word) = bytes_eq word (codes "true")
 
--- The number from 1 to `max_stripes` that a word writes: one or more decimal digits, with or
--- without a plus before them.
+-- The number that a word stands for, if the number is from 1 to `max_stripes`. The word must be one
+-- or more decimal digits, with or without a plus before them.
 abbrev pub stripes_in_word : Text → Option ℕ
 stripes_in_word word =
     let digits = without_leading_plus word in
@@ -98,15 +99,15 @@ stripes_in_word word =
     if is_numeral digits && (nat_le 1 stripes && nat_le stripes max_stripes)
     then Some stripes else None
 
--- The rules to judge by, given the flag and the word for the number of locks, each of which may be
--- missing. Both together are no call.
+-- The rules to judge by, given the flag and the word for the number of locks. Each of these two may
+-- be missing. If both are given, the words are no call.
 abbrev pub basis_for : Bool → Option Text → Option Basis
 basis_for true None = Some Commits
 basis_for true (Some word) = None
 basis_for false None = Some (Locks max_stripes Begun)
 basis_for false (Some word) = option_map (λ stripes. Locks stripes Begun) (stripes_in_word word)
 
--- Standard input cannot be both files.
+-- The call for the outcomes of these files, or none if both are standard input.
 abbrev pub outcomes_for : Text → Text → Option Asked
 outcomes_for scripts history =
     if bytes_eq scripts (codes "-") && bytes_eq history (codes "-")
@@ -127,24 +128,26 @@ asked_in name rows =
     then option_map (Why by_commits) (first_of (codes "FILE") rows)
     else None
 
--- The call that words ask for if `clap` answers them with an error of this kind. `clap` answers a
--- call for help or for the version with an error too.
+-- The call that words ask for, if `clap` returns an error of this kind for them. `clap` also
+-- returns an error if the words ask for help or for the version.
 abbrev pub answer_to : ErrorKind → Option Asked
 answer_to DisplayHelp = Some Help
 answer_to DisplayVersion = Some Version
 answer_to kind = None
 
--- The error is not that memory was refused. Words that `clap` answers with an error of this kind
--- ask for this call, or for none.
+-- The error is not that memory was refused. If `clap` returns an error of this kind for some words,
+-- they ask for the call `what`, or for no call if `what` is `None`.
 abbrev pub IsCallOf : ErrorKind → Option Asked → Type 0
 IsCallOf kind what = (kind ≡ OutOfMemory → ⊥) × (what ≡ answer_to kind)
 
--- If there are kinds of error that the words may give, the call is the answer to one of them. If
--- there are none, it is the call of the command that was found.
+-- If `clap` can return errors of some kinds for the words, the call is the one that `answer_to`
+-- gives for one of these kinds. If there is no such kind, the call is that of the command that was
+-- found.
 abbrev pub SpellsBy : Kinds → Option (Text × List Row) → Option Asked → Type 0
 SpellsBy [] found what = what ≡ option_and_then (λ command. asked_in command.0 command.1) found
 SpellsBy kinds found what = (kind : ErrorKind) × IsAmong kind kinds × (what ≡ answer_to kind)
 
--- The words ask for this call, or for none. The first word is the program's name.
+-- The words ask for the call `what`, or for no call if `what` is `None`. The first word is the
+-- program's name.
 abbrev pub Spells : List Text → Option Asked → Type 0
 Spells words what = SpellsBy (fault_of command_line words) (subcommand_of command_line words) what

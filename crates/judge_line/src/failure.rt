@@ -1,7 +1,6 @@
-//! The reasons why a call of the program has no verdict or no outcomes, and the usage, which is
-//! printed for words that are no call. The engines have two fault types, and do not read the
-//! command line. Here both types and the usage error are one type, with one text and one exit
-//! status for each value.
+//! The reasons why a call of the program has no verdict or no outcomes, and the usage text. The
+//! engines have two fault types, and do not read the command line. Here both types and the usage
+//! error become one type, with one text and one exit status for each value.
 ghost use Rattle.std.specs.Prelude.{◌≡◌};
 ghost use Rattle.judge_line.specs.Failures.{message_of, status_of};
 ghost use Rattle.judge_line.specs.declared.failure.Failure.TheVariants as failures;
@@ -10,7 +9,8 @@ use judge_engine::{Fault, OutcomesFault};
 use std::alloc::AllocError;
 use std::fmt;
 
-/// The text that is printed for words that are no call of the program, and for a call for help.
+/// The text that is printed for words that are no call of the program, and for a call that asks for
+/// help.
 pub(crate) const USAGE: &str = "usage: judge check [--serializable] FILE
        judge watch [--serializable | --stripes N]
        judge why [--serializable] FILE
@@ -36,7 +36,7 @@ Example: judge check examples/checked.json";
 /// Why a call has no verdict or no outcomes.
 #[derive(Clone, Copy, Debug, PartialEq, Eq)]
 pub enum Failure {
-    /// The words are no call of the program.
+    /// The words of the command line are no call of the program.
     Usage,
     /// There is no verdict because of a fault of the input, of memory or of an output. This is also
     /// the failure if memory was refused before an engine was called, or if the usage or the
@@ -47,7 +47,8 @@ pub enum Failure {
 }
 
 impl Failure {
-    /// The exit status of the program: 2 for `Usage`, else that of the fault. Constant time.
+    /// Returns the exit status of the program: 2 for `Usage`, else the status of the fault. Takes
+    /// constant time.
     pub fn status(self) -> u8
         ensures { result ≡ status_of self }
     {

@@ -1,6 +1,6 @@
 //! The whole call of `judge`: words, files, the engine, the line of a failure, the exit status. The
-//! engines take readers, so the names in a call are opened here. The system and both outputs are
-//! type parameters, so that tests run a call on words and files in memory.
+//! engines take readers, so the files that a call names are opened here. The system and both
+//! outputs are type parameters, so that tests can run a call on words and files in memory.
 ghost use Rattle.std.specs.Prelude.{◌≡◌, ◌⊎◌, Bool, Result, Some, IfOk, IfErr, IfSome};
 ghost use Rattle.std.specs.IoError.{error_kind};
 ghost use Rattle.judge_engine.specs.declared.fault.Fault.TheVariants as faults;
@@ -19,20 +19,20 @@ use std::alloc::Global;
 use std::io;
 use std::io::{Read, Write};
 
-/// The text that is printed for a call for the version.
+/// The text that is printed for a call that asks for the version.
 const VERSION: &str = "judge 1.0.0";
 
 /// How a run of the program ended.
 #[derive(Clone, Copy, Debug, PartialEq, Eq)]
 pub struct Ending {
-    /// The exit status: 0 if all is well; 1 if a history is illegal, or a script that has no
-    /// `abort` was given up; else that of the failure.
+    /// The exit status. It is 0 if all is well, and 1 if a history is illegal or a script that has
+    /// no `abort` was given up. After a failure it is the failure's status.
     pub status: u8,
-    /// Whether standard error took the whole message; true if there is none.
+    /// True if the whole message was written to standard error, or if there is no message.
     pub is_told: bool,
 }
 
-/// Writes a line. Answers `true` (all is well) if the write succeeds.
+/// Writes a line. Returns `true` (all is well) if the write succeeds.
 fn show<W: Write>(output: &mut W, text: &str) -> Result<bool, Failure>
     ensures { EndsWith (Prints text.now (W.contents output.old) (W.contents output.new))
         (λ fault. fault ≡ faults.Write) result }
@@ -53,8 +53,8 @@ fn memory_or(error: &io::Error, other: Failure) -> Failure
     }
 }
 
-/// Opens the source of this name. If that fails, answers `NoMemory` if memory was refused, else
-/// this failure.
+/// Opens the source with this name. On an error, returns `NoMemory` if memory was refused, else the
+/// given failure.
 fn open<S: System>(system: &S, name: &str, failure: Failure) -> Result<S::Input, Failure>
     ensures ok { IfOk result (λ source. IfSome (S.bytes system.now name.now)
         (λ known. S.Input.remaining source ≡ Some known)) }
@@ -67,7 +67,7 @@ fn open<S: System>(system: &S, name: &str, failure: Failure) -> Result<S::Input,
     }
 }
 
-/// Judges the history file of this name.
+/// Judges the history file with this name.
 fn check_file<S: System, W: Write>(
     alloc: Global,
     system: &S,
@@ -82,7 +82,7 @@ fn check_file<S: System, W: Write>(
     Ok(check(alloc, by_commits, source, output)?)
 }
 
-/// Judges the history file of this name, and says what leads to its bad entry.
+/// Judges the history file with this name, and writes what leads to its bad entry.
 fn explain_file<S: System, W: Write>(
     alloc: Global,
     system: &S,
@@ -97,7 +97,7 @@ fn explain_file<S: System, W: Write>(
     Ok(why(alloc, by_commits, source, output)?)
 }
 
-/// Judges the entries that standard input has.
+/// Judges the entries on standard input.
 fn watch_standard<S: System, W: Write>(
     alloc: Global,
     system: &S,
@@ -112,7 +112,7 @@ fn watch_standard<S: System, W: Write>(
     Ok(watch(alloc, basis, &mut source, output)?)
 }
 
-/// Says what became of the scripts of one file in the history of another.
+/// Writes what became of the scripts of one file in the history of another file.
 fn outcomes_in<S: System, W: Write>(
     alloc: Global,
     system: &S,
@@ -130,8 +130,8 @@ fn outcomes_in<S: System, W: Write>(
     Ok(tell_outcomes(alloc, scripts, history, output)?)
 }
 
-/// Does what a call asks for. Answers `false` if a history is illegal, or a script that has no
-/// `abort` was given up; else `true` (all is well).
+/// Does what a call asks for. Returns `false` if a history is illegal, or if a script that has no
+/// `abort` was given up. Otherwise returns `true` (all is well).
 fn answer<S: System, W: Write>(
     alloc: Global,
     system: &S,
@@ -183,13 +183,13 @@ fn status_of(outcome: &Result<bool, Failure>) -> u8
 }
 
 /// Does all that the program does: reads the words of the call, and does what they ask for. The
-/// answer is written to `output`. The line of a failure, or the usage for words that are no call,
-/// is written to `errors`; if that write fails, `is_told` is `false`, and the exit status stays the
-/// same.
+/// result is written to `output`. After a failure, its line is written to `errors`; for words that
+/// are no call, this is the usage. If this write fails, `is_told` is `false`, and the exit status
+/// stays the same.
 ///
 /// # Cost
 ///
-/// That of the engine, and time and memory in proportion to the words.
+/// The cost of the engine, plus time and memory in proportion to the length of the words.
 pub fn run<S: System, W: Write, E: Write>(
     alloc: Global,
     system: &S,

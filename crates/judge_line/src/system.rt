@@ -1,6 +1,6 @@
 //! The system of a process: the `Host` of `program_host`, and standard input under the name `-`.
-//! Only this module needs a process; the rest of the crate works with any `System`. The toolchain
-//! promises nothing of a process's words and files, so no contract says what they are.
+//! Only this module needs a process. The rest of the crate works with any `System`. The toolchain
+//! promises nothing about a process's words and files, so no contract says what they are.
 use program_host::System;
 use std::alloc::Global;
 use std::env::Env;
@@ -33,7 +33,7 @@ pub struct Host<'a, R> {
 }
 
 impl<'a, R> Host<'a, R> {
-    /// The system behind this runtime. Constant time.
+    /// Returns the system to which this runtime gives access. Takes constant time.
     pub fn new(rt: &'a R) -> Host<'a, R> {
         let files = program_host::Host::new(rt);
         Host { rt, files }

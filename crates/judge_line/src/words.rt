@@ -1,7 +1,7 @@
-//! The command line of `judge`, by the rules of `clap`: the call that the words ask for, if they
-//! ask for one. Numbers are tested here, so an engine can run each call (`HasStripesIf`): `watch`
-//! has 1 to 4,096 locks. Each command is made and added separately, which keeps the proof of
-//! `command` short.
+//! Reads the command line of `judge`, by the rules of `clap`, and finds the call that the words ask
+//! for, if they ask for one. Numbers are tested here, so an engine can run every call that is found
+//! (`HasStripesIf`): `watch` has 1 to 4,096 locks. Each command is made and added separately, which
+//! keeps the proof of `command` short.
 ghost use Rattle.std.specs.Prelude.{◌≡◌, ◌⊎◌, false, Some, None, IfOk, IfErr, IfSome, codes, map, option_map};
 ghost use Rattle.std.specs.String.{string_bytes};
 ghost use Rattle.clap.specs.Words.{first_of, found_of, rows_of, rule_of};
@@ -26,7 +26,7 @@ use txn_words::Holder;
 pub enum Call<'a> {
     /// To judge the history of a file.
     Check {
-        /// Whether it is judged by the order of commits.
+        /// True to judge by the order of commits, false to judge by locks.
         by_commits: bool,
         /// The file's name.
         file: &'a str,
@@ -42,21 +42,21 @@ pub enum Call<'a> {
     },
     /// To show the version.
     Version,
-    /// To judge the entries that standard input has.
+    /// To judge the entries on standard input.
     Watch {
         /// The rules to judge by.
         basis: Basis,
     },
     /// To judge the history of a file, and to say what leads to its bad entry.
     Why {
-        /// Whether it is judged by the order of commits.
+        /// True to judge by the order of commits, false to judge by locks.
         by_commits: bool,
         /// The file's name.
         file: &'a str,
     },
 }
 
-/// The name of standard input.
+/// The file name that stands for standard input.
 pub(crate) const STANDARD: &str = "-";
 
 /// The greatest number of locks, which is also the default.
@@ -72,7 +72,7 @@ fn serializable_flag<'a>(alloc: Global) -> Arg<'a>
         .action(ArgAction::SetTrue)
 }
 
-/// The number of locks, which may be left out.
+/// The option for the number of locks, which may be left out.
 fn stripes_option<'a>(alloc: Global) -> Arg<'a>
     ensures rule { rule_of result ≡ stripes_word }
     ensures local { result.global ≡ false }
@@ -82,7 +82,7 @@ fn stripes_option<'a>(alloc: Global) -> Arg<'a>
         .action(ArgAction::Set)
 }
 
-/// The name of a file, which may not be left out.
+/// The argument for the name of a file, which may not be left out.
 fn file_name<'a>(alloc: Global, name: &'a str) -> Arg<'a>
     ensures rule { rule_of result ≡ file_word name.entry.now }
     ensures local { result.global ≡ false }
@@ -90,14 +90,14 @@ fn file_name<'a>(alloc: Global, name: &'a str) -> Arg<'a>
     Arg::new(alloc, name).required(true).action(ArgAction::Set)
 }
 
-/// A command of this name that may judge by the order of commits.
+/// Makes a command with this name that has the flag to judge by the order of commits.
 fn flagged_command<'a>(alloc: Global, name: &'a str) -> Result<Command<'a>, AllocError>
     ensures { IfOk result (λ command. IsApp command (flagged name.entry.now)) }
 {
     Command::new(alloc, name).arg(serializable_flag(alloc))
 }
 
-/// A command of this name over a history file: `check` or `why`.
+/// Makes a command with this name that takes a history file: `check` or `why`.
 fn command_on_history<'a>(alloc: Global, name: &'a str) -> Result<Command<'a>, AllocError>
     ensures { IfOk result (λ command. IsApp command (over_history name.entry.now)) }
 {
@@ -119,8 +119,8 @@ fn watch_command<'a>(alloc: Global) -> Result<Command<'a>, AllocError>
     flagged_command(alloc, "watch")?.arg(stripes_option(alloc))
 }
 
-/// The command line of the program. Each command is added as soon as it is made, so that little has
-/// to be given back if memory is refused.
+/// The command line of the program. Each command is added as soon as it is made, so that little
+/// must be freed if memory is refused.
 fn command<'a>(alloc: Global) -> Result<Command<'a>, AllocError>
     ensures { IfOk result (λ command. IsApp command command_line) }
 {
@@ -133,7 +133,7 @@ fn command<'a>(alloc: Global) -> Result<Command<'a>, AllocError>
         .subcommand(command_on_history(alloc, "why")?)
 }
 
-/// Whether the order of commits was asked for.
+/// Returns true if the words ask to judge by the order of commits.
 fn is_by_commits(found: &ArgMatches<'_>) -> bool
     ensures { result ≡ is_set (first_of (codes "serializable") (rows_of (found_of found.now))) }
 {
@@ -143,7 +143,7 @@ fn is_by_commits(found: &ArgMatches<'_>) -> bool
     }
 }
 
-/// The number of locks that a word asks for, if it is from 1 to 4,096.
+/// Returns the number of locks that a word asks for, if the number is from 1 to 4,096.
 fn stripes_in(word: &str) -> Option<u64>
     ensures { result ≡ stripes_in_word word.now }
 {
@@ -155,8 +155,8 @@ fn stripes_in(word: &str) -> Option<u64>
     }
 }
 
-/// The rules to judge by, given the flag and the word for the number of locks. Answers `None` if
-/// both are given, or the word is no number from 1 to 4,096.
+/// Returns the rules to judge by, given the flag and the word for the number of locks. Returns
+/// `None` if both are given, or if the word is no number from 1 to 4,096.
 fn basis_in(by_commits: bool, word: Option<&str>) -> Option<Basis>
     ensures basis { result ≡ basis_for by_commits (option_map (λ text. text.now) word.entry) }
     ensures stripes { IfSome result HasStripes }
@@ -176,7 +176,7 @@ fn basis_in(by_commits: bool, word: Option<&str>) -> Option<Basis>
     }
 }
 
-/// The call for the outcomes of these files, unless both are standard input.
+/// Returns the call for the outcomes of these files, or `None` if both are standard input.
 fn outcomes_of<'a>(scripts: &'a str, history: &'a str) -> Option<Call<'a>>
     ensures call { option_map asked_of result ≡ outcomes_for scripts.entry.now history.entry.now }
     ensures stripes { IfSome result (λ call. HasStripesIf (asked_of call)) }
@@ -216,8 +216,8 @@ fn call_named<'a>(name: &str, found: &ArgMatches<'a>) -> Option<Call<'a>>
     }
 }
 
-/// The call that words ask for if `clap` answers them with an error of this kind. `clap` answers a
-/// call for help or for the version with an error too.
+/// Returns the call that words ask for, if `clap` returns an error of this kind for them. `clap`
+/// also returns an error if the words ask for help or for the version.
 fn call_for<'a>(kind: ErrorKind) -> Result<Call<'a>, Failure>
     ensures call { IfOk result (λ call. IsCallOf kind (Some (asked_of call))) }
     ensures stripes { IfOk result (λ call. HasStripesIf (asked_of call)) }
@@ -232,16 +232,17 @@ fn call_for<'a>(kind: ErrorKind) -> Result<Call<'a>, Failure>
     }
 }
 
-/// The call that the words ask for, by the rules of `clap`; the first word is the program's name.
+/// Returns the call that the words ask for, by the rules of `clap`. The first word is the program's
+/// name.
 ///
 /// # Errors
 ///
 /// - `NoMemory` if memory is refused.
-/// - Otherwise `Usage`, exactly for words that are no call of the program.
+/// - Otherwise `Usage`, exactly if the words are no call of the program.
 ///
 /// # Cost
 ///
-/// Time and memory in proportion to the words.
+/// Time and memory in proportion to the length of the words.
 pub fn call_in<'a>(alloc: Global, words: &'a [String]) -> Result<Call<'a>, Failure>
     ensures call { IfOk result (λ call.
         Spells (map string_bytes words.entry.now) (Some (asked_of call))) }

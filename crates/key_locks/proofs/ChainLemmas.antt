@@ -1,5 +1,5 @@
--- A lock puts a stripe in front of its caller's chain, and a release takes the chain's first stripe
--- off.
+-- A lock puts a stripe at the front of its caller's chain, and each step of a release removes the
+-- chain's first stripe.
 use Prim.Native.Nat.{zero, suc}
 use Rattle.std.proofs.Common.{◌≡◌, ◌≢◌, ℕ, ◌<◌, ◌≤◌, List, [], ◌∷◌, length, get_or, set, replicate, Option, None, Some, true, false, cond, ◌||◌, refl, sym, ◌∙◌, ap, subst, arith, inl, inr, eqb, eq-eqb, ne_eqb, length-set, get_or-set_other, get_or-set_same}
 use Rattle.std.proofs.lemmas.Bool.{cases_eq, cases_lt, or_parts, or_left, eqb-true, eqb-false}
@@ -36,8 +36,8 @@ caller_is : (caller : ℕ) (holder : Option ℕ) → is_caller caller holder ≡
 caller_is caller None is = cc
 caller_is caller (Some holder) is = ap (λ h. Some h) (eqb-true holder caller is)
 
--- After a write, the element at the index of the write has a property if the written value has it.
--- The element at any other index has the property if it had the property before.
+-- After a write, the element at the written index has a property if the written value has it. The
+-- element at any other index has the property if it had it before.
 get_or-set_is : (holders : Holders) (stripe other : ℕ) (holder : Option ℕ) → stripe < length holders → (P : Option ℕ → Type 0) → (other ≡ stripe → P holder) → (other ≢ stripe → P (get_or holders other None)) → P (get_or (set holders stripe holder) other None)
 get_or-set_is holders stripe other holder within P here elsewhere =
     elim (cases_eq other stripe) [
@@ -45,7 +45,7 @@ get_or-set_is holders stripe other holder within P here elsewhere =
       | inr differs ↦ subst P (sym (get_or-set_other holders stripe other holder None differs)) (elsewhere differs)
     ]
 
--- A held stripe is one of the stripes.
+-- The index of a held stripe is below the number of stripes.
 held_below : (holders : Holders) (stripe caller : ℕ) → get_or holders stripe None ≡ Some caller → stripe < length holders
 held_below holders stripe caller held =
     elim (cases_lt stripe (length holders)) [
@@ -62,7 +62,7 @@ Leads-set older first (other ∷ rest) stripe next out leads =
     let same = get_or-set_other older stripe other next None (eqb-false other stripe apart.0) in
     (leads.0, leads.1, subst (λ from. Leads (set older stripe next) from rest) (sym same) (Leads-set older (get_or older other None) rest stripe next apart.1 leads.2))
 
--- A stripe becomes the first of the chain of the caller that takes it.
+-- If a caller takes a free stripe, the stripe becomes the first of the caller's chain.
 IsChain-taken : (holders older : Holders) (caller stripe : ℕ) (first : Option ℕ) (chain : List ℕ) → IsChain holders older caller first chain → get_or holders stripe None ≡ None → stripe < length holders → stripe < length older
     → IsChain (set holders stripe (Some caller)) (set older stripe first) caller (Some stripe) (stripe ∷ chain)
 IsChain-taken holders older caller stripe first chain is free within within_older =
@@ -74,8 +74,8 @@ IsChain-taken holders older caller stripe first chain is free within within_olde
           (λ differs. ap (λ b. b || is_in chain other) (ne_eqb stripe other (λ same. differs (sym same))) ∙ is.held other);
     }
 
--- A write at a stripe leaves the caller's chain unchanged if the caller does not hold the stripe
--- before the write and does not hold it after the write.
+-- If the caller holds the stripe neither before a write nor after it, the write leaves the caller's
+-- chain unchanged.
 IsChain-elsewhere : (holders older : Holders) (caller stripe : ℕ) (first next holder : Option ℕ) (chain : List ℕ) → IsChain holders older caller first chain → is_caller caller (get_or holders stripe None) ≡ false → is_caller caller holder ≡ false → stripe < length holders
     → IsChain (set holders stripe holder) (set older stripe next) caller first chain
 IsChain-elsewhere holders older caller stripe first next holder chain is not_before not_after within =
@@ -87,7 +87,6 @@ IsChain-elsewhere holders older caller stripe first next holder chain is not_bef
           (λ differs. is.held other);
     }
 
--- A chain that begins at this stripe is this stripe, followed by a rest.
 chain_from : (holders older : Holders) (caller stripe : ℕ) (first : Option ℕ) (chain : List ℕ) → IsChain holders older caller first chain → first ≡ Some stripe → (rest : List ℕ) × IsChain holders older caller (Some stripe) (stripe ∷ rest)
 chain_from holders older caller stripe first [] is begins = absurd (none_is_not_some first stripe is.leads begins)
 chain_from holders older caller stripe first (other ∷ rest) is begins =
@@ -125,7 +124,7 @@ none_else-freed holders stripe within none_else other holder =
     (λ same held. absurd (none_is_not_some None holder refl held))
     (λ differs held. none_else other holder held)
 
--- A release for a number from 64 on changes no holder: no caller has such a number.
+-- If the number is 64 or more, a release changes no holder: no caller has such a number.
 not_a_caller : (caller : ℕ) (held : Option ℕ) → ((holder : ℕ) → held ≡ Some holder → holder < 64) → 64 ≤ caller → held ≡ without_caller caller held
 not_a_caller caller None few past = refl
 not_a_caller caller (Some holder) few past =
@@ -227,8 +226,8 @@ fewer_held holders caller stripe within held =
     let one : cond {A = ℕ} (is_caller caller (get_or holders stripe None)) 1 0 ≡ 1 = ap (λ b. cond {A = ℕ} b 1 0) (some_is_caller caller _ held) in
     omega (arith, one, sum_by-set (λ (holder : Option ℕ). cond {A = ℕ} (is_caller caller holder) 1 0) holders stripe None None within)
 
--- The result of the caller's release does not change if one of the caller's stripes is freed before
--- the release.
+-- If one of the caller's stripes is freed before the caller's release, the release has the same
+-- result.
 pub without_caller-set : (holders : Holders) (caller stripe other : ℕ) → get_or holders stripe None ≡ Some caller → without_caller caller (get_or (set holders stripe None) other None) ≡ without_caller caller (get_or holders other None)
 without_caller-set holders caller stripe other held =
     get_or-set_is holders stripe other None (held_below holders stripe caller held) (λ holder. without_caller caller holder ≡ without_caller caller (get_or holders other None))

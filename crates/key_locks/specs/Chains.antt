@@ -1,4 +1,5 @@
--- The stripes of each caller, as a chain from the one that it took last to its first.
+-- The stripes of each caller, as a chain from the stripe that it took last to the one that it took
+-- first.
 use Rattle.std.specs.Prelude.{◌≡◌, ℕ, ◌<◌, List, [], ◌∷◌, length, slice_index_or, Option, None, Some, Bool, false, ◌==◌}
 use Rattle.std.specs.List.{list_any}
 use Rattle.key_locks.specs.Locks.{holder_of, is_caller}
@@ -7,8 +8,8 @@ use Rattle.key_locks.specs.Locks.{holder_of, is_caller}
 abbrev pub is_in : List ℕ → ℕ → Bool
 is_in chain stripe = list_any (λ other. other == stripe) chain
 
--- The chain begins with the stripe `first`, and each stripe in it is followed by the stripe that
--- `older` names for it; the chain ends if none is named. No stripe is in it twice.
+-- The chain begins with the stripe `first`. After each stripe comes the stripe that `older` has for
+-- it. The chain ends where `older` has None. No stripe is in the chain twice.
 abbrev pub Leads : List (Option ℕ) → Option ℕ → List ℕ → Type 0
 Leads older first [] = first ≡ None
 Leads older first (stripe ∷ rest) =

@@ -12,21 +12,22 @@ abbrev pub is_caller : ℕ → Option ℕ → Bool
 is_caller caller None = false
 is_caller caller (Some holder) = holder == caller
 
--- The stripe was free or the caller's, and is the caller's now. The holders of all others are
--- unchanged.
+-- The stripe was free or held by the caller, and the caller holds it now. The holders of all other
+-- stripes are unchanged.
 pub record Grants (caller stripe : ℕ) (old new : List (Option ℕ)) : Type 0 where
   pub open_to_caller : (holder_of old stripe ≡ None) ⊎ (holder_of old stripe ≡ Some caller)
   pub each : (other : ℕ) → holder_of new other
       ≡ (if other == stripe then Some caller else holder_of old other)
   pub as_many : length new ≡ length old
 
--- This other caller holds the stripe, and nothing changes.
+-- Another caller, `holder`, holds the stripe, and nothing changes.
 pub record Refuses (caller stripe holder : ℕ) (old new : List (Option ℕ)) : Type 0 where
   pub held : holder_of old stripe ≡ Some holder
   pub by_another : holder ≢ caller
   pub same : new ≡ old
 
--- The answer to a caller that asks for the stripe, and the holders afterwards.
+-- What a lock does: after Granted, the holders are as `Grants` says. After Busy, they are as
+-- `Refuses` says.
 abbrev pub Locks : ℕ → ℕ → List (Option ℕ) → LockAnswer → List (Option ℕ) → Type 0
 Locks caller stripe old Granted new = Grants caller stripe old new
 Locks caller stripe old (Busy holder) new = Refuses caller stripe holder old new
@@ -35,7 +36,7 @@ Locks caller stripe old (Busy holder) new = Refuses caller stripe holder old new
 abbrev pub without_caller : ℕ → Option ℕ → Option ℕ
 without_caller caller holder = (if is_caller caller holder then None else holder)
 
--- The caller's stripes are free, and the holders of all others are unchanged.
+-- The caller's stripes are free, and the holders of all other stripes are unchanged.
 pub record Releases (caller : ℕ) (old new : List (Option ℕ)) : Type 0 where
   pub each : (stripe : ℕ) → holder_of new stripe ≡ without_caller caller (holder_of old stripe)
   pub as_many : length new ≡ length old

@@ -1,6 +1,7 @@
-//! The holders of the stripes, for use by one thread at a time: a byte for each stripe, and the
-//! stripes of each caller in a chain. So `release_all` takes time only in proportion to the stripes
-//! that it frees. Invariant: each chain has exactly the stripes that its caller holds.
+//! The holders of the stripes, for use by one thread at a time. Each stripe has a byte for its
+//! holder, and the stripes of each caller form a chain. So `release_all` takes time only in
+//! proportion to the stripes that it frees. Invariant: each chain has exactly the stripes that its
+//! caller holds.
 ghost use Rattle.std.specs.Prelude.{◌≡◌, ℕ, ◌<◌, List, Option, None, length, replicate, IfOk};
 ghost use Rattle.key_locks.specs.Chains.{AreChained};
 
@@ -12,15 +13,15 @@ use std::marker::Model;
 /// The number of callers: each caller's number is below it.
 pub const CALLERS: usize = 64;
 
-/// Abstract locks: stripes of keys, each with one holder or none. A caller is a number below
-/// `CALLERS`, and a stripe a number from 0. A contract sees the list of the stripes' holders.
+/// Abstract locks: stripes of keys, each with at most one holder. A caller has a number below
+/// `CALLERS`, and a stripe has a number from 0. A contract sees the list of the stripes' holders.
 #[derive(Drop)]
 pub struct KeyLocks {
-    // The caller that holds the stripe.
+    // For each stripe, the caller that holds it.
     holders: Vec<Holder>,
     // For each held stripe, the stripe that its holder took just before it, if any.
     older: Vec<Link>,
-    // The stripe that the caller took last.
+    // For each caller, the stripe that it took last.
     newest: Vec<Link>,
 }
 
@@ -57,7 +58,7 @@ impl KeyLocks {
     ///
     /// # Cost
     ///
-    /// Time and memory in proportion to the stripes.
+    /// Time and memory in proportion to the number of stripes.
     pub fn new(alloc: Global, stripes: usize) -> Result<KeyLocks, AllocError>
         ensures { IfOk result (λ locks. locks ≡ replicate stripes None) }
     {
@@ -71,16 +72,16 @@ impl KeyLocks {
         })
     }
 
-    /// The caller that holds the stripe; none if the stripe is free, or if there is no such stripe.
+    /// The caller that holds the stripe, or None if the stripe is free or there is no such stripe.
     pub fn holder(&self, stripe: usize) -> Option<usize>
         ensures { result ≡ holder_of self.now stripe }
     {
         self.holders.get(stripe)?.caller()
     }
 
-    /// Makes the caller the holder of the stripe, unless another caller holds it. In that case
-    /// nothing changes, and the answer names that caller. A stripe that the caller holds is granted
-    /// again. No other stripe changes.
+    /// Makes the caller the holder of the stripe, unless another caller holds it. If another caller
+    /// does, nothing changes, and the result names that caller. A stripe that the caller already
+    /// holds is granted again. No other stripe changes.
     pub fn lock(&mut self, caller: usize, stripe: usize) -> LockAnswer
         requires caller { caller < CALLERS }
         requires stripe { stripe < length self.old }
@@ -98,12 +99,12 @@ impl KeyLocks {
         }
     }
 
-    /// Frees all stripes that the caller holds, and no other stripe. Frees none if no caller has
-    /// this number.
+    /// Frees all stripes that the caller holds, and no other stripe. If the number is `CALLERS` or
+    /// more, frees no stripe.
     ///
     /// # Cost
     ///
-    /// Time in proportion to the stripes that it frees; takes no memory.
+    /// Time in proportion to the number of stripes that it frees; takes no memory.
     pub fn release_all(&mut self, caller: usize)
         ensures { Releases caller self.old self.new }
     {

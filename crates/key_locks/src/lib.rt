@@ -3,12 +3,13 @@
 //! Objects" (PPoPP 2008), rule 2, commutativity isolation.
 //!
 //! Keys are distributed over a fixed number of stripes. A transaction takes the stripe of each key
-//! that it works on, and keeps it to its end. Two operations on one key may not commute, so a
-//! stripe has at most one holder: a caller, whose number is below 64. A caller that finds a stripe
-//! held by another is told by whom, and never waits.
+//! that it works on, and keeps the stripe until the transaction ends. Two operations on one key may
+//! not commute, so a stripe has at most one holder. The holder is a caller, whose number is below
+//! 64. If another caller asks for a held stripe, the lock call returns the holder at once: a caller
+//! never waits.
 //!
 //! The model is the list of the stripes' holders. Each caller's stripes are chained through the
-//! stripes themselves, from the one that it took last to its first:
+//! stripes themselves, from the stripe that it took last to the one it took first:
 //!
 //! ```text
 //!  newest   caller 0: 6      caller 1: 2      others: none
@@ -18,16 +19,16 @@
 //!  older     -     -     -     -     1     -     4     -       caller 0 holds 6, then 4, then 1
 //! ```
 //!
-//! So a lock takes constant time, and giving back a caller's stripes takes time in proportion to
-//! these, however many stripes there are. All memory is taken when the stripes are made. Calls take
-//! constant time and no memory unless they say otherwise.
+//! So a lock takes constant time. The release of a caller's stripes takes time in proportion to
+//! their number, however many other stripes there are. All memory is taken when the stripes are
+//! made. Calls take constant time and no memory unless they say otherwise.
 //!
 //! `StripeRight` is for stripes that callers do not take from a `KeyLocks`. It is the right to a
 //! stripe, as a value; `StripeRight::all` makes one for each stripe.
 //!
 //! Proved: a stripe has at most one holder. A lock is granted exactly if no other caller holds the
-//! stripe; otherwise the answer names that holder. The contract of each call says of every stripe
-//! who holds it afterwards.
+//! stripe; otherwise the result names that holder. The contract of each call says which caller
+//! holds each stripe afterwards.
 #![tactic(auto)]
 
 mod key_locks;

@@ -1,13 +1,14 @@
-//! A caller or none, packed into one byte; and a stripe or none, packed into one word.
+//! An optional caller in one byte (`Holder`), and an optional stripe in one word (`Link`).
 //!
-//! A contract sees each as an option of its number. The greatest number of the type stands for
-//! none: no caller has it, and no vector is long enough for a stripe to have it.
+//! A contract sees each of them as an option of a number. The greatest number of the byte or of the
+//! word stands for None: no caller has this number, and no vector is long enough to have a stripe
+//! with this number.
 ghost use Rattle.std.specs.Prelude.{◌≡◌, ◌-◌, ◌^◌, ◌<◌, Some, None};
 
 use std::marker::Model;
 use std::mem::size_of;
 
-/// The caller that holds a stripe, or none.
+/// The caller that holds a stripe, or None.
 #[derive(Clone, Copy)]
 pub(crate) struct Holder {
     caller: u8,
@@ -58,7 +59,7 @@ impl Holder {
     }
 }
 
-/// A stripe, or none.
+/// A stripe, or None.
 #[derive(Clone, Copy)]
 pub(crate) struct Link {
     stripe: usize,
@@ -80,14 +81,14 @@ impl Model for Link {
 }
 
 impl Link {
-    /// No stripe.
+    /// The link to no stripe.
     pub(crate) fn none() -> Link
         ensures { result ≡ None }
     {
         Link { stripe: usize::MAX }
     }
 
-    /// This stripe.
+    /// The link to this stripe.
     pub(crate) fn to(stripe: usize) -> Link
         requires { stripe < 2 ^ 64 - 1 }
         ensures { result ≡ Some stripe }

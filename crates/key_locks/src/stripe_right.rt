@@ -1,6 +1,7 @@
-//! The right to a stripe as a value that cannot be copied, so that no stripe can have two holders.
-//! It serves maps whose callers do not take their stripes from a `KeyLocks`, and takes one word.
-//! All rights to the stripes of a map are made at once; afterwards a right is only handed on.
+//! The right to a stripe is a value that cannot be copied, so no stripe can have two holders. It is
+//! for maps whose callers do not take their stripes from a `KeyLocks`, and it takes one word. All
+//! rights to a map's stripes are made at once. After that, a right only moves from one owner to
+//! another.
 ghost use Rattle.std.specs.Prelude.{◌≡◌, IfOk};
 ghost use Rattle.key_locks.specs.Rights.{AreAll};
 
@@ -23,7 +24,7 @@ impl Model for StripeRight {
 }
 
 impl StripeRight {
-    /// One right for each of this number of stripes, by rising number.
+    /// Makes one right for each of this many stripes, in the order of the stripes' numbers.
     ///
     /// # Errors
     ///
@@ -31,7 +32,7 @@ impl StripeRight {
     ///
     /// # Cost
     ///
-    /// Time and memory in proportion to the stripes.
+    /// Time and memory in proportion to the number of stripes.
     pub fn all(alloc: Global, stripes: usize) -> Result<Vec<StripeRight>, AllocError>
         ensures { IfOk result (λ rights. AreAll stripes rights.items) }
     {

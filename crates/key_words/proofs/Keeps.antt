@@ -1,5 +1,5 @@
--- Changes of one seat's view, of words and of slots, and the conditions under which they keep the
--- rule.
+-- Conditions under which the rule is kept when the view of one seat, the words and the slots
+-- change.
 use Rattle.std.proofs.Common.{◌≡◌, ◌≢◌, ℕ, ◌+◌, ◌<◌, ◌≤◌, ◌⊎◌, List, [], ◌∷◌, ◌++◌, length, get_or, set, Contains, Option, Some, sym, refl, ◌∙◌, ap, subst, inl, inr, ⊎_elim, arith}
 use Rattle.std.proofs.lemmas.List.{get_or_past}
 use mathlib.Core.Logic.{dite}
@@ -19,7 +19,7 @@ St = State (Option ℕ) View
 abbrev pub board : List ℕ → List (Maybe (Option ℕ)) → List View → St
 board ws hs vs = record { words = ws; homes = hs; views = vs }
 
--- The views after the seat `id` gets the view `w` in place of `v`.
+-- The views after the view of seat `id` has changed from `v` to `w`.
 module _ (s : St) (o : IsOrderly s) (id : ℕ) (v w : View) (me : get_elem? s.views id ≡ some v) (same : w.number ≡ v.number) (more : v.made ≤ w.made) (kept : (note : ℕ × ℕ) → Contains v.notes note → Contains w.notes note) where
   abbrev after : List View
   after = set s.views id w
@@ -45,15 +45,16 @@ module _ (s : St) (o : IsOrderly s) (id : ℕ) (v w : View) (me : get_elem? s.vi
       (id, w, set_here s.views id w (within s.views id v me), t.3 ∙ ap (λ (n : ℕ). n + 1) (ap (λ (y : View). y.number) is ∙ sym same)))
       (λ ne. (t.0, t.1, set_else s.views id t.0 w ne ∙ t.2, t.3)))) n
 
-  -- If the old views say that a stripe was taken (`WasTaken`), the new views say so too.
+  -- If a stripe was taken (`WasTaken`) according to the old views, it was taken according to the
+  -- new views.
   lifted : (stripe word : ℕ) → WasTaken s.views stripe word → WasTaken after stripe word
   lifted stripe word t = dite (ℕ_discrete t.0 id)
       (λ e. let is : t.1 ≡ v = some-injective t.1 v (sym t.2 ∙ subst (λ (k : ℕ). get_elem? s.views k ≡ some v) (sym e) me) in
       (id, w, set_here s.views id w (within s.views id v me), t.3 ∙ ap (λ (n : ℕ). n + 1) (ap (λ (y : View). y.number) is ∙ sym same), kept (stripe, 0) (subst (λ (u : View). Contains u.notes (stripe, 0)) is t.4)))
       (λ ne. (t.0, t.1, set_else s.views id t.0 w ne ∙ t.2, t.3, t.4))
 
-  -- The rule is kept, under these conditions, when words and slots change and the view `w` takes
-  -- the place of `v`.
+  -- The rule is kept under these conditions if words and slots change, and the view `w` takes the
+  -- place of `v`.
   pub moved : (ws : List ℕ) (hs : List (Maybe (Option ℕ))) → length ws ≡ length s.words → length hs ≡ length s.homes
       → ((k : ℕ) → (get_or ws k 0 ≡ 0) ⊎ ((get_or ws k 0 ≡ v.number + 1) ⊎ (get_or ws k 0 ≡ get_or s.words k 0)))
       → ((k : ℕ) → times k w.held ≡ once_for v.number (get_or ws k 0))
@@ -86,8 +87,8 @@ module _ (s : St) (o : IsOrderly s) (id : ℕ) (v w : View) (me : get_elem? s.vi
         (λ (t : (i ≢ id) × (get_elem? s.views i ≡ some u)). o.noted i u t.1 k word ne has) (at_set s.views id i w u e));
   }
 
-  -- The rule is kept when only the view changes: the words are unchanged, and so is the slot at
-  -- each position.
+  -- The rule is kept if only the view changes. The words are unchanged, and so is the slot at each
+  -- position.
   pub unmoved : (hs : List (Maybe (Option ℕ))) → length hs ≡ length s.homes → ((k : ℕ) → get_elem? hs k ≡ get_elem? s.homes k)
       → ((k : ℕ) → times k w.held ≡ times k v.held)
       → ((k word : ℕ) → word ≢ 0 → Contains w.notes (k, word) → WasTaken s.views k word)
@@ -105,8 +106,8 @@ unnamed s o number new k e = dite (dec_le (length s.words) k)
 pub none_in : {X : Type 0} (x : X) → Contains [] x → ⊥
 none_in x c = omega (arith, c.1)
 
--- A new seat keeps the rule if its number is above the number of each other seat, and below the
--- first view's count of seats (`made`).
+-- Adding a seat keeps the rule if the new seat's number is above the number of each other seat, and
+-- below the first view's count of seats (`made`).
 pub joined : (s : St) (o : IsOrderly s) (number : ℕ) → number < o.first.made → ((i : ℕ) (u : View) → get_elem? s.views i ≡ some u → u.number < number) → IsOrderly (board s.words s.homes (s.views ++ view number 0 [] [] ∷ []))
 joined s o number low new = let w = view number 0 [] [] in let vs = s.views ++ w ∷ [] in
     let at_new : get_elem? vs (length s.views) ≡ some w = at_last s.views w (length s.views) refl in

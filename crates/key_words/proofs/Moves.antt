@@ -79,8 +79,8 @@ tries n id m i own said e lt s o wide me _ = let v : View = m.0 in let x : ℕ =
       ((λ z. absurd (ne z)), λ _. (refl, ((λ h. own_word v.number x (times i v.held) (o.held id v me i) h), λ q. omega (arith, o.held id v me i, once_yes v.number x q)))),
     ))
 
--- An act that takes out the slot of the stripe x, and puts it right behind the slot of the first
--- stripe, k. The act has three parts: the slot of k goes home, the slot of x is taken out, and the
+-- An act that takes out the slot of the stripe x, and puts it right after the slot of the first
+-- stripe, k. The act has three parts. The slot of k goes home, the slot of x is taken out, and the
 -- slot of k is taken out again.
 front_of : (hs : Slots) (c : List (ℕ × Option ℕ)) (x k : ℕ) (ks : List ℕ) → c ≡ (k, None) ∷ emptied ks → k ≢ x → x < length hs → k < length hs → get_elem? hs x ≡ some (some None)
     → Valid hs c (chain gives (chain (takes x None) (takes k None)))
@@ -103,7 +103,7 @@ front_of hs c x k ks e ne lx lk at = let a : Act (Option ℕ) = chain gives (cha
       l₃ ∙ l₂ ∙ l₁,
     ))
 
--- The effect of an act that brings the stripe k to the front.
+-- The effect of an act that moves the slot of the stripe k to the front.
 pub record Fronts (hs : Slots) (k : ℕ) (ks : List ℕ) (a : Act (Option ℕ)) : Type 0 where
   pub valid : Valid hs (emptied ks) a
   pub order : carried_after (emptied ks) a ≡ emptied (k ∷ removed k ks)

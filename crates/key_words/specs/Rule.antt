@@ -6,11 +6,11 @@ use Rattle.atomic_table.specs.Table.{State}
 use Rattle.txn_words.specs.Held.{times, once_for}
 use Rattle.key_words.specs.declared.view.View.{View}
 
--- A view by its parts.
+-- A view, made of its parts.
 abbrev pub view : ℕ → ℕ → List ℕ → List (ℕ × ℕ) → View
 view number made held notes = record { number = number; made = made; held = held; notes = notes }
 
--- The seat of the view holds the stripe.
+-- The seat with this view holds the stripe.
 abbrev pub Holds : View → ℕ → Type 0
 Holds v stripe = 0 < times stripe v.held
 
@@ -19,18 +19,19 @@ abbrev pub IsNamed : List View → ℕ → Type 0
 IsNamed views word =
     (word ≡ 0) ⊎ ((seat : ℕ) × (v : View) × (get_elem? views seat ≡ some v) × (word ≡ v.number + 1))
 
--- The word names a seat that has taken the stripe at some time: that seat has noted the stripe's
--- word as 0.
+-- The word names a seat that has noted 0 as the stripe's word. So that seat has taken the stripe at
+-- some time.
 abbrev pub WasTaken : List View → ℕ → ℕ → Type 0
 WasTaken views stripe word =
     (seat : ℕ) × (v : View) × (get_elem? views seat ≡ some v) × (word ≡ v.number + 1)
     × Contains v.notes (stripe, 0)
 
--- Each stripe's right is at home, or one seat holds the stripe: the seat that the stripe's word
--- names. Each note of a word other than 0 names a seat that has taken the stripe.
+-- For each stripe, either its right is at home, or one seat holds the stripe: the seat that the
+-- stripe's word names. Each note of a word other than 0 names a seat that has taken the stripe.
 pub record IsOrderly (s : State (Option ℕ) View) : Type 0 where
   pub wide : length s.homes ≡ length s.words
-  -- No two views have the same number, and each number is below the count of the view of seat 0.
+  -- No two views have the same number. Each number is below the count of seats (`made`) in the view
+  -- of seat 0.
   pub first : View
   pub at_first : get_elem? s.views 0 ≡ some first
   pub zeroth : first.number ≡ 0
@@ -47,8 +48,8 @@ pub record IsOrderly (s : State (Option ℕ) View) : Type 0 where
       → get_elem? s.homes stripe ≡ some (some (Some stripe))
   pub out : (stripe : ℕ) → stripe < length s.words → slice_index s.words stripe ≢ 0
       → get_elem? s.homes stripe ≡ some none
-  -- A seat that holds a stripe has noted that the stripe's word was 0. A seat is noted as a
-  -- stripe's holder only after it has taken the stripe.
+  -- A seat that holds a stripe has noted that the stripe's word was 0. If a note names a seat as a
+  -- stripe's holder, that seat has taken the stripe before.
   pub taken : (i : ℕ) (v : View) → get_elem? s.views i ≡ some v → (stripe : ℕ) → Holds v stripe
       → Contains v.notes (stripe, 0)
   pub noted : (i : ℕ) (v : View) → get_elem? s.views i ≡ some v → (stripe word : ℕ) → word ≢ 0

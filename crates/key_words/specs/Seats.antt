@@ -1,4 +1,4 @@
--- The words and a seat as contracts see them.
+-- How contracts see the words and a seat.
 use Rattle.std.specs.Prelude.{◌≡◌, ◌≢◌, ◌↔◌, ℕ, ◌+◌, ◌<◌, List, [], length}
 use Rattle.std.specs.List.{HoldsAt}
 use Rattle.key_words.specs.declared.view.View.{View}
@@ -21,9 +21,9 @@ IsOf seat words = seat.seat.table_id ≡ words.table.shared.table_id
 abbrev pub stripes_of : KeyWords → ℕ
 stripes_of words = words.table.shared.table_id.words
 
--- A take of a stripe adds one note, of the word that it saw. Granted: the word was 0, and the seat
--- has the stripe and its right. Held: the word was not 0; it named this seat exactly if the seat
--- held the stripe before.
+-- A take of a stripe adds a note of the word that it saw. `Granted`: the word was 0, and the seat
+-- now has the stripe and its right. `Held`: the word was not 0. It named this seat exactly if the
+-- seat held the stripe before.
 abbrev pub Takes : ℕ → View → Taken → View → Type 0
 Takes stripe v (Granted right) w = (right ≡ stripe) × (w ≡ gained v stripe)
 Takes stripe v (Held word) w = (word ≢ 0) × (w ≡ with_note v stripe word)
@@ -36,7 +36,7 @@ pub record IsFresh (words : KeyWords) (number : ℕ) (seat : KeySeat) : Type 0 w
   pub held : (known seat).held ≡ []
   pub notes : (known seat).notes ≡ []
 
--- This number of seats, each with its position as its number.
+-- There are `count` seats. Each is fresh, and its number is its position.
 pub record AreSeats (words : KeyWords) (count : ℕ) (seats : List KeySeat) : Type 0 where
   pub count_is : length seats ≡ count
   pub each : (number : ℕ) → number < count → HoldsAt (IsFresh words number) seats number

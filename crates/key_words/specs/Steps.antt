@@ -1,4 +1,4 @@
--- The steps at the words: for each step, the seat after it.
+-- The effect of each step at the words on the seat that takes it.
 use Rattle.std.specs.Prelude.{◌≡◌, ◌≢◌, ◌↔◌, ℕ, ◌+◌, List, [], ◌∷◌, ◌++◌, Option, Some, None}
 use Rattle.atomic_table.specs.Table.{Me, Step, rest}
 use Rattle.txn_words.specs.Held.{removed}
@@ -9,11 +9,11 @@ use Rattle.key_words.specs.Rule.{view, Holds}
 abbrev pub Sat : Type 0
 Sat = Me (Option ℕ) View
 
--- A step, the seat before it, the word that it found, and the seat after it.
+-- Relates a step, the seat before it, the word that the step found, and the seat after it.
 abbrev pub StepEffect : Type 1
 StepEffect = Step (Option ℕ) → Sat → ℕ → Sat → Type 0
 
--- The stripe and its word are noted.
+-- The view after the seat has noted the stripe and its word.
 abbrev pub with_note : View → ℕ → ℕ → View
 with_note v stripe word = view v.number v.made v.held (v.notes ++ (stripe, word) ∷ [])
 
@@ -21,7 +21,7 @@ with_note v stripe word = view v.number v.made v.held (v.notes ++ (stripe, word)
 abbrev pub gained : View → ℕ → View
 gained v stripe = view v.number v.made (stripe ∷ v.held) (v.notes ++ (stripe, 0) ∷ [])
 
--- The stripe is no longer held.
+-- The view after the seat has given the stripe back.
 abbrev pub lost : View → ℕ → View
 lost v stripe = view v.number v.made (removed stripe v.held) v.notes
 
@@ -33,22 +33,23 @@ elder v = view v.number (v.made + 1) v.held v.notes
 abbrev pub newborn : View → View
 newborn v = view v.made 0 [] []
 
--- The slots of these stripes, each empty.
+-- These stripes, each with an empty slot.
 abbrev pub emptied : List ℕ → List (ℕ × Option ℕ)
 emptied [] = []
 emptied (stripe ∷ others) = (stripe, None) ∷ emptied others
 
--- If the word was 0, the seat now holds the stripe and has its slot out, with the right. If not,
--- the seat notes the word; the word names this seat exactly if the seat held the stripe before.
+-- If the word was 0, the seat now holds the stripe, and has the stripe's slot out with the right in
+-- it. If the word was not 0, the seat notes it. In that case, the word names this seat exactly if
+-- the seat held the stripe before.
 abbrev pub took : StepEffect
 took st m found n = (found ≡ 0 → n ≡ (gained m.0 st.word, (st.word, Some st.word) ∷ m.1))
     × (found ≢ 0 → (n ≡ (with_note m.0 st.word found, m.1))
     × (Holds m.0 st.word ↔ (found ≡ m.0.number + 1)))
 
--- The stripe's slot is the first of the seat's slots.
+-- The stripe's slot is now the first of the seat's slots. They are all empty.
 abbrev pub brought : StepEffect
 brought st m found n = n ≡ (m.0, emptied (st.word ∷ removed st.word m.0.held))
 
--- The seat no longer holds the stripe, and its slot is at home.
+-- The seat no longer holds the stripe, and the slot is back at its home.
 abbrev pub freed : StepEffect
 freed st m found n = n ≡ (lost m.0 st.word, rest m.1)

@@ -1,11 +1,12 @@
-//! A law of the words, as the contract of a function that does nothing. So a crate above can cite
-//! the law without naming a lemma of this crate. The contract of a call cannot state it: such a
-//! contract is about one seat, and the law compares the views of two seats.
+//! States a law of the words as the contract of a function that does nothing. A crate that uses
+//! this one can then cite the law without naming a lemma. The contract of a call cannot state the
+//! law, because such a contract is about one seat, and the law compares the views of two seats.
 ghost use Rattle.key_words.specs.Laws.{HeldOnce};
 
-/// No stripe is held in two views.
+/// No two views hold the same stripe.
 ///
-/// The contract is the law, a consequence of the rule of the words; the function does nothing.
+/// This function does nothing. Its contract states the law, which follows from the rule of the
+/// words.
 #[tactic(auto, using(crate::proofs::Moves::held_once))]
 pub fn held_once()
     ensures { HeldOnce }

@@ -1,18 +1,19 @@
-//! Key words: the stripes of a shared map as atomic words, which callers in many threads take and
-//! give without waiting.
+//! Key words: atomic words that stand for the stripes of a shared map. Callers in many threads take
+//! and give back stripes without waiting.
 //!
-//! A thread acts by a seat (`KeySeat`), which has a number. A stripe's word is 0 if the stripe is
-//! free, and `n + 1` if seat `n` holds it. Each stripe has one right, which lies in the stripe's
+//! A thread acts through a seat (`KeySeat`), which has a number. A stripe's word is 0 if the stripe
+//! is free, and `n + 1` if seat `n` holds it. Each stripe has one right, which lies in the stripe's
 //! slot while no seat holds the stripe. A take is one compare-exchange of the word from 0. It
-//! answers the right or, if the stripe was held, the word, which names the holder. A give lays the
-//! right back and stores 0.
+//! returns the right or, if the stripe was held, the word, which names the holder. A give puts the
+//! right back into the slot and stores 0.
 //!
-//! Proved, by a rule that holds between any two atomic steps of any threads: a stripe is held by at
-//! most one seat (`held_once`), the one that its word names. A stripe's slot is at home (with no
-//! seat) and has the right exactly if the word is 0. So the right goes to one seat at a time. A
-//! take names a seat as the holder only after that seat has taken the stripe. So no take answers
-//! that an untouched stripe is held. No call waits. It is not proved that a take ever succeeds.
-//! Calls take constant time and no memory unless they say otherwise.
+//! A rule holds between any two atomic steps of any threads. From the rule it follows that a stripe
+//! is held by at most one seat (`held_once`), which is the seat that its word names. A stripe's
+//! slot is at home (with no seat) and has the right exactly if the word is 0. So only one seat at a
+//! time gets the right. A take names a seat as the holder only after that seat has taken the
+//! stripe. So no take returns that a stripe is held if no seat has ever taken it. No call waits. It
+//! is not proved that a take ever succeeds. Calls take constant time and no memory unless they say
+//! otherwise.
 #![tactic(auto)]
 
 mod law;

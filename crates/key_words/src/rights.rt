@@ -1,6 +1,6 @@
-//! A seat and the rights of the stripes that it holds, as one value, so that no call can separate
-//! them. Invariant: the rights are those of the stripes that the seat holds, each once. They have
-//! no index, so a take looks through them before it tries a word.
+//! A seat, and the rights of the stripes that it holds, in one value, so that no call can separate
+//! them. Invariant: the rights are those of the stripes that the seat holds, one for each. The list
+//! of rights has no index, so a take searches it before it tries a word.
 ghost use Rattle.std.specs.Prelude.{◌≡◌, ◌<◌, [], reverse, vec_len, slice_get, Some, IfErr, IfOk, IfSome, IfNone};
 ghost use Rattle.key_words.specs.Rule.{Holds};
 ghost use Rattle.key_words.specs.Seats.{IsOf, known, stripes_of};
@@ -11,10 +11,10 @@ use crate::words::KeyWords;
 use key_locks::StripeRight;
 use std::alloc::{AllocError, Global};
 
-/// A caller's seat, and the rights of the stripes that it holds, the newest last.
+/// A caller's seat, and the rights of the stripes that the seat holds, the newest last.
 ///
-/// The type guarantees that the rights are those of the stripes that the seat holds, each once. So
-/// no call loses a right; rights are lost only if the whole value is dropped.
+/// The type guarantees that the rights are those of the stripes that the seat holds, one for each.
+/// So no call loses a right. Rights are lost only if the whole value is dropped.
 #[derive(Drop)]
 pub struct Rights {
     pub(crate) seat: KeySeat,
@@ -36,7 +36,7 @@ impl Rights {
         }
     }
 
-    /// The position of the stripe's right, if the seat has it.
+    /// The position of the stripe's right in the list of rights, if it is there.
     fn place(&self, stripe: usize) -> Option<usize>
         ensures some { IfSome result (λ place.
             slice_get self.now.rights.items place ≡ Some stripe) }
@@ -51,18 +51,18 @@ impl Rights {
         None
     }
 
-    /// Tries once to take the stripe's word, unless the stripe's right is there already. Room for a
-    /// right is made before the word is tried.
+    /// Tries once to take the stripe, unless its right is in the list already. Room for one more
+    /// right is made before the stripe's word is tried.
     ///
     /// # Errors
     ///
-    /// `AllocError` if memory is refused. Then no word was tried, and seat and rights are
-    /// unchanged.
+    /// `AllocError` if memory is refused. In that case no word was tried, and the seat and the
+    /// rights are unchanged.
     ///
     /// # Cost
     ///
-    /// Time in proportion to the rights, and at most one try of one word; takes memory only if
-    /// there is no room for a right.
+    /// Time in proportion to the number of rights, and at most one try of one word. Takes memory
+    /// only if the list has no room for one more right.
     pub fn take(&mut self, words: &KeyWords, stripe: usize) -> Result<Tried, AllocError>
         requires seat { IsOf self.old.seat words.now }
         requires stripe { stripe < stripes_of words.now }
@@ -95,7 +95,7 @@ impl Rights {
     ///
     /// # Cost
     ///
-    /// Time in proportion to the rights; takes no memory.
+    /// Time in proportion to the number of rights; takes no memory.
     pub fn give_back(&mut self, words: &KeyWords)
         requires { IsOf self.old.seat words.now }
         ensures seat { IsOf self.new.seat words.now }

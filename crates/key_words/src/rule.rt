@@ -1,7 +1,7 @@
-//! The rule of the words, and a type for each step that keeps the rule: `Take`, `Bring` and `Free`
+//! The rule of the words, and a type for each step that keeps the rule. `Take`, `Bring` and `Free`
 //! are steps on a word, and `AddSeat` makes a new seat. The code of `words` takes the steps, and
-//! names the type of each. No value of these types is made, so the rule costs nothing when a
-//! program runs.
+//! names the type of each. No value of these types is ever made, so the rule costs nothing at run
+//! time.
 ghost use Rattle.std.specs.Prelude.{[]};
 ghost use Rattle.key_words.specs.Rule.{IsOrderly, view};
 ghost use Rattle.key_words.specs.Steps.{brought, elder, freed, newborn, took};
@@ -10,10 +10,10 @@ use crate::view::View;
 use atomic_table::{Play, Split, TableRule};
 use key_locks::StripeRight;
 
-/// The place of a stripe's right while no seat holds the stripe.
+/// Where a stripe's right is kept while no seat holds the stripe.
 pub(crate) type Slot = Option<StripeRight>;
 
-/// The rule: the words are in order.
+/// The rule of the words, `IsOrderly`.
 pub(crate) struct Order;
 
 impl TableRule<Slot, View, ()> for Order {
@@ -23,28 +23,28 @@ impl TableRule<Slot, View, ()> for Order {
 }
 
 /// A compare-exchange of a stripe's word, from 0 to the word that names the seat. If the word was
-/// 0, the stripe's slot goes out to the seat.
+/// 0, the seat gets the stripe's slot.
 pub(crate) struct Take;
 
 impl Play<Slot, View> for Take {
     ghost then = { took };
 }
 
-/// A load, after which the stripe's slot is the first of the seat's slots.
+/// A load. After it, the stripe's slot is the first of the seat's slots.
 pub(crate) struct Bring;
 
 impl Play<Slot, View> for Bring {
     ghost then = { brought };
 }
 
-/// A store of 0: the first of the seat's slots goes home.
+/// A store of 0. The first of the seat's slots returns to its home.
 pub(crate) struct Free;
 
 impl Play<Slot, View> for Free {
     ghost then = { freed };
 }
 
-/// One more seat, with the next number.
+/// A step that makes one more seat, with the next number.
 pub(crate) struct AddSeat;
 
 impl Split<View> for AddSeat {

@@ -1,6 +1,6 @@
-//! The slots of the stripes before the words are made. Each right is moved into its stripe's slot,
-//! and out again if memory for the words is refused, so that no right is lost. Moving the rights
-//! out takes no memory: the emptied list of rights keeps its room.
+//! The slots of the stripes, before the words are made. Each right is moved into its stripe's slot.
+//! If memory for the words is refused, each right is moved out again, so that none is lost. Moving
+//! the rights out takes no memory, because the list of rights keeps its room while it is empty.
 ghost use Rattle.std.specs.Prelude.{◌≡◌, ◌≤◌, [], IfOk, vec_len, vec_capacity};
 ghost use Rattle.key_locks.specs.Rights.{AreAll};
 ghost use Rattle.key_words.specs.Slots.{AreLaid};
@@ -9,7 +9,7 @@ use crate::rule::Slot;
 use key_locks::StripeRight;
 use std::alloc::{AllocError, Global};
 
-/// This number of slots, each empty.
+/// A list of `count` slots, each empty.
 pub(crate) fn empty_slots(alloc: Global, count: usize) -> Result<Vec<Slot>, AllocError>
     ensures { IfOk result (λ slots. vec_len slots ≡ count) }
 {

@@ -1,13 +1,14 @@
-//! The view of a seat, which the rule of the words relates to the words. It is a type apart from
-//! the seat, since the rule needs it and no program does. In an atomic step the number stays, the
-//! count and the notes only grow, and the list of stripes follows the takes and the gives.
+//! The view of a seat, which the rule of the words compares with the words. It is a type of its
+//! own, because only the rule needs it and no program does. An atomic step never changes a view's
+//! number. Its count and its notes only grow, and its list of stripes changes when the seat takes
+//! or gives a stripe.
 use std::collections::LinkedList;
 
 /// A seat's view. It exists only in proofs, and no value of it is made.
 pub struct View {
     /// The seat's number.
     pub number: u64,
-    /// How many seats have been made; seat 0 keeps this count.
+    /// How many seats have been made, if this is the view of seat 0.
     pub made: u64,
     /// The stripes that the seat holds, the newest first.
     pub held: LinkedList<u64>,

@@ -1,5 +1,5 @@
-//! The words of the stripes, each with a slot for its right. Invariant, between any two atomic
-//! steps: a word is 0 exactly if the stripe's slot is at home with the stripe's right. Any other
+//! The words of the stripes, and a slot for each stripe's right. Invariant, between any two atomic
+//! steps: a stripe's word is 0 exactly if its slot is at home and has the stripe's right. Any other
 //! word names the one seat that holds the stripe.
 ghost use Rattle.std.specs.Prelude.{◌≡◌, ◌<◌, ◌≤◌, [], replicate, IfErr, IfOk, vec_capacity, vec_len};
 ghost use Rattle.key_locks.specs.Rights.{AreAll};
@@ -23,7 +23,7 @@ pub struct KeyWords {
     ghost sized: { table.shared.table_id.slots ≡ table.shared.table_id.words },
 }
 
-/// This number of words, each 0.
+/// A list of `count` words, each 0.
 fn zeros(alloc: Global, count: usize) -> Result<Vec<u64>, AllocError>
     ensures { IfOk result (λ words. words.items ≡ replicate count 0) }
 {
@@ -33,16 +33,17 @@ fn zeros(alloc: Global, count: usize) -> Result<Vec<u64>, AllocError>
 impl KeyWords {
     ghost use Rattle.key_words.specs.Seats.{AreSeats, IsOf, Takes, known, stripes_of};
 
-    /// Makes a word for the stripe of each of these rights, and this number of seats, by rising
-    /// number. All stripes are free.
+    /// Makes a word for the stripe of each right in `rights`, and the given number of seats. The
+    /// seats are returned in the order of their numbers, from 0. All stripes are free.
     ///
     /// # Errors
     ///
-    /// `Refusal::NoMemory` if memory is refused, with the rights that were passed in.
+    /// `Refusal::NoMemory` if memory is refused; the rights that were passed in are returned with
+    /// it.
     ///
     /// # Cost
     ///
-    /// Time and memory in proportion to the stripes and seats.
+    /// Time and memory in proportion to the number of stripes and seats.
     pub fn new(
         alloc: Global,
         mut rights: Vec<StripeRight>,
@@ -81,8 +82,8 @@ impl KeyWords {
         }
     }
 
-    /// Splits the other seats off the first seat. Answers all seats, with the first, by rising
-    /// number.
+    /// Splits the other seats off the first seat. Returns all seats, including the first, in the
+    /// order of their numbers.
     fn make_seats(
         &self,
         mut first: Seat<Slot, View>,
@@ -109,8 +110,8 @@ impl KeyWords {
     /// Tries once to take a stripe, and never waits: the try is one compare-exchange of the
     /// stripe's word. The seat notes the word that the try saw.
     ///
-    /// The answer is `Granted`, with the stripe's right, exactly if that word was 0. Otherwise it
-    /// is `Held`, with that word.
+    /// Returns `Granted`, with the stripe's right, exactly if that word was 0. Otherwise, returns
+    /// `Held`, with that word.
     pub fn take(&self, seat: &mut KeySeat, stripe: usize) -> Taken
         requires seat { IsOf seat.old self.now }
         requires stripe { stripe < stripes_of self.now }
@@ -129,12 +130,12 @@ impl KeyWords {
         }
     }
 
-    /// Gives a stripe back by its right, and leaves the seat's other stripes unchanged. There are
+    /// Gives back the stripe of a right, and leaves the seat's other stripes unchanged. There are
     /// three steps:
     /// - A load makes the stripe's slot the first in the seat's order of its slots. It changes
     ///   neither the word nor the slot.
     /// - An exchange puts the right into the slot.
-    /// - A store frees the word.
+    /// - A store sets the word to 0, so the stripe is free.
     pub fn give(&self, seat: &mut KeySeat, right: StripeRight)
         requires seat { IsOf seat.old self.now }
         requires held { Holds (known seat.old) right }

@@ -149,8 +149,8 @@ pairs_sought nodes from sort start =
     ∙ pairs_same_rest at.front start.node (cleaned sort at.rest) at.rest (pairs_cleaned sort at.rest)
     ∙ sym (ap pairs at.is)
 
--- If `P` holds of each node, and for a regular, unmarked node `P` implies `Q` of the node's pair,
--- then `Q` holds of each pair.
+-- Suppose that `P` holds for each node and that, for each regular and unmarked node, `P` implies
+-- `Q` for the node's pair. Then `Q` holds for each pair.
 pub each_pair : (P : NodeAt → Type 0) (Q : ℕ → ℕ → Type 0) → ((n : NodeAt) → n.kind ≡ Regular → n.marked ≡ false → P n → Q n.at.key n.value) → (nodes : List NodeAt) → AllByRecursion P nodes → AllByRecursion (λ pair. Q pair.0 pair.1) (pairs nodes)
 unfolding pairs
 each_pair P Q holds [] each = tt

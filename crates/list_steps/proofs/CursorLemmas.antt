@@ -43,7 +43,7 @@ pub record Fits (n : NodeAt) (cur : Noted) : Type 0 where
   pub stamp : n.stamp ≡ cur.stamp
   pub unmarked : n.marked ≡ false
 
--- If the test of the next node succeeds, the node is the noted one.
+-- If `is_next_noted` is true, the next node is the noted one and unmarked.
 next_fits : (n : NodeAt) (cur : Noted) → is_next_noted (Some n) (Some cur) ≡ true → Fits n cur
 next_fits n cur is = record {
   place = same_from_test n.place cur.place (and_left _ _ is);
@@ -70,7 +70,7 @@ module _ (l : Listing) (c : Cursor) where
 
 -- A cursor that fits.
 module _ (l : Listing) (c : Cursor) (fitting : fits l c ≡ true) where
-  -- Its first node is linked.
+  -- The first node of the cursor is linked.
   pub fits_pred : (n : NodeAt) × (node_of l.nodes (pred_of c) ≡ Some n) × (n.stamp ≡ c.pred.stamp)
   unfolding fits
   fits_pred = go (node_of l.nodes (pred_of c)) (and_left _ _ fitting)
@@ -82,7 +82,7 @@ module _ (l : Listing) (c : Cursor) (fitting : fits l c ≡ true) where
   pub fits_linked : IsLinked l.nodes (pred_of c)
   fits_linked = found_linked l.nodes (pred_of c) fits_pred.0 fits_pred.1
 
-  -- The node behind the first one, if there is one, is the noted second one.
+  -- The node after the cursor's first node, if there is one, is the noted second node.
   pub fits_next : (m : NodeAt) → behind l c ≡ Some m → (cur : Noted) × (c.cur ≡ Some cur) × Fits m cur
   unfolding fits
   fits_next m is = go c.cur refl
@@ -102,7 +102,7 @@ module _ (l : Listing) (c : Cursor) (sound : IsSound l) (placed : IsPlaced l c) 
       let same : pred.0 ≡ n = some-injective (sym pred.1 ∙ is) in
       placed.below n is (sym (ap (λ (v : NodeAt). v.stamp) same) ∙ pred.2)
 
-  -- The node behind the cursor's first one is not below the sort key.
+  -- The node after the cursor's first node is not below the sort key.
   pub high : (m : NodeAt) → behind l c ≡ Some m → IsNotBelow m (at_of c)
   high m is =
       let next = fits_next l c fitting m is in
@@ -110,8 +110,8 @@ module _ (l : Listing) (c : Cursor) (sound : IsSound l) (placed : IsPlaced l c) 
       let P : ℕ → Type 0 = λ p. node_of l.nodes p ≡ Some m in
       placed.beyond m next.0 next.1 (subst P next.2.place there) next.2.stamp
 
-  -- If the node behind the cursor's first one does not have the sort key, the node is above that
-  -- key.
+  -- If the node after the cursor's first node does not have the sort key, that node is above the
+  -- sort key.
   pub above : node_there l c ≡ None → (m : NodeAt) → behind l c ≡ Some m → IsBefore (at_of c) m.at
   above none m is = elim (cases_same m.at (at_of c)) [
     | inl same ↦ absurd (some-none (rw same.0 at (sym (ap (λ o. with_key o (at_of c)) is) ∙ none)))
@@ -121,7 +121,7 @@ module _ (l : Listing) (c : Cursor) (sound : IsSound l) (placed : IsPlaced l c) 
     ]
   ]
 
--- The node `n` has the cursor's sort key, is right behind the cursor's first node, and is unmarked.
+-- The node `n` has the cursor's sort key, is right after the cursor's first node, and is unmarked.
 pub record There (l : Listing) (c : Cursor) (n : NodeAt) : Type 0 where
   pub behind_is : behind l c ≡ Some n
   pub is : node_of l.nodes n.place ≡ Some n
@@ -146,9 +146,9 @@ there l c n spread fitting is = go (behind l c) refl is
       | inr differs ↦ absurd (some-none (sym (rw differs.0 at with_is)))
     ]
 
--- A cursor as a seek leaves it.
+-- A cursor that was just found by a seek.
 module _ (l : Listing) (c : Cursor) (found : IsFound l c) where
-  -- It fits.
+  -- The cursor fits.
   pub found_fits : fits l c ≡ true
   found_fits =
       fits_then l c found.pred found.pred_is pred_noted
@@ -167,7 +167,7 @@ module _ (l : Listing) (c : Cursor) (found : IsFound l c) where
           let stamp : m.stamp ≡ cur.stamp = ap (λ (n : Noted). n.stamp) same in
           rw (same_test m.place cur.place place, same_test m.stamp cur.stamp stamp, beyond.0) refl
 
-  -- It is placed.
+  -- The cursor is placed.
   pub found_placed : IsSound l → IsPlaced l c
   found_placed sound = record {
     pred_known = omega (arith, sound.stamped.bound (pred_of c) found.pred found.pred_is, found.pred_noted);
@@ -194,14 +194,14 @@ module _ (l : Listing) (c : Cursor) (found : IsFound l c) where
       cur_node : (cur : Noted) → c.cur ≡ Some cur → (k : NodeAt) × (node_of l.nodes cur.place ≡ Some k) × (k.stamp ≡ cur.stamp) × IsNotBelow k (at_of c)
       cur_node cur cur_is = go (behind l c) cur refl (found.cur_noted ∙ cur_is) found.beyond
 
--- Let `next` be the place of the node behind `place`. Then the note of the node at `next` is also
--- the note of the node behind `place`.
+-- If `next` is the place of the node after `place`, a cursor notes the same of the node at `next`
+-- and of the node after `place`.
 pub noted_next : (nodes : List NodeAt) (place next : ℕ) (k : Noted) → IsSpread nodes → place_of (next_of nodes place) ≡ Some next → noted (node_of nodes next) ≡ Some k → noted (next_of nodes place) ≡ Some k
 noted_next nodes place next k spread is note =
     let found = linked_found nodes next (next_linked nodes place next spread is) in
     ap noted (next_node nodes place next spread is found.0 found.1 ∙ sym found.1) ∙ note
 
--- A cursor that notes the position of its sort key is as a seek leaves it.
+-- If a cursor notes the two neighbours of the position of its sort key, `IsFound` holds.
 pub noted_found : (l : Listing) (place : ℕ) (c : Cursor) → IsPred l.nodes place (at_of c) → IsBeyond (next_of l.nodes place) (at_of c) → noted (node_of l.nodes place) ≡ Some c.pred → c.cur ≡ noted (next_of l.nodes place) → change_number_of c ≡ l.changes → IsFound l c
 noted_found l place c before beyond pred_is cur_is changes_are = record {
   pred = before.node;
@@ -234,7 +234,7 @@ pub fits_same : (old new : Listing) (c : Cursor) → new.nodes ≡ old.nodes →
 unfolding fits
 fits_same old new c same = ap (λ ns. is_noted (node_of ns (pred_of c)) c.pred.stamp && is_next_noted (next_of ns (pred_of c)) c.cur) same
 
--- A cursor stays placed while the list changes.
+-- If a cursor is placed, it remains placed when the list changes.
 pub still_placed : (old new : Listing) (c : Cursor) → IsPlaced old c → Follows old new → IsPlaced new c
 still_placed old new c placed follows = record {
   pred_known = omega (arith, placed.pred_known, follows.last);

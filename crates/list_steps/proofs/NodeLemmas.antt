@@ -7,7 +7,7 @@ use Rattle.node_list.proofs.OrderLemmas.{some-injective, some-none}
 use Rattle.node_list.proofs.NodesLemmas.{found_linked, next_found}
 use Rattle.split_key.proofs.SortLemmas.{apart_test, same_test}
 
--- The node at the place, with the nodes before and behind it.
+-- The node at the place, with the nodes before it and after it.
 pub record IsAt (nodes : List NodeAt) (place : ℕ) (n : NodeAt) : Type 0 where
   pub front : List NodeAt
   pub rest : List NodeAt
@@ -15,7 +15,7 @@ pub record IsAt (nodes : List NodeAt) (place : ℕ) (n : NodeAt) : Type 0 where
   pub absent : AbsentFrom place front
   pub here : n.place ≡ place
 
--- Each node that is found is at its place.
+-- If `node_of` finds a node, the list can be split at that node (`IsAt`).
 pub found_at : (nodes : List NodeAt) (place : ℕ) (n : NodeAt) → node_of nodes place ≡ Some n → IsAt nodes place n
 unfolding node_of
 found_at [] place n is = absurd (some-none (sym is))
@@ -40,7 +40,7 @@ found_at (m ∷ rest) place n is = elim (eqb_tells m.place place) [
       }
 ]
 
--- The functions of a list and a place, on a list that is split at the place.
+-- The results of functions on a list that is split at the place.
 module _ (place : ℕ) (n : NodeAt) (rest : List NodeAt) (here : n.place ≡ place) where
   node_of-append : (front : List NodeAt) → AbsentFrom place front → node_of (front ++ n ∷ rest) place ≡ Some n
   unfolding node_of
@@ -111,11 +111,11 @@ module _ (nodes : List NodeAt) (place : ℕ) (n : NodeAt) (at : IsAt nodes place
   is_linked = let P : List NodeAt → Type 0 = λ ns. IsLinked ns place in
       subst P (sym at.is) (linked-append place n at.rest at.here at.front)
 
-  -- In the list without the next node, the node is still at its place.
+  -- If the node after `n` is unlinked, the list can still be split at `n` (`IsAt`).
   abbrev pub at_unlinked : IsAt (unlinked_after nodes place) place n
   at_unlinked = record { front = at.front; rest = without_first at.rest; is = unlinked_at; absent = at.absent; here = at.here }
 
-  -- The next node is at its place, behind this one.
+  -- The list can be split at the node after `n` (`IsAt`).
   abbrev pub at_next : (m : NodeAt) → IsSpread nodes → first at.rest ≡ Some m → IsAt nodes m.place m
   at_next m spread is =
       let rest_is : at.rest ≡ m ∷ without_first at.rest = first_is at.rest m is in
@@ -140,14 +140,14 @@ no_place None is = refl
 no_place (Some n) is = absurd (some-none is)
 
 module _ (nodes : List NodeAt) (place next : ℕ) (spread : IsSpread nodes) (is : place_of (next_of nodes place) ≡ Some next) where
-  -- The place behind a node is linked.
+  -- The place of the next node is linked.
   pub next_linked : IsLinked nodes next
   next_linked =
       let there = some_place (next_of nodes place) next is in
       let P : ℕ → Type 0 = λ p. IsLinked nodes p in
       subst P there.2 (found_linked nodes there.0.place there.0 (next_found nodes place there.0 spread there.1))
 
-  -- The node at the next place is the next node.
+  -- The node at the place of the next node is the next node.
   pub next_node : (m : NodeAt) → node_of nodes next ≡ Some m → next_of nodes place ≡ Some m
   next_node m found =
       let there = some_place (next_of nodes place) next is in
@@ -155,7 +155,7 @@ module _ (nodes : List NodeAt) (place next : ℕ) (spread : IsSpread nodes) (is 
       sym (next_found nodes place there.0 spread there.1) ∙ ap (λ p. node_of nodes p) there.2 ∙ found in
       there.1 ∙ same
 
--- A place with a next node is linked.
+-- If there is a node after a place, a node is linked at this place.
 pub next_from : (nodes : List NodeAt) (place : ℕ) (m : NodeAt) → next_of nodes place ≡ Some m → (n : NodeAt) × (node_of nodes place ≡ Some n)
 unfolding next_of node_of
 next_from [] place m is = absurd (some-none (sym is))

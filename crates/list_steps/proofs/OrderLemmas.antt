@@ -23,7 +23,8 @@ rising_rest (k ∷ front) n rest rising = rising_rest front n rest rising.1
 abbrev pub NoneHas : SortKey → List NodeAt → Type 0
 NoneHas sort nodes = AllByRecursion (λ n. n.at ≢ sort) nodes
 
--- If a node is below the sort key, and no node behind it has the sort key, no node has it.
+-- If a node is below the sort key, and no node after it has the sort key, no node of the list has
+-- it.
 none_before : (front : List NodeAt) (n : NodeAt) (rest : List NodeAt) (sort : SortKey) → IsRising (front ++ n ∷ rest) → IsBelow n sort → NoneHas sort rest → NoneHas sort (front ++ n ∷ rest)
 unfolding IsRising
 none_before [] n rest sort rising below others = (before_apart n.at sort below, others)
@@ -31,7 +32,7 @@ none_before (m ∷ front) n rest sort rising below others =
     let low = before_transitive m.at n.at sort (before_later m n front rest rising.0) below in
     (before_apart m.at sort low, none_before front n rest sort rising.1 below others)
 
--- If a node is above the sort key, no node behind it has the sort key.
+-- If a node is above the sort key, no node after it has the sort key.
 none_behind : (n : NodeAt) (rest : List NodeAt) (sort : SortKey) → IsBefore sort n.at → AllByRecursion (IsNodeBefore n) rest → NoneHas sort rest
 none_behind n [] sort above before = tt
 none_behind n (m ∷ rest) sort above before =
@@ -45,7 +46,7 @@ none_from (m ∷ rest) sort rising above =
     let high = above m refl in
     ((λ same. before_apart sort m.at high (sym same)), none_behind m rest sort high rising.0)
 
--- No node has a sort key between those of two neighbours.
+-- If a sort key is between those of two neighbouring nodes, no node has it.
 pub none_between : (nodes : List NodeAt) (place : ℕ) (n : NodeAt) (sort : SortKey) → IsRising nodes → node_of nodes place ≡ Some n → IsBelow n sort → ((m : NodeAt) → next_of nodes place ≡ Some m → IsBefore sort m.at) → NoneHas sort nodes
 none_between nodes place n sort rising is below above =
     let at = found_at nodes place n is in

@@ -1,4 +1,4 @@
--- What is left of a seek that has reached a node.
+-- What a seek still has to do when it has reached a node.
 use Prim.Native.Nat.{suc}
 use Rattle.std.proofs.Common.{◌≡◌, ℕ, ◌+◌, ◌-◌, ◌<◌, ◌≤◌, inl, inr, List, [], ◌∷◌, ◌++◌, Option, Some, None, Bool, true, false, length, refl, sym, ◌∙◌, ap, subst, arith, if◌then◌else◌, ◌==◌, append_assoc}
 use Rattle.std.proofs.lemmas.Bool.Decides.{eqb_tells}
@@ -14,13 +14,14 @@ use Rattle.node_list.proofs.OrderLemmas.{each_found}
 use Rattle.list_steps.specs.Seek.{cleaned, sought, IsBelow, IsNotBelow, IsPred, IsStart, KeepsRest}
 use Rattle.list_steps.proofs.NodeLemmas.{IsAt, found_at, node_at, next_at, at_unlinked, at_next, first_is, first_none, next_node}
 
--- The nodes behind a place.
+-- The nodes after a place.
 unfoldable pub nodes_behind : List NodeAt → ℕ → List NodeAt
 nodes_behind [] place = []
 nodes_behind (n ∷ rest) place = if n.place == place then rest else nodes_behind rest place
 
--- The seek is at a node before the position sought, and has the place of the next node. A seek from
--- this node on the list `now` has the same result as the whole seek on the list `old`.
+-- The seek has reached the node at `place`, which is before the position sought, and the place of
+-- the next node is `after`. A seek that begins at this node of the list `now` has the same result
+-- as the whole seek on the list `old`.
 pub record IsSeeking (old now : Listing) (from place : ℕ) (after : Option ℕ) (sort : SortKey) : Type 0 where
   pub sound : IsSound now
   pub pred : IsPred now.nodes place sort
@@ -31,8 +32,8 @@ pub record IsSeeking (old now : Listing) (from place : ℕ) (after : Option ℕ)
   pub changes : now.changes ≡ changes_after old.changes (length old.nodes - length now.nodes)
   pub follows : Follows old now
 
--- Let a seek be at `place`, and let `there` be the place of its next node. Then the node at `there`
--- is the node behind `place`.
+-- If a seek has reached `place`, and the next node's place is `there`, the node at `there` is the
+-- node after `place`.
 pub seeking_next : {old now : Listing} {from place : ℕ} {after : Option ℕ} {sort : SortKey} → IsSeeking old now from place after sort → (there : ℕ) → after ≡ Some there → (m : NodeAt) → node_of now.nodes there ≡ Some m → next_of now.nodes place ≡ Some m
 seeking_next {now = now} {place = place} seeking there is m found =
     next_node now.nodes place there seeking.sound.spread (seeking.next ∙ is) m found
@@ -80,7 +81,7 @@ module _ (nodes : List NodeAt) (place : ℕ) (n : NodeAt) (at : IsAt nodes place
   pub behind_at : nodes_behind nodes place ≡ at.rest
   behind_at = ap (λ ns. nodes_behind ns place) at.is ∙ nodes_behind-append place n at.rest at.here at.front at.absent
 
--- A seek that is at a node before the position sought.
+-- A seek that has reached a node before the position sought.
 module _ (nodes : List NodeAt) (place : ℕ) (sort : SortKey) (pred : IsPred nodes place sort) where
   pred_at : IsAt nodes place pred.node
   pred_at = found_at nodes place pred.node pred.is
@@ -110,7 +111,7 @@ module _ (nodes : List NodeAt) (place : ℕ) (sort : SortKey) (pred : IsPred nod
         (ap (cleaned sort) rest_is ∙ cleaned_stopped m (without_first pred_at.rest) sort unmarked above ∙ sym rest_is)
         ∙ sym pred_at.is
 
-    -- An unmarked node below the sort key is passed.
+    -- A seek passes an unmarked node below the sort key.
     pub sought_passed : IsSpread nodes → m.marked ≡ false → IsBelow m sort → sought nodes m.place sort ≡ sought nodes place sort
     sought_passed spread unmarked below =
         sought_at nodes m.place m next sort
@@ -124,7 +125,7 @@ module _ (nodes : List NodeAt) (place : ℕ) (sort : SortKey) (pred : IsPred nod
         next : IsAt nodes m.place m
         next = at_next nodes place pred.node pred_at m spread (first_rest (Some m) is)
 
-    -- A marked node is unlinked.
+    -- A seek unlinks a marked node.
     pub sought_unlinked : m.marked ≡ true → sought (unlinked_after nodes place) place sort ≡ sought nodes place sort
     sought_unlinked marked =
         sought_at (unlinked_after nodes place) place pred.node (at_unlinked nodes place pred.node pred_at) sort
@@ -148,14 +149,14 @@ module _ (nodes : List NodeAt) (place : ℕ) (n m : NodeAt) (is : node_of nodes 
       let at = found_at nodes place n is in
       behind_at nodes place n at ∙ first_is at.rest m (sym (next_at nodes place n at) ∙ next_is)
 
-  -- Fewer nodes are behind the next node than behind this one.
+  -- There are fewer nodes after the next node than after this node.
   pub behind_next : IsSpread nodes → length (nodes_behind nodes m.place) < length (nodes_behind nodes place)
   behind_next spread =
       let at = found_at nodes place n is in
       let next = at_next nodes place n at m spread (sym (next_at nodes place n at) ∙ next_is) in
       omega (arith, ap length (behind_at nodes m.place m next), ap length behind_first)
 
-  -- After the next node is unlinked, fewer nodes are behind this one.
+  -- If the next node is unlinked, there are fewer nodes after this node.
   pub behind_fewer : length (nodes_behind (unlinked_after nodes place) place) < length (nodes_behind nodes place)
   behind_fewer =
       let at = found_at nodes place n is in
@@ -165,7 +166,7 @@ module _ (nodes : List NodeAt) (place : ℕ) (n m : NodeAt) (is : node_of nodes 
         ap length behind_first,
       )
 
--- Each node is unlinked by one change, so the change number grows by the number of nodes unlinked.
+-- Each unlinking is one change, so the change number grows by the number of unlinked nodes.
 pub changes_unlinked : (first all changes unlinked before after : ℕ) → after + 1 ≡ before → before ≤ all → changes ≡ changes_after first (all - before) → unlinked ≡ one_more changes → unlinked ≡ changes_after first (all - after)
 unfolding changes_after
 changes_unlinked first all changes unlinked before after one fewer changes_are unlinked_is =
@@ -178,7 +179,7 @@ changes_unchanged changes nodes =
     let none : nodes - nodes ≡ 0 = omega arith in
     ap (changes_after changes) (sym none)
 
--- If a statement holds of each node, it holds of each node that a seek leaves.
+-- If a statement holds for each node, it holds for each node that remains after a seek.
 pub each_cleaned : (P : NodeAt → Type 0) (sort : SortKey) (nodes : List NodeAt) → AllByRecursion P nodes → AllByRecursion P (cleaned sort nodes)
 each_cleaned P sort [] each = let Each : List NodeAt → Type 0 = λ ns. AllByRecursion P ns in subst Each (sym (cleaned_nil sort)) tt
 each_cleaned P sort (n ∷ rest) each = go n.marked refl (each_cleaned P sort rest each.1)

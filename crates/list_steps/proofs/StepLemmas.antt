@@ -20,7 +20,8 @@ module _ (l : Listing) (c : Cursor) (sound : IsSound l) (placed : IsPlaced l c) 
   pred : (n : NodeAt) × (node_of l.nodes (pred_of c) ≡ Some n) × (n.stamp ≡ c.pred.stamp)
   pred = fits_pred l c fitting
 
-  -- If no node right behind the cursor's first one has the sort key, that key belongs there.
+  -- If the node right after the cursor's first node does not have the sort key, a node with that
+  -- key belongs right after the first node.
   pub vacant_where_fits : node_there l c ≡ None → IsVacant l.nodes (pred_of c) (at_of c)
   vacant_where_fits none = record {
     node = pred.0;
@@ -29,7 +30,8 @@ module _ (l : Listing) (c : Cursor) (sound : IsSound l) (placed : IsPlaced l c) 
     above = above l c sound placed fitting none;
   }
 
-  -- If no node right behind the cursor's first one has the sort key, no linked node has it.
+  -- If the node right after the cursor's first node does not have the sort key, no linked node has
+  -- it.
   absent : node_there l c ≡ None → IsAbsent l c
   absent none = record {
     none = none;
@@ -38,7 +40,7 @@ module _ (l : Listing) (c : Cursor) (sound : IsSound l) (placed : IsPlaced l c) 
         (low l c sound placed fitting pred.0 pred.1) (above l c sound placed fitting none);
   }
 
-  -- If the node behind the first one has the sort key, it is the node sought (`IsThere`).
+  -- If the node after the cursor's first node has the sort key, it is the node sought (`IsThere`).
   there_at : (place : ℕ) → Some place ≡ place_of (node_there l c) → IsThere l c place
   there_at place place_is = go (node_there l c) refl place_is
     where
@@ -56,12 +58,12 @@ module _ (l : Listing) (c : Cursor) (sound : IsSound l) (placed : IsPlaced l c) 
             content = λ regular. pairs_contain l.nodes n.place n here.is regular here.unmarked;
           })
 
-  -- The result of a look.
+  -- The result of `look` is right (`Finds`).
   pub finds : (found : Option ℕ) → found ≡ place_of (node_there l c) → Finds l c found
   finds None none = absent (no_place (node_there l c) (sym none))
   finds (Some place) is = there_at place is
 
--- If a regular node must have the sort key (`IsKeyThere`), the node that a look finds is regular.
+-- If a regular node must have the sort key (`IsKeyThere`), the node that `look` finds is regular.
 pub regular_there : (l : Listing) (c : Cursor) → fits l c ≡ true → (place : ℕ) → IsThere l c place → IsKeyThere l c → IsRegularAt l.nodes place
 regular_there l c fitting place here key_there =
     let P : Option NodeAt → Type 0 = λ o. IsSomeAnd o (λ m. IsTrue (is_regular m.kind)) in
@@ -72,7 +74,7 @@ regular_there l c fitting place here key_there =
     go Dummy is = cc
     go Regular is = refl
 
--- If a statement holds of the place that a look finds, it holds of the place of the node that has
+-- If a statement holds for the place that `look` finds, it holds for the place of the node that has
 -- the sort key.
 pub at_node : (l : Listing) (c : Cursor) (place : ℕ) → IsThere l c place → (P : ℕ → Type 0) → P place → IsSomeAnd (node_there l c) (λ n. P n.place)
 at_node l c place here P holds =

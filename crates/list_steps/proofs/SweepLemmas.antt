@@ -18,7 +18,7 @@ use Rattle.list_steps.proofs.NodeLemmas.{IsAt, found_at, next_at, unlinked_at, a
 abbrev pub IsClean : List NodeAt → Type 0
 IsClean nodes = AllByRecursion (λ n. n.marked ≡ false) nodes
 
--- The sweep is at a node. Neither this node nor any node before it is marked.
+-- The sweep has reached a node. Neither this node nor any node before it is marked.
 pub record IsSweeping (nodes : List NodeAt) (place : ℕ) : Type 0 where
   pub node : NodeAt
   pub at : IsAt nodes place node
@@ -32,7 +32,7 @@ not_marked : (b : Bool) → (b ≡ true → ⊥) → b ≡ false
 not_marked true never = absurd (never refl)
 not_marked false never = refl
 
--- If a node precedes all marked nodes, each node that is not behind it is unmarked.
+-- If a node precedes all marked nodes, each node that is not after it is unmarked.
 unmarked_up_to : (n m : NodeAt) → IsNotBefore n.at m.at → (m.marked ≡ true → IsBefore n.at m.at) → m.marked ≡ false
 unmarked_up_to n m not_before before = not_marked m.marked (λ marked. before_not_before n.at m.at (before marked) not_before)
 
@@ -77,7 +77,7 @@ behind_rest : (n : NodeAt) (rest : List NodeAt) → AllByRecursion (IsNodeBefore
 behind_rest n [] before = tt
 behind_rest n (m ∷ rest) before = ((λ marked. before.0), behind_rest n rest before.1)
 
--- An unmarked node that has no marked node before it precedes all marked nodes.
+-- If neither a node nor any node before it is marked, it precedes all marked nodes.
 behind_all : (P : NodeAt → Type 0) (front : List NodeAt) (n : NodeAt) (rest : List NodeAt) → IsRising (front ++ n ∷ rest) → n.marked ≡ false → ((m : NodeAt) → P m → IsBefore m.at n.at → m.marked ≡ true → ⊥) → AllByRecursion P (front ++ n ∷ rest) → AllByRecursion (λ m. m.marked ≡ true → IsBefore n.at m.at) (front ++ n ∷ rest)
 unfolding IsRising
 behind_all P [] n rest rising unmarked never each = (
@@ -113,9 +113,9 @@ early_low bucket at before = elim (lower_from at (dummy_at bucket) before) [
   | inr both ↦ absurd (omega (arith, both.1))
 ]
 
--- Let `split` be the answer of `NodeList::marks_begin`, and let `bucket` have a dummy whose split
--- key is at most `split`. Then this dummy, if it is linked, precedes all marked nodes, and so does
--- each linked dummy before it. The function `bucket_at` gives such a bucket for `split`. So a sweep
+-- Let `split` be the result of `NodeList::marks_begin`, and let `bucket` have a dummy whose split
+-- key is at most `split`. If this dummy is linked, it precedes all marked nodes, and so does each
+-- linked dummy before it. The function `bucket_at` returns such a bucket for `split`. So a sweep
 -- may begin at the dummy of that bucket, or at the dummy of its nearest stored ancestor.
 pub before_marks : (l : Listing) (place bucket split : ℕ) (node : NodeAt) → IsSound l → node_of l.nodes place ≡ Some node → node.kind ≡ Dummy → IsNotBefore (dummy_at bucket) node.at → reversed bucket ≤ split → AreMarksFrom split l.nodes → IsBeforeMarks l.nodes place
 before_marks l place bucket split node sound is dummy not_behind order from =
@@ -167,7 +167,7 @@ module _ (nodes : List NodeAt) (place : ℕ) (sweeping : IsSweeping nodes place)
       let C : List NodeAt → Type 0 = IsClean in
       subst C (sym (sweeping.at.is ∙ ap (λ ns. sweeping.at.front ++ sweeping.node ∷ ns) nothing)) sweeping.passed
 
--- If a statement holds of each node, it holds of each node that a sweep leaves.
+-- If a statement holds for each node, it holds for each node that remains after a sweep.
 pub each_swept : (P : NodeAt → Type 0) (nodes : List NodeAt) → AllByRecursion P nodes → AllByRecursion P (without_first_marked nodes)
 unfolding without_first_marked
 each_swept P [] each = tt

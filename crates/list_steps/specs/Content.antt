@@ -1,11 +1,11 @@
--- The keys and values of a list, in its order, and the effect of a step on them.
+-- The keys and values of a list, in the order of its nodes, and the effect of a step on them.
 use Rattle.std.specs.Prelude.{◌≡◌, ℕ, List, [], ◌∷◌, ◌++◌, Bool, true, false}
 use Rattle.node_list.specs.declared.node.Kind.{Kind}
 use Rattle.node_list.specs.declared.node.Kind.TheVariants.{Dummy, Regular}
 use Rattle.node_list.specs.Nodes.{NodeAt}
 
--- The pairs that a node of this kind, mark, key and value adds to the content: one if it is regular
--- and unmarked, else none.
+-- The pairs that a node with this kind, mark, key and value adds to the content: one pair if the
+-- node is regular and unmarked, else none.
 abbrev pub pair_if : Kind → Bool → ℕ → ℕ → List (ℕ × ℕ)
 pair_if Dummy marked key value = []
 pair_if Regular true key value = []
@@ -20,7 +20,7 @@ unfoldable pub pairs : List NodeAt → List (ℕ × ℕ)
 pairs [] = []
 pairs (n ∷ rest) = pair_of n ++ pairs rest
 
--- One stretch of the list has been replaced by another, and the rest is unchanged.
+-- The stretch `was` of the list is replaced by `now`, and the rest is unchanged.
 pub record Replaces (old new was now : List (ℕ × ℕ)) : Type 0 where
   pub before : List (ℕ × ℕ)
   pub after : List (ℕ × ℕ)

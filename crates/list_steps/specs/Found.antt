@@ -1,4 +1,5 @@
--- Cursors on a list: found by a seek, placed at some time, and fitting now.
+-- Cursors: when a cursor has been found by a seek, when it was placed on the list, and when it
+-- fits.
 use Rattle.std.specs.Prelude.{◌≡◌, ◌≢◌, ℕ, ◌<◌, ◌≤◌, ◌-◌, ◌^◌, min, Option, Some, None, Bool, true, false, ◌==◌, ◌&&◌, not, if◌then◌else◌, IsSomeAnd, IsTrue}
 use Rattle.split_key.specs.declared.sort.SortKey.{SortKey}
 use Rattle.split_key.specs.Sort.{is_same}
@@ -19,7 +20,7 @@ change_number_of c = c.changes
 abbrev pub pred_of : Cursor → ℕ
 pred_of c = c.pred.place
 
--- The node that is now behind the cursor's first one.
+-- The node that is now right after the cursor's first node.
 abbrev pub behind : Listing → Cursor → Option NodeAt
 behind l c = next_of l.nodes (pred_of c)
 
@@ -33,8 +34,8 @@ abbrev pub IsBeyond : Option NodeAt → SortKey → Type 0
 IsBeyond None at = Unit {0}
 IsBeyond (Some n) at = (n.marked ≡ false) × IsNotBelow n at
 
--- The cursor notes an unmarked node below its sort key, and the node behind it or the end. The node
--- behind it, if there is one, is unmarked and not below the sort key.
+-- The cursor notes two neighbours: an unmarked node below its sort key, and the next node or the
+-- end. The next node, if there is one, is unmarked and not below the sort key.
 pub record IsFound (l : Listing) (c : Cursor) : Type 0 where
   pub pred : NodeAt
   pub pred_is : node_of l.nodes (pred_of c) ≡ Some pred
@@ -50,23 +51,24 @@ abbrev pub is_noted : Option NodeAt → ℕ → Bool
 is_noted None stamp = false
 is_noted (Some n) stamp = n.stamp == stamp && not n.marked
 
--- The node is the one that the cursor noted as its second node, and is unmarked; or there is no
--- node, and the cursor noted no second node.
+-- Either the node is the second node that the cursor noted, and is unmarked, or there is no node
+-- and the cursor noted no second node.
 abbrev pub is_next_noted : Option NodeAt → Option Noted → Bool
 is_next_noted None None = true
 is_next_noted None (Some c) = false
 is_next_noted (Some n) None = false
 is_next_noted (Some n) (Some c) = n.place == c.place && (n.stamp == c.stamp && not n.marked)
 
--- The cursor fits: its first node is linked and unmarked with the noted stamp, behind it is the
--- noted second node or the end, and that node is unmarked with its noted stamp.
+-- The cursor fits. Its first node is linked, is unmarked and has the noted stamp. The next node is
+-- the noted second node, is unmarked and has the noted stamp. If no second node is noted, the first
+-- node is the last of the list.
 unfoldable pub fits : Listing → Cursor → Bool
 fits l c = is_noted (node_of l.nodes (pred_of c)) c.pred.stamp && is_next_noted (behind l c) c.cur
 
--- A cursor that was placed on the list, now or earlier. If the node at a noted place has the noted
--- stamp, it is the noted node. The first noted node is below the sort key, and the second noted
--- node is not below the sort key. The cursor fits as long as the change number is the noted one and
--- below 2^64 - 1. Each step on the list keeps these properties.
+-- The cursor was placed on the list, now or earlier. If the node at a noted place has the noted
+-- stamp, it is the noted node. The first noted node is below the sort key, and the second is not.
+-- The cursor fits as long as the list's change number is the noted one and is below 2^64 - 1. Each
+-- step on the list keeps these properties.
 pub record IsPlaced (l : Listing) (c : Cursor) : Type 0 where
   pub pred_known : c.pred.stamp ≤ l.last
   pub pred_apart : (place : ℕ) → out_at l place ≢ Some c.pred.stamp
@@ -84,14 +86,14 @@ abbrev pub with_key : Option NodeAt → SortKey → Option NodeAt
 with_key None at = None
 with_key (Some n) at = if is_same n.at at then Some n else None
 
--- The node of the sort key sought, if it is right behind the cursor's first node.
+-- The node with the sort key sought, if it is right after the cursor's first node.
 abbrev pub node_there : Listing → Cursor → Option NodeAt
 node_there l c = with_key (behind l c) (at_of c)
 
--- If the cursor fits, no node has its sort key.
+-- If the cursor fits, no node has the cursor's sort key.
 abbrev pub IsRoomFor : Listing → Cursor → Type 0
 IsRoomFor l c = fits l c ≡ true → node_there l c ≡ None
 
--- If the cursor fits, a regular node has its sort key.
+-- If the cursor fits, a regular node has the cursor's sort key.
 abbrev pub IsKeyThere : Listing → Cursor → Type 0
 IsKeyThere l c = fits l c ≡ true → IsSomeAnd (node_there l c) (λ n. IsTrue (is_regular n.kind))

@@ -9,31 +9,31 @@ use Rattle.node_list.specs.Nodes.{NodeAt, Listing, node_of, out_at}
 abbrev pub IsBelow : NodeAt → SortKey → Type 0
 IsBelow n at = IsBefore n.at at
 
--- The node is at the position of the sort key, or behind it.
+-- The node is at the position of the sort key, or after it.
 abbrev pub IsNotBelow : NodeAt → SortKey → Type 0
 IsNotBelow n at = IsNotBefore n.at at
 
--- The nodes without those that a seek unlinks: the marked ones before the first unmarked node that
--- is not below the sort key.
+-- The nodes after a seek has unlinked some: the marked ones before the first unmarked node that is
+-- not below the sort key.
 unfoldable pub cleaned : SortKey → List NodeAt → List NodeAt
 cleaned at [] = []
 cleaned at (n ∷ rest) =
     if n.marked then cleaned at rest
     else (if is_before n.at at then n ∷ cleaned at rest else n ∷ rest)
 
--- The nodes after a seek of the sort key from a place.
+-- The nodes after a seek for the sort key that begins at the place `from`.
 unfoldable pub sought : List NodeAt → ℕ → SortKey → List NodeAt
 sought [] from at = []
 sought (n ∷ rest) from at = if n.place == from then n ∷ cleaned at rest else n ∷ sought rest from at
 
--- A dummy before the position of the sort key is linked at this place.
+-- The node linked at this place is a dummy before the position of the sort key.
 pub record IsStart (nodes : List NodeAt) (place : ℕ) (at : SortKey) : Type 0 where
   pub node : NodeAt
   pub is : node_of nodes place ≡ Some node
   pub dummy : node.kind ≡ Dummy
   pub below : IsBelow node at
 
--- An unmarked node before the position of the sort key is linked at this place.
+-- The node linked at this place is unmarked, and is before the position of the sort key.
 pub record IsPred (nodes : List NodeAt) (place : ℕ) (at : SortKey) : Type 0 where
   pub node : NodeAt
   pub is : node_of nodes place ≡ Some node

@@ -11,8 +11,8 @@ use Rattle.list_steps.specs.declared.sweeps.SweepOutcome.TheVariants.{Swept, Cle
 use Rattle.list_steps.specs.Content.{pairs, pair_of, Replaces}
 use Rattle.list_steps.specs.Found.{at_of, pred_of, node_there}
 
--- The node of the sort key sought is at the place and unmarked, and its pair is in the content if
--- it is regular.
+-- The node with the sort key sought is at the place, and is unmarked. If the node is regular, its
+-- pair is in the content.
 pub record IsThere (l : Listing) (c : Cursor) (place : ℕ) : Type 0 where
   pub node : NodeAt
   pub there : node_there l c ≡ Some node
@@ -21,19 +21,20 @@ pub record IsThere (l : Listing) (c : Cursor) (place : ℕ) : Type 0 where
   pub unmarked : node.marked ≡ false
   pub content : node.kind ≡ Regular → Contains (pairs l.nodes) (node.at.key, node.value)
 
--- No linked node has the sort key sought. A node with this key belongs right behind the cursor's
+-- No linked node has the sort key sought. A node with this key belongs right after the cursor's
 -- first node.
 pub record IsAbsent (l : Listing) (c : Cursor) : Type 0 where
   pub none : node_there l c ≡ None
   pub vacant : IsVacant l.nodes (pred_of c) (at_of c)
   pub others : AllByRecursion (λ n. n.at ≢ at_of c) l.nodes
 
--- The result of a look: the place of the node, or none if no node has the sort key.
+-- The result of `look`: the place of the node with the sort key sought, or `None` if no node has
+-- it.
 abbrev pub Finds : Listing → Cursor → Option ℕ → Type 0
 Finds l c None = IsAbsent l c
 Finds l c (Some place) = IsThere l c place
 
--- The node is linked behind the one at the place.
+-- The new node is linked right after the node at the place `pred`.
 pub record Links (old new : Listing) (pred : ℕ) (node : NodeAt) : Type 0 where
   pub takes : UsesSpare old new (linked_after old.nodes pred node) node.place
   pub linked : node_of new.nodes node.place ≡ Some node
@@ -58,15 +59,15 @@ pub record Swaps (old new : Listing) (place was now : ℕ) : Type 0 where
   pub content : Replaces (pairs old.nodes) (pairs new.nodes)
       ((node.at.key, was) ∷ []) ((node.at.key, now) ∷ [])
 
--- The node of the sort key sought had this value, and is now marked.
+-- The node with the sort key sought had the value `value`, and is now marked.
 abbrev pub MarksThere : Listing → Listing → Cursor → ℕ → Type 0
 MarksThere old new c value = IsSomeAnd (node_there old c) (λ n. Marks old new n.place value)
 
--- The node of the sort key sought had the value `was`, and now has the value `now`.
+-- The node with the sort key sought had the value `was`, and now has the value `now`.
 abbrev pub SwapsThere : Listing → Listing → Cursor → ℕ → ℕ → Type 0
 SwapsThere old new c was now = IsSomeAnd (node_there old c) (λ n. Swaps old new n.place was now)
 
--- A node that precedes all marked ones is linked at this place.
+-- The node linked at this place precedes all marked nodes.
 pub record IsBeforeMarks (nodes : List NodeAt) (place : ℕ) : Type 0 where
   pub node : NodeAt
   pub is : node_of nodes place ≡ Some node
@@ -77,7 +78,7 @@ unfoldable pub without_first_marked : List NodeAt → List NodeAt
 without_first_marked [] = []
 without_first_marked (n ∷ rest) = if n.marked then rest else n ∷ without_first_marked rest
 
--- The first marked node is unlinked, or none is marked and nothing has changed.
+-- `Swept`: the first marked node has been unlinked. `Clean`: nothing has changed.
 abbrev pub Sweeps : Listing → Listing → SweepOutcome → Type 0
 Sweeps old new Swept = Becomes old new (without_first_marked old.nodes)
 Sweeps old new Clean = new ≡ old

@@ -1,4 +1,4 @@
--- The text of an error.
+-- The text of the error that a cursor does not fit.
 use Rattle.std.specs.Prelude.{ℕ, List, codes}
 
 -- The text of `Again`.

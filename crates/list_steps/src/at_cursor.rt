@@ -1,7 +1,7 @@
-//! A test and a step in one call, for a caller that takes one step at a cursor; `steps.rt` has them
-//! as two calls. If the cursor does not fit, nothing changes, and a spare that was passed in is
-//! returned. Of the linked nodes, a call touches only the two of the cursor, so it takes constant
-//! time.
+//! Tests a cursor and takes one step at it, in one call. `steps.rt` has the test and the steps as
+//! separate calls. If the cursor does not fit, nothing changes, and a spare that was passed in is
+//! returned. Of the linked nodes, a call touches only the two that the cursor notes, so it takes
+//! constant time.
 ghost use Rattle.std.specs.Prelude.{◌≡◌, ◌<◌, ◌-◌, ◌^◌, is_ok, IsOk, IfOk, IfErr, OnOk, OnErr};
 ghost use Rattle.node_list.specs.Nodes.{IsOut, filled};
 ghost use Rattle.node_list.specs.Follow.{Follows};
@@ -12,11 +12,11 @@ use crate::cursor::{Again, Cursor};
 use crate::steps::{link_at, look, mark_at, swap_at};
 use node_list::{NodeList, NodeRef, Spare};
 
-/// Links the node of a spare at the cursor, and answers that node. The spare belongs to this list
-/// and has the sort key sought. If the cursor fits, `look` must answer that no node has that sort
-/// key.
+/// Links the node of a spare at the cursor, and returns that node. The spare belongs to this list,
+/// and its sort key is the one sought. It is required that, if the cursor fits, no node has that
+/// sort key. `look` reports whether this is so.
 ///
-/// The content gains the pair of a regular node; a dummy leaves it unchanged.
+/// If the node is regular, its pair is added to the content. A dummy leaves the content unchanged.
 ///
 /// # Errors
 ///
@@ -42,10 +42,11 @@ pub fn link(list: &mut NodeList, cursor: Cursor, spare: Spare) -> Result<NodeRef
     }
 }
 
-/// Marks the regular node of the sort key sought, and answers its value. If the cursor fits, that
-/// node must be there, as `look` tells.
+/// Marks the regular node with the sort key sought, and returns its value. If the cursor fits, that
+/// node must be there (`look` says whether it is).
 ///
-/// The content loses its pair. The node stays linked until a seek passes it or a sweep reaches it.
+/// The node's pair is removed from the content. The node stays linked until a seek passes it or a
+/// sweep reaches it.
 ///
 /// # Errors
 ///
@@ -66,10 +67,10 @@ pub fn mark(list: &mut NodeList, cursor: Cursor) -> Result<u64, Again>
     }
 }
 
-/// Writes a value into the regular node of the sort key sought, and answers the value that it had.
-/// If the cursor fits, that node must be there, as `look` tells.
+/// Writes a value into the regular node with the sort key sought, and returns the value that the
+/// node had. If the cursor fits, that node must be there (`look` says whether it is).
 ///
-/// In the content the pair keeps its position and gets the new value.
+/// In the content, the node's pair keeps its position and gets the new value.
 ///
 /// # Errors
 ///

@@ -1,6 +1,6 @@
 //! Cursors, and the test whether a cursor still fits. A cursor notes the sort key sought and two
-//! neighbours, each by its place and stamp. A stamp is never used again, so a new node at an old
-//! place is not mistaken for the old node.
+//! neighbouring nodes, each by its place and its stamp. No stamp is used twice, so a new node at an
+//! old place is not mistaken for the old node.
 ghost use Rattle.std.specs.Prelude.{◌≡◌, Some, true, ◌==◌, ◌&&◌, not};
 ghost use Rattle.node_list.specs.Nodes.{IsLinked, next_of, node_of, place_of};
 ghost use Rattle.node_list.specs.Sound.{IsSound};
@@ -11,7 +11,8 @@ use split_key::SortKey;
 use std::fmt;
 use std::fmt::Display;
 
-/// A node as a cursor notes it: its place, and the stamp that tells it from any other node there.
+/// What a cursor notes of a node: its place and its stamp. No other node at this place has the same
+/// stamp.
 #[derive(Clone, Copy, Debug, PartialEq, Eq)]
 pub struct Noted {
     pub(crate) place: NodeRef,
@@ -30,8 +31,8 @@ pub struct Cursor {
     pub(crate) changes: u64,
 }
 
-/// The cursor does not fit: the list is no longer as the cursor noted it. Seek again. It is printed
-/// as `the list is not as the cursor noted it`.
+/// The cursor does not fit, because the list is no longer as the cursor noted it. The caller must
+/// seek again. This error is printed as `the list is not as the cursor noted it`.
 #[derive(Clone, Copy, Debug, PartialEq, Eq)]
 pub struct Again;
 
@@ -72,8 +73,8 @@ impl Cursor {
     ghost use Rattle.list_steps.specs.Seek.{IsPred};
     ghost use Rattle.list_steps.specs.Found.{IsBeyond, IsFound, IsPlaced, behind, fits, is_next_noted, pred_of, at_of};
 
-    /// The cursor of a sort key whose position is between this node and the next node, or at the
-    /// end if there is no next node.
+    /// The cursor for a sort key. The position of the sort key is between the node at `place` and
+    /// the next node, or at the end of the list if there is no next node.
     pub(crate) fn between(
         list: &NodeList,
         place: NodeRef,
@@ -100,15 +101,16 @@ impl Cursor {
     }
 
     /// The cursor's first node. If the cursor fits and no node has the sort key sought, a node with
-    /// this sort key belongs right behind the first node.
+    /// this sort key belongs right after the first node.
     pub fn pred(&self) -> NodeRef
         ensures { result ≡ pred_of self.now }
     {
         self.pred.place
     }
 
-    /// Whether the node behind the cursor's first node is the noted second node, and is unmarked.
-    /// If the cursor notes no second node, whether the first node is still the last of the list.
+    /// Returns true if the node after the cursor's first node is the second node that the cursor
+    /// noted, and is unmarked. If the cursor noted no second node, returns true if the first node
+    /// is still the last of the list.
     fn is_next_fitting(&self, list: &NodeList) -> bool
         requires { IsLinked list.now.nodes (pred_of self.now) }
         ensures { result ≡ is_next_noted (behind list.now self.now) self.now.cur }

@@ -1,34 +1,37 @@
-//! Steps on a list of nodes, at positions that were sought before.
+//! Steps on a list of nodes, at positions found by earlier seeks.
 //!
 //! This is the list of Shalev and Shavit, "Split-Ordered Lists: Lock-Free Extensible Hash Tables"
 //! (Journal of the ACM 53(3), 2006), with the marked nodes of Harris, "A Pragmatic Implementation
 //! of Non-Blocking Linked-Lists" (DISC 2001). An operation on the list is divided into steps, and
-//! each step has the list to itself: one step seeks a position, and a later one acts there. The
-//! later step finds out by itself whether other callers changed the position in between.
+//! no other step runs at the same time. One step seeks a position, and a later step acts there. The
+//! later step itself tests whether other callers changed the position in between.
 //!
 //! ```text
-//! dummy 0 -> key 4 -> key 2 -> end      a cursor of key 2's sort key: pred is key 4, cur is key 2
+//! dummy 0 -> key 4 -> key 2 -> end      a cursor for key 2's sort key: pred is key 4, cur is key 2
 //! ```
 //!
-//! A `Cursor` notes `pred`, the last unmarked node below the sort key sought; `cur`, the first
-//! unmarked one not below it, or the end; their stamps; the sort key; and the list's change number.
-//! It *fits* if `pred` is a linked, unmarked node with its noted stamp, the node behind it is the
-//! noted `cur`, and that is unmarked with its noted stamp. `look` tests a cursor: the answer is
-//! `Again` exactly if it does not fit. A cursor of any age may be passed in: every change of the
-//! list keeps the property that makes it safe (`IsPlaced`, by the lemma `still_placed`).
+//! A `Cursor` notes the sort key sought and two nodes with their stamps. `pred` is the last
+//! unmarked node below the sort key, and `cur` is the first unmarked node not below it, or the end
+//! of the list. A cursor also notes the list's change number. A cursor *fits* if `pred` is still
+//! linked, is unmarked and has the noted stamp, and if the next node is still `cur`, is unmarked
+//! and has the noted stamp. `look` tests a cursor, and returns `Again` exactly if it does not fit.
+//! A cursor of any age may be passed in, because every change of the list keeps the property that
+//! makes the cursor safe (`IsPlaced`, by the lemma `still_placed`).
 //!
-//! A cursor needs only one test: if it fits, `look` answers the node of the sort key, or that there
-//! is none, and `link_at`, `mark_at` and `swap_at` rely on that answer. `link`, `mark` and `swap`
-//! test and act in one call.
+//! A cursor needs only one test. If it fits, `look` returns the node with the sort key, or that
+//! there is none, and `link_at`, `mark_at` and `swap_at` rely on that result. `link`, `mark` and
+//! `swap` test and act in one call.
 //!
 //! A contract sees the list as `node_list` does, and its content as `pairs`: the key and the value
-//! of each regular, unmarked node, in order. A link of a regular node adds a pair, a mark removes
-//! one, a swap changes a value; seeks, sweeps and links of dummies leave the content unchanged.
+//! of each regular, unmarked node, in order. Linking a regular node adds a pair, marking a node
+//! removes a pair, and a swap changes a value. Seeks, sweeps and linking a dummy leave the content
+//! unchanged.
 //!
-//! Calls take constant time and no memory, except that a seek visits each node from its start to
-//! the position once, and a sweep walks to the first marked node: `sweep` from the first node of
-//! the list, `sweep_from` from any node that precedes all marked ones. Every dummy whose split key
-//! is at most the answer of `NodeList::marks_begin` is such a node (the lemma `before_marks`).
+//! Calls take no memory, and all but seeks and sweeps take constant time. A seek visits each node
+//! from its start to the position once. A sweep walks to the first marked node: `sweep` from the
+//! first node of the list, and `sweep_from` from any node that precedes all marked ones. Every
+//! dummy whose split key is at most the result of `NodeList::marks_begin` precedes all marked nodes
+//! (the lemma `before_marks`).
 #![tactic(auto)]
 
 mod at_cursor;

@@ -1,6 +1,7 @@
 //! The seek: a walk from a node to the position of a sort key, which unlinks the marked nodes that
-//! it passes. It and the sweep have the only loops over the list in this crate; all other steps
-//! take constant time. Only a seek makes cursors, and each fits the list that the seek leaves.
+//! it passes. In this crate, only the seek and the sweep have loops over the list. All other steps
+//! take constant time. Only a seek makes cursors, and a new cursor fits the list as the seek leaves
+//! it.
 ghost use Rattle.std.specs.Prelude.{◌≡◌, ◌-◌, length, true};
 ghost use Rattle.node_list.specs.Nodes.{changes_after};
 ghost use Rattle.node_list.specs.Follow.{Follows};
@@ -12,16 +13,16 @@ use crate::cursor::Cursor;
 use node_list::{NodeList, NodeRef};
 use split_key::SortKey;
 
-/// Seeks the position of a sort key from a dummy before it, and unlinks the marked nodes that it
-/// passes: all between its start and the first unmarked node that is not below the sort key (the
-/// search of Harris, DISC 2001).
+/// Walks from a dummy to the position of a sort key, and returns a cursor for this position. The
+/// dummy must be before the position. The seek unlinks all marked nodes between the dummy and the
+/// first unmarked node that is not below the sort key (the search of Harris, DISC 2001).
 ///
-/// The cursor fits the list as the seek leaves it. The change number grows by the number of nodes
-/// unlinked, up to 2^64 - 1. The content and the spares that are out are unchanged.
+/// The cursor fits the list as the seek leaves it. The change number grows by the number of
+/// unlinked nodes, but not above 2^64 - 1. The content and the spares that are out are unchanged.
 ///
 /// # Cost
 ///
-/// Time in proportion to the nodes from the start to the position, each visited once.
+/// Time in proportion to the number of nodes from the dummy to the position. Each is visited once.
 #[inline(always)]
 pub fn seek(list: &mut NodeList, from: NodeRef, at: SortKey) -> Cursor
     requires { IsStart list.old.nodes from at }

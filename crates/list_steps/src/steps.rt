@@ -1,6 +1,7 @@
-//! The test of a cursor, and the steps that rely on its answer: link, mark, swap. They are separate
-//! from the test, so that a caller that has looked does not look again: the contract of each
-//! requires what the test found. Each takes constant time and no memory.
+//! The test of a cursor, and the steps that rely on its result: link, mark and swap. The steps are
+//! separate from the test, so that a caller that has called `look` need not test again. The
+//! contract of each step requires what the test has found. Each call takes constant time and no
+//! memory.
 ghost use Rattle.std.specs.Prelude.{◌≡◌, ◌<◌, ◌-◌, ◌^◌, is_ok, IsOk, IfOk};
 ghost use Rattle.node_list.specs.Nodes.{IsLinked, IsOut, IsRegularAt, filled, place_of};
 ghost use Rattle.node_list.specs.Order.{IsVacant};
@@ -11,7 +12,7 @@ ghost use Rattle.list_steps.specs.Steps.{Finds, Links, Marks, Swaps};
 use crate::cursor::{Again, Cursor};
 use node_list::{NodeList, NodeRef, Spare};
 
-/// The node behind the cursor's first one, if it has the sort key sought.
+/// The node after the cursor's first node, if it has the sort key sought.
 fn node_there(list: &NodeList, cursor: &Cursor) -> Option<NodeRef>
     requires { IsLinked list.now.nodes (pred_of cursor.now) }
     ensures { result ≡ place_of (node_there list.now cursor.now) }
@@ -24,12 +25,13 @@ fn node_there(list: &NodeList, cursor: &Cursor) -> Option<NodeRef>
     }
 }
 
-/// Tests a cursor, and tells which node has the sort key sought. That node is unmarked, and if it
-/// is regular its pair is in the content. If the answer is `None`, no linked node, marked or not,
-/// has the sort key, and a node with it belongs right behind `cursor.pred()`.
+/// Tests a cursor, and returns the node with the sort key sought. That node is unmarked. If it is
+/// regular, its pair is in the content. Returns `None` if no linked node, marked or not, has the
+/// sort key. In that case a node with this sort key belongs right after `cursor.pred()`.
 ///
-/// The next step may rely on the answer until the list changes: `link_at` behind `cursor.pred()` if
-/// there is no node, `mark_at` or `swap_at` at a regular one.
+/// The caller may rely on the result until the list changes. If there is no node, `link_at` may
+/// link one after `cursor.pred()`. If there is a regular node, `mark_at` or `swap_at` may change
+/// it.
 ///
 /// # Errors
 ///
@@ -48,10 +50,11 @@ pub fn look(list: &NodeList, cursor: &Cursor) -> Result<Option<NodeRef>, Again>
     }
 }
 
-/// Links the node of a spare behind a linked node, and answers the new node. The spare's sort key
-/// must be vacant right behind the linked node, and the spare belongs to this list.
+/// Links the node of a spare right after the node `pred`, and returns the new node. The spare must
+/// belong to this list, and a node with its sort key must belong right after `pred` (`IsVacant`).
 ///
-/// The content gains the pair of a regular node; a dummy leaves it unchanged.
+/// If the new node is regular, its pair is added to the content. A dummy leaves the content
+/// unchanged.
 pub fn link_at(list: &mut NodeList, pred: NodeRef, spare: Spare) -> NodeRef
     requires out { IsOut list.old spare }
     requires vacant { IsVacant list.old.nodes pred spare.at }
@@ -64,10 +67,10 @@ pub fn link_at(list: &mut NodeList, pred: NodeRef, spare: Spare) -> NodeRef
     node
 }
 
-/// Marks an unmarked regular node, and answers its value.
+/// Marks an unmarked regular node, and returns its value.
 ///
-/// The content loses its pair. The node stays linked until a seek passes it or a sweep reaches it
-/// (Harris, DISC 2001).
+/// The node's pair is removed from the content. The node stays linked until a seek passes it or a
+/// sweep reaches it (Harris, DISC 2001).
 pub fn mark_at(list: &mut NodeList, node: NodeRef) -> u64
     requires { IsRegularAt list.old.nodes node }
     ensures marks { Marks list.old list.new node result }
@@ -78,9 +81,9 @@ pub fn mark_at(list: &mut NodeList, node: NodeRef) -> u64
     value
 }
 
-/// Writes a value into an unmarked regular node, and answers the value that it had.
+/// Writes a value into an unmarked regular node, and returns the value that the node had.
 ///
-/// In the content the pair keeps its position and gets the new value.
+/// In the content, the node's pair keeps its position and gets the new value.
 pub fn swap_at(list: &mut NodeList, node: NodeRef, value: u64) -> u64
     requires { IsRegularAt list.old.nodes node }
     ensures swaps { Swaps list.old list.new node result value }

@@ -1,6 +1,6 @@
-//! The sweep: unlinks the first marked node, or answers that no node is marked. It is separate from
-//! the other steps, since it needs no cursor. A call unlinks at most one node, so other steps may
-//! be taken between two sweeps; if no node is marked, it does not walk.
+//! The sweep unlinks the first marked node, or returns that no node is marked. It is separate from
+//! the other steps, because it needs no cursor. A call unlinks at most one node, so other steps may
+//! be taken between two sweeps. If no node is marked, a sweep does not walk.
 ghost use Rattle.std.specs.Prelude.{◌≡◌, ◌↔◌, false};
 ghost use Rattle.std.specs.List.{AllByRecursion};
 ghost use Rattle.node_list.specs.Follow.{Follows};
@@ -19,14 +19,16 @@ pub enum SweepOutcome {
     Clean,
 }
 
-/// The node before the first marked one, sought from a node that precedes all marked ones.
+/// The node before the first marked node. The search begins at `start`, which precedes all marked
+/// nodes.
 fn before_first_marked(list: &NodeList, start: NodeRef) -> NodeRef
     requires start { IsBeforeMarks list.now.nodes start }
     requires some { ¬ AllByRecursion (λ n. n.marked ≡ false) list.now.nodes }
     ensures marked { IsBeforeMarked list.now.nodes result }
     ensures first { unlinked_after list.now.nodes result ≡ without_first_marked list.now.nodes }
 {
-    // By the contract of this call the list is sound. The proof needs this fact, not the answer.
+    // The proof needs the fact that the list is sound, which the contract of this call states. The
+    // result is not used.
     let _changes = list.changes();
     let mut place = start;
     'walk: while let Some(next) = list.node(place).next() {
@@ -38,15 +40,15 @@ fn before_first_marked(list: &NodeList, start: NodeRef) -> NodeRef
     unreachable!()
 }
 
-/// Unlinks the first marked node, and nothing else, or answers that no node is marked.
+/// Unlinks the first marked node, and no other node.
 ///
-/// The answer is `Clean` exactly if no node is marked; the list is then unchanged. The content and
-/// the spares that are out are unchanged in any case.
+/// Returns `Clean` exactly if no node is marked. The list is then unchanged. In both cases the
+/// content and the spares that are out are unchanged.
 ///
 /// # Cost
 ///
-/// Time in proportion to the nodes from the first one to the first marked one; constant time if
-/// none is marked.
+/// Time in proportion to the number of nodes from the first node to the first marked one. Constant
+/// time if no node is marked.
 pub fn sweep(list: &mut NodeList) -> SweepOutcome
     ensures clean { (result ≡ SweepOutcome.Clean) ↔
         AllByRecursion (λ n. n.marked ≡ false) list.old.nodes }
@@ -58,12 +60,12 @@ pub fn sweep(list: &mut NodeList) -> SweepOutcome
     sweep_from(list, head)
 }
 
-/// A `sweep` whose walk begins at `start`, a node that precedes all marked nodes.
+/// Does the same as `sweep`, but begins its walk at `start`, which precedes all marked nodes.
 ///
 /// # Cost
 ///
-/// Time in proportion to the nodes from `start` to the first marked one; constant time if none is
-/// marked.
+/// Time in proportion to the number of nodes from `start` to the first marked one. Constant time if
+/// no node is marked.
 pub fn sweep_from(list: &mut NodeList, start: NodeRef) -> SweepOutcome
     requires { IsBeforeMarks list.old.nodes start }
     ensures clean { (result ≡ SweepOutcome.Clean) ↔

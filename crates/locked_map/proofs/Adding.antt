@@ -1,4 +1,4 @@
--- A caller's own entries from a position of the history on.
+-- A caller's own entries in the part of the history that begins at a given position.
 use Rattle.std.proofs.Common.{◌≡◌, ℕ, ◌+◌, ◌<◌, ◌↔◌, List, ◌∷◌, drop, get_or, length}
 use Rattle.std.proofs.lemmas.Bool.{eq-eqb, ne_eqb}
 use Rattle.std.proofs.lemmas.List.{drop_more}

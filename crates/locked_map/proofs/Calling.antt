@@ -1,4 +1,4 @@
--- The caller after a call, by the end that the last hold has given.
+-- The caller after a call, for each end that the last hold may give.
 use Rattle.std.proofs.Common.{◌≡◌, ℕ, Bool, true, false, List, [], Option, None, inl, inr}
 use Rattle.std.proofs.Common.{refl, sym}
 use Rattle.std.proofs.lemmas.Bool.{not-false}
@@ -21,13 +21,15 @@ use Rattle.undo_log.specs.Sides.{IsSameSide}
 use Rattle.core_tokens.specs.Suits.{may_refuse}
 use Rattle.core_tokens.specs.Tokens.{Token, IsSameCaller, IsSameSeen}
 
--- If `a` and `b` are equal side values, an end that takes `b` to `c` also takes `a` to `c`.
+-- If `a` and `b` are equal side values and an end changes `b` to `c`, the end also changes `a` to
+-- `c`.
 follows_on : {S : Type 0} (words : S → List ℕ) (outcome : End) (a b c : Leveled S) → IsSameSide a b → MovesSide words outcome b c → MovesSide words outcome a c
 follows_on words (ends.Answered (answers.Began t)) a b c same on = record { value = cc; levels = cc; changes = cc; kept = cc }
 follows_on words outcome a b c same on = record { value = cc; levels = cc; changes = cc; kept = cc }
 
--- A call that its token `k` lets pass: `r` is the token when it was ready for the call's holds, `h`
--- is the token after these holds, and `l` is the token after it has followed the call's end.
+-- Lemmas about a call that its token `k` does not refuse. `r` is the token when it is ready for the
+-- call's holds, `h` is the token after these holds, and `l` is the token after it has followed the
+-- call's end.
 module _ {S : Type 0} (words : S → List ℕ) (k r h l : Token S) (call : Call) (free : refused_by k call ≡ None) (same : IsSameSeen k r) (side : IsSameSide k.side r.side) (readied : Readies k.claims call r.claims) (held_side : h.side ≡ r.side)
     (caller : IsSameCaller r h) (kept : h.claims ≡ r.claims) (followed : IsSameSeen h l) where
   whose : IsSameCaller k l
@@ -74,7 +76,7 @@ module _ {S : Type 0} (words : S → List ℕ) (k r h l : Token S) (call : Call)
     went = went_on outcome held claims;
   }
 
--- A call that did what it was asked to do.
+-- If a call ran and its end is `IsDone`, the call did what it was asked to do.
 pub passed_of : {S : Type 0} (words : S → List ℕ) (k l : Token S) (call : Call) (outcome : End) → IsDone outcome → Ran words k call outcome l → Passed k call l
 passed_of words k l call outcome done ran = record { free = ran.free; whose = ran.whose; sound = ran.sound; outcome = outcome; done = done; went = ran.went }
 
@@ -83,7 +85,7 @@ pub sound_if_free : (half b : Bool) (seat : Option Seat) (call : Call) → refus
 sound_if_free half true seat call free = absurd (cc free)
 sound_if_free half false seat call free = refl
 
--- A call for which its token was not made ready.
+-- Lemmas about a call for which the token was not made ready.
 module _ {S : Type 0} (k l : Token S) where
   found_none : (call : Call) (refusal : Refusal) → may_refuse call NoMemory ≡ true → k.broken ≡ false → refusal ≡ NoMemory → l ≡ k → Failed k call refusal l
   found_none call refusal may sound is same = rw (is, same) (record {

@@ -37,7 +37,7 @@ starts k call d limits number limits_are number_is drive none fits =
       holding = record { holds = 0; held = (refl, new) };
     }
 
--- A hold that takes a turn: the call goes on or has ended.
+-- After a hold that takes a turn, the call is still in progress or has ended.
 holds_to : {S : Type 0} (k between l : Token S) (call : Call) (half e : Drive) (m n : State) (r : Option End) → IsHolding k call between half → Held m between half r n l e → HoldsTo k call r l e
 holds_to k between l call half e m n None on held = record { holds = suc on.holds; held = (between, half, m, n, on.held, held) }
 holds_to k between l call half e m n (Some outcome) on held = record { between = between; half = half; holding = on; before = m; after = n; last = e; held = held }

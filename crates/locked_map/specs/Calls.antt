@@ -1,4 +1,4 @@
--- The holds of a shared call, and the caller after it.
+-- The holds of a shared call, and the caller after the call.
 use Rattle.std.specs.Prelude.{ℕ, zero, suc, ◌≡◌, ◌≤◌, ◌⊎◌, true, false, List, ◌++◌, length}
 use Rattle.std.specs.Prelude.{Option, Some, None, is_some, Result, Ok, Err}
 use Rattle.txn_words.specs.declared.entry.Entry.{Entry}
@@ -23,8 +23,8 @@ use Rattle.core_tokens.specs.Tokens.{Token, IsSameCaller, IsSameClaims, IsSameSe
 use Rattle.map_answers.specs.declared.stop.Stop.{Stop}
 use Rattle.map_answers.specs.declared.stop.Stop.TheVariants as stops
 
--- This number of holds of a call, none of which has ended the call. Each is a hold of the core as
--- it is then under the lock; other callers may take steps between two holds.
+-- A call has had this number of holds, none of which has ended the call. Each hold finds the core
+-- as it is under the lock at that time. Other callers may take steps between two holds.
 abbrev pub HasHeld : {S : Type 0} → ℕ → Token S → Drive → Token S → Drive → Type 0
 HasHeld zero k d l e = (l ≡ k) × (e ≡ d)
 HasHeld {S} (suc holds) k d l e =
@@ -37,7 +37,8 @@ pub record IsHolding {S : Type 0} (k : Token S) (call : Call) (l : Token S) (d :
     pub holds : ℕ
     pub held : HasHeld holds k (new_drive k.limits.half k.number call) l d
 
--- A call has ended with its last hold: its effects are those of its holds, and no other.
+-- A call has ended with its last hold. The effects of the call are those of its holds, and no
+-- others.
 pub record IsHeld {S : Type 0} (k : Token S) (call : Call) (outcome : End) (l : Token S) : Type 0
   where
     pub between : Token S
@@ -53,8 +54,9 @@ abbrev pub HoldsTo : {S : Type 0} → Token S → Call → Option End → Token 
 HoldsTo k call None l d = IsHolding k call l d
 HoldsTo k call (Some outcome) l d = IsHeld k call outcome l
 
--- A hold of the lock by a token `k` with a drive `d`. Either the drive's turn was taken, or there
--- was no room for the turn's entries in the history, and token and drive are as before.
+-- A hold of the lock by a token `k` with a drive `d`. Either the drive's turn was taken, or the
+-- history had no room for the turn's entries. In the second case the token and the drive are as
+-- before.
 pub record HeldOnce {S : Type 0} (k : Token S) (d : Drive) (result : Option End) (l : Token S)
     (e : Drive) : Type 0 where
   pub side : l.side ≡ k.side
@@ -65,10 +67,10 @@ pub record HeldOnce {S : Type 0} (k : Token S) (d : Drive) (result : Option End)
   pub goes : (base : List Entry) → IsGoing base k.seen d → GoesTo base l.seen e result
   pub holds : (t : Token S) (call : Call) → IsHolding t call k d → HoldsTo t call result l e
 
--- A call that took the lock. An operation had tried the word of its key's stripe before, unless the
--- token had the right. The entries that the token has seen since are those that its holds added.
--- The token's claims are those that it had before the first hold, except that all rights were given
--- back if the call ended the transaction.
+-- A call that took the lock. If the call is an operation, it first tried the word of its key's
+-- stripe, unless the token had the right. The entries that the token has seen since are those that
+-- the call's holds added. The token's claims are those before the first hold, but if the call ended
+-- the transaction, all rights were given back.
 pub record WentOn {S : Type 0} (k : Token S) (call : Call) (outcome : End) (l : Token S) : Type 0
   where
     pub ready : Token S
@@ -79,9 +81,9 @@ pub record WentOn {S : Type 0} (k : Token S) (call : Call) (outcome : End) (l : 
     pub seen : l.seen ≡ last.seen
     pub claims : l.claims ≡ claims_at outcome ready.claims
 
--- A call that its token let pass, and that did what it was asked to do, or found a stripe held and
--- aborted the transaction. It added the entries that its end states, and changed the side value and
--- the rights to match.
+-- A call that its token did not refuse. It did what it was asked to do, or it found a stripe held
+-- and aborted the transaction. It added the entries that belong to its end, and changed the side
+-- value and the rights to match.
 pub record Ran {S : Type 0} (words : S → List ℕ) (k : Token S) (call : Call) (outcome : End)
     (l : Token S) : Type 0 where
   pub free : refused_by k call ≡ None
@@ -98,8 +100,8 @@ pub record Ran {S : Type 0} (words : S → List ℕ) (k : Token S) (call : Call)
 abbrev pub TriedNothing : {S : Type 0} → Token S → Refusal → Token S → Type 0
 TriedNothing k refusal l = (refusal ≡ NoMemory) × (l.claims ≡ k.claims)
 
--- A call that its token let pass, and that lacked memory or a stamp or met a stale word: it added
--- nothing. If it took the lock, its last hold ended it with this refusal.
+-- A call that its token did not refuse, but that lacked memory or a stamp or found a stale word.
+-- The call added no entry. If it took the lock, its last hold ended the call with this refusal.
 pub record FoundNone {S : Type 0} (k : Token S) (call : Call) (refusal : Refusal) (l : Token S) :
     Type 0 where
   pub may : may_refuse call refusal ≡ true
@@ -109,16 +111,16 @@ pub record FoundNone {S : Type 0} (k : Token S) (call : Call) (refusal : Refusal
   pub side : IsSameSide k.side l.side
   pub cause : TriedNothing k refusal l ⊎ WentOn k call (ends.Refused refusal) l
 
--- A return to a level that the side value does not have: nothing was tried, and no entry is added.
+-- A return to a level that the side value does not have. No word was tried, and no entry was added.
 abbrev pub LacksLevel : {S : Type 0} → Token S → Call → Token S → Type 0
 LacksLevel k (calls.Back level) l =
     (length k.side.levels ≤ level) × (l.seen ≡ k.seen) × (l.claims ≡ k.claims)
 LacksLevel k call l = ⊥
 
--- A call that its token let pass, and that fell out of step. It added the entries of its moves; if
--- all entries that the token has now seen have rows, none of the added ones commits. The token is
--- broken, and keeps its rights. The call's last hold ended it with `OutOfStep`, unless the call is
--- a return to a missing level.
+-- A call that its token did not refuse, but that ended with `OutOfStep`. The token is broken and
+-- keeps its rights, and it has seen the entries that the call added. If the rule of shape allows
+-- all entries that the token has now seen, none of the added entries is a commit. The call's last
+-- hold ended it with `OutOfStep`, unless the call is a return to a missing level.
 pub record FellOut {S : Type 0} (k : Token S) (call : Call) (l : Token S) : Type 0 where
   pub whose : IsSameCaller k l
   pub broken : l.broken ≡ true
@@ -132,7 +134,8 @@ abbrev pub Failed : {S : Type 0} → Token S → Call → Refusal → Token S �
 Failed k call OutOfStep l = FellOut k call l
 Failed k call refusal l = FoundNone k call refusal l
 
--- A call that was refused: by its token, which is then unchanged, or after its token let it pass.
+-- A call that was refused. Either its token refused it, and is then unchanged, or the call failed
+-- later.
 abbrev pub WasRefused : {S : Type 0} → Token S → Call → Refusal → Token S → Type 0
 WasRefused k call refusal l =
     ((refused_by k call ≡ Some refusal) × (l ≡ k))
@@ -154,8 +157,8 @@ abbrev pub Stopped : {S : Type 0} → (S → List ℕ) → Token S → Call → 
 Stopped words k call (stops.Busy holder) l = Ran words k call (ends.Busy holder) l
 Stopped words k call (stops.Refused refusal) l = WasRefused k call refusal l
 
--- A call that did what it was asked to do: its token let it pass, and its last hold ended it as
--- answered or as helped (`IsDone`). The clauses of each call state its entries and its effect on
+-- A call that did what it was asked to do. Its token did not refuse it, and its last hold ended it
+-- as answered or as helped (`IsDone`). The clauses of each call state its entries and its effect on
 -- the side value.
 pub record Passed {S : Type 0} (k : Token S) (call : Call) (l : Token S) : Type 0 where
   pub free : refused_by k call ≡ None
@@ -165,7 +168,7 @@ pub record Passed {S : Type 0} (k : Token S) (call : Call) (l : Token S) : Type 
   pub done : IsDone outcome
   pub went : WentOn k call outcome l
 
--- The caller after a call, by its result: a value, or the reason why it stopped.
+-- The caller after a call with this result, which is a value or the reason why the call stopped.
 abbrev pub LeavesBy : {S T : Type 0} → (S → List ℕ) → Token S → Call → Result T Stop → Token S
     → Type 0
 LeavesBy words k call (Ok reply) l = Passed k call l

@@ -1,20 +1,21 @@
-//! The shared calls of a caller of a shared map.
+//! The calls that a caller of a shared map makes.
 //!
-//! Each call but `side` is a series of turns, each under one hold of the lock, and adds to the
-//! token's `seen` exactly the entries that its contract states. Before such a call takes the lock,
-//! the token tests the call: `refused_by` is the token's refusal, in the order that each call
-//! lists. A call that the token refuses leaves the token unchanged. If the core's answer is
-//! impossible in the token's state, the call ends with `OutOfStep`. The token is then broken, and
-//! what the call has done stays. `seen` keeps the entries that the call has added, and `close`
-//! compares them with the history. Each of these calls has the clauses
-//! - `ok`: the entries that the call has added, if it did what it was asked to do. `save` also has
-//!   the clause `level`, about its answer; `help` has `helped` and `bad_key`, about its holds and
-//!   its refusal.
-//! - `side`: in that case, the call's effect on the side value.
-//! - `claims`: in that case, the rights to stripes that the token then has, and the word that it
-//!   has tried. An operation tries the word of its key's stripe, unless the token has the right,
-//!   and gets the right if the word is free. The end of the transaction gives all rights back.
-//! - `leaves`: the token after the call, also if the call was not done (`EndsCall` in
+//! Each call but `side` is a series of turns, each under one hold of the lock. A call adds to the
+//! token's `seen` exactly the entries that the call's contract states. Before a call takes the
+//! lock, the token may refuse the call (`refused_by`), by the first refusal in the call's list that
+//! applies. The token is then unchanged. If the core gives an answer that is impossible in the
+//! token's state, the call ends with `OutOfStep`. The token is then broken, and what the call has
+//! done is not undone: `seen` keeps the entries that the call has added, and `close` compares them
+//! with the history. Each call but `side` has the clauses
+//! - `ok`: if the call did what it was asked to do, the entries that it has added. `save` also has
+//!   the clause `level`, about the number that it returns; `help` has `helped` and `bad_key`, about
+//!   its holds and its refusal.
+//! - `side`: in the same case, the call's effect on the side value.
+//! - `claims`: in the same case, the rights to stripes that the token then has, and the word that
+//!   the token has tried. An operation tries the word of its key's stripe, unless the token has the
+//!   right, and gets the right if the word is free. The end of the transaction gives all rights
+//!   back.
+//! - `leaves`: the token after the call, even if the call was not done (`EndsCall` in
 //!   `specs/Calls.antt`). Once the token is broken, every call is refused with `OutOfStep` and
 //!   changes nothing.
 ghost use Rattle.std.specs.Prelude.{◌≡◌, ◌↔◌, ℕ, ◌+◌, [], ◌∷◌, ◌++◌, length, None, Some, true};
@@ -41,22 +42,22 @@ use txn_trace::{Answer, Op, Refusal, Reply};
 use undo_log::{Side, SideJob};
 
 impl<L: Ledger> SharedMap<L> {
-    /// Begins a transaction, and answers its number. The present side value becomes level 0 of the
-    /// transaction: a later abort takes back nothing that was changed before.
+    /// Begins a transaction, and returns the transaction's number. The present side value becomes
+    /// level 0 of the transaction, so a later abort takes back no earlier change.
     ///
     /// # Errors
     ///
-    /// `Refused`. In all cases but the last, the transaction, if there is one, is unchanged:
+    /// `Refused`. In all cases but the last, the transaction, if there is one, is unchanged.
     /// - `OutOfStep` if the token is broken.
     /// - `Leaving` if the caller takes changes back, `AlreadyOpen` if it has a transaction.
     /// - Then `NoMemory` if memory is refused.
-    /// - `OutOfStep` if the core's answer is impossible in the token's state. The token is then
-    ///   broken, and what the call did stays.
+    /// - `OutOfStep` if the core gives an answer that is impossible in the token's state. The token
+    ///   is then broken, and what the call did is not undone.
     ///
     /// # Cost
     ///
-    /// One hold of the lock, of amortized constant time, and a step to drop each side job; may take
-    /// memory.
+    /// One hold of the lock, of amortized constant time, and constant time for each side job that
+    /// is dropped. May take memory.
     pub fn begin<S: Side, R: Wait>(&self, rt: &R, me: &mut Caller<L, S>) -> Result<u64, Stop>
         ensures ok { IfOk result (λ txn. me.new.seen
             ≡ me.old.seen ++ entries.Began me.old.number txn ∷ []) }
@@ -70,31 +71,32 @@ impl<L: Ledger> SharedMap<L> {
         }
     }
 
-    /// Puts a value at a key, and answers the value before, if there was one.
+    /// Puts a value at a key, and returns the key's old value, if it had one.
     ///
     /// # Errors
     ///
-    /// - `Refused`. In all cases but the last, the transaction is unchanged, except that it may now
-    ///   hold the key's stripe:
-    ///   - `OutOfStep` if the token is broken.
-    ///   - `NotOpen`, `Leaving`, `OperationUnfinished` and `BadKey` (a key of 2^63 or more, if the
-    ///     limits have half keys), the first that applies.
-    ///   - Then `NoMemory` if memory is refused for one more right (in this case no word was tried)
-    ///     or for the operation; `StampsUsedUp` if no stamp is left; `StaleWord` if by the core's
-    ///     record the word of the key's stripe names no caller that may hold it.
-    ///   - `OutOfStep` if the core's answer is impossible in the token's state. The token is then
-    ///     broken, and what the call did stays.
-    /// - `Busy` if the word of the key's stripe names another caller: the transaction is aborted,
-    ///   with all its changes taken back and all its rights given back, and the side value has the
-    ///   words that it had when the transaction began.
+    /// `Refused` with one of the refusals below. In all cases but the last, the transaction is
+    /// unchanged, except that it may now hold the key's stripe.
+    /// - `OutOfStep` if the token is broken.
+    /// - `NotOpen`, `Leaving`, `OperationUnfinished` and `BadKey`, the first that applies. `BadKey`
+    ///   is for a key of 2^63 or more, if the limits allow only half keys.
+    /// - Then `NoMemory` if memory is refused, for one more right (no word was tried then) or for
+    ///   the operation; `StampsUsedUp` if no stamp is left; `StaleWord` if by the core's record the
+    ///   word of the key's stripe names no caller that may hold the stripe.
+    /// - `OutOfStep` if the core gives an answer that is impossible in the token's state. The token
+    ///   is then broken, and what the call did is not undone.
+    ///
+    /// `Busy` if the word of the key's stripe names another caller. The transaction is then
+    /// aborted: all its changes are taken back, all its rights are given back, and the side value
+    /// has the words that it had when the transaction began.
     ///
     /// # Cost
     ///
-    /// Outside the lock, time in proportion to the rights that the token has, and one try of the
-    /// word unless it has the word's right. Then three holds of the lock, one of which seeks the
-    /// position of the key, and at most two further holds for each time that a position no longer
-    /// fits. If the key is busy: two further holds for each change that is taken back, a step for
-    /// each savepoint, and a run of each side job. May take memory.
+    /// Outside the lock, time in proportion to the number of the token's rights, and one try of the
+    /// stripe's word unless the token has the right to the stripe. Then three holds of the lock,
+    /// one of which seeks the position of the key, and at most two further holds each time a
+    /// position no longer fits. If the key is busy, also two holds for each change that is taken
+    /// back, constant time for each savepoint, and a run of each side job. May take memory.
     pub fn put<S: Side, R: Wait>(
         &self,
         rt: &R,
@@ -113,31 +115,32 @@ impl<L: Ledger> SharedMap<L> {
         self.operate(rt, me, Op::Put(key, value))
     }
 
-    /// Takes a key out, and answers its value, if it was there.
+    /// Takes a key out, and returns its value, if the key was there.
     ///
     /// # Errors
     ///
-    /// - `Refused`. In all cases but the last, the transaction is unchanged, except that it may now
-    ///   hold the key's stripe:
-    ///   - `OutOfStep` if the token is broken.
-    ///   - `NotOpen`, `Leaving`, `OperationUnfinished` and `BadKey` (a key of 2^63 or more, if the
-    ///     limits have half keys), the first that applies.
-    ///   - Then `NoMemory` if memory is refused for one more right (in this case no word was tried)
-    ///     or for the operation; `StampsUsedUp` if no stamp is left; `StaleWord` if by the core's
-    ///     record the word of the key's stripe names no caller that may hold it.
-    ///   - `OutOfStep` if the core's answer is impossible in the token's state. The token is then
-    ///     broken, and what the call did stays.
-    /// - `Busy` if the word of the key's stripe names another caller: the transaction is aborted,
-    ///   with all its changes taken back and all its rights given back, and the side value has the
-    ///   words that it had when the transaction began.
+    /// `Refused` with one of the refusals below. In all cases but the last, the transaction is
+    /// unchanged, except that it may now hold the key's stripe.
+    /// - `OutOfStep` if the token is broken.
+    /// - `NotOpen`, `Leaving`, `OperationUnfinished` and `BadKey`, the first that applies. `BadKey`
+    ///   is for a key of 2^63 or more, if the limits allow only half keys.
+    /// - Then `NoMemory` if memory is refused, for one more right (no word was tried then) or for
+    ///   the operation; `StampsUsedUp` if no stamp is left; `StaleWord` if by the core's record the
+    ///   word of the key's stripe names no caller that may hold the stripe.
+    /// - `OutOfStep` if the core gives an answer that is impossible in the token's state. The token
+    ///   is then broken, and what the call did is not undone.
+    ///
+    /// `Busy` if the word of the key's stripe names another caller. The transaction is then
+    /// aborted: all its changes are taken back, all its rights are given back, and the side value
+    /// has the words that it had when the transaction began.
     ///
     /// # Cost
     ///
-    /// Outside the lock, time in proportion to the rights that the token has, and one try of the
-    /// word unless it has the word's right. Then three holds of the lock, one of which seeks the
-    /// position of the key, and at most two further holds for each time that a position no longer
-    /// fits. If the key is busy: two further holds for each change that is taken back, a step for
-    /// each savepoint, and a run of each side job. May take memory.
+    /// Outside the lock, time in proportion to the number of the token's rights, and one try of the
+    /// stripe's word unless the token has the right to the stripe. Then three holds of the lock,
+    /// one of which seeks the position of the key, and at most two further holds each time a
+    /// position no longer fits. If the key is busy, also two holds for each change that is taken
+    /// back, constant time for each savepoint, and a run of each side job. May take memory.
     pub fn take<S: Side, R: Wait>(
         &self,
         rt: &R,
@@ -153,32 +156,33 @@ impl<L: Ledger> SharedMap<L> {
         self.operate(rt, me, Op::Take(key))
     }
 
-    /// Puts a value at a key exactly if the value before is the expected one; `None` stands for a
-    /// key that is not there. Answers the value before.
+    /// Puts a value at a key exactly if the key's old value is the expected one. `None` stands for
+    /// a key that is not there. Returns the old value.
     ///
     /// # Errors
     ///
-    /// - `Refused`. In all cases but the last, the transaction is unchanged, except that it may now
-    ///   hold the key's stripe:
-    ///   - `OutOfStep` if the token is broken.
-    ///   - `NotOpen`, `Leaving`, `OperationUnfinished` and `BadKey` (a key of 2^63 or more, if the
-    ///     limits have half keys), the first that applies.
-    ///   - Then `NoMemory` if memory is refused for one more right (in this case no word was tried)
-    ///     or for the operation; `StampsUsedUp` if no stamp is left; `StaleWord` if by the core's
-    ///     record the word of the key's stripe names no caller that may hold it.
-    ///   - `OutOfStep` if the core's answer is impossible in the token's state. The token is then
-    ///     broken, and what the call did stays.
-    /// - `Busy` if the word of the key's stripe names another caller: the transaction is aborted,
-    ///   with all its changes taken back and all its rights given back, and the side value has the
-    ///   words that it had when the transaction began.
+    /// `Refused` with one of the refusals below. In all cases but the last, the transaction is
+    /// unchanged, except that it may now hold the key's stripe.
+    /// - `OutOfStep` if the token is broken.
+    /// - `NotOpen`, `Leaving`, `OperationUnfinished` and `BadKey`, the first that applies. `BadKey`
+    ///   is for a key of 2^63 or more, if the limits allow only half keys.
+    /// - Then `NoMemory` if memory is refused, for one more right (no word was tried then) or for
+    ///   the operation; `StampsUsedUp` if no stamp is left; `StaleWord` if by the core's record the
+    ///   word of the key's stripe names no caller that may hold the stripe.
+    /// - `OutOfStep` if the core gives an answer that is impossible in the token's state. The token
+    ///   is then broken, and what the call did is not undone.
+    ///
+    /// `Busy` if the word of the key's stripe names another caller. The transaction is then
+    /// aborted: all its changes are taken back, all its rights are given back, and the side value
+    /// has the words that it had when the transaction began.
     ///
     /// # Cost
     ///
-    /// Outside the lock, time in proportion to the rights that the token has, and one try of the
-    /// word unless it has the word's right. Then three holds of the lock, one of which seeks the
-    /// position of the key, and at most two further holds for each time that a position no longer
-    /// fits. If the key is busy: two further holds for each change that is taken back, a step for
-    /// each savepoint, and a run of each side job. May take memory.
+    /// Outside the lock, time in proportion to the number of the token's rights, and one try of the
+    /// stripe's word unless the token has the right to the stripe. Then three holds of the lock,
+    /// one of which seeks the position of the key, and at most two further holds each time a
+    /// position no longer fits. If the key is busy, also two holds for each change that is taken
+    /// back, constant time for each savepoint, and a run of each side job. May take memory.
     pub fn put_if<S: Side, R: Wait>(
         &self,
         rt: &R,
@@ -199,31 +203,32 @@ impl<L: Ledger> SharedMap<L> {
         self.operate(rt, me, Op::PutIf(key, expected, value))
     }
 
-    /// Answers the value of a key, if it is there.
+    /// Returns the value of a key, if the key is there.
     ///
     /// # Errors
     ///
-    /// - `Refused`. In all cases but the last, the transaction is unchanged, except that it may now
-    ///   hold the key's stripe:
-    ///   - `OutOfStep` if the token is broken.
-    ///   - `NotOpen`, `Leaving`, `OperationUnfinished` and `BadKey` (a key of 2^63 or more, if the
-    ///     limits have half keys), the first that applies.
-    ///   - Then `NoMemory` if memory is refused for one more right (in this case no word was tried)
-    ///     or for the operation; `StaleWord` if by the core's record the word of the key's stripe
-    ///     names no caller that may hold it.
-    ///   - `OutOfStep` if the core's answer is impossible in the token's state. The token is then
-    ///     broken, and what the call did stays.
-    /// - `Busy` if the word of the key's stripe names another caller: the transaction is aborted,
-    ///   with all its changes taken back and all its rights given back, and the side value has the
-    ///   words that it had when the transaction began.
+    /// `Refused` with one of the refusals below. In all cases but the last, the transaction is
+    /// unchanged, except that it may now hold the key's stripe.
+    /// - `OutOfStep` if the token is broken.
+    /// - `NotOpen`, `Leaving`, `OperationUnfinished` and `BadKey`, the first that applies. `BadKey`
+    ///   is for a key of 2^63 or more, if the limits allow only half keys.
+    /// - Then `NoMemory` if memory is refused, for one more right (no word was tried then) or for
+    ///   the operation; `StaleWord` if by the core's record the word of the key's stripe names no
+    ///   caller that may hold the stripe.
+    /// - `OutOfStep` if the core gives an answer that is impossible in the token's state. The token
+    ///   is then broken, and what the call did is not undone.
+    ///
+    /// `Busy` if the word of the key's stripe names another caller. The transaction is then
+    /// aborted: all its changes are taken back, all its rights are given back, and the side value
+    /// has the words that it had when the transaction began.
     ///
     /// # Cost
     ///
-    /// Outside the lock, time in proportion to the rights that the token has, and one try of the
-    /// word unless it has the word's right. Then three holds of the lock, one of which seeks the
-    /// position of the key, and at most two further holds for each time that a position no longer
-    /// fits. If the key is busy: two further holds for each change that is taken back, a step for
-    /// each savepoint, and a run of each side job. May take memory.
+    /// Outside the lock, time in proportion to the number of the token's rights, and one try of the
+    /// stripe's word unless the token has the right to the stripe. Then three holds of the lock,
+    /// one of which seeks the position of the key, and at most two further holds each time a
+    /// position no longer fits. If the key is busy, also two holds for each change that is taken
+    /// back, constant time for each savepoint, and a run of each side job. May take memory.
     pub fn get<S: Side, R: Wait>(
         &self,
         rt: &R,
@@ -239,21 +244,21 @@ impl<L: Ledger> SharedMap<L> {
         self.operate(rt, me, Op::Get(key))
     }
 
-    /// Sets a savepoint, and answers its number, which is the number of savepoints that the
+    /// Sets a savepoint, and returns its number, which is the number of savepoints that the
     /// transaction now has. The present side value becomes one more level.
     ///
     /// # Errors
     ///
-    /// `Refused`. In all cases but the last, the transaction is unchanged:
+    /// `Refused`. In all cases but the last, the transaction is unchanged.
     /// - `OutOfStep` if the token is broken.
     /// - `NotOpen`, `Leaving` and `OperationUnfinished`, the first that applies.
     /// - Then `NoMemory` if memory is refused.
-    /// - `OutOfStep` if the core's answer is impossible in the token's state. The token is then
-    ///   broken, and what the call did stays.
+    /// - `OutOfStep` if the core gives an answer that is impossible in the token's state. The token
+    ///   is then broken, and what the call did is not undone.
     ///
     /// # Cost
     ///
-    /// One hold of the lock, of amortized constant time; may take memory.
+    /// One hold of the lock, of amortized constant time. May take memory.
     pub fn save<S: Side, R: Wait>(&self, rt: &R, me: &mut Caller<L, S>) -> Result<u64, Stop>
         ensures ok { OnOk result (me.new.seen ≡ me.old.seen ++ entries.Saved me.old.number ∷ []) }
         ensures level { IfOk result (λ level. (s : Seat) → seat_after me.new.seen ≡ Some s
@@ -268,24 +273,25 @@ impl<L: Ledger> SharedMap<L> {
         }
     }
 
-    /// Goes back to a level, 0 or the number of a savepoint: takes back all later changes, and
-    /// drops the savepoints above it. The side value gets back the words that it had at the level.
+    /// Goes back to a level, which is 0 or the number of a savepoint. All changes after the level
+    /// are taken back, and all savepoints above the level are dropped. The side value gets back the
+    /// words that it had at the level.
     ///
     /// # Errors
     ///
-    /// `Refused`. In all cases but the last, the transaction is unchanged:
+    /// `Refused`. In all cases but the last, the transaction is unchanged.
     /// - `OutOfStep` if the token is broken.
     /// - `NotOpen`, `Leaving`, `OperationUnfinished` and `NoSuchLevel`, the first that applies.
     /// - Then `OutOfStep` if the side value has no such level, because a save was made by `hold`.
     ///   The token is then broken.
     /// - `NoMemory` if memory is refused, before anything is taken back.
-    /// - `OutOfStep` if the core's answer is impossible in the token's state. The token is then
-    ///   broken, and what the call did stays.
+    /// - `OutOfStep` if the core gives an answer that is impossible in the token's state. The token
+    ///   is then broken, and what the call did is not undone.
     ///
     /// # Cost
     ///
     /// Three holds of the lock, and at most two further holds for each change that is taken back
-    /// and for each time that a position no longer fits. A run of each side job and a step for each
+    /// and each time a position no longer fits. A run of each side job, and constant time for each
     /// savepoint above the level. May take memory, before anything is taken back.
     pub fn back<S: Side, R: Wait>(
         &self,
@@ -306,21 +312,22 @@ impl<L: Ledger> SharedMap<L> {
         }
     }
 
-    /// Commits the transaction, and answers its number and its commit number. The present side
-    /// value is level 0 from then on. All rights are given back, outside the lock.
+    /// Commits the transaction, and returns the transaction's number and its commit number. From
+    /// now on the present side value is level 0. All rights are given back, outside the lock.
     ///
     /// # Errors
     ///
-    /// `Refused`. In all cases but the last, the transaction is unchanged:
+    /// `Refused`. In all cases but the last, the transaction is unchanged.
     /// - `OutOfStep` if the token is broken.
     /// - `NotOpen`, `Leaving` and `OperationUnfinished`, the first that applies.
-    /// - Then `OutOfStep` if the core's answer is impossible in the token's state. The token is
-    ///   broken from then on, and what the call did stays.
+    /// - Then `OutOfStep` if the core gives an answer that is impossible in the token's state. The
+    ///   token is then broken, and what the call did is not undone.
     ///
     /// # Cost
     ///
-    /// One hold of the lock, with time in proportion to the changes, the savepoints and the stripes
-    /// of the transaction, and a step for each right and each side job; takes no memory.
+    /// One hold of the lock, for a time in proportion to the changes, the savepoints and the
+    /// stripes of the transaction. Then constant time for each right and each side job. Takes no
+    /// memory.
     pub fn commit<S: Side, R: Wait>(&self, rt: &R, me: &mut Caller<L, S>) -> Result<Receipt, Stop>
         ensures ok { IfOk result (λ receipt. (receipt.txn ≡ last_txn me.old.seen) × (me.new.seen
             ≡ me.old.seen ++ entries.Committed me.old.number receipt.place ∷ [])) }
@@ -336,22 +343,22 @@ impl<L: Ledger> SharedMap<L> {
     }
 
     /// Aborts the transaction: takes back all its changes, and withdraws an operation that waits.
-    /// The side value has the words that it had when the transaction began. All rights are given
-    /// back, outside the lock.
+    /// The side value gets back the words that it had when the transaction began. All rights are
+    /// given back, outside the lock.
     ///
     /// # Errors
     ///
-    /// `Refused`. In all cases but the last, the transaction is unchanged:
+    /// `Refused`. In all cases but the last, the transaction is unchanged.
     /// - `OutOfStep` if the token is broken.
     /// - `NotOpen` and `Leaving`, the first that applies.
-    /// - Then `OutOfStep` if the core's answer is impossible in the token's state. The token is
-    ///   broken from then on, and what the call did stays.
+    /// - Then `OutOfStep` if the core gives an answer that is impossible in the token's state. The
+    ///   token is then broken, and what the call did is not undone.
     ///
     /// # Cost
     ///
-    /// Three holds of the lock, at most two more for each change that is taken back and for each
-    /// time that a position no longer fits, a run of each side job, and a step for each savepoint
-    /// and each right; takes no memory but what these runs take.
+    /// Three holds of the lock, and at most two further holds for each change that is taken back
+    /// and each time a position no longer fits. A run of each side job, and constant time for each
+    /// savepoint and each right. Takes no memory but what the side jobs take.
     pub fn abort<S: Side, R: Wait>(&self, rt: &R, me: &mut Caller<L, S>) -> Result<(), Stop>
         ensures ok { OnOk result ((undone : ℕ) × (me.new.seen ≡ me.old.seen
             ++ (entries.Leave me.old.number None ∷ undone_by me.old.number undone
@@ -366,24 +373,26 @@ impl<L: Ledger> SharedMap<L> {
         }
     }
 
-    /// Helps the table to grow: doubles it if it is full, and then initialises the bucket of a key,
-    /// its ancestors first. It needs no transaction, and content and history are unchanged.
+    /// Helps the table to grow: doubles the table if it is full, and then initialises the bucket of
+    /// a key, the bucket's ancestors first. No transaction is needed. The content and the history
+    /// are unchanged.
     ///
     /// # Errors
     ///
-    /// `Refused`, and the transaction, if there is one, is unchanged; buckets that were initialised
-    /// before the refusal stay initialised:
+    /// `Refused`. The transaction, if there is one, is unchanged. Buckets that were initialised
+    /// before the refusal remain initialised.
     /// - `OutOfStep` if the token is broken.
-    /// - `BadKey` for a key of 2^63 or more, if the limits have half keys.
+    /// - `BadKey` for a key of 2^63 or more, if the limits allow only half keys.
     /// - Then `NoMemory` if memory is refused, and `StampsUsedUp` if no stamp is left.
-    /// - `OutOfStep` if the core's answer is impossible in the token's state. The token is then
-    ///   broken.
+    /// - `OutOfStep` if the core gives an answer that is impossible in the token's state. The token
+    ///   is then broken.
     ///
     /// # Cost
     ///
-    /// One hold of the lock to double. Then, for the key's bucket and each of its ancestors except
-    /// bucket 0: one hold if the bucket is initialised; if not, three holds, and at most two more
-    /// for each time that its position no longer fits. May take memory.
+    /// One hold of the lock to double the table. Then further holds for the key's bucket and for
+    /// each of the bucket's ancestors except bucket 0: one hold if the bucket is initialised;
+    /// otherwise three holds, and at most two more each time the bucket's position no longer fits.
+    /// May take memory.
     #[tactic(auto, using(crate::proofs::Refusing::help_bad_key))]
     pub fn help<S: Side, R: Wait>(
         &self,
@@ -399,7 +408,8 @@ impl<L: Ledger> SharedMap<L> {
         ensures claims { OnOk result (me.new.claims ≡ me.old.claims) }
         ensures leaves { EndsCall S.words_of me.old (Call.Help key) result me.new }
     {
-        // By the contract of `seen` the entries of a token that is not broken have rows.
+        // By the contract of `seen`, the rule of shape allows the entries of a token that is not
+        // broken.
         let _seen = me.seen();
         match self.call(rt, me, Call::Help(key))? {
             End::Helped => Ok(()),
@@ -409,19 +419,20 @@ impl<L: Ledger> SharedMap<L> {
 
     /// Changes the side value, and logs the job that takes the change back.
     ///
-    /// The words of the present side value must be the job's `before`, and the words of the value
-    /// that `change` answers must be the job's `after`. No transaction is needed: a change that is
-    /// made outside of one stays. Nothing is added to `seen`.
+    /// The words of the present side value must be the job's `before`. The words of the value that
+    /// `change` returns must be the job's `after`. No transaction is needed, but a change made
+    /// outside of a transaction is never taken back. Nothing is added to `seen`.
     ///
     /// # Errors
     ///
-    /// `change` was not called, nothing has changed, and `change` and `job` are returned:
+    /// In both cases `change` was not called, nothing has changed, and `change` and `job` are
+    /// returned:
     /// - `OutOfStep` if the token is broken;
     /// - `NoMemory` if memory is refused.
     ///
     /// # Cost
     ///
-    /// One call of `change`, and otherwise amortized constant time, without the lock; takes memory
+    /// One call of `change`, and otherwise amortized constant time, without the lock. Takes memory
     /// only if there is no room for a change.
     pub fn side<S: Side, F: FnOnce(S) -> S>(
         &self,

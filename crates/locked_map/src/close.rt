@@ -1,7 +1,7 @@
-//! Closing a map: its history is compared with what the callers saw. The other calls share the map;
-//! `close` takes the map by value, with its callers, so it waits for no lock, and no entry is added
+//! Closing a map: the map's history is compared with what the callers saw. Unlike the other calls,
+//! `close` takes the map and its callers by value, so it waits for no lock, and no entry is added
 //! meanwhile. The ledger has counted the entries that the callers saw. So if each caller's own
-//! entries are right, the history has no others.
+//! entries are right, the history has no other entries.
 ghost use Rattle.std.specs.Prelude.{◌≡◌, ◌==◌, ◌↔◌, All, IsTrue, IfOk, IfErr, length};
 ghost use Rattle.std.specs.List.{list_any};
 ghost use Rattle.txn_words.specs.declared.holder.Holder.TheVariants.{Begun};
@@ -20,24 +20,25 @@ use txn_trace::{Limits, SmallEntry};
 use undo_log::Side;
 
 impl<L: Ledger> SharedMap<L> {
-    /// Takes the core out, if one caller of each number is passed in, and compares the core's
-    /// history with the entries that the callers saw.
+    /// If one caller with each number is passed in, takes the core out of the map and compares the
+    /// core's history with the entries that the callers saw.
     ///
-    /// With `Ok` the core has the map's limits. Its history is legal by the rule that a Busy may
-    /// name any other caller that has begun a transaction. Each caller's own entries in the history
-    /// are exactly those that the caller saw, and there are no others. `Ok` and both errors return
-    /// the callers unchanged, in their order.
+    /// If this returns `Ok`, the core has the map's limits. Its history is legal by the rule that a
+    /// Busy may name any other caller that has begun a transaction. Each caller's own entries in
+    /// the history are exactly those that the caller saw, and the history has no others. `Ok` and
+    /// both errors return the callers unchanged, in their order.
     ///
     /// # Errors
     ///
     /// - `Missing` exactly if a number is missing or was passed in twice.
-    /// - Otherwise `Differs` exactly if the core has other limits, or some caller's entries in the
-    ///   history are not those that the caller saw. Even then the history has as many entries as
-    ///   all callers saw.
+    /// - Otherwise `Differs` exactly if the core has other limits, or if some caller's entries in
+    ///   the history are not those that the caller saw. Even then the history has as many entries
+    ///   as all callers saw.
     ///
     /// # Cost
     ///
-    /// For each caller, time in proportion to the history and to the callers; takes no memory.
+    /// For each caller, time in proportion to the length of the history and the number of callers.
+    /// Takes no memory.
     pub fn close<S: Side>(self, callers: Vec<Caller<L, S>>) -> Result<Closed<L, S>, Unclosed<L, S>>
         requires { self.limits.callers ≡ L.parts }
         ensures callers { IfOk result (λ c. c.callers.items ≡ callers.items) }
@@ -63,16 +64,16 @@ impl<L: Ledger> SharedMap<L> {
         }
     }
 
-    /// Whether one caller of each number is there.
+    /// Returns true if there is exactly one caller with each number of the map.
     fn has_all<S: Side>(&self, callers: &[Caller<L, S>]) -> bool
         ensures { IsTrue result ↔ IsAllHere self.now.limits.callers callers.now }
     {
         has_all(callers, u64::from(self.limits().callers()))
     }
 
-    /// Takes the core out, and says whether it is as expected: it has the map's limits, and each
-    /// caller's entries in its history are those that the caller saw. The callers are all there, so
-    /// the history has as many entries as they saw.
+    /// Takes the core out, and says whether it is as expected: the core has the map's limits, and
+    /// each caller's entries in the core's history are those that the caller saw. All callers are
+    /// passed in, so the history has as many entries as they saw.
     fn into_core<S: Side>(self, callers: &mut [Caller<L, S>]) -> (Core, bool)
         requires parts { length callers.old ≡ L.parts }
         ensures callers { callers.new ≡ callers.old }
@@ -88,7 +89,7 @@ impl<L: Ledger> SharedMap<L> {
     }
 }
 
-/// Whether one caller of each number below `count` is there.
+/// Returns true if there is exactly one caller with each number below `count`.
 fn has_all<L: Ledger, S: Side>(callers: &[Caller<L, S>], count: u64) -> bool
     ensures { IsTrue result ↔ IsAllHere count callers.now }
 {
@@ -103,15 +104,15 @@ fn has_all<L: Ledger, S: Side>(callers: &[Caller<L, S>], count: u64) -> bool
     true
 }
 
-/// Whether a caller of the number is there.
+/// Returns true if a caller has this number.
 fn has<L: Ledger, S: Side>(callers: &[Caller<L, S>], number: u64) -> bool
     ensures { result ≡ list_any (λ k. k.number == number) callers.now }
 {
     callers.iter().any(|k| k.number() == number)
 }
 
-/// Whether a core has these limits, and each caller's entries in its history are those that the
-/// caller saw.
+/// Returns true if a core has these limits and each caller's entries in the core's history are
+/// those that the caller saw.
 fn is_seen<L: Ledger, S: Side>(core: &Core, limits: Limits, callers: &[Caller<L, S>]) -> bool
     ensures { IsTrue result ↔ ((core.now.limits ≡ limits)
         × All (λ k. IsOwn core.now.history k) callers.now) }
@@ -119,7 +120,7 @@ fn is_seen<L: Ledger, S: Side>(core: &Core, limits: Limits, callers: &[Caller<L,
     core.limits() == limits && is_all_own(core, callers)
 }
 
-/// Whether each caller's entries in the history are those that the caller saw.
+/// Returns true if each caller's entries in the core's history are those that the caller saw.
 fn is_all_own<L: Ledger, S: Side>(core: &Core, callers: &[Caller<L, S>]) -> bool
     ensures { IsTrue result ↔ All (λ k. IsOwn core.now.history k) callers.now }
 {
@@ -128,7 +129,7 @@ fn is_all_own<L: Ledger, S: Side>(core: &Core, callers: &[Caller<L, S>]) -> bool
         .all(|k| is_own(core.trace(), k.number(), k.seen()))
 }
 
-/// Whether a caller's entries in the history are these.
+/// Returns true if the caller's entries in the history are exactly `seen`.
 fn is_own(trace: &[SmallEntry], caller: u64, seen: &[SmallEntry]) -> bool
     ensures { IsTrue result ↔ (own caller trace.now ≡ seen.now) }
 {

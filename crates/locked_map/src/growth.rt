@@ -1,10 +1,10 @@
-//! The growth of the history of a shared map. A history that grows by itself takes its memory in
-//! the middle of a turn, and touches the memory's pages for the first time under the lock, where
-//! the other threads wait. In a map whose room was written, the thread that sees little room left
-//! takes and writes the memory outside the lock instead, and hands it over in its next hold, which
-//! copies the history. Meanwhile the others use up the room that is left; a thread that finds too
-//! little room for its turn gives the lock back without a step. Invariant: if the history must not
-//! grow under the lock, no turn is taken with less room than the turn may need.
+//! How the history of a shared map grows. A history that grows by itself takes memory in the middle
+//! of a turn. It first touches the pages of this memory under the lock, while the other threads
+//! wait. In a map whose room was written, the thread that sees little room takes and writes the
+//! memory outside the lock instead. It hands the memory over in its next hold, which copies the
+//! history. Meanwhile the other threads use up the remaining room; a thread that finds too little
+//! room for its turn frees the lock without a step. Invariant: if the history must not grow under
+//! the lock, no turn is taken with less room than the turn may need.
 ghost use Rattle.std.specs.Prelude.{◌≡◌};
 ghost use Rattle.core_tokens.specs.Tokens.{HasTriedNext};
 ghost use Rattle.locked_map.specs.Calls.{HeldOnce};
@@ -18,22 +18,22 @@ use std::thread::yield_now;
 use txn_trace::{SmallEntry, make_room};
 use undo_log::Side;
 
-/// The room in the history that is enough for any turn: a begin and an operation make room for
-/// three entries, and no other turn makes room for more.
+/// Room for this many entries in the history is enough for any turn. A begin and an operation make
+/// room for three entries, and no other turn makes room for more.
 const TURN: usize = 3;
 
-/// The smallest room that is not little. With this room at least twenty turns can be taken while a
-/// thread makes more.
+/// Room for fewer entries than this counts as little. With room for this many, at least twenty
+/// turns can be taken while a thread makes more room.
 const LITTLE: usize = 64;
 
-/// The smallest room that a thread makes.
+/// A thread makes room for at least this many entries.
 const LEAST: usize = 1_024;
 
 /// How the history grows.
 #[derive(Clone, Copy)]
 enum Growth {
-    /// Under the lock, as entries are added: the room of the map was not written, or memory was
-    /// refused.
+    /// Under the lock, as entries are added, because the room of the map was not written or memory
+    /// was refused.
     UnderLock,
     /// The next thread that sees little room makes more.
     Ready,
@@ -46,18 +46,19 @@ enum Growth {
 pub(crate) enum Due {
     /// Nothing.
     Nothing,
-    /// It lets other threads run, since there was too little room for its turn.
+    /// The thread lets other threads run, since there was too little room for its turn.
     Yield,
-    /// It makes room for this number of entries, the present ones included.
+    /// The thread makes room for this number of entries, including the present ones.
     Room(usize),
-    /// It hands this memory over in its next hold; or memory was refused.
+    /// The thread hands this memory over in its next hold. An error means that memory was refused.
     Made(Result<Vec<SmallEntry>, AllocError>),
-    /// It frees the old memory of the history.
+    /// The thread frees this memory, which held the history before.
     Old(Vec<SmallEntry>),
 }
 
 impl Due {
-    /// Does what is due outside the lock. Afterwards at most a hand-over is due.
+    /// Does what the thread has to do outside the lock. Afterwards there is at most memory to hand
+    /// over.
     #[inline(never)]
     pub(crate) fn settle(&mut self, alloc: Global) {
         match mem::replace(self, Due::Nothing) {
@@ -101,9 +102,9 @@ impl<L: Ledger> Locked<L> {
         booked
     }
 
-    /// Takes the drive's next turn. If the history must not grow under the lock and has too little
-    /// room, no turn is taken, and `due` is what the thread has to do before its next hold. Memory
-    /// that the thread has made is handed over first.
+    /// First hands over the memory that the thread has made, if any. Then takes the drive's next
+    /// turn. But if the history has too little room and must not grow under the lock, no turn is
+    /// taken. `due` then says what the thread has to do before its next hold.
     #[inline(always)]
     pub(crate) fn hold<S: Side>(
         &mut self,
@@ -121,8 +122,9 @@ impl<L: Ledger> Locked<L> {
         me.hold(&mut self.booked, drive)
     }
 
-    /// Whether there is room for a turn, after the memory that a thread has made is handed over. If
-    /// there is little room and no thread makes more, this thread has to make it.
+    /// Hands over the memory that the thread has made, if any. Then returns true if a turn may be
+    /// taken now. If there is little room and no other thread makes more, this thread has to make
+    /// more room first.
     #[inline(never)]
     fn is_ready(&mut self, due: &mut Due) -> bool {
         if let Due::Made(made) = mem::replace(due, Due::Nothing) {
@@ -149,7 +151,8 @@ impl<L: Ledger> Locked<L> {
         }
     }
 
-    /// For how many entries a thread makes room: twice as many as the history has room for now.
+    /// The number of entries for which a thread makes room: twice as many as the history has room
+    /// for now, but at least `LEAST`.
     fn wanted(&self, len: usize, room: usize) -> usize {
         let capacity = len
             .saturating_add(self.booked.core.owed())
@@ -157,8 +160,9 @@ impl<L: Ledger> Locked<L> {
         LEAST.max(capacity.saturating_mul(2))
     }
 
-    /// Moves the history into the memory that a thread has made. What is due then is to free the
-    /// old memory. If memory was refused, the history grows under the lock from now on.
+    /// Moves the history into the memory that a thread has made. The result says that the thread
+    /// must then free the old memory. If memory was refused, the history grows under the lock from
+    /// now on.
     fn take_over(&mut self, made: Result<Vec<SmallEntry>, AllocError>) -> Due {
         match made {
             Ok(room) => {

@@ -1,26 +1,27 @@
 //! A transactional map that callers in several threads share: one core under one lock.
 //!
-//! - A *token*, `Caller` of `core_tokens`, is one caller. `SharedMap::new` makes a `Pass` for each
-//!   number, and a pass makes the token of its number, once. The calls are made on a `&SharedMap`
-//!   with a `&mut Caller`: `begin`, `put`, `put_if`, `take`, `get`, `save`, `back`, `commit`,
-//!   `abort` and `help`; `run`, which makes any of these from a value of `Call`; and `side`.
-//! - Each *hold* of a token, one turn of a call, is one hold of the lock. So other callers take
-//!   their steps between any two turns, also while changes are taken back. The words of stripes are
-//!   tried, and rights given back, outside the lock. Only a map that was made with written room has
-//!   further holds, without a turn, in which its history gets more room.
+//! - A *token*, a `Caller` of `core_tokens`, stands for one caller. `SharedMap::new` makes a `Pass`
+//!   for each number, and each pass makes the token with its number, only once. The calls are made
+//!   on a `&SharedMap` with a `&mut Caller`: `begin`, `put`, `put_if`, `take`, `get`, `save`,
+//!   `back`, `commit`, `abort` and `help`; `run`, which makes any of these from a value of `Call`;
+//!   and `side`.
+//! - A *hold* of a token is one turn of a call, taken under one hold of the lock. So other callers
+//!   may take steps between any two turns, even while changes are taken back. The words of stripes
+//!   are tried, and rights are given back, outside the lock. Only a map that was made with written
+//!   room has further holds, without a turn, in which its history gets more room.
 //! - Between two holds, only the invariants of the core's type and the token's own entries are
-//!   known. If these exclude the core's answer, the call ends with `OutOfStep`, and so does every
-//!   later call of the token.
-//! - `SharedMap::close` takes all tokens back and compares the history with them. If it answers
-//!   `Ok`, the history is legal, each caller's own entries in it are its `seen`, and there are no
-//!   others, since a ledger counts the entries. The `Booked` under the lock holds the ledger's
-//!   book, and each token holds a share of the ledger.
-//! - `laws::helped`, of `core_tokens`: if core and token are in step, a `help` that ends well has
+//!   known. If the core's answer contradicts these, the call ends with `OutOfStep`, and so does
+//!   every later call of the token.
+//! - `SharedMap::close` takes all tokens back and compares the history with them. If it returns
+//!   `Ok`, the history is legal, and each caller's own entries in the history are the token's
+//!   `seen`. There are no other entries, since a ledger counts the entries. The `Booked` under the
+//!   lock holds the ledger's book, and each token holds a share of the ledger.
+//! - `laws::helped` of `core_tokens`: if core and token are in step, a `help` that succeeds has
 //!   initialised its key's bucket.
 //!
-//! No clause is about time: none says that a call returns, or that two threads ran at once.
+//! No clause is about time: no clause says that a call returns, or that two threads ran at once.
 //!
-//! A first example, of one caller that counts in the map; `R` is the runtime's type:
+//! A first example: one caller counts in the map. `R` is the type of the runtime.
 //!
 //! ```text
 //! fn count<L: Ledger, S: Side, R: Wait>(rt: &R, map: &SharedMap<L>, me: &mut Caller<L, S>)
@@ -33,10 +34,10 @@
 //! }
 //! ```
 //!
-//! If a call answers `Busy`, another caller held the key's stripe when the stripe's word was tried.
-//! The transaction is aborted, and the caller may try again with a new one. The module `transfers`
-//! of the crate `examples` has an example with threads. Calls take constant time and no memory
-//! unless they say otherwise.
+//! If a call returns `Busy`, another caller held the key's stripe when the stripe's word was tried.
+//! The transaction is aborted, and the caller may try again with a new transaction. The module
+//! `transfers` of the crate `examples` has an example with threads. Calls take constant time and no
+//! memory unless they say otherwise.
 #![tactic(auto)]
 
 mod calls;

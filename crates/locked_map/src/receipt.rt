@@ -1,11 +1,12 @@
-//! The receipt of a commit: two numbers with names, so that they are not mixed up. One counts the
-//! transactions that began, the other the commits. A receipt names no map and no caller, so it may
-//! be copied and outlives both. The clauses of `commit` tie its numbers to the caller's entries.
-/// The answer to a commit.
+//! The receipt of a commit: two numbers with names, so that nobody confuses them. `txn` counts the
+//! transactions that began, `place` the commits. A receipt refers to no map and no caller, so it
+//! may be copied and may outlive both. The clauses of `commit` tie both numbers to the caller's
+//! entries.
+/// What a successful commit returns.
 #[derive(Clone, Copy, Debug, PartialEq, Eq)]
 pub struct Receipt {
-    /// The number of the transaction, as `begin` answered it.
+    /// The number of the transaction, as `begin` returned it.
     pub txn: u64,
-    /// Its commit number, from 1.
+    /// The commit number. Commits are numbered from 1.
     pub place: u64,
 }

@@ -1,6 +1,6 @@
-//! The shared map: the core under its lock, and a drive's turns, each under one hold of the lock.
-//! Between two holds only the invariants of the core's type are known. The clauses of a call are
-//! about its holds that take a turn (`WentOn`). How the history grows is in `growth.rt`.
+//! The shared map: the core under its lock, and the turns of a drive, each under one hold of the
+//! lock. Between two holds only the invariants of the core's type are known. The clauses of a call
+//! cover only the holds that take a turn (`WentOn`). `growth.rt` says how the history grows.
 ghost use Rattle.std.specs.Prelude.{◌≡◌, true, IfOk, IfErr};
 ghost use Rattle.txn_words.specs.Shape.{seat_after};
 ghost use Rattle.txn_drive.specs.Drives.{first_phase};
@@ -23,9 +23,9 @@ use undo_log::Side;
 /// A map that callers in several threads share: a core under a lock, and the words of its stripes,
 /// which are outside the lock.
 ///
-/// A contract sees the map's limits. The lock is taken for one turn of a call at a time, of one
-/// step or two, so that other callers take their steps between any two turns. A map whose room was
-/// written also has holds without a turn, by which its history grows (`with_room`).
+/// A contract sees the map's limits. Each hold of the lock takes one turn of a call, which is one
+/// step or two. So other callers may take steps between any two turns. A map whose room was written
+/// also has holds without a turn, in which its history grows (`with_room`).
 #[derive(Drop)]
 pub struct SharedMap<L: Ledger> {
     locked: Mutex<Locked<L>>,
@@ -33,10 +33,10 @@ pub struct SharedMap<L: Ledger> {
     alloc: Global,
 }
 
-/// An observer that is told of the end of each hold of the lock.
+/// An observer that is called after each hold of the lock.
 pub trait OnRelease {
-    /// A hold is over: the thread that calls this has given the lock back. The cost is the
-    /// observer's.
+    /// Called after a hold, by the thread that has just freed the lock. The cost is the observer's
+    /// own.
     fn on_release(&self);
 }
 
@@ -74,22 +74,22 @@ impl<L: Ledger> SharedMap<L> {
         SharedMap::with_room(alloc, blank, limits, Room::default())
     }
 
-    /// Makes what `new` makes, and takes this room at once. If memory for the room is refused, no
-    /// room is taken, and history, table, logs and seats grow as they are used.
+    /// Makes what `new` makes, and makes this room at once. If memory for the room is refused, no
+    /// room is made, and history, table, logs and seats grow as they are used.
     ///
-    /// If the room is written, the history takes no memory under the lock. A thread whose hold
-    /// finds little room left takes and writes memory for twice as many entries outside the lock,
-    /// and hands it over in a hold without a turn. A thread that meanwhile finds too little room
-    /// for its turn gives the lock back, lets other threads run and tries again. Once memory is
+    /// If the room is written, the history takes no memory under the lock. Instead, a thread whose
+    /// hold finds little room takes memory for twice as many entries outside the lock, writes it,
+    /// and hands it over in a hold without a turn. If another thread meanwhile finds too little
+    /// room for its turn, it frees the lock, lets other threads run and tries again. Once memory is
     /// refused, the history grows under the lock.
     ///
     /// # Errors
     ///
-    /// `NoMemory` if memory is refused for anything else.
+    /// `NoMemory` if memory is refused for anything but the room.
     ///
     /// # Cost
     ///
-    /// That of `new`, and what `Core::with_room` says of the room. If the room is written, each
+    /// The cost of `new`, and of the room as `Core::with_room` says. If the room is written, each
     /// later growth of the history takes memory outside the lock, and copies the history under the
     /// lock.
     pub fn with_room(
@@ -122,9 +122,9 @@ impl<L: Ledger> SharedMap<L> {
         self.limits
     }
 
-    /// Takes out the contents of the lock, for those who call `Caller::hold` themselves: a core
-    /// whose stripes are words and whose history is legal. The map is gone, and can no longer be
-    /// closed.
+    /// Takes the contents out of the lock, for those who call `Caller::hold` themselves. The
+    /// contents are a core whose stripes are words and whose history is legal. The map is consumed,
+    /// so it can no longer be closed.
     pub fn into_booked(self) -> Booked<L>
         ensures words { result.core.words ≡ true }
         ensures legal { IsLegal Begun result.core.limits.stripes result.core.history }
@@ -170,16 +170,16 @@ impl<L: Ledger> SharedMap<L> {
         unreachable!()
     }
 
-    /// Makes the call that `call` names, as the method of that name does, and tells `hears` of the
-    /// end of each hold of the lock. Answers the end of the call.
+    /// Makes the call that `call` names, as the method with that name does, and calls `hears` after
+    /// each hold of the lock. Returns the end of the call.
     ///
     /// # Errors
     ///
-    /// The end is `Refused` or `Busy` if the method of that name answers so.
+    /// The end is `Refused` or `Busy` if the method with that name returns this error.
     ///
     /// # Cost
     ///
-    /// That of the method of that name, and one `on_release` for each hold.
+    /// The cost of the method with that name, and one call of `on_release` for each hold.
     pub fn run<S: Side, H: OnRelease, R: Wait>(
         &self,
         rt: &R,
@@ -197,7 +197,7 @@ impl<L: Ledger> SharedMap<L> {
         end
     }
 
-    /// Makes a call, and answers its end as the public calls do.
+    /// Makes a call. Returns its end, or the error that the public call returns.
     pub(crate) fn call<S: Side, R: Wait>(
         &self,
         rt: &R,

@@ -1,6 +1,7 @@
-//! The reason why a map was not closed, with all that was passed in, so that nothing is lost: the
-//! map itself if it may be closed again, its core if not. It is apart from `Closed`, since it is an
-//! error with a text. The text shows only the reason, and none of the values.
+//! The reason why a map was not closed. It contains all that was passed in, so that nothing is
+//! lost: the map if it may be closed again, otherwise the map's core. `Unclosed` is a type apart
+//! from `Closed`, since it is an error with a text. The text shows only the reason and none of the
+//! values.
 ghost use Rattle.std.specs.Prelude.{◌≡◌};
 ghost use Rattle.locked_map.specs.Texts.{text_of};
 
@@ -18,7 +19,7 @@ pub enum Unclosed<L: Ledger, S: Side> {
     /// A caller's number is missing or was passed in twice. The map is unchanged.
     Missing(SharedMap<L>, Vec<Caller<L, S>>),
     /// The core has other limits, or the entries of some caller in the history are not those that
-    /// it saw.
+    /// the caller saw.
     Differs(Core, Vec<Caller<L, S>>),
 }
 
@@ -32,7 +33,7 @@ impl<L: Ledger, S: Side> fmt::Debug for Unclosed<L, S> {
     }
 }
 
-/// A sentence without its full stop.
+/// Writes the reason as a sentence without a full stop.
 impl<L: Ledger, S: Side> fmt::Display for Unclosed<L, S> {
     ghost use Rattle.std.specs.Prelude.{Some};
     ghost use Rattle.locked_map.specs.Texts.{unclosed_text};

@@ -1,6 +1,6 @@
 //! The reason why a call of a transaction was not done, as one error for all maps: another caller
-//! held a stripe, or the call was refused. Each map says what becomes of the transaction. Neither a
-//! `Stop` nor its text takes memory, so it can be returned when memory is refused.
+//! held a stripe, or the call was refused. Each map says what then happens to the transaction.
+//! Neither a `Stop` nor its text takes memory, so a `Stop` can be returned when memory is refused.
 ghost use Rattle.std.specs.Prelude.{◌≡◌};
 ghost use Rattle.txn_words.specs.declared.refusal.Refusal.TheVariants.{NoMemory};
 ghost use Rattle.map_answers.specs.declared.stop.Stop.TheVariants.{Refused};
@@ -10,21 +10,21 @@ use std::error::Error;
 use std::fmt;
 use txn_words::Refusal;
 
-/// The reason why a call of a transaction was not done. It is an error with a text, so `?` returns
-/// it, also as an `anyhow::Error`.
+/// The reason why a call of a transaction was not done. It is an error with a text, so `?` can
+/// return it, also as an `anyhow::Error`.
 #[derive(Clone, Copy, Debug, PartialEq, Eq)]
 pub enum Stop {
     /// Another caller held the stripe of the key, or one of the stripes that the call takes. This
-    /// transaction cannot go on; each map says who takes it back.
+    /// transaction cannot continue. Each map says who takes the transaction back.
     Busy {
         /// The caller that held the stripe.
         holder: u64,
     },
-    /// The call was refused. Each map says what becomes of the transaction.
+    /// The call was refused. Each map says what then happens to the transaction.
     Refused(Refusal),
 }
 
-/// A sentence without a full stop, which names the holder or the refusal.
+/// Prints a sentence without a full stop. It names the holder or states the refusal.
 impl fmt::Display for Stop {
     ghost use Rattle.std.specs.Prelude.{Some};
     ghost use Rattle.map_answers.specs.Texts.{stop_text};

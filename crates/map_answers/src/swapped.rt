@@ -1,7 +1,9 @@
-//! The answer of a swap: whether the new value was put in place of the expected one. It has a name,
-//! so that a caller reads `Swapped(false)` and not `false`. It is apart from `Stop`, since a swap
-//! that finds another value is no stop: it changes nothing, and the transaction goes on.
+//! The result of a swap: whether the new value was put in place of the expected one. It is a type
+//! of its own, so that a caller reads `Swapped(false)` and not `false`. It is not part of `Stop`,
+//! since a swap that finds another value is no error: it changes nothing, and the transaction
+//! continues.
 
-/// Whether the new value was put: the key had the expected value, or was absent as expected.
+/// True if the new value was put. This is so if the key had the expected value, or if the key was
+/// expected to be absent and was absent.
 #[derive(Clone, Copy, Debug, PartialEq, Eq)]
 pub struct Swapped(pub bool);

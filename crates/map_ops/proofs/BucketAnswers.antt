@@ -61,7 +61,8 @@ link_answers l d helper sound =
         let within : bucket < limit_of d = within_limit d helper bucket (Seeking bucket cursor) sound is (λ order. order.within) in
         ap (λ (there : Bool). answer_for (buckets.link_answer (cursor_fits l (helper_of d helper)) (λ b. there) l.last (Some (Sought bucket (change_number_of cursor))))) (sym (linked_at l.nodes (limit_of d) bucket within))
 
--- A helper's cursor fits while the change number is the one that it noted, and below 2^64 - 1.
+-- If the change number is below 2^64 - 1 and is the one that the helper's cursor noted, the cursor
+-- fits.
 pub helper_still_fits : (l : Listing) (d : Directory) (helper bucket : ℕ) → IsHome d l → slice_get (map help_of d.helpers) helper ≡ Some (Sought bucket l.changes) → l.changes < 2 ^ 64 - 1 → helper_fits (table_of l d) helper ≡ true
 helper_still_fits l d helper bucket home had below = go (helper_of d helper) refl (sym (slice_get-map help_of d.helpers helper) ∙ had)
   where

@@ -27,7 +27,8 @@ use Rattle.map_ops.specs.Buckets.{SeekChanges, LinkChanges, StoreChanges, answer
 use Rattle.map_ops.proofs.BelongLemmas.{linked_same}
 use Rattle.map_ops.proofs.BucketAnswers.{linked_at, within_limit}
 
--- The changes of a table are those of its parts.
+-- If a seek, a link or a store makes these changes to the buckets and the list, it makes the same
+-- changes to the table.
 pub seek_changes : (before after : Listing) (old new : Directory) (helper bucket : ℕ) (result : Result InitSeek InitRefusal)
     → parts.SeekChanges old new before after helper bucket result
     → SeekChanges (table_of before old) (table_of after new) helper bucket (answer_for result)
@@ -59,7 +60,8 @@ seek_linked before after old new helper bucket result changes dummies =
     limit (Ok Placed) seeks = ap (λ (d : Directory). limit_of d) seeks.now
     limit (Err refusal) changes = ap (λ (d : Directory). limit_of d) changes.0
 
--- The linked dummies after one more dummy is linked.
+-- If one more dummy is linked, the list of linked dummies changes only at that dummy's bucket, to
+-- `true`.
 linked_more : (before after : List NodeAt) (limit bucket : ℕ) → bucket < limit → limit ≤ 2 ^ 32 → ((other : ℕ) → other < 2 ^ 32 → has_dummy after other ≡ ((bucket == other) || has_dummy before other))
     → map (has_dummy after) (range_with_len 0 limit) ≡ slice_set (map (has_dummy before) (range_with_len 0 limit)) bucket true
 linked_more before after limit bucket within small more =
@@ -81,7 +83,7 @@ linked_more before after limit bucket within small more =
               ∙ sym (get_or-set_other (map (has_dummy before) (range_with_len 0 limit)) bucket i true false (λ same. other (sym same)))
         ]
 
--- The linked dummies after a helper has linked its bucket's dummy.
+-- If a helper has linked its bucket's dummy, `linked_of` changes only at that bucket, to `true`.
 pub linked_with : (old new : TableAt) (helper : ℕ) → HasParents old
     → (links : parts.LinksDummy old.buckets new.buckets old.list new.list helper)
     → linked_of new ≡ slice_set (linked_of old) links.bucket true

@@ -1,4 +1,4 @@
--- The effect of a step at a key on the table.
+-- How a step at a key changes the table.
 use Rattle.std.proofs.Common.{◌≡◌, ℕ, List, [], ◌∷◌, Some, None, false, sym, ◌∙◌, ap, subst}
 use Rattle.node_list.specs.declared.node.Kind.TheVariants.{Regular}
 use Rattle.node_list.specs.Nodes.{NodeAt, Listing, linked_after, marked_at, node_of, written_at}
@@ -33,7 +33,7 @@ module _ (old new : Listing) (key : ℕ) (sound : IsSound old) (after : IsSound 
   own_key : (place : ℕ) (n : NodeAt) → HasNode old key place → node_of old.nodes place ≡ Some n → n.at.key ≡ key
   own_key place n has is = ap (λ (m : NodeAt). m.at.key) (own_node place n has is) ∙ ap (λ (at : SortKey). at.key) has.its.at
 
-  -- The value that the key had.
+  -- If the node at the place of the key's node has this value, the key had this value.
   pub had : (place value : ℕ) (n : NodeAt) → HasNode old key place → node_of old.nodes place ≡ Some n → n.value ≡ value → get (map_of (pairs old.nodes)) key ≡ Some value
   had place value n has is value_is = has.value ∙ ap Some (ap (λ (m : NodeAt). m.value) (sym (own_node place n has is)) ∙ value_is)
 
@@ -56,7 +56,7 @@ module _ (old new : Listing) (key : ℕ) (sound : IsSound old) (after : IsSound 
   pub marks_belong : (place value : ℕ) → Marks old new place value → Belong new.nodes
   marks_belong place value marks = subst Belong (sym marks.becomes.nodes) (belong_marked old.nodes place belong)
 
-  -- A key whose node is marked is no longer there.
+  -- If a key's node is marked, the key has no value afterwards.
   pub marks_sets : (place value : ℕ) → HasNode old key place → Marks old new place value → (buckets : Directory) → Sets (table_of old buckets) (table_of new buckets) key None
   marks_sets place value has marks buckets =
       let replaces : Replaces (pairs old.nodes) (pairs new.nodes) ((key, value) ∷ []) [] =
@@ -71,7 +71,7 @@ module _ (old new : Listing) (key : ℕ) (sound : IsSound old) (after : IsSound 
   pub swaps_belong : (place was now : ℕ) → Swaps old new place was now → Belong new.nodes
   swaps_belong place was now swaps = subst Belong (sym swaps.becomes.nodes) (belong_written old.nodes place now belong)
 
-  -- A key whose node is written has the new value.
+  -- If a key's node is written, the key has the new value afterwards.
   pub swaps_sets : (place was now : ℕ) → HasNode old key place → Swaps old new place was now → (buckets : Directory) → Sets (table_of old buckets) (table_of new buckets) key (Some now)
   swaps_sets place was now has swaps buckets =
       let replaces : Replaces (pairs old.nodes) (pairs new.nodes) ((key, was) ∷ []) ((key, now) ∷ []) =
@@ -83,8 +83,8 @@ module _ (old new : Listing) (key : ℕ) (sound : IsSound old) (after : IsSound 
         last = swaps.becomes.last;
       }
 
-  -- The step links a node behind the place `pred`. If the key has a gap there (`HasGap`), a node of
-  -- the old list is at `pred`, so `LinksNode` holds.
+  -- If the key has a gap at `pred` (`HasGap`) and the step links a node right after `pred`,
+  -- `LinksNode` holds, because a node of the old list is at `pred`.
   pub links_node : (pred : ℕ) (x node : NodeAt) → HasGap old key pred → x ≡ node → Links old new pred x → LinksNode old new node
   links_node pred x node room is links = record {
     before = pred;
@@ -96,7 +96,7 @@ module _ (old new : Listing) (key : ℕ) (sound : IsSound old) (after : IsSound 
     pub links_belong : (pred : ℕ) → Links old new pred x → Belong new.nodes
     links_belong pred links = subst Belong (sym links.takes.nodes) (belong_linked old.nodes pred x key belong kind place)
 
-    -- A key whose node is linked is there, with the node's value.
+    -- If a node is linked for a key, the key has the node's value afterwards.
     pub links_sets : (pred : ℕ) → HasGap old key pred → Links old new pred x → (buckets : Directory) → Sets (table_of old buckets) (table_of new buckets) key (Some x.value)
     links_sets pred room links buckets =
         let replaces : Replaces (pairs old.nodes) (pairs new.nodes) [] ((key, x.value) ∷ []) =

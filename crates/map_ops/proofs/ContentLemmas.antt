@@ -1,4 +1,4 @@
--- The content of a list of nodes, and the effect of a step at a node on it.
+-- The content of a list of nodes, and how a step at a node changes this content.
 use Rattle.std.proofs.Common.{◌≡◌, ◌≢◌, ℕ, ◌==◌, inl, inr, List, [], ◌∷◌, ◌++◌, Some, None, Bool, true, false, cond, not, ◌&&◌, ◌+◌, if◌then◌else◌, length, refl, sym, ◌∙◌, ap, subst, arith}
 use Rattle.std.specs.List.{fold, AllByRecursion}
 use Rattle.std.proofs.lemmas.Bool.{cases_eq, eq-eqb, ne_eqb}
@@ -20,7 +20,7 @@ use Rattle.txn_words.proofs.Order.{Rises, IsSortedBySplit, value_at, or_else, or
 use Rattle.txn_words.proofs.OrderedPairs.{ordered-linked, ordered-written, ordered-unlinked}
 use Rattle.map_ops.specs.TableAt.{map_of}
 
--- If a key belongs before the keys of all pairs, the pairs have no value at it.
+-- If a key belongs before the keys of all pairs, the pairs have no value for this key.
 none_above : (k : ℕ) (es : List (ℕ × ℕ)) → AllByRecursion (λ (other : ℕ × ℕ). IsBefore (regular_at k) (regular_at other.0)) es → value_at k es ≡ None
 none_above k [] all = refl
 none_above k (e ∷ es) all = ap (λ b. cond b (Some e.1) (value_at k es)) (split_cmp_tied k e.0 ∙ ne_eqb k e.0 (λ same. before_apart (regular_at k) (regular_at e.0) all.0 (ap regular_at same))) ∙ none_above k es all.1
@@ -41,7 +41,7 @@ get-inserted (p ∷ ps) m q rises =
           ∙ sym (ap (λ b. or_else (cond b (Some p.1) (value_at q ps)) (get m q)) (split_cmp_tied q p.0 ∙ ne_eqb q p.0 other))
     ]
 
--- If pairs rise, their map has at each key the value that the pairs have at that key.
+-- If pairs rise, they and their map have the same value at each key.
 pub get-map_of : (ps : List (ℕ × ℕ)) (q : ℕ) → Rises ps → get (map_of ps) q ≡ value_at q ps
 get-map_of ps q rises = get-inserted ps empty q rises ∙ or_else_none (value_at q ps)
 
@@ -54,13 +54,13 @@ map_of_is : (m : Map) (ps : List (ℕ × ℕ)) → Rises ps → ps ≡ ordered m
 map_of_is m ps rises is = same_map (map_of ps) m (λ q. get-map_of ps q rises ∙ ap (value_at q) is ∙ value_at-ordered m q)
 
 module _ (old new : List (ℕ × ℕ)) (k : ℕ) (old_rises : Rises old) (new_rises : Rises new) where
-  -- If a pair with a new key is added, the map has the pair too.
+  -- If a pair with a new key is added, the map of the pairs gains exactly this pair.
   pub map_of-linked : (v : ℕ) → Replaces old new [] ((k, v) ∷ []) → map_of new ≡ insert (map_of old) k v
   map_of-linked v r =
       map_of_is (insert (map_of old) k v) new new_rises (r.new_is ∙ ordered-linked (map_of old) k v r.before r.after
       (sym r.old_is ∙ ordered-map_of old old_rises) (subst IsSortedBySplit r.new_is (sorted-rises new new_rises)))
 
-  -- If a pair gets another value, its key has this value in the map.
+  -- If a pair gets another value, the map of the pairs has this new value at the pair's key.
   pub map_of-written : (v w : ℕ) → Replaces old new ((k, v) ∷ []) ((k, w) ∷ []) → map_of new ≡ insert (map_of old) k w
   map_of-written v w r =
       map_of_is (insert (map_of old) k w) new new_rises (r.new_is ∙ ordered-written (map_of old) k v w r.before r.after
@@ -72,7 +72,7 @@ module _ (old new : List (ℕ × ℕ)) (k : ℕ) (old_rises : Rises old) (new_ri
       map_of_is (remove (map_of old) k) new new_rises (r.new_is ∙ ordered-unlinked (map_of old) k v r.before r.after
       (sym r.old_is ∙ ordered-map_of old old_rises))
 
--- A key that belongs before some nodes belongs before the keys of their pairs.
+-- If a key belongs before some nodes, it also belongs before the keys of their pairs.
 above_pair : (k : ℕ) (kind : Kind) (marked : Bool) (key value : ℕ) (ps : List (ℕ × ℕ)) → (kind ≡ Regular → IsBefore (regular_at k) (regular_at key)) → AllByRecursion (λ (other : ℕ × ℕ). IsBefore (regular_at k) (regular_at other.0)) ps → AllByRecursion (λ (other : ℕ × ℕ). IsBefore (regular_at k) (regular_at other.0)) (pair_if kind marked key value ++ ps)
 above_pair k Dummy marked key value ps here all = all
 above_pair k Regular true key value ps here all = all
@@ -100,7 +100,7 @@ rises-pairs (n ∷ rest) rising keyed =
     (λ regular. above_pairs n.at.key rest (subst (λ (at : SortKey). AllByRecursion (λ (m : NodeAt). IsBefore at m.at) rest) (keyed.0 regular) rising.0) keyed.1)
     (rises-pairs rest rising.1 keyed.1)
 
--- The value at a key in the pairs of nodes.
+-- How the pair of one node affects the value that the pairs have at a key.
 value_at-other : (key : ℕ) (kind : Kind) (marked : Bool) (k value : ℕ) (ps : List (ℕ × ℕ)) → (kind ≡ Regular → k ≢ key) → value_at key (pair_if kind marked k value ++ ps) ≡ value_at key ps
 value_at-other key Dummy marked k value ps other = refl
 value_at-other key Regular true k value ps other = refl
@@ -111,7 +111,7 @@ value_at-here key kind marked k value ps is unmarked own =
     ap (λ kind. value_at key (pair_if kind marked k value ++ ps)) is ∙ ap (λ b. value_at key (pair_if Regular b k value ++ ps)) unmarked
     ∙ ap (λ b. cond b (Some value) (value_at key ps)) (split_cmp_tied key k ∙ eq-eqb key k (sym own))
 
--- If no node is at the key's position, the key is not there.
+-- If no node is at the key's position, the pairs have no value at the key.
 pub value_at-absent : (key : ℕ) (nodes : List NodeAt) → IsKeyed nodes → AllByRecursion (λ (n : NodeAt). n.at ≢ regular_at key) nodes → value_at key (pairs nodes) ≡ None
 unfolding pairs
 value_at-absent key [] keyed others = refl
@@ -119,7 +119,7 @@ value_at-absent key (n ∷ rest) keyed others =
     value_at-other key n.kind n.marked n.at.key n.value (pairs rest) (λ regular same. others.0 (keyed.0 regular ∙ ap regular_at same))
     ∙ value_at-absent key rest keyed.1 others.1
 
--- If a regular, unmarked node of the key is linked, the key has its value.
+-- If a regular, unmarked node of the key is linked, the pairs have the node's value at the key.
 pub value_at-there : (key : ℕ) (nodes : List NodeAt) (place : ℕ) (n : NodeAt) → IsRising nodes → IsKeyed nodes → node_of nodes place ≡ Some n → n.kind ≡ Regular → n.at ≡ regular_at key → n.marked ≡ false → value_at key (pairs nodes) ≡ Some n.value
 unfolding pairs IsRising node_of
 value_at-there key [] place n rising keyed is kind at unmarked = absurd (some-none (sym is))

@@ -1,4 +1,4 @@
--- The effects of operations and jobs on the table, from the effects of their steps.
+-- What operations and jobs do to the table, derived from what their steps do.
 use Rattle.std.proofs.Common.{◌≡◌, ℕ, List, Option, Some, None, Bool, true, false, cond, refl, sym, ◌∙◌, ap, subst}
 use Rattle.node_list.specs.Nodes.{NodeAt, Listing, SpareAt}
 use Rattle.node_list.specs.Sound.{IsSound}
@@ -25,7 +25,7 @@ use Rattle.map_ops.proofs.BelongLemmas.{linked_same}
 use Rattle.map_ops.proofs.KeepLemmas.{placed_on, same_buckets}
 use Rattle.map_ops.proofs.RemoveLemmas.{remove-absent}
 
--- A spare that is given back after the write leaves the written value unchanged.
+-- Giving a spare back after the write leaves the written value unchanged.
 pub sets_then_back : (old mid new : Listing) (buckets : Directory) (k : ℕ) (value : Option ℕ) (spare : SpareAt) → Sets (table_of old buckets) (table_of mid buckets) k value → GivesBack (table_of mid buckets) (table_of new buckets) (Some spare)
     → Sets (table_of old buckets) (table_of new buckets) k value
 sets_then_back old mid new buckets k value spare sets gives = record {
@@ -46,7 +46,7 @@ put_spends old new k None spare job is spends = subst (SpendsFor old new spare) 
 put_spends old new k (Some value) spare job is spends = subst (SpendsFor old new spare) (sym is) spends
 
 module _ (old new : Listing) (buckets : Directory) (k : ℕ) (before : Option ℕ) (before_is : before ≡ get (content (table_of old buckets)) k) (spare : SpareAt) where
-  -- A put.
+  -- `Does` holds of a put.
   pub does_put : (v : ℕ) (job : Option MapJob) → job ≡ unput k before → Sets (table_of old buckets) (table_of new buckets) k (Some v) → Spends (table_of old buckets) (table_of new buckets) (Some spare)
       → Does (table_of old buckets) (table_of new buckets) (record { op = Put k v; spare = Some spare }) before job
   does_put v job job_is sets spends = record {
@@ -59,7 +59,7 @@ module _ (old new : Listing) (buckets : Directory) (k : ℕ) (before : Option �
     last = sets.last;
   }
 
-  -- A put whose condition holds.
+  -- `Does` holds of a `PutIf` whose condition holds.
   pub does_put_if : (v : ℕ) (expected : Option ℕ) (job : Option MapJob) → option_eq nat_eq before expected ≡ true → job ≡ unput k before → Sets (table_of old buckets) (table_of new buckets) k (Some v) → Spends (table_of old buckets) (table_of new buckets) (Some spare)
       → Does (table_of old buckets) (table_of new buckets) (record { op = PutIf k expected v; spare = Some spare }) before job
   does_put_if v expected job holds job_is sets spends =
@@ -74,7 +74,7 @@ module _ (old new : Listing) (buckets : Directory) (k : ℕ) (before : Option �
         last = sets.last;
       }
 
-  -- A put whose condition does not hold.
+  -- `Does` holds of a `PutIf` whose condition does not hold.
   pub does_put_if_not : (v : ℕ) (expected : Option ℕ) → option_eq nat_eq before expected ≡ false → GivesBack (table_of old buckets) (table_of new buckets) (Some spare)
       → Does (table_of old buckets) (table_of new buckets) (record { op = PutIf k expected v; spare = Some spare }) before None
   does_put_if_not v expected differs gives =
@@ -142,8 +142,8 @@ places old new buckets key from bound c sound nodes_is kept same found placed fi
   changes = found.changes;
 }
 
--- A change is taken back if its key is set to the value before the change and the spare of its job
--- is spent.
+-- If a change's key is set to its value before the change, and the spare of the change's job is
+-- spent, `TakesBack` holds.
 pub takes_back : (old new : Listing) (buckets : Directory) (job : MapJob) → Sets (table_of old buckets) (table_of new buckets) (key_of_job job) (value_before job) → Spends (table_of old buckets) (table_of new buckets) (spare_of_job job)
     → TakesBack (table_of old buckets) (table_of new buckets) job
 takes_back old new buckets job sets spends = record {

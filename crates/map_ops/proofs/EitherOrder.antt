@@ -37,7 +37,7 @@ set_at-swap m j k x y apart = same_map (set_at (set_at m j x) k y) (set_at (set_
           ap (λ b. cond b y (cond (q == j) x (get m q))) not ∙ sym (ap (λ b. cond (q == j) x (cond b y (get m q))) not)
     ]
 
--- Both orders leave the same content.
+-- Both orders of two jobs leave the same content.
 pub either-content : (old one other : TableAt) (first second : MapJob) → key_of_job first ≢ key_of_job second → TakesBackTwo old one first second → TakesBackTwo old other second first → content one ≡ content other
 either-content old one other first second apart a b =
     a.two.content_is
@@ -45,13 +45,13 @@ either-content old one other first second apart a b =
     ∙ set_at-swap (content old) (key_of_job first) (key_of_job second) (value_before first) (value_before second) apart
     ∙ sym (b.two.content_is ∙ ap (λ (m : Map). set_at m (key_of_job first) (value_before first)) b.one.content_is)
 
--- Whether a spare, if there is one, is at a place.
+-- True if there is a spare and it is at this place.
 abbrev is_at : Option SpareAt → ℕ → Bool
 is_at None place = false
 is_at (Some spare) place = place == spare.place
 
--- The spare that is out at a place after a spare was spent: none if the spent one was at that
--- place, else the same as before.
+-- After a spare is spent, no spare is out at the place of the spent one, and every other place is
+-- as before.
 spent-at : (old new : TableAt) (spare : Option SpareAt) (place : ℕ) → Spends old new spare → spare_out new place ≡ cond (is_at spare place) None (spare_out old place)
 spent-at old new None place spends = spends place
 spent-at old new (Some spare) place spends = elim (cases_eq place spare.place) [
@@ -65,7 +65,7 @@ either_none true false out = refl
 either_none false true out = refl
 either_none false false out = refl
 
--- Both orders leave the same spares.
+-- Both orders of two jobs leave the same spares out.
 pub either-spares : (old one other : TableAt) (first second : MapJob) → TakesBackTwo old one first second → TakesBackTwo old other second first → KeepsSpares other one
 either-spares old one other first second a b place =
     let j = is_at (spare_of_job first) place in
@@ -80,7 +80,8 @@ spent_owned : (old new : TableAt) (spent : Option SpareAt) (spare : SpareAt) →
 spent_owned old new None spare apart spends owned = still_owned old new spare spends owned
 spent_owned old new (Some gone) spare apart spends owned = other_owned old new spare gone.place spends.1 (λ same. apart (sym same)) owned
 
--- A job stays due (`ShowsAfter`) when the change of another key is taken back.
+-- If `ShowsAfter` holds of a job, it still holds after another job is taken back, provided that the
+-- two jobs have different keys and their spares have different places.
 pub either_due : (old new : TableAt) (first second : MapJob) → key_of_job first ≢ key_of_job second → AreApart (spare_of_job first) (spare_of_job second) → ShowsAfter second old → TakesBack old new first → ShowsAfter second new
 either_due old new first second apart spares shows back = go second apart spares shows
   where

@@ -31,7 +31,7 @@ same_nodes old new d same kept = record {
 pub placed_on : (l : Listing) (d : Directory) (cursor : Cursor) (key : ℕ) → cursors.IsPlaced l cursor → cursors.at_of cursor ≡ regular_at key → IsPlaced (table_of l d) cursor key
 placed_on l d cursor key placed is = record { list = placed; at_is = is; held = placed.held }
 
--- If one list follows another, a table of the one follows a table of the other.
+-- If the new list follows the old one, a table with the new list follows a table with the old one.
 pub follows : (old new : Listing) (d e : Directory) → lists.Follows old new → Follows (table_of old d) (table_of new e)
 follows old new d e later = record {
   list = later;

@@ -1,4 +1,4 @@
--- Lemmas for the layers above.
+-- Lemmas about tables that the higher layers use.
 use Rattle.std.proofs.Common.{◌≡◌, ◌≢◌, ℕ, inl, inr, Bool, true, false, cond, Option, Some, None, [], refl, sym, ap, subst, ◌∙◌}
 use Rattle.std.specs.Prelude.{is_some, IfSome, nat_eq}
 use Rattle.std.specs.Option.{option_eq}
@@ -25,7 +25,7 @@ still_owned old new spare keeps owned = keeps spare.place ∙ owned
 pub other_owned : (old new : TableAt) (spare : SpareAt) (place : ℕ) → KeepsOthers old new place → spare.place ≢ place → Owns old spare → Owns new spare
 other_owned old new spare place keeps other owned = keeps spare.place other ∙ owned
 
--- No spare that is out has the place of a new one.
+-- A new spare is at a place at which no spare was out before.
 pub fresh_apart : (old new : TableAt) (spare other : SpareAt) → GivesSpare old new spare → Owns old other → other.place ≢ spare.place
 fresh_apart old new spare other gives owned same = let gone : out_at old.list other.place ≡ None = ap (out_at old.list) same ∙ gives.fresh in let both : Some other.stamp ≡ None = sym owned ∙ gone in cc
 
@@ -33,7 +33,7 @@ fresh_apart old new spare other gives owned same = let gone : out_at old.list ot
 pub get-set_at-here : (m : Map) (k : ℕ) (value : Option ℕ) → get (set_at m k value) k ≡ value
 get-set_at-here m k value = get-set_at m k value k ∙ ap (λ b. cond b value (get m k)) (eq-eqb k k refl)
 
--- After a change is taken back, its key has the value before the change.
+-- After a change is taken back, its key has the value that it had before the change.
 pub shows_before : (old new : TableAt) (job : MapJob) → TakesBack old new job → ShowsBefore job new
 shows_before old new job back =
     ap (λ m. get m (key_of_job job)) back.content_is ∙ get-set_at-here (content old) (key_of_job job) (value_before job)
@@ -42,12 +42,12 @@ shows_before old new job back =
 abbrev pub no_buckets : Directory
 no_buckets = record { size = 0; entries = []; helpers = [] }
 
--- The job of a put is due after the put.
+-- After a put, `IsDue` holds of its job.
 put_is_due : (m : Map) (k v : ℕ) (job : MapJob) (o : Option ℕ) → unput k o ≡ Some job → IsDue (insert m k v) job
 put_is_due m k v job None same = subst (IsDue (insert m k v)) (some-injective same) (ap is_some (get-insert-here m k v))
 put_is_due m k v job (Some old) same = subst (IsDue (insert m k v)) (some-injective same) (ap is_some (get-insert-here m k v))
 
--- The job of an operation is due after the operation.
+-- After an operation, `IsDue` holds of its job.
 pub job_is_due : (m : Map) (op : Op) (spare : Option SpareAt) (job : MapJob) → job_of m op spare ≡ Some job → IsDue (after m op) job
 job_is_due m (Put k v) spare job is = put_is_due m k v job (get m k) is
 job_is_due m (Take k) spare job is = go (get m k) spare is
@@ -76,7 +76,8 @@ set_at-remove m k before is = same_map _ m (λ q. get-set_at (remove m k) k befo
   | inr other ↦ ap (λ b. cond b before (get (remove m k) q)) (ne_eqb q k other) ∙ get-remove m k q ∙ ap (λ b. cond b None (get m q)) (ne_eqb q k other)
 ])
 
--- Taking back the change of a put, or of any operation with a job, restores the map.
+-- If the change of a put, or of any operation with a job, is taken back, the map is as it was
+-- before.
 put_set_at : (m : Map) (k v : ℕ) (job : MapJob) (o : Option ℕ) → get m k ≡ o → unput k o ≡ Some job → set_at (insert m k v) (key_of_job job) (value_before job) ≡ m
 put_set_at m k v job None was same = subst (λ j. set_at (insert m k v) (key_of_job j) (value_before j) ≡ m) (some-injective same) (set_at-insert m k v None was)
 put_set_at m k v job (Some old) was same = subst (λ j. set_at (insert m k v) (key_of_job j) (value_before j) ≡ m) (some-injective same) (set_at-insert m k v (Some old) was)
@@ -117,7 +118,7 @@ after-no_job m (PutIf k expected v) spare given is = go (option_eq nat_eq (get m
     go true none = put_no_job m k v (get m k) none
     go false none = refl
 
--- After a change done by `apply`, `ShowsAfter` holds of its job.
+-- If `apply` does a change, `ShowsAfter` holds of the change's job afterwards.
 pub shows_after : (old new : TableAt) (op : Op) (reply : Option ℕ) (job : MapJob) → Applies old new op reply (Some job) → ShowsAfter job new
 shows_after old new op reply job applies =
     (subst (λ (m : Map). IsDue m job) (sym applies.content_is) (job_is_due (content old) op applies.spare job (sym applies.job_is)), owned job applies.spares)
@@ -127,7 +128,7 @@ shows_after old new op reply job applies =
     owned (Restore k before) spares = tt
     owned (Relink k before spare) gives = gives.owned
 
--- An operation and then its job leave the content unchanged.
+-- An operation followed by its job leaves the content unchanged.
 pub content-there_and_back : (old mid new : TableAt) (op : Op) (reply : Option ℕ) (job : MapJob) → Applies old mid op reply (Some job) → TakesBack mid new job → content new ≡ content old
 content-there_and_back old mid new op reply job applies back =
     back.content_is ∙ ap (λ (m : Map). set_at m (key_of_job job) (value_before job)) applies.content_is ∙ set_at-after (content old) op applies.spare job (sym applies.job_is)
@@ -136,8 +137,8 @@ content-there_and_back old mid new op reply job applies back =
 pub content-no_job : (old new : TableAt) (op : Op) (reply : Option ℕ) → Applies old new op reply None → content new ≡ content old
 content-no_job old new op reply applies = applies.content_is ∙ after-no_job (content old) op applies.spare applies.spare_is (sym applies.job_is)
 
--- The spare of a prepared operation belongs to the table, and still does as long as the spares are
--- unchanged.
+-- The spare of a prepared operation belongs to the table. It still belongs to the table as long as
+-- the spares are unchanged.
 given_owned : (old new : TableAt) (takes : Bool) (spare : Option SpareAt) → GivesFor old new takes spare → OwnsIf new spare
 given_owned old new true None gives = absurd gives
 given_owned old new true (Some spare) gives = gives.owned
@@ -151,7 +152,7 @@ pub still_owned_if : (old new : TableAt) (spare : Option SpareAt) → KeepsSpare
 still_owned_if old new None keeps owned = tt
 still_owned_if old new (Some spare) keeps owned = still_owned old new spare keeps owned
 
--- A put done by `apply` keeps the spares.
+-- If `apply` does a put, the spares that are out are unchanged.
 pub put_keeps : (old new : TableAt) (k v : ℕ) (reply : Option ℕ) (job : Option MapJob) → Applies old new (Put k v) reply job → KeepsSpares old new
 put_keeps old new k v reply job applies = go (get (content old) k) (subst (JobSpare old new) applies.job_is applies.spares)
   where
@@ -159,11 +160,11 @@ put_keeps old new k v reply job applies = go (get (content old) k) (subst (JobSp
     go None keeps = keeps
     go (Some before) keeps = keeps
 
--- A get done by `apply` keeps the spares.
+-- If `apply` does a get, the spares that are out are unchanged.
 pub get_keeps : (old new : TableAt) (k : ℕ) (reply : Option ℕ) (job : Option MapJob) → Applies old new (Get k) reply job → KeepsSpares old new
 get_keeps old new k reply job applies = subst (JobSpare old new) applies.job_is applies.spares
 
--- After an operation done by `apply`, `ShowsAfter` holds of its job, if it has one.
+-- If `apply` does an operation that has a job, `ShowsAfter` holds of this job afterwards.
 pub applied_shows_after : (old new : TableAt) (op : Op) (reply : Option ℕ) (job : Option MapJob) → Applies old new op reply job → IfSome job (λ j. ShowsAfter j new)
 applied_shows_after old new op reply None applies = tt
 applied_shows_after old new op reply (Some job) applies = shows_after old new op reply job applies

@@ -18,8 +18,8 @@ update_all-inserted (p ∷ ps) m q = ap (λ f. update_all (eq_by_cmp nat_cmp) f 
     one : update (eq_by_cmp nat_cmp) (λ k. get m k) p.0 (Some p.1) ≡ (λ k. get (insert m p.0 p.1) k)
     one = λ i k. (ap (λ b. cond b (Some p.1) (get m k)) ((eq_by_cmp_equiv nat_cmp_total).symm p.0 k) ∙ sym (find-put nat_cmp nat_cmp_total k p.0 p.1 m.rows)) i
 
--- The `BTreeMap` that is collected from pairs has at each key the value that the map of the pairs
--- (`map_of`) has.
+-- The `BTreeMap` that is collected from pairs has the same value at each key as the map of the
+-- pairs (`map_of`).
 pub made : {E : Type 0} (r : Result (BTreeMap ℕ ℕ) E) (found pairs : List (ℕ × ℕ)) → found ≡ pairs → IfOk r (IsFromIterResult nat_cmp found) → IfOk r (λ map. (key : ℕ) → value_at nat_cmp map key ≡ get (map_of pairs) key)
 made (Ok map) found pairs same is = λ key. is.0 key ∙ ap (λ ps. update_all (eq_by_cmp nat_cmp) (λ _. None) ps key) same ∙ update_all-inserted pairs empty key
 made (Err e) found pairs same is = tt

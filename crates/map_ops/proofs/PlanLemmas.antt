@@ -1,4 +1,4 @@
--- The preparation of an operation, and its refusals.
+-- How an operation is prepared or refused.
 use Rattle.std.proofs.Common.{◌≡◌, ℕ, Option, Some, true, sym, ◌∙◌, ap, subst}
 use Rattle.node_list.specs.Nodes.{SpareAt}
 use Rattle.txn_words.specs.declared.op.Op.{Op}

@@ -4,7 +4,7 @@ use Rattle.std.proofs.lemmas.Bool.{cases_eq, eq-eqb, ne_eqb}
 use Rattle.txn_words.specs.Map.{Map, get, remove}
 use Rattle.txn_words.proofs.Maps.{get-remove, same_map}
 
--- Removing a key that is not there changes nothing.
+-- Removing a key that is absent changes nothing.
 pub remove-absent : (m : Map) (k : ℕ) → get m k ≡ None → remove m k ≡ m
 remove-absent m k none = same_map (remove m k) m (λ q. get-remove m k q ∙ elim (cases_eq q k) [
   | inl same ↦ ap (λ b. cond b None (get m q)) (eq-eqb q k same) ∙ sym (ap (get m) same ∙ none)

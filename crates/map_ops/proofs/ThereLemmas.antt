@@ -1,4 +1,4 @@
--- The value of a key, as a cursor that was placed for the key finds it.
+-- The value of a key, as it is found at a cursor that was placed for the key.
 use Rattle.std.proofs.Common.{◌≡◌, ◌≢◌, ℕ, ◌%◌, Option, Some, None, true, refl, sym, ◌∙◌, ap, subst, arith}
 use Rattle.std.specs.Prelude.{IfOk, IsSome, Result, Ok, Err, is_ok, is_some}
 use Rattle.list_steps.specs.declared.cursor.Again.{Again}
@@ -58,8 +58,8 @@ module _ (l : Listing) (c : Cursor) (key : ℕ) (sound : IsSound l) (belong : Be
   get-absent absent =
       get-map_of (pairs l.nodes) key rises ∙ value_at-absent key l.nodes belong.keyed (subst (λ (s : SortKey). AllByRecursion (λ (n : NodeAt). n.at ≢ s) l.nodes) same absent.others)
 
-  -- If a look at the cursor finds a place, the key's node is linked there. If it finds none, the
-  -- key's node belongs right behind the cursor's first node.
+  -- If a look at the cursor finds a place, the key's node is linked there. If it finds none, a node
+  -- for the key belongs right after the cursor's first node.
   pub stands : (found : Option ℕ) → Finds l c found → Stands l key (pred_of c) found
   stands None absent = record { vacant = subst (IsVacant l.nodes (pred_of c)) same absent.vacant; none = get-absent absent }
   stands (Some place) at =
@@ -71,24 +71,24 @@ module _ (l : Listing) (c : Cursor) (key : ℕ) (sound : IsSound l) (belong : Be
         value = get-there at.node at.there;
       }
 
--- If a look at the cursor answers `Ok`, `Stands` holds of the value in the `Ok`.
+-- If a look at the cursor returns `Ok`, `Stands` holds of the value in the `Ok`.
 pub found : (l : Listing) (c : Cursor) (key : ℕ) → IsSound l → Belong l.nodes → IsPlaced l c → at_of c ≡ regular_at key
     → (result : Result (Option ℕ) Again) → fits l c ≡ is_ok result → IfOk result (Finds l c) → IfOk result (Stands l key (pred_of c))
 found l c key sound belong placed same (Ok there) fitting finds = stands l c key sound belong placed fitting same there finds
 found l c key sound belong placed same (Err again) fitting finds = tt
 
--- If the key has a value, the key's node is linked at the place that `place_in` answers.
+-- If the key has a value, the key's node is linked at the place that `place_in` gives.
 pub occupied : (l : Listing) (key pred : ℕ) (there : Option ℕ) → Stands l key pred there → IsSome (get (map_of (pairs l.nodes)) key) → HasNode l key (place_in pred there)
 occupied l key pred None room some = absurd (false≢true (sym (ap is_some room.none) ∙ some))
 occupied l key pred (Some place) has some = has
 
--- If the key has no value, the key's node belongs right behind the node at the place that
--- `place_in` answers.
+-- If the key has no value, a node for the key belongs right after the node at the place that
+-- `place_in` gives.
 pub vacant : (l : Listing) (key pred : ℕ) (there : Option ℕ) → Stands l key pred there → get (map_of (pairs l.nodes)) key ≡ None → HasGap l key (place_in pred there)
 vacant l key pred None room none = room
 vacant l key pred (Some place) has none = absurd (some-none (sym has.value ∙ none))
 
--- The key's node is linked.
+-- If `HasNode` holds of a place, the node at this place is linked.
 pub node_linked : (l : Listing) (key place : ℕ) → HasNode l key place → IsLinked l.nodes place
 node_linked l key place has = found_linked l.nodes place has.node (ap (node_of l.nodes) has.place_is ∙ has.its.is)
 

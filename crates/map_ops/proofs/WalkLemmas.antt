@@ -25,7 +25,7 @@ pairs_next : (n : NodeAt) (rest : List NodeAt) → pairs (n ∷ rest) ≡ pair_o
 unfolding pairs
 pairs_next n rest = refl
 
--- A walk begins at the first node, a dummy.
+-- At the first node, which is a dummy, a walk has found no pairs.
 pub walk_first : (l : Listing) → IsSound l → IsWalking l.nodes l.head []
 walk_first l sound =
     let is = first_is l.nodes sound.first.node sound.first.first in
@@ -36,7 +36,7 @@ walk_first l sound =
     }
 
 module _ (nodes : List NodeAt) (place : ℕ) (found : List (ℕ × ℕ)) (walking : IsWalking nodes place found) where
-  -- A walk moves on to the next node.
+  -- If a walk steps to the next node and adds this node's pair, `IsWalking` still holds.
   pub walk_next : (m : NodeAt) (more : List (ℕ × ℕ)) → IsSpread nodes → next_of nodes place ≡ Some m → more ≡ found ++ pair_of m → IsWalking nodes m.place more
   walk_next m more spread is more_is =
       let next = sym (next_at nodes place walking.node walking.at) ∙ is in
@@ -49,7 +49,7 @@ module _ (nodes : List NodeAt) (place : ℕ) (found : List (ℕ × ℕ)) (walkin
             ∙ walking.rest;
       }
 
-  -- At the end all pairs are found.
+  -- If a walk is at the last node, it has found all pairs.
   pub walk_end : next_of nodes place ≡ None → found ≡ pairs nodes
   walk_end is =
       let nothing : walking.at.rest ≡ [] = first_none walking.at.rest (sym (next_at nodes place walking.node walking.at) ∙ is) in

@@ -15,12 +15,12 @@ use Rattle.txn_words.specs.declared.refusal.Refusal.TheVariants as refusals
 use Rattle.map_ops.specs.TableAt.{TableAt, Help, last_of, linked_of, helps_of}
 pub use Rattle.map_ops.specs.TableAt.{helper_fits}
 
--- Whether this bucket is stored, given a list that has `true` at the position of each stored
--- bucket.
+-- True if this bucket is stored. The list has a Boolean for each bucket: `true` if that bucket is
+-- stored.
 abbrev pub is_stored : List Bool → ℕ → Bool
 is_stored stored bucket = slice_index_or stored bucket false
 
--- No bucket of this bucket's segment is stored: a segment has 64 buckets in a row.
+-- No bucket in this bucket's segment is stored. A segment is 64 consecutive buckets.
 abbrev pub LacksSegment : List Bool → ℕ → Type 0
 LacksSegment stored bucket =
     (other : ℕ) → other / 64 ≡ bucket / 64 → is_stored stored other ≡ false
@@ -44,13 +44,13 @@ abbrev pub seek_answer : ℕ → List Bool → Option Help → ℕ → Result In
 seek_answer size stored help bucket =
     answer_for (buckets.seek_answer size (is_stored stored) help bucket)
 
--- The answer to a link if memory lasts, given whether the helper's cursor fits, which dummies are
--- linked, the last stamp and the helper's state.
+-- The answer to a link if memory lasts. It depends on whether the helper's cursor fits, on which
+-- dummies are linked, on the last stamp and on the helper's state.
 abbrev pub link_answer : Bool → List Bool → ℕ → Option Help → Result InitLink Refusal
 link_answer fitting linked last help =
     answer_for (buckets.link_answer fitting (is_stored linked) last help)
 
--- The answer of a table to a link by the helper of this number, if memory lasts.
+-- What the table answers, if memory lasts, when the helper with this number links its dummy.
 abbrev pub link_answer_of : TableAt → ℕ → Result InitLink Refusal
 link_answer_of t helper =
     link_answer (helper_fits t helper) (linked_of t) (last_of t) (slice_get (helps_of t) helper)
@@ -59,24 +59,24 @@ link_answer_of t helper =
 abbrev pub store_answer : Option Help → Result Unit Refusal
 store_answer help = answer_for (buckets.store_answer help)
 
--- The changes by a seek for a bucket: those of the table's buckets and list. Here and in the
--- definitions below, a refusal leaves the table unchanged.
+-- What a seek for a bucket changes in the table's buckets and list. Here and in the definitions
+-- below, a refusal leaves the table unchanged.
 abbrev pub SeekChanges : TableAt → TableAt → ℕ → ℕ → Result InitSeek Refusal → Type 0
 SeekChanges old new helper bucket (Ok done) =
     parts.SeekChanges old.buckets new.buckets old.list new.list helper bucket (Ok done)
 SeekChanges old new helper bucket (Err refusal) = new ≡ old
 
--- The changes by a link of a helper.
+-- What changes when a helper links its dummy.
 abbrev pub LinkChanges : TableAt → TableAt → ℕ → Result InitLink Refusal → Type 0
 LinkChanges old new helper (Ok done) =
     parts.LinkChanges old.buckets new.buckets old.list new.list helper (Ok done)
 LinkChanges old new helper (Err refusal) = new ≡ old
 
--- The changes by a store of a helper, which leaves the list unchanged.
+-- What changes when a helper stores its dummy. The list is unchanged.
 abbrev pub StoreChanges : TableAt → TableAt → ℕ → Result Unit Refusal → Type 0
 StoreChanges old new helper (Ok done) = parts.Stores old.buckets new.buckets helper
 StoreChanges old new helper (Err refusal) = new ≡ old
 
--- The changes by a doubling, which leaves the list unchanged.
+-- What a doubling changes. The list is unchanged.
 abbrev pub Doubles : TableAt → TableAt → Double → Type 0
 Doubles old new answer = new.buckets ≡ parts.after_double old.buckets answer

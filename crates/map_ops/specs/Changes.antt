@@ -19,12 +19,12 @@ abbrev pub OwnsIf : TableAt → Option SpareAt → Type 0
 OwnsIf t None = Unit {0}
 OwnsIf t (Some spare) = Owns t spare
 
--- The spare, if there is one, is no longer out; all others are unchanged.
+-- The spare, if there is one, is no longer out. All other spares are unchanged.
 abbrev pub Spends : TableAt → TableAt → Option SpareAt → Type 0
 Spends old new None = KeepsSpares old new
 Spends old new (Some spare) = (spare_out new spare.place ≡ None) × KeepsOthers old new spare.place
 
--- A new spare is out, with the next stamp, at a place that had none.
+-- A new spare is out. It has the next stamp, and no spare was out at its place before.
 pub record GivesSpare (old new : TableAt) (spare : SpareAt) : Type 0 where
   pub room : last_of old < 2 ^ 64 - 2
   pub stamp : spare.stamp ≡ last_of old + 1
@@ -33,7 +33,7 @@ pub record GivesSpare (old new : TableAt) (spare : SpareAt) : Type 0 where
   pub owned : Owns new spare
   pub others : KeepsOthers old new spare.place
 
--- An operation that takes a node is given a new spare; any other is given none, and nothing has
+-- If the operation takes a node, it is given a new spare. If not, it is given none, and nothing has
 -- changed.
 abbrev pub GivesFor : TableAt → TableAt → Bool → Option SpareAt → Type 0
 GivesFor old new true None = ⊥
@@ -47,8 +47,8 @@ pub record Prepares (old new : TableAt) (op : Op) (pending : PendingAt) : Type 0
   pub given : GivesFor old new (takes_node op) pending.spare
   pub nodes : KeepsNodes old new
 
--- The reason why an operation that takes a node is not prepared: the stamps are used up exactly if
--- the last one given is 2^64 - 2; else memory was refused, or the list has no place left.
+-- The reason why an operation that takes a node is not prepared. The stamps are used up exactly if
+-- the last stamp given is 2^64 - 2. Otherwise memory was refused, or the list has no place left.
 abbrev pub IsRefused : TableAt → Op → Refusal → Type 0
 IsRefused t op refusals.StampsUsedUp = (takes_node op ≡ true) × (last_of t ≡ 2 ^ 64 - 2)
 IsRefused t op refusals.NoMemory = (takes_node op ≡ true) × (last_of t < 2 ^ 64 - 2)
@@ -62,24 +62,24 @@ pub record Places (old new : TableAt) (key : ℕ) (cursor : Cursor) : Type 0 whe
   pub fits : fits new cursor ≡ true
   pub changes : cursor_changes cursor ≡ table_changes new
 
--- A key was sought from the dummy of its bucket, or of the nearest initialised ancestor: the marked
--- nodes between there and the key's position are unlinked, and no others. The change number grows
--- by one for each, up to 2^64 - 1.
+-- A key was sought from the dummy of the key's bucket, or of the bucket's nearest initialised
+-- ancestor. The marked nodes between that dummy and the key's position are unlinked, and no others.
+-- The change number grows by one for each unlinked node, up to 2^64 - 1.
 pub record SeeksNear (old new : TableAt) (key : ℕ) : Type 0 where
   pub start : ℕ
   pub nearest : IsStart old key start
   pub nodes : nodes_of new ≡ nodes_sought old start key
   pub changes : IsUnlinking old.list new.list
 
--- The spare of an operation stays out if a job owns it, else it is no longer out.
+-- If a job owns the operation's spare, the spare stays out. If not, the spare is no longer out.
 abbrev pub SpendsFor : TableAt → TableAt → Option SpareAt → Option MapJob → Type 0
 SpendsFor old new spare (Some (Relink k before kept)) = KeepsSpares old new
 SpendsFor old new spare (Some (Unput k)) = Spends old new spare
 SpendsFor old new spare (Some (Restore k before)) = Spends old new spare
 SpendsFor old new spare None = Spends old new spare
 
--- The operation is done: its reply and its effect are those on the map, and there is a job exactly
--- if it is a change.
+-- The operation is done. Its reply and its effect are those of the operation on the map, and there
+-- is a job exactly if the operation is a change.
 pub record Does (old new : TableAt) (pending : PendingAt) (reply : Option ℕ)
     (job : Option MapJob) : Type 0 where
   pub reply_is : reply ≡ reply_of (content old) pending.op
@@ -90,22 +90,22 @@ pub record Does (old new : TableAt) (pending : PendingAt) (reply : Option ℕ)
   pub linked : linked_of new ≡ linked_of old
   pub last : last_of new ≡ last_of old
 
--- An act at a cursor. If the cursor fits, the operation is done. If not, nothing has changed, and
--- the operation is returned.
+-- A call of `act` at a cursor. If the cursor fits, the operation is done. If not, nothing has
+-- changed, and the operation is returned.
 abbrev pub Acts : TableAt → TableAt → PendingAt → Cursor → Act → Type 0
 Acts old new pending cursor (Acted reply job) = (fits old cursor ≡ true)
     × Does old new pending reply job
 Acts old new pending cursor (ActAgain back) = (fits old cursor ≡ false) × (back ≡ pending)
     × (new ≡ old)
 
--- The writes of an act.
+-- The writes that a call of `act` makes.
 abbrev pub ActWrites : TableAt → TableAt → PendingAt → Act → Type 0
 ActWrites old new pending (Acted reply job) =
     OpWrites old.list new.list pending.op pending.spare (get (content old) (key_of pending.op))
 ActWrites old new pending (ActAgain back) = WritesNothing old.list new.list
 
--- The change is taken back: the job's key now has the value that it had before the change, or none.
--- Every other key is unchanged.
+-- The change is taken back: the job's key now has the value that it had before the change, or no
+-- value if it had none. Every other key is unchanged.
 pub record TakesBack (old new : TableAt) (job : MapJob) : Type 0 where
   pub content_is : content new ≡ set_at (content old) (key_of_job job) (value_before job)
   pub spares : Spends old new (spare_of_job job)
@@ -113,18 +113,18 @@ pub record TakesBack (old new : TableAt) (job : MapJob) : Type 0 where
   pub linked : linked_of new ≡ linked_of old
   pub last : last_of new ≡ last_of old
 
--- An undo at a cursor. If the cursor fits, the change is taken back. If not, nothing has changed,
--- and the job is returned.
+-- A call of `undo` at a cursor. If the cursor fits, the change is taken back. If not, nothing has
+-- changed, and the job is returned.
 abbrev pub Undoes : TableAt → TableAt → MapJob → Cursor → Undo → Type 0
 Undoes old new job cursor Undone = (fits old cursor ≡ true) × TakesBack old new job
 Undoes old new job cursor (UndoAgain back) = (fits old cursor ≡ false) × (back ≡ job) × (new ≡ old)
 
--- The writes of an undo.
+-- The writes that a call of `undo` makes.
 abbrev pub UndoWrites : TableAt → TableAt → MapJob → Undo → Type 0
 UndoWrites old new job Undone = JobWrites old.list new.list job
 UndoWrites old new job (UndoAgain back) = WritesNothing old.list new.list
 
--- The job's key is sought, and its change is taken back by a write there.
+-- The job's key is sought, and a write there takes the job's change back.
 pub record SeeksAndUndoes (old new : TableAt) (job : MapJob) : Type 0 where
   pub sought : TableAt
   pub near : SeeksNear old sought (key_of_job job)
@@ -136,16 +136,17 @@ pub record GivesBack (old new : TableAt) (spare : Option SpareAt) : Type 0 where
   pub last : last_of new ≡ last_of old
   pub spares : Spends old new spare
 
--- The spares after an operation done by `apply`: if its job owns a spare, this new spare is out;
--- all others are unchanged.
+-- The spares after `apply` has done an operation. If the operation's job owns a spare, this new
+-- spare is out. All other spares are unchanged.
 abbrev pub JobSpare : TableAt → TableAt → Option MapJob → Type 0
 JobSpare old new (Some (Relink k before spare)) = GivesSpare old new spare
 JobSpare old new (Some (Unput k)) = KeepsSpares old new
 JobSpare old new (Some (Restore k before)) = KeepsSpares old new
 JobSpare old new None = KeepsSpares old new
 
--- An operation is done by `apply`: its reply and its effect are those on the map, and there is a
--- job exactly if it is a change. Its key is sought, and the write is made there.
+-- `apply` has done an operation. The reply and the effect are those of the operation on the map,
+-- and there is a job exactly if the operation is a change. The operation's key is sought, and the
+-- write is made there.
 pub record Applies (old new : TableAt) (op : Op) (reply : Option ℕ)
     (job : Option MapJob) : Type 0 where
   pub spare : Option SpareAt
@@ -161,8 +162,8 @@ pub record Applies (old new : TableAt) (op : Op) (reply : Option ℕ)
   pub near : SeeksNear old sought (key_of op)
   pub writes : OpWrites sought.list new.list op spare (get (content old) (key_of op))
 
--- A sweep: the first marked node is unlinked and nothing else has changed, or no node is marked and
--- nothing has changed.
+-- A sweep. Either the first marked node is unlinked and nothing else has changed, or no node is
+-- marked and nothing has changed.
 abbrev pub Sweeps : TableAt → TableAt → SweepOutcome → Type 0
 Sweeps old new outcome = SweepsNodes old new outcome × KeepsBuckets old new
 
@@ -171,12 +172,12 @@ Sweeps old new outcome = SweepsNodes old new outcome × KeepsBuckets old new
 abbrev pub ShowsAfter : MapJob → TableAt → Type 0
 ShowsAfter job t = IsDue (content t) job × OwnsIf t (spare_of_job job)
 
--- The job's key has the value that it had before the change, or none.
+-- The job's key has the value that it had before the change, or no value if it had none.
 abbrev pub ShowsBefore : MapJob → TableAt → Type 0
 ShowsBefore job t = get (content t) (key_of_job job) ≡ value_before job
 
--- The changes by the run of a job: its key is sought, and its change is taken back there. The new
--- table follows the old one (`Follows`).
+-- What the run of a job changes. The job's key is sought, and the job's change is taken back there.
+-- The new table follows the old one (`Follows`).
 pub record RunsJob (old new : TableAt) (job : MapJob) : Type 0 where
   pub back : TakesBack old new job
   pub writes : SeeksAndUndoes old new job

@@ -8,12 +8,12 @@ use Rattle.map_ops.specs.declared.job.MapJob.{MapJob}
 use Rattle.map_ops.specs.declared.job.MapJob.TheVariants.{Unput, Restore, Relink}
 use Rattle.map_ops.specs.TableAt.{SpareAt}
 
--- An operation, and the spare that it owns.
+-- An operation, and the spare that it owns, if it owns one.
 pub record PendingAt : Type 0 where
   pub op : Op
   pub spare : Option SpareAt
 
--- Whether an operation takes a node.
+-- True if the operation takes a node.
 abbrev pub takes_node : Op → Bool
 takes_node (Put k v) = true
 takes_node (Take k) = true
@@ -32,30 +32,33 @@ value_before (Unput k) = None
 value_before (Restore k old) = Some old
 value_before (Relink k old spare) = Some old
 
--- The spare that a job owns.
+-- The spare that a job owns, if it owns one.
 abbrev pub spare_of_job : MapJob → Option SpareAt
 spare_of_job (Unput k) = None
 spare_of_job (Restore k old) = None
 spare_of_job (Relink k old spare) = Some spare
 
--- The map is as the job's change left it at the key: a put key is there, a taken key is not.
+-- At the job's key, the map is as the job's change left it: a key that was put is present, and a
+-- key that was taken is absent.
 abbrev pub IsDue : Map → MapJob → Type 0
 IsDue m (Unput k) = IsSome (get m k)
 IsDue m (Restore k old) = IsSome (get m k)
 IsDue m (Relink k old spare) = get m k ≡ None
 
--- The job that a take leaves, given the value that was taken, if there was one, and the spare.
+-- The job for the inverse of a take. The arguments are the key, the value that was taken, if there
+-- was one, and the spare.
 abbrev pub relink : ℕ → Option ℕ → Option SpareAt → Option MapJob
 relink k (Some old) (Some spare) = Some (Relink k old spare)
 relink k (Some old) None = None
 relink k None spare = None
 
--- The job that a put leaves, given the key's value before, or none.
+-- The job for the inverse of a put, given the key and the value that it had before, if any.
 abbrev pub unput : ℕ → Option ℕ → Option MapJob
 unput k None = Some (Unput k)
 unput k (Some old) = Some (Restore k old)
 
--- The job of an operation with this spare on a map; there is one exactly if it is a change.
+-- The job of an operation that has this spare and is done on this map. There is a job exactly if
+-- the operation is a change.
 abbrev pub job_of : Map → Op → Option SpareAt → Option MapJob
 job_of m (Put k v) spare = unput k (get m k)
 job_of m (Take k) spare = relink k (get m k) spare

@@ -10,7 +10,7 @@ use Rattle.map_ops.specs.Changes.{Applies, TakesBack}
 abbrev pub IsInOrder : TableAt → Type 0
 IsInOrder t = regular t ≡ ordered (content t)
 
--- An operation was done by `apply`, and its change was taken back right after.
+-- `apply` did an operation, and its change was taken back right afterwards.
 pub record GoesAndReturns (old new : TableAt) : Type 0 where
   pub between : TableAt
   pub op : Op

@@ -7,7 +7,7 @@ pub mod Buckets
 pub mod Sound
 pub mod Steps
 pub mod Laws
--- The types of the layers below that the table passes on.
+-- The types of the lower layers that the table re-exports.
 pub use Rattle.bucket_table.specs.declared.answer.InitSeek
 pub use Rattle.bucket_table.specs.declared.answer.InitLink
 pub use Rattle.bucket_table.specs.declared.answer.Double

@@ -32,7 +32,7 @@ pub record WritesNothing (old new : Listing) : Type 0 where
   pub nodes : new.nodes ≡ old.nodes
   pub changes : new.changes ≡ old.changes
 
--- One write: the nodes are these, and the change number is one higher, up to 2^64 - 1.
+-- There is one write: the new nodes are `now`, and the change number is one higher, up to 2^64 - 1.
 pub record WritesOnce (old new : Listing) (now : List NodeAt) : Type 0 where
   pub nodes : new.nodes ≡ now
   pub changes : new.changes ≡ one_more old.changes
@@ -41,7 +41,7 @@ pub record WritesOnce (old new : Listing) (now : List NodeAt) : Type 0 where
 abbrev pub IsUnlinking : Listing → Listing → Type 0
 IsUnlinking old new = new.changes ≡ changes_after old.changes (length old.nodes - length new.nodes)
 
--- The node is linked behind a node of the old list.
+-- The node is linked right after some node of the old list.
 pub record LinksNode (old new : Listing) (node : NodeAt) : Type 0 where
   pub before : ℕ
   pub linked : IsLinked old.nodes before
@@ -75,8 +75,8 @@ abbrev pub PutIfWrites : Listing → Listing → ℕ → ℕ → Option SpareAt 
 PutIfWrites old new key value spare before true = PutWrites old new key value spare before
 PutIfWrites old new key value spare before false = WritesNothing old new
 
--- The writes of an operation that has this spare and whose key had this value. A get writes
--- nothing.
+-- The writes that an operation makes, given its spare and the value that its key had before. A get
+-- writes nothing.
 abbrev pub OpWrites : Listing → Listing → Op → Option SpareAt → Option ℕ → Type 0
 OpWrites old new (Put k v) spare before = PutWrites old new k v spare before
 OpWrites old new (Take k) spare before = TakeWrites old new k before

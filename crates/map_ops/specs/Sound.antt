@@ -12,11 +12,11 @@ use Rattle.bucket_table.specs.Home.{IsHome}
 abbrev pub IsEvenDummy : NodeAt → Type 0
 IsEvenDummy n = n.kind ≡ Dummy → n.at.split % 2 ≡ 0
 
--- Each dummy is at no key's position.
+-- No dummy is at a key's position.
 abbrev pub AllEven : List NodeAt → Type 0
 AllEven nodes = AllByRecursion IsEvenDummy nodes
 
--- Each regular node is at its key's position, and each dummy is at no key's.
+-- Each regular node is at its key's position, and no dummy is at a key's position.
 pub record Belong (nodes : List NodeAt) : Type 0 where
   pub keyed : IsKeyed nodes
   pub even : AllEven nodes

@@ -18,13 +18,13 @@ pub record HasNode (l : Listing) (key place : ℕ) : Type 0 where
   pub place_is : place ≡ node.place
   pub value : get (map_of (pairs l.nodes)) key ≡ Some node.value
 
--- The key has no value, and the key's node belongs right behind the node at the place.
+-- The key has no value, and a node for the key belongs right after the node at this place.
 pub record HasGap (l : Listing) (key pred : ℕ) : Type 0 where
   pub vacant : IsVacant l.nodes pred (regular_at key)
   pub none : get (map_of (pairs l.nodes)) key ≡ None
 
--- If there is a second place, the key's node is linked at it. If not, the key's node belongs right
--- behind the node at the first place.
+-- If there is a second place, the key's node is linked at it. If not, a node for the key belongs
+-- right after the node at the first place.
 abbrev pub Stands : Listing → ℕ → ℕ → Option ℕ → Type 0
 Stands l key pred None = HasGap l key pred
 Stands l key pred (Some place) = HasNode l key place
@@ -34,12 +34,12 @@ abbrev pub place_in : ℕ → Option ℕ → ℕ
 place_in pred None = pred
 place_in pred (Some place) = place
 
--- A spare is given. Apart from the spare, only the last stamp has changed.
+-- A new spare is given out. Apart from this spare, only the last stamp has changed.
 pub record GivesOne (old new : TableAt) (spare : SpareAt) : Type 0 where
   pub given : GivesSpare old new spare
   pub nodes : KeepsNodes old new
 
--- The reason why no spare is given.
+-- The reason why no spare is given out.
 abbrev pub IsLacking : TableAt → Refusal → Type 0
 IsLacking t StampsUsedUp = last_of t ≡ 2 ^ 64 - 2
 IsLacking t NoMemory = last_of t < 2 ^ 64 - 2

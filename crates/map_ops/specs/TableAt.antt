@@ -23,12 +23,13 @@ use Rattle.bucket_table.specs.declared.helper.Helper.{Helper}
 use Rattle.bucket_table.specs.declared.helper.Helper.TheVariants.{Idle, Seeking, Holding}
 use Rattle.txn_words.specs.Map.{Map, empty, insert}
 
--- The list of nodes and the buckets. Contracts speak of them only in the words below.
+-- The list of nodes and the buckets. Contracts speak of these two only through the definitions
+-- below.
 pub record TableAt : Type 0 where
   pub list : Listing
   pub buckets : Directory
 
--- The table of a list and of buckets.
+-- The table that has this list and these buckets.
 abbrev pub table_of : Listing → Directory → TableAt
 table_of list buckets = record { list = list; buckets = buckets }
 
@@ -97,7 +98,7 @@ pub record KeepsNodes (old new : TableAt) : Type 0 where
   pub linked : linked_of new ≡ linked_of old
   pub changes : table_changes new ≡ table_changes old
 
--- Whether the cursor of the helper of this number fits.
+-- True if the cursor of the helper with this number fits.
 abbrev pub helper_fits : TableAt → ℕ → Bool
 helper_fits t helper = cursor_fits t.list (helper_of t.buckets helper)
 
@@ -111,11 +112,11 @@ cursor_in (Holding bucket dummy) = None
 abbrev pub cursors_of : TableAt → List (Option Cursor)
 cursors_of t = map cursor_in t.buckets.helpers
 
--- The cursor of the helper of this number, if it has one.
+-- The cursor of the helper with this number, if it has one.
 abbrev pub helper_cursor : TableAt → ℕ → Option Cursor
 helper_cursor t helper = slice_index_or (cursors_of t) helper None
 
--- The stamp of the spare that is out at a place, if one is.
+-- The stamp of the spare that is out at this place, if there is one.
 abbrev pub spare_out : TableAt → ℕ → Option ℕ
 spare_out t place = out_at t.list place
 
@@ -131,16 +132,16 @@ KeepsOthers old new place = (other : ℕ) → other ≢ place → spare_out new 
 abbrev pub KeepsSpares : TableAt → TableAt → Type 0
 KeepsSpares old new = (place : ℕ) → spare_out new place ≡ spare_out old place
 
--- The change number when the cursor was placed.
+-- The change number that the cursor noted when it was placed.
 abbrev pub cursor_changes : Cursor → ℕ
 cursor_changes cursor = cursors.change_number_of cursor
 
--- Whether the cursor fits: its two nodes are still neighbours, and unmarked.
+-- True if the cursor fits: its two nodes are still neighbours, and unmarked.
 abbrev pub fits : TableAt → Cursor → Bool
 fits t cursor = cursors.fits t.list cursor
 
--- The cursor was placed on this table for this key, now or earlier. It fits as long as the change
--- number is below 2^64 - 1 and still is the one that the cursor noted.
+-- The cursor was placed on this table for this key, now or earlier. If the change number is below
+-- 2^64 - 1 and still the one that the cursor noted, the cursor fits.
 pub record IsPlaced (t : TableAt) (cursor : Cursor) (key : ℕ) : Type 0 where
   pub list : cursors.IsPlaced t.list cursor
   pub at_is : cursors.at_of cursor ≡ regular_at key
@@ -152,7 +153,7 @@ pub record IsPlaced (t : TableAt) (cursor : Cursor) (key : ℕ) : Type 0 where
 abbrev pub IsStart : TableAt → ℕ → ℕ → Type 0
 IsStart t key place = IsNearest t.buckets (key % size_of t) place
 
--- The linked nodes after a seek of a key from a place: without the marked nodes between that place
+-- The linked nodes after a seek of a key from a place: all but the marked nodes between that place
 -- and the key's position.
 abbrev pub nodes_sought : TableAt → ℕ → ℕ → List NodeAt
 nodes_sought t place key = sought t.list.nodes place (regular_at key)
@@ -166,7 +167,7 @@ IsClean t = AllByRecursion (λ n. n.marked ≡ false) (nodes_of t)
 abbrev pub SweepsNodes : TableAt → TableAt → SweepOutcome → Type 0
 SweepsNodes old new outcome = steps.Sweeps old.list new.list outcome
 
--- The linked nodes rise strictly by split key and key.
+-- The linked nodes rise strictly by split key and, where split keys are equal, by key.
 abbrev pub IsSplitOrdered : TableAt → Type 0
 IsSplitOrdered t = IsRising (nodes_of t)
 
@@ -175,7 +176,8 @@ IsSplitOrdered t = IsRising (nodes_of t)
 abbrev pub HasSoundList : TableAt → Type 0
 HasSoundList t = sound_lists.IsSound t.list
 
--- Each initialised bucket, and each helper that has a dummy, names the linked dummy of its bucket.
+-- Each initialised bucket names its linked dummy. A helper's dummy is the linked dummy of the
+-- helper's bucket. A helper's cursor was placed on the list for the dummy of the helper's bucket.
 abbrev pub NamesDummies : TableAt → Type 0
 NamesDummies t = IsHome t.buckets t.list
 

@@ -1,7 +1,7 @@
-//! The effect of an operation or an inverse on the list of a table. Only `seek_key` reads the
-//! buckets, and no function here changes them. So each contract except that of `seek_key` is about
-//! all tables with this list, whatever their buckets, and the proofs of these contracts need not
-//! mention buckets.
+//! The functions that do an operation or an inverse on the list of a table. Only `seek_key` reads
+//! the buckets, and no function here changes them. So every contract but that of `seek_key` holds
+//! for all tables with the given list, whatever their buckets. The proofs of these contracts need
+//! not mention buckets.
 ghost use Rattle.std.specs.Prelude.{◌≡◌, ◌≤◌, Option, Some, None, is_ok, nat_eq, IfOk, IfErr, OnErr};
 ghost use Rattle.std.specs.Option.{option_eq};
 ghost use Rattle.node_list.specs.Follow.{Follows};
@@ -30,7 +30,7 @@ use node_list::{Kind, NodeList, NodeRef, SpareFault, Unfilled};
 use split_key::{Key, SortKey, bucket_of};
 use txn_words::{Op, Refusal, Reply};
 
-/// Answers a new spare of the list.
+/// Takes a new spare from the list.
 fn give_spare(list: &mut NodeList) -> Result<Unfilled, Refusal>
     requires { IsSound list.old }
     ensures ok { IfOk result (λ spare. (buckets : Directory)
@@ -94,8 +94,9 @@ pub(crate) fn seek_key(list: &mut NodeList, buckets: &Buckets, key: Key) -> Curs
     seek(list, from, SortKey::regular(key))
 }
 
-/// Answers the node of a key, given a cursor that was placed for the key. If the answer is `None`,
-/// a node of the key belongs right behind `cursor.pred()`.
+/// Returns the node of a key, given a cursor that was placed for the key. Returns `Again` if the
+/// cursor no longer fits. If it fits and the key has no node, returns `None`: a node of the key
+/// then belongs right after `cursor.pred()`.
 pub(crate) fn find(list: &NodeList, cursor: &Cursor, key: Key) -> Result<Option<NodeRef>, Again>
     requires sound { IsSound list.now }
     requires belong { Belong list.now.nodes }
@@ -107,7 +108,7 @@ pub(crate) fn find(list: &NodeList, cursor: &Cursor, key: Key) -> Result<Option<
     look(list, cursor)
 }
 
-/// Links a node of an absent key.
+/// Links a node for an absent key, right after `pred`.
 fn link_key(list: &mut NodeList, pred: NodeRef, key: Key, value: u64, spare: Unfilled)
     requires sound { IsSound list.old }
     requires belong { Belong list.old.nodes }
@@ -126,7 +127,7 @@ fn link_key(list: &mut NodeList, pred: NodeRef, key: Key, value: u64, spare: Unf
     let _ = link_at(list, pred, node);
 }
 
-/// Writes a new value for a key that is there, and answers the old value.
+/// Writes a new value for a key that is present, and returns the old value.
 fn swap_key(list: &mut NodeList, node: NodeRef, key: Key, value: u64) -> u64
     requires sound { IsSound list.old }
     requires belong { Belong list.old.nodes }
@@ -143,7 +144,7 @@ fn swap_key(list: &mut NodeList, node: NodeRef, key: Key, value: u64) -> u64
     swap_at(list, node, value)
 }
 
-/// Marks the node of a key that is there, and answers its value.
+/// Marks the node of a key that is present, and returns the key's value.
 fn mark_key(list: &mut NodeList, node: NodeRef, key: Key) -> u64
     requires sound { IsSound list.old }
     requires belong { Belong list.old.nodes }
@@ -170,7 +171,7 @@ fn give_back(list: &mut NodeList, spare: Unfilled)
     list.give_back(spare.into_spare());
 }
 
-/// Gives up an operation.
+/// Gives up an operation: its spare, if it has one, goes back to the list.
 pub(crate) fn give_up(list: &mut NodeList, plan: Plan)
     requires { (buckets : Directory) → OwnsIf (table_of list.old buckets) (pending_of plan).spare }
     ensures back { (buckets : Directory)
@@ -186,7 +187,7 @@ pub(crate) fn give_up(list: &mut NodeList, plan: Plan)
     }
 }
 
-/// Gives up a job.
+/// Gives up a job: its spare, if it has one, goes back to the list.
 pub(crate) fn give_up_job(list: &mut NodeList, job: MapJob)
     requires { (buckets : Directory) → OwnsIf (table_of list.old buckets) (spare_of_job job) }
     ensures back { (buckets : Directory)
@@ -200,14 +201,14 @@ pub(crate) fn give_up_job(list: &mut NodeList, job: MapJob)
     }
 }
 
-/// Whether a key had the expected value, or had none if none was expected.
+/// Returns true if what the key had is what was expected: the same value, or no value.
 fn is_expected(was: Reply, expected: Reply) -> bool
     ensures { result ≡ option_eq nat_eq was expected }
 {
     was == expected
 }
 
-/// Puts a value, and answers the value that the key had and the job that takes the change back.
+/// Puts a value. Returns the value that the key had and the job that takes the change back.
 #[inline(always)]
 fn put_key(
     list: &mut NodeList,
@@ -244,7 +245,8 @@ fn put_key(
     }
 }
 
-/// Puts a value if the key has the expected one; if not, leaves the key unchanged.
+/// Puts a value if the key has the expected one, else leaves the key unchanged. Returns the value
+/// that the key had and, if a value was put, the job that takes the change back.
 fn put_if_key(
     list: &mut NodeList,
     pred: NodeRef,
@@ -279,7 +281,8 @@ fn put_if_key(
     }
 }
 
-/// Takes a key out, and answers the value that it had and the job that puts it back.
+/// Takes a key out. Returns the value that the key had and, if it had one, the job that puts the
+/// key back.
 fn take_key(
     list: &mut NodeList,
     pred: NodeRef,
@@ -310,8 +313,9 @@ fn take_key(
     }
 }
 
-/// Does an operation at the node of its key, or behind `pred` if there is none, and answers the
-/// value that the key had and the job that takes the change back.
+/// Does an operation at the node of its key or, if the key has no node, right after `pred`. Returns
+/// the value that the key had and, if the operation is a change, the job that takes the change
+/// back.
 #[inline(always)]
 pub(crate) fn change(
     list: &mut NodeList,
@@ -345,7 +349,8 @@ pub(crate) fn change(
     }
 }
 
-/// The place of a key's node or, if there is none, of the node behind which it belongs.
+/// Returns the place of a key's node. If the key has no node, returns the place of the node after
+/// which the key's node belongs.
 fn place_in(pred: NodeRef, there: Option<NodeRef>) -> NodeRef
     ensures { result ≡ place_in pred there }
 {
@@ -355,7 +360,7 @@ fn place_in(pred: NodeRef, there: Option<NodeRef>) -> NodeRef
     }
 }
 
-/// Takes a change back at the node of its key, or behind `pred` if there is none.
+/// Takes a change back at the node of its key or, if the key has no node, right after `pred`.
 pub(crate) fn restore(list: &mut NodeList, job: MapJob, pred: NodeRef, there: Option<NodeRef>)
     requires sound { IsSound list.old }
     requires belong { Belong list.old.nodes }

@@ -1,6 +1,6 @@
-//! The inverses of changes: take out, write back, put back. They are a type apart from `Op`, since
-//! the inverse of a put depends on whether the key had a value. A job that puts a key back owns the
-//! node for it, so that going back never takes memory.
+//! The inverses of changes: take out, write back, put back. They have a type of their own, apart
+//! from `Op`, because the inverse of a put depends on whether the key had a value. A job that puts
+//! a key back owns the node for it, so that running the job never takes memory.
 ghost use Rattle.std.specs.Prelude.{◌≡◌};
 
 use node_list::Unfilled;

@@ -1,6 +1,7 @@
-//! The laws of the table, as contracts of functions that do nothing: a change followed by its
-//! inverse, and two inverses of different keys in either order. They follow from the contracts of
-//! `apply` and `take_back` and need no code, so they are apart from the table.
+//! The laws of the table, stated as contracts of functions that do nothing. One law is about a
+//! change followed by its inverse, the other about two inverses of different keys in either order.
+//! Both follow from the contracts of `apply` and `take_back` and need no code, so they are apart
+//! from the table.
 
 ghost use Rattle.std.specs.Prelude.{◌≡◌, ◌≢◌, ℕ, Option, None};
 ghost use Rattle.txn_words.specs.declared.op.Op.{Op};
@@ -10,12 +11,12 @@ ghost use Rattle.map_ops.specs.Jobs.{key_of_job, spare_of_job};
 ghost use Rattle.map_ops.specs.Changes.{Applies, AreApart, ShowsAfter, TakesBack};
 ghost use Rattle.map_ops.specs.Laws.{GoesAndReturns, IsInOrder, TakesBackTwo};
 
-/// A change followed by its inverse leaves the content unchanged. So it also leaves the list of
-/// pairs unchanged, since this list has the pairs of the content in order (clause `ordered` of
+/// A change followed by its inverse leaves the content unchanged. It also leaves the list of pairs
+/// unchanged, because this list is always the pairs of the content in order (clause `ordered` of
 /// `Table::size`). An operation without a job leaves the content unchanged too.
 ///
-/// The contract is the law, a consequence of the contracts of `Table::apply` and
-/// `Table::take_back`; the function does nothing.
+/// The function does nothing. Its contract states the law, which follows from the contracts of
+/// `Table::apply` and `Table::take_back`.
 pub fn there_and_back()
     ensures content { (old new : TableAt) → GoesAndReturns old new → content new ≡ content old }
     ensures regular { (old new : TableAt) → GoesAndReturns old new
@@ -24,12 +25,13 @@ pub fn there_and_back()
         → Applies old new op reply None → content new ≡ content old }
 {}
 
-/// Two jobs of different keys are taken back, one after the other. Both orders leave the same
-/// content, the same list of pairs and the same spares that are out. Clause `due` says that the
-/// second job may still be taken back after the first, if their spares are at different places.
+/// Two jobs of different keys may be taken back in either order. Both orders leave the same
+/// content, the same list of pairs and the same spares that are out. Clause `due` says: if the
+/// spares of the two jobs are at different places, the second job may still be taken back after the
+/// first.
 ///
-/// The contract is the law, a consequence of the contract of `Table::take_back`; the function does
-/// nothing.
+/// The function does nothing. Its contract states the law, which follows from the contract of
+/// `Table::take_back`.
 pub fn either_order()
     ensures due { (old new : TableAt) (first second : MapJob)
         → key_of_job first ≢ key_of_job second → AreApart (spare_of_job first) (spare_of_job second)

@@ -1,7 +1,7 @@
-//! The pairs of a list, in its order, and the sorted map of these, for reports and for tests: no
-//! step uses them. Listing takes time in proportion to the nodes and memory in proportion to the
-//! pairs; the map of n pairs takes time in proportion to n log n, and memory for the pairs once
-//! more.
+//! The pairs of a list, in the list's order, and the sorted map of these pairs. They are for
+//! reports and for tests: no step uses them. Listing takes time in proportion to the nodes and
+//! memory in proportion to the pairs. The map of n pairs takes time in proportion to n log n, and
+//! as much memory again.
 ghost use Rattle.std.specs.Prelude.{◌≡◌, ◌++◌, IfOk, OnOk};
 ghost use Rattle.std.specs.BTreeMap.{IsFromIterResult};
 ghost use Rattle.std.specs.Ordering.{nat_cmp};

@@ -1,7 +1,6 @@
-//! Prepared operations: each has all that it needs. `Pending` is a type apart from `Op`
-//! (`txn_words`), since every operation but a get owns a spare node from here on, until it is done
-//! or withdrawn. The variants of `Plan` keep this rule by their fields, so no code tests for a
-//! spare.
+//! Prepared operations: each has all that it needs. `Pending` is a type of its own, apart from `Op`
+//! (`txn_words`), because every prepared operation but a get owns a spare node until it is done or
+//! withdrawn. The fields of the variants of `Plan` enforce this rule, so no code tests for a spare.
 ghost use Rattle.std.specs.Prelude.{◌≡◌, is_some};
 
 use node_list::Unfilled;
@@ -9,7 +8,7 @@ use split_key::Key;
 use std::marker::Model;
 use txn_words::Op;
 
-/// An operation, and the spare that it takes.
+/// An operation and, unless it is a get, the spare that it owns.
 #[derive(Debug, Drop)]
 pub(crate) enum Plan {
     Put(Key, u64, Unfilled),

@@ -1,13 +1,13 @@
-//! The refusals of calls on buckets, converted to those of steps: `bucket_table` does not use
+//! Converts the refusals of calls on buckets to those of steps, since `bucket_table` does not use
 //! `txn_words`, and this crate uses both. Each refusal becomes the refusal of the same name, so
-//! different refusals stay different; an outcome that is no refusal stays unchanged.
+//! different refusals stay different. A result that is no refusal stays unchanged.
 ghost use Rattle.std.specs.Prelude.{◌≡◌};
 ghost use Rattle.map_ops.specs.Buckets.{answer_for, refusal_for};
 
 use bucket_table::InitRefusal;
 use txn_words::Refusal;
 
-/// Converts the refusal of a call on buckets to that of a step.
+/// Converts a refusal of a call on buckets to the refusal of a step with the same name.
 fn refusal_for(refusal: InitRefusal) -> Refusal
     ensures { result ≡ refusal_for refusal }
 {
@@ -21,7 +21,8 @@ fn refusal_for(refusal: InitRefusal) -> Refusal
     }
 }
 
-/// Converts the answer of a call on buckets to that of a step.
+/// Converts what a call on buckets returns: a refusal becomes the refusal of a step with the same
+/// name.
 pub(crate) fn answer_for<T>(outcome: Result<T, InitRefusal>) -> Result<T, Refusal>
     ensures { result ≡ answer_for outcome }
 {

@@ -1,5 +1,5 @@
 //! The table: list and buckets in one value, and all calls on them. Invariant: the list is sound,
-//! each node is at its position, each stored bucket names its linked dummy, and none is stored
+//! each node is at its position, each stored bucket names its linked dummy, and no bucket is stored
 //! before its parent. The parts that change only the list are in `change.rt`.
 ghost use Rattle.std.specs.Prelude.{◌≡◌, ◌≢◌, ℕ, ◌<◌, ◌≤◌, ◌-◌, ◌^◌, ◌↔◌, Ok, Err, Some, length, IfOk, IfErr, OnErr};
 ghost use Rattle.std.specs.List.{slice_get};
@@ -29,8 +29,9 @@ use txn_words::{Op, Refusal, Reply};
 /// are found (Shalev and Shavit, "Split-Ordered Lists: Lock-Free Extensible Hash Tables", Journal
 /// of the ACM 53, 2006).
 ///
-/// Contracts see the list and the buckets, in the words of `specs/TableAt.antt`: the `content` is a
-/// finite map, `regular` the list of its pairs in the order of their split keys.
+/// Contracts see the list and the buckets, and use the definitions of `specs/TableAt.antt`:
+/// `content` is a finite map, and `regular` is the list of its pairs in the order of their split
+/// keys.
 #[derive(Drop)]
 pub struct Table {
     list: NodeList,
@@ -54,8 +55,8 @@ impl Table {
     ghost use Rattle.map_ops.specs.Changes.{ActWrites, Acts, Applies, GivesBack, IsRefused, OwnsIf, Places, Prepares, SeeksAndUndoes, SeeksNear, Sweeps, TakesBack, UndoWrites, Undoes};
     ghost use Rattle.map_ops.specs.Buckets.{Doubles, LinkChanges, SeekChanges, StoreChanges, double_answer, link_answer_of, seek_answer, store_answer, LacksSegment};
 
-    /// An empty table of two buckets, the first of them initialised, with `callers` idle helpers.
-    /// It can grow to `max` buckets, a power of two.
+    /// Returns an empty table of two buckets, the first of them initialised, with `callers` idle
+    /// helpers. The table can grow to `max` buckets, a power of two.
     ///
     /// # Errors
     ///
@@ -63,8 +64,8 @@ impl Table {
     ///
     /// # Cost
     ///
-    /// Time and memory in proportion to `max / 64`, the number of segments, and to the helpers; and
-    /// 33,280 bytes for the counts of marked nodes.
+    /// Time and memory in proportion to the number of segments, which is `max / 64`, plus the
+    /// number of helpers. The counts of marked nodes take another 33,280 bytes.
     pub fn new(alloc: Global, max: u32, callers: u32) -> Result<Table, AllocError>
         requires power { (exponent : ℕ) × (max ≡ 2 ^ exponent) }
         requires least { 2 ≤ max }
@@ -73,13 +74,13 @@ impl Table {
         Table::with_capacity(alloc, max, callers, 0, false)
     }
 
-    /// A table as `new` makes it, with memory for this number of nodes taken at once, so that the
-    /// list need not grow before it has more nodes. Marked nodes, dummies and spares that are out
-    /// count as nodes too.
+    /// Makes a table as `new` does, and takes memory for `nodes` nodes at once, so that the list
+    /// need not grow before it has more nodes than that. Marked nodes, dummies and spares that are
+    /// out count as nodes too.
     ///
     /// If `is_written`, the memory for the nodes is also written at once, so that no later node is
-    /// the first to touch a page of it. Memory for the entries of the first `nodes` buckets, at
-    /// most `max`, is then taken too.
+    /// the first to touch a page of it. Memory for the entries of the first `nodes` buckets is then
+    /// taken too, or for all `max` entries if `nodes` is larger.
     ///
     /// # Errors
     ///
@@ -87,9 +88,9 @@ impl Table {
     ///
     /// # Cost
     ///
-    /// That of `new`, and 40 bytes of memory for each node. If `is_written`, also time in
-    /// proportion to that memory, and 4 bytes of memory for the entry of each of these buckets, in
-    /// whole segments.
+    /// The cost of `new`, plus 40 bytes of memory for each node. If `is_written`, also time in
+    /// proportion to that memory, and 4 bytes of memory for each bucket entry taken, in whole
+    /// segments.
     pub fn with_capacity(
         alloc: Global,
         max: u32,
@@ -107,18 +108,18 @@ impl Table {
         Ok(Table { list, buckets })
     }
 
-    /// Prepares an operation: takes the spare that it needs, unless it is a get, so that it needs
-    /// no memory from here on. The content and the list of pairs are unchanged.
+    /// Prepares an operation. Unless the operation is a get, this takes the spare that it needs, so
+    /// that it needs no memory from here on. The content and the list of pairs are unchanged.
     ///
     /// # Errors
     ///
-    /// Unless the operation is a get: `StampsUsedUp` if no stamp is left, since the last one was
-    /// 2^64 - 2; else `NoMemory` if memory is refused or the list has no place left. Each leaves
-    /// the table unchanged.
+    /// A get is never refused. Any other operation is refused with `StampsUsedUp` if no stamp is
+    /// left, since the last one was 2^64 - 2; else with `NoMemory` if memory is refused or the list
+    /// has no place left. Each leaves the table unchanged.
     ///
     /// # Cost
     ///
-    /// Amortized constant time; may take memory for a node.
+    /// Amortized constant time. May take memory for a node.
     #[inline(always)]
     pub fn prepare(&mut self, op: Op) -> Result<Pending, Refusal>
         ensures ok { IfOk result (Prepares self.old self.new op) }
@@ -130,16 +131,16 @@ impl Table {
         Ok(Pending::new(plan))
     }
 
-    /// Seeks the key of an operation, from the dummy of its bucket or of the nearest initialised
-    /// ancestor (Shalev and Shavit 2006, section 3.2), and unlinks the marked nodes that it passes.
-    /// The content and the list of pairs are unchanged.
+    /// Seeks the key of an operation, and unlinks the marked nodes that the seek passes. The seek
+    /// starts at the dummy of the key's bucket, or of the bucket's nearest initialised ancestor
+    /// (Shalev and Shavit 2006, section 3.2). The content and the list of pairs are unchanged.
     ///
-    /// The cursor fits as long as its two nodes stay neighbours and unmarked.
+    /// The returned cursor fits as long as its two nodes stay neighbours and unmarked.
     ///
     /// # Cost
     ///
-    /// Time in proportion to the nodes from that dummy to the key's position, and to the ancestors
-    /// passed.
+    /// Time in proportion to the number of nodes from that dummy to the key's position, plus the
+    /// number of ancestors passed.
     #[inline(always)]
     pub fn place(&mut self, pending: &Pending) -> Cursor
         ensures places { Places self.old self.new (key_of pending.now.op) result }
@@ -150,13 +151,14 @@ impl Table {
         seek_key(&mut self.list, &self.buckets, pending.key())
     }
 
-    /// Does an operation at a cursor that was placed for its key, and answers the reply and the job
-    /// that takes the change back. A put that is made links one node or writes one value, a take
-    /// marks one node, and an operation that is no change writes nothing. No node is unlinked.
+    /// Does an operation at a cursor that was placed for the operation's key. Returns the reply
+    /// and, if the operation is a change, the job that takes the change back. A put that takes
+    /// effect links one node or writes one value, a take that takes effect marks one node, and an
+    /// operation that is no change writes nothing. No node is unlinked.
     ///
-    /// The answer is `Again` exactly if the cursor no longer fits. Then nothing has changed, and
-    /// the operation is returned. The cursor always fits while the change number is still the one
-    /// that it noted, and below 2^64 - 1.
+    /// Returns `Again` exactly if the cursor no longer fits. Then nothing has changed, and the
+    /// operation is returned. The cursor always fits while the change number is below 2^64 - 1 and
+    /// is still the one that the cursor noted.
     #[inline(always)]
     pub fn act(&mut self, pending: Pending, cursor: Cursor) -> Act
         requires placed { IsPlaced self.old cursor (key_of pending.op) }
@@ -176,8 +178,8 @@ impl Table {
         }
     }
 
-    /// Gives up an operation that is not done: its spare goes back to the list, and all else is
-    /// unchanged.
+    /// Gives up an operation that is not done. Its spare, if it has one, goes back to the list, and
+    /// all else is unchanged.
     pub fn withdraw(&mut self, pending: Pending)
         requires { OwnsIf self.old pending.spare }
         ensures back { GivesBack self.old self.new pending.spare }
@@ -186,7 +188,7 @@ impl Table {
         give_up(&mut self.list, pending.into_plan());
     }
 
-    /// Seeks the key of a job, as `place` seeks that of an operation, at the same cost.
+    /// Seeks the key of a job, just as `place` seeks the key of an operation, and at the same cost.
     pub fn place_job(&mut self, job: &MapJob) -> Cursor
         ensures places { Places self.old self.new (key_of_job job.now) result }
         ensures near { SeeksNear self.old self.new (key_of_job job.now) }
@@ -196,13 +198,13 @@ impl Table {
         seek_key(&mut self.list, &self.buckets, job.key())
     }
 
-    /// Takes a change back at a cursor that was placed for its key. The key then has the value that
-    /// it had before the change, or no value if it had none. Every other key keeps the value that
-    /// it has now, even if it got that value after the change. One node is marked, written or
-    /// linked, and none is unlinked.
+    /// Takes a job's change back at a cursor that was placed for the job's key. The key then has
+    /// the value that it had before the change, or no value if it had none. Every other key keeps
+    /// the value that it has now, even if it got that value after the change. One node is marked,
+    /// written or linked, and none is unlinked.
     ///
-    /// The answer is `Again` exactly if the cursor no longer fits. Then nothing has changed, and
-    /// the job is returned.
+    /// Returns `Again` exactly if the cursor no longer fits. Then nothing has changed, and the job
+    /// is returned.
     pub fn undo(&mut self, job: MapJob, cursor: Cursor) -> Undo
         requires placed { IsPlaced self.old cursor (key_of_job job) }
         requires due { IsDue (content self.old) job }
@@ -221,7 +223,7 @@ impl Table {
         }
     }
 
-    /// Gives up a job whose change is to stay: the spare of a `Relink` goes back to the list, and
+    /// Gives up a job whose change is to stay. The spare of a `Relink` goes back to the list, and
     /// all else is unchanged.
     pub fn discard(&mut self, job: MapJob)
         requires { OwnsIf self.old (spare_of_job job) }
@@ -231,16 +233,16 @@ impl Table {
         give_up_job(&mut self.list, job);
     }
 
-    /// Does an operation in one call: its reply and its effect are those on a plain map, and the
-    /// answer has a job exactly if it is a change.
+    /// Does an operation in one call. Its reply and its effect are those of the same operation on a
+    /// plain map. A job is returned exactly if the operation is a change.
     ///
     /// # Errors
     ///
-    /// Those of `prepare`, which leave the table unchanged.
+    /// The errors of `prepare`, which leave the table unchanged.
     ///
     /// # Cost
     ///
-    /// That of `prepare` and of `place`; may take memory for a node.
+    /// The cost of `prepare` plus the cost of `place`. May take memory for a node.
     pub fn apply(&mut self, op: Op) -> Result<(Reply, Option<MapJob>), Refusal>
         ensures ok { IfOk result (λ done. Applies self.old self.new op done.0 done.1) }
         ensures err { IfErr result (IsRefused self.old op) }
@@ -256,13 +258,13 @@ impl Table {
         }
     }
 
-    /// Takes a change back in one call. So an operation and then its job leave the content and the
-    /// list of pairs unchanged (`law::there_and_back`), and jobs of different keys may run in
-    /// either order (`law::either_order`).
+    /// Takes a change back in one call. An operation followed by its job leaves the content and the
+    /// list of pairs unchanged (`law::there_and_back`). Jobs of different keys may run in either
+    /// order (`law::either_order`).
     ///
     /// # Cost
     ///
-    /// That of `place_job`.
+    /// The cost of `place_job`.
     pub fn take_back(&mut self, job: MapJob)
         requires due { IsDue (content self.old) job }
         requires owned { OwnsIf self.old (spare_of_job job) }
@@ -278,7 +280,7 @@ impl Table {
         }
     }
 
-    /// The keys with their values, as a map.
+    /// Returns the keys with their values, as a map.
     ///
     /// # Errors
     ///
@@ -286,8 +288,8 @@ impl Table {
     ///
     /// # Cost
     ///
-    /// Time in proportion to the nodes, and to n log n for the map of n keys; memory for the pairs
-    /// twice while it runs, in a vector and in the map.
+    /// Time in proportion to the number of nodes, plus n log n for the map of n keys. While it
+    /// runs, the pairs are in memory twice: in a vector and in the map.
     pub fn content(&self, alloc: Global) -> Result<BTreeMap<u64, u64>, AllocError>
         ensures { IfOk result (λ map. (key : ℕ)
             → value_at nat_cmp map key ≡ get (content self.now) key) }
@@ -296,7 +298,8 @@ impl Table {
         map_of(alloc, &pairs)
     }
 
-    /// The keys with their values, in the order of the list, which is that of split keys.
+    /// Returns the keys with their values, in the order of the list, which is the order of the
+    /// split keys.
     ///
     /// # Errors
     ///
@@ -304,7 +307,7 @@ impl Table {
     ///
     /// # Cost
     ///
-    /// Time in proportion to the nodes, and memory in proportion to the pairs.
+    /// Time in proportion to the number of nodes, and memory in proportion to the number of pairs.
     pub fn regular_list(&self, alloc: Global) -> Result<Vec<(u64, u64)>, AllocError>
         ensures regular { IfOk result (λ pairs. pairs.items ≡ regular self.now) }
         ensures ordered { IfOk result (λ pairs. pairs.items ≡ ordered (content self.now)) }
@@ -312,11 +315,11 @@ impl Table {
         pairs_of(alloc, &self.list)
     }
 
-    /// The size: the number of buckets now.
+    /// Returns the size: the number of buckets now.
     ///
     /// The contract also states the invariants of every table: the sort keys of the linked nodes
     /// rise strictly, no two nodes share a place or a stamp, the list has the pairs of the content
-    /// in their order, each initialised bucket names its linked dummy, and none is initialised
+    /// in their order, each initialised bucket names its linked dummy, and no bucket is initialised
     /// before its parent.
     pub fn size(&self) -> u32
         ensures size { result ≡ size_of self.now }
@@ -329,8 +332,8 @@ impl Table {
         self.buckets.size()
     }
 
-    /// The change number: how many links, marks, unlinks and writes there were, at most 2^64 - 1.
-    /// No call lowers it.
+    /// Returns the change number: the number of links, marks, unlinks and writes so far, at most
+    /// 2^64 - 1. No call lowers it.
     pub fn changes(&self) -> u64
         ensures { result ≡ table_changes self.now }
     {
@@ -345,16 +348,16 @@ impl Table {
         self.list.count()
     }
 
-    /// Unlinks the first marked node, if one is marked, and nothing else. The answer is `Clean`
-    /// exactly if none is.
+    /// Unlinks the first marked node, and nothing else. Returns `Clean` exactly if no node is
+    /// marked.
     ///
     /// The walk begins at the dummy of the bucket where the marked nodes begin
-    /// (`NodeList::marks_begin`), or of its nearest initialised ancestor.
+    /// (`NodeList::marks_begin`), or of that bucket's nearest initialised ancestor.
     ///
     /// # Cost
     ///
-    /// Time in proportion to the nodes from there to the first marked one, and to the ancestors
-    /// passed; constant time if none is marked.
+    /// Time in proportion to the number of nodes from that dummy to the first marked node, plus the
+    /// number of ancestors passed. Constant time if no node is marked.
     pub fn sweep(&mut self) -> SweepOutcome
         ensures clean { (result ≡ SweepOutcome.Clean) ↔ IsClean self.old }
         ensures sweeps { Sweeps self.old self.new result }
@@ -370,21 +373,21 @@ impl Table {
     }
 
     /// Seeks the position of a bucket's dummy for a helper, from the dummy of the bucket's parent.
-    /// The content and the list of pairs are unchanged; the marked nodes that it passes are
-    /// unlinked.
+    /// The marked nodes that the seek passes are unlinked. The content and the list of pairs are
+    /// unchanged.
     ///
-    /// Answers `Ready` if the bucket is initialised already: then the helper is idle. Else answers
-    /// `Placed`, and the helper has a cursor that fits, in place of whatever it had.
+    /// Returns `Ready` if the bucket is initialised already. The helper is then idle. Else returns
+    /// `Placed`, and the helper has a cursor that fits, in place of whatever it had before.
     ///
     /// # Errors
     ///
     /// In this order: `NoSuchHelper`; `NoSuchBucket` if the bucket is not below the size;
-    /// `ParentMissing` if neither it nor its parent is initialised. Each leaves the table
+    /// `ParentMissing` if neither the bucket nor its parent is initialised. Each leaves the table
     /// unchanged.
     ///
     /// # Cost
     ///
-    /// Time in proportion to the nodes from the parent's dummy to the position.
+    /// Time in proportion to the number of nodes from the parent's dummy to the position.
     pub fn init_seek(&mut self, helper: u64, bucket: u64) -> Result<InitSeek, Refusal>
         ensures answer { result
             ≡ seek_answer (size_of self.old) (stored_of self.old)
@@ -401,19 +404,19 @@ impl Table {
     /// Links the dummy of a helper's bucket at the helper's cursor. The content and the list of
     /// pairs are unchanged.
     ///
-    /// Answers `Again` if the cursor no longer fits: the cursor is dropped, and the helper is idle.
-    /// Else answers `Present` if that dummy was linked already, or `Linked` if this call has linked
-    /// it: in both cases the helper now has the dummy.
+    /// Returns `Again` if the cursor no longer fits: the cursor is dropped, and the helper is idle.
+    /// Else returns `Present` if that dummy was linked already, or `Linked` if this call has linked
+    /// it. In both of these cases the helper now has the dummy.
     ///
     /// # Errors
     ///
-    /// In this order: `NoSuchHelper`; `HelperOutOfOrder` if the helper has no cursor; and, if a
-    /// dummy is to be linked, `StampsUsedUp`, then `NoMemory` if memory is refused or the list has
-    /// no place left. Each leaves the table unchanged.
+    /// In this order: `NoSuchHelper`; `HelperOutOfOrder` if the helper has no cursor. If a dummy is
+    /// to be linked, then also: `StampsUsedUp` if no stamp is left; `NoMemory` if memory is refused
+    /// or the list has no place left. Each leaves the table unchanged.
     ///
     /// # Cost
     ///
-    /// Amortized constant time; may take memory for a node.
+    /// Amortized constant time. May take memory for a node.
     pub fn init_link(&mut self, helper: u64) -> Result<InitLink, Refusal>
         ensures answer { result ≢ Err Refusal.NoMemory
             → result ≡ link_answer_of self.old helper }
@@ -437,12 +440,12 @@ impl Table {
     ///
     /// In this order: `NoSuchHelper`; `HelperOutOfOrder` if the helper has no dummy; `NoMemory` if
     /// memory is refused, which happens only if no bucket of the bucket's segment is initialised.
-    /// Each leaves the table unchanged; after `NoMemory` the helper still has its dummy.
+    /// Each leaves the table unchanged. So after `NoMemory` the helper still has its dummy.
     ///
     /// # Cost
     ///
-    /// Constant time; takes memory only for the bucket's segment, if no bucket of it is
-    /// initialised.
+    /// Constant time. Takes memory only for the bucket's segment, and only if no bucket of this
+    /// segment is initialised.
     pub fn init_store(&mut self, helper: u64) -> Result<(), Refusal>
         ensures answer { result ≢ Err Refusal.NoMemory
             → result ≡ store_answer (slice_get (helps_of self.old) helper) }
@@ -459,9 +462,9 @@ impl Table {
 
     /// Doubles the size. No node moves.
     ///
-    /// Three tests are made first, in this order: the size is not `seen` (`Moved`); the size
-    /// is the largest (`AtLimit`); there are at most twice as many keys as buckets (`Light`). If
-    /// one of them holds, the answer names it, and nothing changes.
+    /// Three tests come first, in this order: the size is not `seen` (`Moved`); the size is the
+    /// largest (`AtLimit`); there are at most twice as many keys as buckets (`Light`). If a test
+    /// holds, the value in its parentheses is returned, and nothing changes.
     pub fn double(&mut self, seen: u64) -> Double
         ensures answer { result
             ≡ double_answer (size_of self.old) (largest_of self.old)
@@ -474,8 +477,9 @@ impl Table {
     }
 }
 
-/// The node at which a sweep may begin: the dummy of the bucket where the marked nodes begin, or of
-/// its nearest initialised ancestor; the first node if none is marked.
+/// Returns the node at which a sweep may begin: the dummy of the bucket where the marked nodes
+/// begin, or of that bucket's nearest initialised ancestor. If no node is marked, returns the first
+/// node.
 fn sweep_start(list: &NodeList, buckets: &Buckets) -> NodeRef
     requires { IsHome buckets.now list.now }
     ensures { IsBeforeMarks list.now.nodes result }

@@ -1,7 +1,6 @@
 //! Implements `UndoJob`, the trait of the jobs of an undo log, for the jobs of the table. The log's
-//! world is the table. The crate `undo_log` knows no table, and only this module uses it, so no
-//! other module knows of logs. Running a job costs a seek and one change at the position of its
-//! key, and takes no memory.
+//! world is the table. Only this module uses the crate `undo_log`, which knows nothing of tables.
+//! Running a job costs a seek and one change at the position of the job's key, and takes no memory.
 use crate::job::MapJob;
 use crate::table::Table;
 use undo_log::UndoJob;

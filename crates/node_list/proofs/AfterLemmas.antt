@@ -1,4 +1,4 @@
--- The nodes that are linked, and those that are found, after a link, a change or an unlink.
+-- Which nodes are linked, and which are found, after a link, a change or an unlink.
 use Rattle.std.proofs.Common.{◌≡◌, ◌≢◌, ℕ, ◌⊎◌, inl, inr, List, [], ◌∷◌, Some, true, refl, sym, ◌∙◌, ap}
 use Rattle.std.proofs.lemmas.Bool.Decides.{eqb_tells}
 use Rattle.node_list.specs.Nodes.{NodeAt, node_of, next_of, first, place_of, IsLinked, linked_after, unlinked_after, changed_at, marked_at, written_at}
@@ -7,7 +7,7 @@ use Rattle.node_list.specs.Follow.{IsSameNode}
 use Rattle.node_list.proofs.OrderLemmas.{some-injective, some-none}
 use Rattle.node_list.proofs.NodesLemmas.{same_node, absent_linked, linked_more, next_linked, found_linked, linked_found, first_found, next_found}
 
--- After a link, each place that was linked still is, and the new node is linked.
+-- After a link, each place that was linked is still linked, and so is the place of the new node.
 pub still_linked : (nodes : List NodeAt) (pred place : ℕ) (x : NodeAt) → IsLinked nodes place → IsLinked (linked_after nodes pred x) place
 unfolding linked_after IsLinked
 still_linked [] pred place x is = is
@@ -75,7 +75,7 @@ others_linked (n ∷ (m ∷ rest)) pred gone place next differs is = elim (eqb_t
   ])
 ]
 
--- A node that was unlinked is no longer there.
+-- After an unlink, no node is at the place of the unlinked node.
 pub absent_unlinked : (nodes : List NodeAt) (pred place : ℕ) → IsSpread nodes → place_of (next_of nodes pred) ≡ Some place → AbsentFrom place (unlinked_after nodes pred)
 unfolding IsSpread unlinked_after next_of
 absent_unlinked [] pred place apart is = tt
@@ -171,7 +171,7 @@ found_unlinked (m ∷ (k ∷ rest)) pred place n spread is = elim (eqb_tells m.p
   ]
 ]
 
--- A node that was found before a change is there after it, unless it is the one that was unlinked.
+-- A node that was found before a change is still found after it, unless it is the unlinked node.
 pub still_found_linked : (nodes : List NodeAt) (pred place : ℕ) (x n : NodeAt) → AbsentFrom x.place nodes → node_of nodes place ≡ Some n → node_of (linked_after nodes pred x) place ≡ Some n
 unfolding node_of linked_after
 still_found_linked [] pred place x n absent is = is

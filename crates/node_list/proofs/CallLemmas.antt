@@ -25,16 +25,17 @@ counted_fit slab head last count marked is =
     let fits = nodes_fit slab head (nodes_in slab head) is.laid_out in
     omega (arith, fits, counts_fit (nodes_in slab head), is.counted, is.marks)
 
--- The slot at a linked place holds a linked node.
+-- If a place is linked, the slot there has a linked node.
 pub slot_linked : (slab : Slab SlotAt) (head last count marked place : ℕ) → IsKept slab head last count marked → IsLinked (nodes_in slab head) place → (node : Node) × (get slab place ≡ Some (Linked node))
 slot_linked slab head last count marked place is linked = linked_node (get slab) (nodes_in slab head) place is.laid_out.chain linked
 
--- A place with a marked node behind it is linked.
+-- If the node right after the node at `pred` is marked, `pred` is a linked place.
 pub behind_linked : (slab : Slab SlotAt) (head : ℕ) (pred : ℕ) → IsBeforeMarked (nodes_in slab head) pred → IsLinked (nodes_in slab head) pred
 behind_linked slab head pred behind = (next_linked (nodes_in slab head) pred behind.node.place (ap place_of behind.next)).0
 
 module _ (old : Slab SlotAt) (head changes last count marked : ℕ) (is : IsKept old head last count marked) where
-  -- A spare is given out.
+  -- If a spare is given out, the fields keep their invariant, and the list changes as `GivesOut`
+  -- says.
   pub spared : (new : Slab SlotAt) (place : ℕ) → last + 1 < 2 ^ 64 - 1 → get old place ≡ None → Updates old new place (Some (Out (last + 1))) → IsKept new head (last + 1) count marked × GivesOut (listing_of old head changes last) (listing_of new head changes (last + 1)) place (last + 1) × Follows (listing_of old head changes last) (listing_of new head changes (last + 1))
   spared new place below free updates =
       let nodes = nodes_in old head in
@@ -55,7 +56,8 @@ module _ (old : Slab SlotAt) (head changes last count marked : ℕ) (is : IsKept
         gives_out_follows _ _ place (last + 1) refl (sound new head changes (last + 1) count marked now) gives,
       )
 
-  -- A spare is given back to the list.
+  -- If a spare is given back, the fields keep their invariant, and the list changes as
+  -- `ReturnsSpare` says.
   pub taken_back : (new : Slab SlotAt) (place stamp : ℕ) → out_at (listing_of old head changes last) place ≡ Some stamp → Updates old new place None → IsKept new head last count marked × ReturnsSpare (listing_of old head changes last) (listing_of new head changes last) place × Follows (listing_of old head changes last) (listing_of new head changes last)
   taken_back new place stamp is_out freed =
       let nodes = nodes_in old head in
@@ -75,7 +77,7 @@ module _ (old : Slab SlotAt) (head changes last count marked : ℕ) (is : IsKept
         takes_back_follows _ _ place (sound new head changes last count marked now) back,
       )
 
-  -- A node is changed.
+  -- Lemmas on a node that is changed.
   module _ (new : Slab SlotAt) (place : ℕ) (change : NodeAt → NodeAt) (node written : Node)
       (same : (n : NodeAt) → IsSameNode n (change n))
       (stores : (n : NodeAt) (next : Option ℕ) → node ≡ stored_node n next → written ≡ stored_node (change n) next)
@@ -112,7 +114,7 @@ module _ (old : Slab SlotAt) (head changes last count marked : ℕ) (is : IsKept
           λ fits. changes_follow _ _ place change fits same (sound new head (one_more changes) last live marks now) becomes,
         )
 
-  -- A value is written.
+  -- If a value is written, the fields keep their invariant, and the nodes become `written_at`.
   pub value_written : (new : Slab SlotAt) (place value : ℕ) (node : Node) → IsLinked (nodes_in old head) place → get old place ≡ Some (Linked node) → new ≡ with_value old place (Linked (record node { value = value })) → IsKept new head last count marked × Becomes (listing_of old head changes last) (listing_of new head (one_more changes) last) (written_at (nodes_in old head) place value) × (changes < 2 ^ 64 → Follows (listing_of old head changes last) (listing_of new head (one_more changes) last))
   value_written new place value node linked is_node new_is =
       changed new place (λ n. record n { value = value }) node (record node { value = value })
@@ -136,7 +138,7 @@ module _ (old : Slab SlotAt) (head changes last count marked : ℕ) (is : IsKept
       let linked = found_linked (nodes_in old head) place regular.node regular.is in
       (node_found (get old) (nodes_in old head) place node is.laid_out.chain linked is_node, (regular_seen place node regular is_node).1)
 
-  -- An unmarked regular node is counted.
+  -- If the list has an unmarked regular node, `count` is at least 1.
   pub counts_one : (place : ℕ) → IsRegularAt (nodes_in old head) place → 1 ≤ count
   counts_one place regular =
       let linked = found_linked (nodes_in old head) place regular.node regular.is in
@@ -149,7 +151,7 @@ module _ (old : Slab SlotAt) (head changes last count marked : ℕ) (is : IsKept
   dummy-not-regular : Dummy ≡ Regular → ⊥
   dummy-not-regular e = cc
 
-  -- A node is marked.
+  -- If a node is marked, the fields keep their invariant, and the nodes become `marked_at`.
   pub node_marked : (new : Slab SlotAt) (place : ℕ) (node : Node) → IsRegularAt (nodes_in old head) place → get old place ≡ Some (Linked node) → new ≡ with_value old place (Linked (record node { marked = true })) → IsKept new head last (count - 1) (marked + 1) × Becomes (listing_of old head changes last) (listing_of new head (one_more changes) last) (marked_at (nodes_in old head) place) × (changes < 2 ^ 64 → Follows (listing_of old head changes last) (listing_of new head (one_more changes) last))
   node_marked new place node regular is_node new_is =
       let linked = found_linked (nodes_in old head) place regular.node regular.is in
@@ -172,13 +174,13 @@ module _ (old : Slab SlotAt) (head changes last count marked : ℕ) (is : IsKept
   behind_place pred before behind is_before =
       sym (next_is (get old) (nodes_in old head) pred before is.laid_out.chain (behind_linked old head pred behind) is_before) ∙ ap place_of behind.next
 
-  -- The slot of the node behind a linked node holds a linked node.
+  -- If a linked node has a next place, the slot there has a linked node.
   pub behind_slot : (pred place : ℕ) (before : Node) → IsLinked (nodes_in old head) pred → get old pred ≡ Some (Linked before) → before.next ≡ Some place → (node : Node) × (get old place ≡ Some (Linked node))
   behind_slot pred place before linked is_before next =
       let place_is = next_is (get old) (nodes_in old head) pred before is.laid_out.chain linked is_before ∙ next in
       linked_node (get old) (nodes_in old head) place is.laid_out.chain (linked_more _ _ (next_linked (nodes_in old head) pred place place_is).1)
 
-  -- The marked node behind `pred` has the sort key of the node in the slot at `place`.
+  -- The marked node right after `pred` has the sort key of the node in the slot at `place`.
   pub behind_at : (pred place : ℕ) (before node : Node) (behind : IsBeforeMarked (nodes_in old head) pred) → get old pred ≡ Some (Linked before) → before.next ≡ Some place → get old place ≡ Some (Linked node) → behind.node.at ≡ node.at
   behind_at pred place before node behind is_before next is_node =
       let nodes = nodes_in old head in
@@ -193,11 +195,12 @@ module _ (old : Slab SlotAt) (head changes last count marked : ℕ) (is : IsKept
       let less = count-unlinked is_marked (nodes_in old head) pred behind.node behind.next in
       omega (arith, one, less)
 
-  -- A marked node is counted.
+  -- If the list has a marked node, `marked` is at least 1.
   pub marks_one : (pred : ℕ) → IsBeforeMarked (nodes_in old head) pred → 1 ≤ marked
   marks_one pred behind = omega (arith, marks_behind pred behind, is.marks)
 
-  -- A marked node is unlinked.
+  -- If a marked node is unlinked, the fields keep their invariant, and the nodes become
+  -- `unlinked_after`.
   pub unlinked : (mid new : Slab SlotAt) (pred place : ℕ) (before behind : Node) → IsBeforeMarked (nodes_in old head) pred → get old pred ≡ Some (Linked before) → before.next ≡ Some place → get old place ≡ Some (Linked behind) → mid ≡ with_value old pred (Linked (record before { next = behind.next })) → Updates mid new place None → IsKept new head last count (marked - 1) × Becomes (listing_of old head changes last) (listing_of new head (one_more changes) last) (unlinked_after (nodes_in old head) pred) × (changes < 2 ^ 64 → Follows (listing_of old head changes last) (listing_of new head (one_more changes) last))
   unlinked mid new pred place before behind is_behind_marked is_before next is_behind mid_is freed =
       let nodes = nodes_in old head in
@@ -221,7 +224,7 @@ module _ (old : Slab SlotAt) (head changes last count marked : ℕ) (is : IsKept
         λ fits. unlinks_follow _ _ pred fits (spread (get old) nodes is.laid_out.chain is.laid_out.rising) is.laid_out.plain is_behind_marked now_sound becomes,
       )
 
-  -- The node of a spare is linked.
+  -- Lemmas on the link of a spare's node.
   module _ (mid new : Slab SlotAt) (pred : ℕ) (before : Node) (s : SpareAt) (next : Option ℕ)
       (is_before : get old pred ≡ Some (Linked before))
       (is_out : IsOut (listing_of old head changes last) s)

@@ -1,4 +1,5 @@
--- The linked nodes in the slots of a slab: a walk finds them, and each is the node in its slot.
+-- The linked nodes in the slots of a slab. A walk finds these nodes, and each of them is the node
+-- in its slot.
 use Rattle.std.proofs.Common.{◌≡◌, ◌≢◌, ℕ, ◌<◌, ◌≤◌, inl, inr, List, [], ◌∷◌, Option, Some, None, Bool, true, false, length, refl, sym, ◌∙◌, ap, ap₂, arith, count_by, is_some, cond, get_or, set, get_or-set_other}
 use Prim.Native.Nat.{zero, suc}
 use Rattle.std.proofs.lemmas.Bool.{cases_lt}
@@ -21,8 +22,8 @@ linked-injective e = cc
 pub out-not-linked : {stamp : ℕ} {n : Node} → Some (Out stamp) ≡ Some (Linked n) → ⊥
 out-not-linked e = cc
 
--- If `node_in` of a slot is a node, the slot has this linked node; if it is none, the slot has no
--- linked node.
+-- If `node_in` gives a node for a slot, the slot has this linked node. If `node_in` gives None, the
+-- slot has no linked node.
 pub node_in-linked : (slot : Option SlotAt) (n : Node) → Some n ≡ node_in slot → slot ≡ Some (Linked n)
 node_in-linked None n is = absurd (some-none is)
 node_in-linked (Some (Linked m)) n is = ap (λ k. Some (Linked k)) (some-injective (sym is))
@@ -76,7 +77,7 @@ in_use_after slots place [] absent used = tt
 in_use_after slots place (n ∷ rest) absent used =
     (rw (get_or-set_other slots place n.place None None absent.0) used.0, in_use_after slots place rest absent.1 used.1)
 
--- A slot in use is in range.
+-- The place of a slot in use is below the number of slots.
 in_range : (slots : List (Option SlotAt)) (place : ℕ) → is_some (get_or slots place None) ≡ true → place < length slots
 in_range slots place used =
     elim (cases_lt place (length slots)) [
@@ -89,7 +90,7 @@ in_range slots place used =
 one_if : (b : Bool) → b ≡ true → cond {A = ℕ} b 1 0 ≡ 1
 one_if b is = rw is refl
 
--- There are no more nodes than slots in use.
+-- There are at most as many nodes as slots in use.
 room : (slots : List (Option SlotAt)) (nodes : List NodeAt) → IsSpread nodes → AllInUse slots nodes → length nodes ≤ count_by is_some slots
 unfolding IsSpread
 room slots [] apart used = omega arith
@@ -111,7 +112,7 @@ place_of_first (n ∷ rest) = refl
 start_place : (nodes : List NodeAt) (head : ℕ) → StartsWithHead nodes head → first_place nodes ≡ Some head
 start_place nodes head starts = sym (place_of_first nodes) ∙ ap place_of starts.is ∙ ap Some starts.place
 
--- The nodes of a slab are the ones that are laid out in it.
+-- `nodes_in` gives the nodes that are laid out in the slab.
 pub nodes_in_is : (slab : Slab SlotAt) (head : ℕ) (nodes : List NodeAt) → IsLaidOut slab head nodes → nodes_in slab head ≡ nodes
 unfolding nodes_in
 nodes_in_is slab head nodes laid =
@@ -123,7 +124,7 @@ unfolding IsChain
 chain_kept at new [] chain same = tt
 chain_kept at new (n ∷ rest) chain same = (same.0 ∙ chain.0, chain_kept at new rest chain.1 same.1)
 
--- A change at a place that is not in a chain leaves the chain unchanged.
+-- If no node of a chain is at a place, a change of the slot there leaves the chain unchanged.
 pub chain_absent : (at new : ℕ → Option SlotAt) (place : ℕ) (nodes : List NodeAt) → IsChain at nodes → AbsentFrom place nodes → ((other : ℕ) → other ≢ place → new other ≡ at other) → IsChain new nodes
 chain_absent at new place nodes chain absent others =
     chain_kept at new nodes chain (each_map (λ n. n.place ≢ place) (λ n. new n.place ≡ at n.place) nodes (λ n apart. others n.place apart) absent)
@@ -134,18 +135,18 @@ unfolding IsChain
 absent_free at [] place chain free = tt
 absent_free at (n ∷ rest) place chain free = ((λ same. free _ (rw same at chain.0)), absent_free at rest place chain.1 free)
 
--- The slot of a linked node holds the node.
+-- If a place is linked, the slot there has a linked node.
 pub linked_node : (at : ℕ → Option SlotAt) (nodes : List NodeAt) (place : ℕ) → IsChain at nodes → IsLinked nodes place → (node : Node) × (at place ≡ Some (Linked node))
 unfolding IsChain IsLinked
 linked_node at [] place chain is = absurd is
 linked_node at (n ∷ rest) place chain (inl here) = (stored_node n (first_place rest), rw (← here) chain.0)
 linked_node at (n ∷ rest) place chain (inr later) = linked_node at rest place chain.1 later
 
--- A place with no node in its slot is not linked.
+-- If the slot at a place has no linked node, no node is linked at that place.
 pub not_linked : (at : ℕ → Option SlotAt) (nodes : List NodeAt) (place : ℕ) → IsChain at nodes → ((node : Node) → at place ≢ Some (Linked node)) → IsLinked nodes place → ⊥
 not_linked at nodes place chain free linked = let there = linked_node at nodes place chain linked in free there.0 there.1
 
--- The node at a place is the one in its slot.
+-- If a node is linked at a place, it is the node in the slot there.
 pub node_found : (at : ℕ → Option SlotAt) (nodes : List NodeAt) (place : ℕ) (node : Node) → IsChain at nodes → IsLinked nodes place → at place ≡ Some (Linked node) → node_of nodes place ≡ Some (node_seen place node)
 unfolding IsChain IsLinked node_of
 node_found at [] place node chain is is_node = absurd is

@@ -11,7 +11,7 @@ use Rattle.node_list.specs.Layout.{stored_node, first_place, IsChain, StartsWith
 use Rattle.node_list.proofs.OrderLemmas.{some-injective, some-none, each_map, each_both}
 use Rattle.node_list.proofs.ChainLemmas.{linked-injective, place_of_first, chain_kept, chain_absent, next_is}
 
--- Each change leaves the first place unchanged.
+-- Each change of the list leaves the place of the first node unchanged.
 first_linked : (nodes : List NodeAt) (pred : ℕ) (x : NodeAt) → first (linked_after nodes pred x) ≡ first nodes
 unfolding linked_after
 first_linked [] pred x = refl
@@ -71,8 +71,8 @@ starts_changed (n ∷ rest) head place change same starts = elim (eqb_tells n.pl
       rw apart.0 (record { node = starts.node; is = starts.is; place = starts.place; at = starts.at; kind = starts.kind })
 ]
 
--- A node is linked behind another. The slot of the other node gets the new node's place as its next
--- place, and the new node's slot gets the next place that the other node had.
+-- A new node is linked right after the node at `pred`. The slot at `pred` gets the new node's place
+-- as its next place. The new node's slot gets the next place that the slot at `pred` had.
 pub chain_linked : (at new : ℕ → Option SlotAt) (nodes : List NodeAt) (pred : ℕ) (x : NodeAt) (before : Node) → IsChain at nodes → IsSpread nodes → AbsentFrom x.place nodes → at pred ≡ Some (Linked before) → new pred ≡ Some (Linked (record before { next = Some x.place })) → new x.place ≡ Some (Linked (stored_node x before.next)) → ((other : ℕ) → other ≢ pred → other ≢ x.place → new other ≡ at other) → IsChain new (linked_after nodes pred x)
 unfolding IsChain IsSpread linked_after
 chain_linked at new [] pred x before chain apart absent is written x_is others = tt
@@ -97,8 +97,8 @@ chain_linked at new (n ∷ rest) pred x before chain apart absent is written x_i
 renamed : (before behind : Node) (n m : NodeAt) (next after : Option ℕ) → before ≡ stored_node n next → behind ≡ stored_node m after → record before { next = behind.next } ≡ stored_node n after
 renamed before behind n m next after first second = ap₂ (λ (b c : Node). record b { next = c.next }) first second
 
--- The node behind another is unlinked. The slot of the other node gets the next place that the
--- unlinked node had.
+-- The node right after the node at `pred` is unlinked. The slot at `pred` gets the next place that
+-- the unlinked node had.
 pub chain_unlinked : (at new : ℕ → Option SlotAt) (nodes : List NodeAt) (pred place : ℕ) (before behind : Node) → IsChain at nodes → IsSpread nodes → at pred ≡ Some (Linked before) → before.next ≡ Some place → at place ≡ Some (Linked behind) → new pred ≡ Some (Linked (record before { next = behind.next })) → ((other : ℕ) → other ≢ pred → new other ≡ at other) → IsChain new (unlinked_after nodes pred)
 unfolding IsChain IsSpread unlinked_after
 chain_unlinked at new [] pred place before behind chain apart is next_is is_behind written others = tt
@@ -128,7 +128,7 @@ chain_unlinked at new (n ∷ (m ∷ rest)) pred place before behind chain apart 
       )
 ]
 
--- A node is changed in its slot.
+-- If a node is changed in its slot, the chain becomes `changed_at`.
 pub chain_changed : (at new : ℕ → Option SlotAt) (nodes : List NodeAt) (place : ℕ) (change : NodeAt → NodeAt) (node written : Node) → IsChain at nodes → IsSpread nodes → ((n : NodeAt) → IsSameNode n (change n)) → ((n : NodeAt) (next : Option ℕ) → node ≡ stored_node n next → written ≡ stored_node (change n) next) → at place ≡ Some (Linked node) → new place ≡ Some (Linked written) → ((other : ℕ) → other ≢ place → new other ≡ at other) → IsChain new (changed_at nodes place change)
 unfolding IsChain IsSpread changed_at
 chain_changed at new [] place change node written chain apart same stores is is_written others = tt

@@ -37,7 +37,7 @@ count-unlinked test (n ∷ (k ∷ rest)) pred m is = elim (eqb_tells n.place pre
       rw apart.0 (omega (arith, later))
 ]
 
--- Unlinking the node behind another makes the list one node shorter.
+-- An unlink makes the list one node shorter.
 pub length-unlinked : (nodes : List NodeAt) (pred : ℕ) (m : NodeAt) → next_of nodes pred ≡ Some m → length (unlinked_after nodes pred) + 1 ≡ length nodes
 unfolding next_of unlinked_after
 length-unlinked [] pred m is = absurd (some-none (sym is))
@@ -89,7 +89,8 @@ gains Dummy false = omega arith
 gains Regular true = omega arith
 gains Regular false = omega arith
 
--- A node counts as live or as marked or as neither, never as both.
+-- No node counts both as live and as marked. So the two counts together are at most the number of
+-- nodes.
 pub counts_fit : (nodes : List NodeAt) → live_count nodes + marked_count nodes ≤ length nodes
 unfolding count_where
 counts_fit [] = omega arith

@@ -133,7 +133,7 @@ unlinks_follow old new pred fits spread plain behind now_sound now = record {
       (n, rw now.nodes (still_found_unlinked old.nodes pred place n behind.node spread behind.next differs is), same_node n);
 }
 
--- No stamp of a linked node or of a spare is above the last one, and no two places have the same
+-- No stamp of a linked node or of a spare is above the last stamp, and no two places have the same
 -- stamp.
 stamped : (slab : Slab SlotAt) (head changes last : ℕ) → IsLaidOut slab head (nodes_in slab head) → HasStamps slab last → IsStamped (listing_of slab head changes last)
 stamped slab head changes last laid stamps =

@@ -8,8 +8,8 @@ use Rattle.node_list.specs.Layout.{nodes_in, listing_of, IsLaidOut, HasStamps, I
 use Rattle.node_list.proofs.OrderLemmas.{some-injective, some-none}
 use Rattle.node_list.proofs.ChainLemmas.{nodes_in_is}
 
--- The fields keep their invariant if these nodes are laid out in the slab and the stamps and the
--- counts are right.
+-- If these nodes are laid out in the slab, and the stamps and the counts are right, the fields keep
+-- their invariant.
 pub kept : (slab : Slab SlotAt) (head last count marked : ℕ) (nodes : List NodeAt) → IsLaidOut slab head nodes → HasStamps slab last → last < 2 ^ 64 - 1 → count ≡ live_count nodes → marked ≡ marked_count nodes → IsKept slab head last count marked
 kept slab head last count marked nodes laid stamps below counted marks =
     let same = nodes_in_is slab head nodes laid in
@@ -21,8 +21,8 @@ kept slab head last count marked nodes laid stamps below counted marks =
       marks = rw same marks;
     }
 
--- If the slab only gets more room, its nodes, the invariant of the fields and the list stay the
--- same.
+-- If the slab only gets more room, three things stay the same: its nodes, the invariant of the
+-- fields, and the list.
 pub grown : (slab : Slab SlotAt) (room head : ℕ) → nodes_in (record slab { capacity = room }) head ≡ nodes_in slab head
 unfolding nodes_in
 grown slab room head = refl
@@ -41,7 +41,7 @@ kept_grown slab room head last count marked is =
 pub listing_grown : (slab : Slab SlotAt) (room head changes last : ℕ) → listing_of (record slab { capacity = room }) head changes last ≡ listing_of slab head changes last
 listing_grown slab room head changes last = rw (grown slab room head) refl
 
--- A result that has a value is `Ok` of that value.
+-- If `result_ok` gives a value, the result is `Ok` with this value.
 pub ok_some : {T E : Type 0} (r : Result T E) (x : T) → result_ok r ≡ Some x → r ≡ Ok x
 ok_some (Ok y) x is = ap Ok (some-injective is)
 ok_some (Err e) x is = absurd (some-none (sym is))

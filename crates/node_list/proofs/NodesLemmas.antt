@@ -1,4 +1,4 @@
--- The nodes that are linked, and those that are found, in a list of nodes.
+-- Which nodes are linked, and which are found, in a list of nodes.
 use Rattle.std.proofs.Common.{◌≡◌, ◌≢◌, ℕ, inl, inr, List, [], ◌∷◌, Option, Some, None, true, refl, sym, ◌∙◌, ap, is_some}
 use Rattle.std.proofs.lemmas.Bool.Decides.{eqb_tells}
 use Rattle.split_key.specs.declared.sort.SortKey.{SortKey}
@@ -61,7 +61,7 @@ next_linked (n ∷ rest) pred place is = elim (eqb_tells n.place pred) [
       (inr later.0, linked_more rest place later.1)
 ]
 
--- A node that is found is linked, and has the place that was asked for.
+-- If `node_of` finds a node at a place, the place is linked and is the node's own place.
 pub found_linked : (nodes : List NodeAt) (place : ℕ) (n : NodeAt) → node_of nodes place ≡ Some n → IsLinked nodes place
 unfolding node_of IsLinked
 found_linked [] place n is = absurd (some-none (sym is))
@@ -70,7 +70,7 @@ found_linked (m ∷ rest) place n is = elim (eqb_tells m.place place) [
   | inr apart ↦ inr (found_linked rest place n (rw apart.0 at is))
 ]
 
--- If the position of a sort key is vacant behind a place, that place is linked.
+-- If `IsVacant` holds of a place and a sort key, the place is linked.
 pub vacant_linked : (nodes : List NodeAt) (pred : ℕ) (sort : SortKey) → IsVacant nodes pred sort → IsLinked nodes pred
 vacant_linked nodes pred sort vacant = found_linked nodes pred vacant.node vacant.is
 
@@ -82,7 +82,7 @@ place-found (m ∷ rest) place n is = elim (eqb_tells m.place place) [
   | inr apart ↦ place-found rest place n (rw apart.0 at is)
 ]
 
--- A linked place has a node.
+-- If a place is linked, `node_of` finds a node there.
 pub linked_found : (nodes : List NodeAt) (place : ℕ) → IsLinked nodes place → (n : NodeAt) × (node_of nodes place ≡ Some n)
 unfolding node_of IsLinked
 linked_found [] place is = absurd is
@@ -93,7 +93,7 @@ linked_found (n ∷ rest) place is = elim (eqb_tells n.place place) [
       (later.0, rw apart.0 later.1)
 ]
 
--- No node is at a place that is not linked.
+-- If a place is not linked, `node_of` finds no node there.
 pub none_found : (nodes : List NodeAt) (place : ℕ) → (IsLinked nodes place → ⊥) → node_of nodes place ≡ None
 unfolding IsLinked node_of
 none_found [] place not_linked = refl
@@ -102,7 +102,7 @@ none_found (n ∷ rest) place not_linked = elim (eqb_tells n.place place) [
   | inr apart ↦ rw apart.0 (none_found rest place (λ later. not_linked (inr later)))
 ]
 
--- The first node is found.
+-- `node_of` finds the first node at its own place.
 pub first_found : (nodes : List NodeAt) (n : NodeAt) → first nodes ≡ Some n → node_of nodes n.place ≡ Some n
 unfolding node_of
 first_found [] n is = absurd (some-none (sym is))
@@ -111,7 +111,7 @@ first_found (m ∷ rest) n is = elim (eqb_tells m.place n.place) [
   | inr apart ↦ absurd (apart.1 (ap (λ (v : NodeAt). v.place) (some-injective is)))
 ]
 
--- The next node is found at its own place.
+-- `node_of` finds the next node at its own place.
 pub next_found : (nodes : List NodeAt) (pred : ℕ) (m : NodeAt) → IsSpread nodes → next_of nodes pred ≡ Some m → node_of nodes m.place ≡ Some m
 unfolding next_of node_of IsSpread IsLinked
 next_found [] pred m apart is = absurd (some-none (sym is))
@@ -133,7 +133,7 @@ next_found (n ∷ rest) pred m apart is = elim (eqb_tells n.place pred) [
     behind : first rest ≡ Some m → node_of rest m.place ≡ Some m → node_of (n ∷ rest) m.place ≡ Some m
     behind is_first there = deeper there
 
--- The next node is the one at the next place.
+-- If the next node's place is `place`, the next node is the node at `place`.
 pub next-found : (nodes : List NodeAt) (pred place : ℕ) (n : NodeAt) → IsSpread nodes → place_of (next_of nodes pred) ≡ Some place → node_of nodes place ≡ Some n → next_of nodes pred ≡ Some n
 next-found nodes pred place n apart next is = go (next_of nodes pred) refl next
   where
@@ -141,7 +141,7 @@ next-found nodes pred place n apart next is = go (next_of nodes pred) refl next
     go None same there = absurd (some-none (sym there))
     go (Some m) same there = same ∙ sym (next_found nodes pred m apart same) ∙ ap (node_of nodes) (some-injective there) ∙ is
 
--- A single node has no node behind it.
+-- In a list of one node, no node has a next node.
 pub next_of-single : (n : NodeAt) (place : ℕ) → next_of (n ∷ []) place ≡ None
 unfolding next_of
 next_of-single n place = elim (eqb_tells n.place place) [ inl here ↦ rw here.0 refl | inr apart ↦ rw apart.0 refl ]

@@ -24,7 +24,7 @@ before-transitive n m k first second = before_transitive n.at m.at k.at first se
 pub before-same : (n m k l : NodeAt) → n.at ≡ k.at → m.at ≡ l.at → IsNodeBefore n m → IsNodeBefore k l
 before-same n m k l n_at m_at before = rw (← n_at, ← m_at) before
 
--- If a statement implies another and holds of each node, the other holds of each node too.
+-- If `P` implies `Q` and holds of each node, `Q` holds of each node.
 pub each_map : (P Q : NodeAt → Type 0) (nodes : List NodeAt) → ((n : NodeAt) → P n → Q n) → AllByRecursion P nodes → AllByRecursion Q nodes
 each_map P Q [] more each = tt
 each_map P Q (n ∷ rest) more each = (more n each.0, each_map P Q rest more each.1)
@@ -33,7 +33,7 @@ pub each_both : (P Q : NodeAt → Type 0) (nodes : List NodeAt) → AllByRecursi
 each_both P Q [] one other = tt
 each_both P Q (n ∷ rest) one other = ((one.0, other.0), each_both P Q rest one.1 other.1)
 
--- A statement that holds of each node holds of the node at a place.
+-- If a statement holds of each node, it holds of the node at a place.
 pub each_found : (P : NodeAt → Type 0) (nodes : List NodeAt) (place : ℕ) (n : NodeAt) → AllByRecursion P nodes → node_of nodes place ≡ Some n → P n
 unfolding node_of
 each_found P [] place n each is = absurd (some-none (sym is))
@@ -42,7 +42,7 @@ each_found P (m ∷ rest) place n each is = elim (eqb_tells m.place place) [
   | inr apart ↦ each_found P rest place n each.1 (rw apart.0 at is)
 ]
 
--- A statement that holds of each node, and of the new or changed node, still holds of each node
+-- If a statement holds of each node, and also of the new or changed node, it holds of each node
 -- after a link, an unlink or a change.
 pub each_linked : (P : NodeAt → Type 0) (nodes : List NodeAt) (pred : ℕ) (x : NodeAt) → P x → AllByRecursion P nodes → AllByRecursion P (linked_after nodes pred x)
 unfolding linked_after
@@ -97,7 +97,7 @@ rising_linked (k ∷ (m ∷ rest)) pred n x rising is before next = elim (eqb_te
       )
 ]
 
--- A node that is linked at the vacant position of its sort key keeps the order.
+-- If a node is linked where `IsVacant` holds of its sort key, the nodes stay in order.
 pub rising_vacant : (nodes : List NodeAt) (pred : ℕ) (x : NodeAt) → IsRising nodes → IsVacant nodes pred x.at → IsRising (linked_after nodes pred x)
 rising_vacant nodes pred x rising vacant = rising_linked nodes pred vacant.node x rising vacant.is vacant.below vacant.above
 

@@ -11,17 +11,17 @@ use Rattle.node_list.proofs.OrderLemmas.{some-injective, some-none}
 use Rattle.node_list.proofs.ChainLemmas.{out-not-linked, chain_absent, absent_free}
 use Rattle.node_list.proofs.StampLemmas.{stamps_set, stamps_freed}
 
--- The stamp of the spare that is out at a place is the one in the slot there.
+-- If a spare is out at a place, the slot there has the spare's stamp.
 pub out_in : (slab : Slab SlotAt) (place : ℕ) → get_or (map out_stamp slab.slots) place None ≡ out_stamp (get slab place)
 out_in slab place = get_or-map out_stamp slab.slots place None
 
--- If `out_stamp` of a slot is a stamp, the slot is kept for a spare with this stamp.
+-- If `out_stamp` gives a stamp for a slot, the slot is kept for a spare with this stamp.
 pub slot_out : (slot : Option SlotAt) (stamp : ℕ) → out_stamp slot ≡ Some stamp → slot ≡ Some (Out stamp)
 slot_out None stamp is = absurd (some-none (sym is))
 slot_out (Some (Linked n)) stamp is = absurd (some-none (sym is))
 slot_out (Some (Out t)) stamp is = ap (λ n. Some (Out n)) (some-injective is)
 
--- A new list.
+-- Lemmas on a new list.
 module _ (old new : Slab SlotAt) (head stamp : ℕ) (empty : old.slots ≡ []) (updates : Updates old new head (Some (Linked (stored_node (first_dummy head stamp) None)))) where
   nothing_at : (place : ℕ) → get old place ≡ None
   nothing_at place = ap (λ (slots : List (Option SlotAt)). get_or slots place None) empty
@@ -50,7 +50,7 @@ module _ (old new : Slab SlotAt) (head stamp : ℕ) (empty : old.slots ≡ []) (
     | inr apart ↦ ap out_stamp (updates.others place apart ∙ nothing_at place)
   ]
 
--- A spare is given out.
+-- Lemmas on a spare that is given out.
 module _ (old new : Slab SlotAt) (head place stamp : ℕ) (nodes : List NodeAt) (free : get old place ≡ None) (updates : Updates old new place (Some (Out stamp))) where
   pub spare_laid_out : IsLaidOut old head nodes → IsLaidOut new head nodes
   spare_laid_out laid =
@@ -80,7 +80,7 @@ module _ (old new : Slab SlotAt) (head place stamp : ℕ) (nodes : List NodeAt) 
   pub spare_others : (other : ℕ) → other ≢ place → get_or (map out_stamp new.slots) other None ≡ get_or (map out_stamp old.slots) other None
   spare_others other apart = out_in new other ∙ ap out_stamp (updates.others other apart) ∙ sym (out_in old other)
 
--- A spare is given back.
+-- Lemmas on a spare that is given back.
 module _ (old new : Slab SlotAt) (head place stamp : ℕ) (nodes : List NodeAt)
     (is_out : get_or (map out_stamp old.slots) place None ≡ Some stamp)
     (freed : Updates old new place None) where

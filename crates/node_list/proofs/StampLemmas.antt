@@ -6,7 +6,7 @@ use Rattle.node_list.specs.Slots.{SlotAt}
 use Rattle.node_list.specs.Layout.{HasStamps, slot_stamp}
 use Rattle.node_list.proofs.OrderLemmas.{some-injective, some-none}
 
--- A slot is written with a stamp that no other slot has.
+-- If a slot is written with a stamp that no other slot has, `HasStamps` still holds.
 pub stamps_set : (old new : Slab SlotAt) (last more place : ℕ) (slot : SlotAt) → HasStamps old last → Updates old new place (Some slot) → last ≤ more → slot_stamp slot ≤ more → ((other : ℕ) (there : SlotAt) → other ≢ place → get old other ≡ Some there → slot_stamp there ≢ slot_stamp slot) → HasStamps new more
 stamps_set old new last more place slot stamps updates rise within fresh = record {
   bound = λ p s is. elim (cases_eq p place) [
@@ -34,14 +34,14 @@ stamps_set old new last more place slot stamps updates rise within fresh = recor
   ];
 }
 
--- A slot is written with its old stamp.
+-- If a slot is written with its old stamp, `HasStamps` still holds.
 pub stamps_kept : (old new : Slab SlotAt) (last place : ℕ) (was slot : SlotAt) → HasStamps old last → get old place ≡ Some was → slot_stamp slot ≡ slot_stamp was → Updates old new place (Some slot) → HasStamps new last
 stamps_kept old new last place was slot stamps is same updates =
     let low = stamps.bound place was is in
     stamps_set old new last last place slot stamps updates (omega arith) (omega arith)
     (λ other there apart is_there equal. apart (stamps.one_place other place there was is_there is (equal ∙ same)))
 
--- A slot is freed.
+-- If a slot is freed, `HasStamps` still holds.
 pub stamps_freed : (old new : Slab SlotAt) (last place : ℕ) → HasStamps old last → Updates old new place None → HasStamps new last
 stamps_freed old new last place stamps updates = record {
   bound = λ p s is. stamps.bound p s (sym (updates.others p (in_use_apart p s is)) ∙ is);

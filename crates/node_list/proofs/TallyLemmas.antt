@@ -15,7 +15,7 @@ unmarked_gain region n unmarked = rw unmarked refl
 marked_gain : (region : ℕ) (n : NodeAt) → n.marked ≡ true → gain (is_marked_in region) n ≡ one_in n.at.split region
 marked_gain region n marked = rw marked refl
 
--- A split key is in its region.
+-- For a split key and its own region, `one_in` is 1.
 one_here : (split : ℕ) → one_in split (region_of split) ≡ 1
 one_here split = elim (eqb_tells (region_of split) (region_of split)) [
   | inl here ↦ rw here.0 refl
@@ -62,13 +62,13 @@ module _ (t : TallyAt) (old : List NodeAt) (pred split : ℕ) (m : NodeAt) (is :
       let now = count-unlinked (is_marked_in region) old pred m next in
       rw new_is (omega (arith, removed region, is region, now, one_of region))
 
-  -- A marked node is counted in its region.
+  -- The count of a marked node's region is not 0.
   pub tallied_some : count_in t (region_of split) ≢ 0
   tallied_some none =
       let now = count-unlinked (is_marked_in (region_of split)) old pred m next in
       omega (arith, none, is (region_of split), now, one_of (region_of split), one_here split)
 
--- If no node is marked in a region below `low`, every marked node is in region `low` or above.
+-- If no region below `low` has a marked node, every marked node is in region `low` or above.
 none_below : (low : ℕ) (nodes : List NodeAt) → ((region : ℕ) → region < low → count_where (is_marked_in region) nodes ≡ 0) → AreMarksFrom (low * 2 ^ 52) nodes
 unfolding count_where
 none_below low [] none = tt
@@ -93,7 +93,7 @@ gain_near region n some = elim (eqb_tells (region_of n.at.split) region) [
     none true other = rw other refl
     none false other = refl
 
--- If a node behind `n` is marked in a region, the split key of `n` is below the region's end.
+-- If a node after `n` is marked and in a region, the split key of `n` is below the region's end.
 before_near : (region : ℕ) (n : NodeAt) (rest : List NodeAt) → AllByRecursion (IsNodeBefore n) rest → count_where (is_marked_in region) rest ≢ 0 → n.at.split < (region + 1) * 2 ^ 52
 unfolding count_where
 before_near region n [] behind some = absurd (some refl)
@@ -102,7 +102,7 @@ before_near region n (m ∷ rest) behind some = elim (cases_lt 0 (gain (is_marke
   | inr none ↦ before_near region n rest behind.1 (λ nothing. some (omega (arith, none, nothing)))
 ]
 
--- If a node is marked in a region, the first marked node has a split key below the region's end.
+-- If some node of a region is marked, the first marked node has a split key below the region's end.
 first_near : (region : ℕ) (nodes : List NodeAt) → IsRising nodes → count_where (is_marked_in region) nodes ≢ 0 → IsSomeAnd (first_marked nodes) (λ n. n.at.split < (region + 1) * 2 ^ 52)
 unfolding count_where first_marked IsRising
 first_near region [] rising some = absurd (some refl)
@@ -118,7 +118,7 @@ first_near region (n ∷ rest) rising some = go (first_near region rest rising.1
     go later true marked = here marked
     go later false unmarked = later (λ nothing. some (omega (arith, unmarked_gain region n unmarked, nothing)))
 
--- The marked nodes begin in the first region whose count is not 0.
+-- Each marked node is in the first region whose count is not 0, or in a later region.
 pub marks_from : (t : TallyAt) (nodes : List NodeAt) (split : ℕ) → IsTallied t nodes → IsFirstCounted t split → AreMarksFrom split nodes
 marks_from t nodes split is first = rw first.is (none_below first.region nodes (λ region less. sym (is region) ∙ first.none_before region less))
 
@@ -127,8 +127,7 @@ marks_near t nodes split is rising first =
     let end : split + 2 ^ 52 ≡ (first.region + 1) * 2 ^ 52 = omega (arith, first.is) in
     rw end (first_near first.region nodes rising (λ none. first.some (is first.region ∙ none)))
 
--- If a statement implies another and holds of an option's number, the other holds of the number
--- too.
+-- If `P` implies `Q` and holds of the number in an option, `Q` holds of this number.
 pub if_some : (P Q : ℕ → Type 0) (o : Option ℕ) → ((x : ℕ) → P x → Q x) → IfSome o P → IfSome o Q
 if_some P Q None each is = tt
 if_some P Q (Some x) each is = each x is

@@ -6,7 +6,7 @@ use Rattle.std.proofs.lemmas.List.{get_or-set_same, get_or-replicate, get_or_pas
 use Rattle.node_list.specs.Tally.{IsSummed, IsFirstOfRun, IsFirstCounted, one_in, region_of, run_sum}
 use Rattle.node_list.proofs.RunLemmas.{count_in_run, run_of_zeros, run_elsewhere, run_changed}
 
--- Each split key has a region.
+-- The region of each split key is below 64 * 64.
 pub region_within : (split : ℕ) → split < 2 ^ 64 → region_of split < 64 * 64
 region_within split fits = omega arith
 
@@ -40,22 +40,24 @@ one_less_in counts split less within fewer region = elim (eqb_tells (region_of s
 
 module _ (total : ℕ) (groups regions : List ℕ) (is : IsSummed total groups regions) where
   module _ (region : ℕ) (small : region < 64 * 64) where
-    -- The region and its group have counts.
+    -- The list of regions has a count for the region, and the list of groups has a count for the
+    -- region's group.
     pub region_there : region < length regions
     region_there = omega (arith, is.regions_in, small)
 
     pub group_there : region / 64 < length groups
     group_there = omega (arith, is.groups_in, small)
 
-    -- The count of a region is at most that of its group, and the count of a group is at most the
-    -- total.
+    -- The count of a region is at most the count of its group, and the count of a group is at most
+    -- the total.
     pub region_fits : get_or regions region 0 ≤ get_or groups (region / 64) 0
     region_fits = omega (arith, is.by_group (region / 64) (omega (arith, small)), count_in_run regions (region / 64 * 64) 64 region (omega arith) (omega arith))
 
     pub group_fits : get_or groups (region / 64) 0 ≤ total
     group_fits = omega (arith, is.in_all, count_in_run groups 0 64 (region / 64) (omega arith) (omega (arith, small)))
 
-    -- If a region, its group and the total change by the same amount, the sums are still right.
+    -- If the count of a region, the count of its group and the total change by the same amount, the
+    -- sums are still right.
     pub summed : (in_region in_group in_total less more : ℕ) → in_region + less ≡ get_or regions region 0 + more → in_group + less ≡ get_or groups (region / 64) 0 + more → in_total + less ≡ total + more → IsSummed in_total (set groups (region / 64) in_group) (set regions region in_region)
     summed in_region in_group in_total less more region_is group_is total_is = record {
       groups_in = length-set groups (region / 64) in_group ∙ is.groups_in;

@@ -12,7 +12,7 @@ use Rattle.node_list.specs.Seen.{node_seen}
 use Rattle.node_list.specs.Sound.{AllPlain}
 use Rattle.node_list.specs.Tally.{TallyAt, IsTallied}
 
--- A node as it is stored, with the place of the next one.
+-- A node as it is stored, with the place of the next node.
 abbrev pub stored_node : NodeAt → Option ℕ → Node
 stored_node n next = record {
   at = n.at;
@@ -42,7 +42,7 @@ abbrev pub first_place : List NodeAt → Option ℕ
 first_place [] = None
 first_place (n ∷ rest) = Some n.place
 
--- The slots have these nodes, each with the next one's place.
+-- The slots have these nodes. Each node is stored with the place of the next node.
 unfoldable pub IsChain : (ℕ → Option SlotAt) → List NodeAt → Type 0
 IsChain at [] = Unit {0}
 IsChain at (n ∷ rest) = (at n.place ≡ Some (Linked (stored_node n (first_place rest))))
@@ -53,7 +53,7 @@ abbrev pub slot_stamp : SlotAt → ℕ
 slot_stamp (Linked n) = n.stamp
 slot_stamp (Out stamp) = stamp
 
--- The stamp of the spare that a slot is kept for, if it is kept for one.
+-- The stamp of the spare that a slot is kept for, or None if the slot is kept for no spare.
 abbrev pub out_stamp : Option SlotAt → Option ℕ
 out_stamp None = None
 out_stamp (Some (Linked n)) = None
@@ -89,14 +89,14 @@ pub record IsLaidOut (slab : Slab SlotAt) (head : ℕ) (nodes : List NodeAt) : T
   pub plain : AllPlain nodes
   pub all : (place : ℕ) (node : Node) → get slab place ≡ Some (Linked node) → IsLinked nodes place
 
--- No stamp is above the last one, and no two places have the same stamp.
+-- No stamp is above the last stamp, and no two places have the same stamp.
 pub record HasStamps (slab : Slab SlotAt) (last : ℕ) : Type 0 where
   pub bound : (place : ℕ) (slot : SlotAt) → get slab place ≡ Some slot → slot_stamp slot ≤ last
   pub one_place : (p q : ℕ) (s t : SlotAt) → get slab p ≡ Some s → get slab q ≡ Some t
       → slot_stamp s ≡ slot_stamp t → p ≡ q
 
--- The slab and these numbers meet the invariant of the fields of a list. Of the counts of marked
--- nodes, only the total is among these numbers.
+-- The slab and these numbers meet the invariant of a list's fields. `marked` is the number of all
+-- marked nodes. The counts of the regions are not part of this.
 pub record IsKept (slab : Slab SlotAt) (head last count marked : ℕ) : Type 0 where
   pub laid_out : IsLaidOut slab head (nodes_in slab head)
   pub stamps : HasStamps slab last

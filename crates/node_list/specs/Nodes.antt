@@ -15,8 +15,8 @@ pub record NodeAt : Type 0 where
   pub stamp : ℕ
   pub marked : Bool
 
--- The linked nodes in order, the place of the first, the stamp of the spare that is out at each
--- place, the change number, and the last stamp that was given.
+-- The linked nodes in order, the place of the first node, the stamp of the spare that is out at
+-- each place, the change number, and the last stamp that was given.
 pub record Listing : Type 0 where
   pub nodes : List NodeAt
   pub head : ℕ
@@ -71,16 +71,16 @@ unfilled place stamp =
 abbrev pub out_at : Listing → ℕ → Option ℕ
 out_at l place = slice_index_or l.out place None
 
--- The spare is out: the list keeps its place for it, with its stamp.
+-- The spare is out: the list keeps the spare's place for it, with the spare's stamp.
 abbrev pub IsOut : Listing → SpareAt → Type 0
 IsOut l spare = out_at l spare.place ≡ Some spare.stamp
 
--- The first of some nodes.
+-- The first of these nodes, or None if there are no nodes.
 abbrev pub first : List NodeAt → Option NodeAt
 first [] = None
 first (n ∷ rest) = Some n
 
--- All but the first of some nodes.
+-- These nodes without the first.
 abbrev pub without_first : List NodeAt → List NodeAt
 without_first [] = []
 without_first (n ∷ rest) = rest
@@ -95,7 +95,7 @@ unfoldable pub node_of : List NodeAt → ℕ → Option NodeAt
 node_of [] place = None
 node_of (n ∷ rest) place = if n.place == place then Some n else node_of rest place
 
--- The node after the one at a place.
+-- The node right after the node at a place.
 unfoldable pub next_of : List NodeAt → ℕ → Option NodeAt
 next_of [] place = None
 next_of (n ∷ rest) place = if n.place == place then first rest else next_of rest place
@@ -112,7 +112,7 @@ pub record IsRegularAt (nodes : List NodeAt) (place : ℕ) : Type 0 where
   pub regular : node.kind ≡ Regular
   pub unmarked : node.marked ≡ false
 
--- The node behind the one at a place is marked.
+-- The node right after the node at the place is marked.
 pub record IsBeforeMarked (nodes : List NodeAt) (place : ℕ) : Type 0 where
   pub node : NodeAt
   pub next : next_of nodes place ≡ Some node
@@ -128,7 +128,7 @@ abbrev pub is_regular : Kind → Bool
 is_regular Dummy = false
 is_regular Regular = true
 
--- Whether a node counts: it is regular and unmarked.
+-- Whether a node is live: regular and unmarked.
 abbrev pub is_live : NodeAt → Bool
 is_live n = is_regular n.kind && not n.marked
 
@@ -144,13 +144,13 @@ live_count nodes = count_where is_live nodes
 abbrev pub marked_count : List NodeAt → ℕ
 marked_count nodes = count_where is_marked nodes
 
--- The list with one more node, behind the one at a place.
+-- The list with the node `x` added right after the node at a place.
 unfoldable pub linked_after : List NodeAt → ℕ → NodeAt → List NodeAt
 linked_after [] place x = []
 linked_after (n ∷ rest) place x =
     if n.place == place then n ∷ (x ∷ rest) else n ∷ linked_after rest place x
 
--- The list without the node behind the one at a place.
+-- The list without the node right after the node at a place.
 unfoldable pub unlinked_after : List NodeAt → ℕ → List NodeAt
 unlinked_after [] place = []
 unlinked_after (n ∷ rest) place =
@@ -170,7 +170,7 @@ marked_at nodes place = changed_at nodes place (λ n. record n { marked = true }
 abbrev pub written_at : List NodeAt → ℕ → ℕ → List NodeAt
 written_at nodes place value = changed_at nodes place (λ n. record n { value = value })
 
--- The change number plus one, or the same if it is the highest.
+-- The change number plus one, but at most 2^64 - 1.
 abbrev pub one_more : ℕ → ℕ
 one_more changes = min (changes + 1) (2 ^ 64 - 1)
 

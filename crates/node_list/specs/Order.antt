@@ -14,7 +14,8 @@ unfoldable pub IsRising : List NodeAt → Type 0
 IsRising [] = Unit {0}
 IsRising (n ∷ rest) = AllByRecursion (IsNodeBefore n) rest × IsRising rest
 
--- The position of the sort key is right behind the node at a place, and no node has this sort key.
+-- A node with this sort key belongs right after the node at the place `pred`, and no node has this
+-- sort key yet.
 pub record IsVacant (nodes : List NodeAt) (pred : ℕ) (at : SortKey) : Type 0 where
   pub node : NodeAt
   pub is : node_of nodes pred ≡ Some node

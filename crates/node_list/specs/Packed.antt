@@ -1,13 +1,13 @@
--- A place or none, packed into one number.
+-- The place of a node, or None, packed into one number.
 use Rattle.std.specs.Prelude.{◌≡◌, ℕ, ◌-◌, ◌^◌, Option, Some, None, ◌==◌, if◌then◌else◌}
 use Rattle.std.proofs.Common.{refl, sym, inl, inr, eq-eqb, ne_eqb}
 use Rattle.std.proofs.lemmas.Bool.{cases_eq}
 
--- The place that is packed in a number of 32 bits; the greatest such number stands for none.
+-- The place that a number of 32 bits stands for. The greatest such number stands for None.
 abbrev pub unpacked : ℕ → Option ℕ
 unpacked number = if number == 2 ^ 32 - 1 then None else Some number
 
--- The packed form of a place, or of none.
+-- The number that stands for a place, or for None.
 abbrev pub packed : Option ℕ → ℕ
 packed None = 2 ^ 32 - 1
 packed (Some place) = place

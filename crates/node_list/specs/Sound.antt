@@ -18,7 +18,7 @@ pub record IsFirst (l : Listing) : Type 0 where
   pub at : node.at ≡ dummy_at 0
   pub kind : node.kind ≡ Dummy
 
--- No stamp is above the last one, and no two places have the same stamp.
+-- No stamp is above the last stamp, and no two places have the same stamp.
 pub record IsStamped (l : Listing) : Type 0 where
   pub bound : (place : ℕ) (n : NodeAt) → node_of l.nodes place ≡ Some n → n.stamp ≤ l.last
   pub alone : (p q : ℕ) (n m : NodeAt) → node_of l.nodes p ≡ Some n → node_of l.nodes q ≡ Some m

@@ -4,7 +4,7 @@ use Rattle.std.specs.List.{AllByRecursion}
 use Prim.Native.Nat.{zero, suc}
 use Rattle.node_list.specs.Nodes.{NodeAt, count_where}
 
--- The count of all regions together, and that of each.
+-- The count of all regions together, and the count of each region.
 pub record TallyAt : Type 0 where
   pub total : ℕ
   pub counts : List ℕ
@@ -22,7 +22,8 @@ unfoldable pub run_sum : List ℕ → ℕ → ℕ → ℕ
 run_sum counts from zero = 0
 run_sum counts from (suc more) = run_sum counts from more + slice_index_or counts (from + more) 0
 
--- The count of each group is the sum of its 64 regions, and the total is the sum of the 64 groups.
+-- Each group's count is the sum of the counts of its 64 regions. The total is the sum of the counts
+-- of the 64 groups.
 pub record IsSummed (total : ℕ) (groups regions : List ℕ) : Type 0 where
   pub groups_in : length groups ≡ 64
   pub regions_in : length regions ≡ 64 * 64
@@ -30,14 +31,14 @@ pub record IsSummed (total : ℕ) (groups regions : List ℕ) : Type 0 where
       → slice_index_or groups group 0 ≡ run_sum regions (group * 64) 64
   pub in_all : total ≡ run_sum groups 0 64
 
--- The place has the first count other than 0 in the run of 64 that begins at `from`.
+-- The place has the first count other than 0 in the run of 64 counts that begins at `from`.
 pub record IsFirstOfRun (counts : List ℕ) (from place : ℕ) : Type 0 where
   pub not_before : from ≤ place
   pub within : place < from + 64
   pub some : slice_index_or counts place 0 ≢ 0
   pub none_before : (other : ℕ) → from ≤ other → other < place → slice_index_or counts other 0 ≡ 0
 
--- The split key is the lowest of the first region whose count is not 0.
+-- `split` is the lowest split key of the first region whose count is not 0.
 pub record IsFirstCounted (t : TallyAt) (split : ℕ) : Type 0 where
   pub region : ℕ
   pub is : split ≡ region * 2 ^ 52
@@ -60,7 +61,7 @@ IsTallied t nodes = (region : ℕ) → count_in t region ≡ count_where (is_mar
 abbrev pub AreMarksFrom : ℕ → List NodeAt → Type 0
 AreMarksFrom split nodes = AllByRecursion (λ n. n.marked ≡ true → split ≤ n.at.split) nodes
 
--- The first of these nodes that is marked, if one is.
+-- The first marked node among these nodes, or None if no node is marked.
 unfoldable pub first_marked : List NodeAt → Option NodeAt
 first_marked [] = None
 first_marked (n ∷ rest) = if n.marked then Some n else first_marked rest

@@ -1,7 +1,7 @@
 //! The list: a slab of nodes that are chained by their places, and the counts of these nodes.
-//! `slots.rt` changes single slots; a method here makes a whole change of the list, and keeps the
-//! invariant: the nodes are in strict order of their sort keys, and each counter has the number of
-//! the nodes that it counts.
+//! `slots.rt` changes single slots. A method of this module makes a whole change of the list and
+//! keeps the invariant: the nodes are in strict order of their sort keys, and each counter has the
+//! number of the nodes that it counts.
 ghost use Rattle.std.specs.Prelude.{◌≡◌, ℕ, ◌+◌, ◌-◌, ◌<◌, ◌^◌, ◌↔◌, Some, None, Err, [], ◌∷◌, IfOk, OnErr, IfSome, IfNone, IsSomeAnd, false};
 ghost use Rattle.std.specs.List.{AllByRecursion};
 ghost use Rattle.node_list.specs.Follow.{Follows};
@@ -23,7 +23,8 @@ use split_key::SortKey;
 use std::alloc::{AllocError, Global};
 use std::marker::Model;
 
-/// Linked nodes in the strict order of their sort keys, and the spares that are out.
+/// Linked nodes in the strict order of their sort keys, and the spares that are out. A spare is out
+/// until it is linked or given back.
 #[derive(Drop)]
 pub struct NodeList {
     slab: Slab<Slot>,
@@ -55,7 +56,7 @@ fn advance(changes: &mut u64)
 }
 
 impl NodeList {
-    /// A list that has only the dummy of bucket 0, with this stamp. Its change number is 0.
+    /// Makes a list that has only the dummy of bucket 0, with this stamp. Its change number is 0.
     ///
     /// # Errors
     ///
@@ -76,9 +77,9 @@ impl NodeList {
         NodeList::with_capacity(alloc, first_stamp, 0, false)
     }
 
-    /// A list as `new` makes it, except that it takes memory for this many nodes at once, and need
-    /// not grow until it has more nodes, spares included. If `is_written`, that memory is written,
-    /// so that no later node is the first to touch a page of it.
+    /// Makes a list as `new` does, but takes memory for this many nodes at once. The list need not
+    /// grow until it has more nodes than that, spares included. If `is_written`, the memory is
+    /// written, so that no later node is the first to touch a page of it.
     ///
     /// # Errors
     ///
@@ -86,8 +87,8 @@ impl NodeList {
     ///
     /// # Cost
     ///
-    /// That of `new`, and 40 bytes of memory for each node; if the memory is written, time in
-    /// proportion to it.
+    /// The cost of `new`, and 40 bytes of memory for each node. If the memory is written, also time
+    /// in proportion to the memory.
     pub fn with_capacity(
         alloc: Global,
         first_stamp: u64,
@@ -118,13 +119,13 @@ impl NodeList {
         }
     }
 
-    /// Reserves a place for a node, and returns the spare that keeps the place. The spare has the
-    /// stamp after the last one, and is filled as the dummy of bucket 0.
+    /// Reserves a place for a node, and returns the spare that keeps the place. The spare's stamp
+    /// is one more than the last stamp. The spare is filled as the dummy of bucket 0.
     ///
     /// # Errors
     ///
-    /// `Worn` exactly if the last stamp was 2^64 - 2; else `NoMemory` if memory is refused, or all
-    /// 2^32 - 1 places are in use. Either error leaves the list unchanged.
+    /// `Worn` exactly if the last stamp was 2^64 - 2. Otherwise `NoMemory` if memory is refused, or
+    /// if all 2^32 - 1 places are in use. After either error the list is unchanged.
     ///
     /// # Cost
     ///
@@ -159,7 +160,8 @@ impl NodeList {
         }
     }
 
-    /// Takes back a spare that was not linked, and frees its place. Its stamp is never given again.
+    /// Takes back a spare that was not linked, and frees its place. The spare's stamp is never
+    /// given again.
     pub fn give_back(&mut self, spare: Spare)
         requires { IsOut self.old spare }
         ensures back { ReturnsSpare self.old self.new spare.place }
@@ -168,8 +170,8 @@ impl NodeList {
         let _ = self.slab.try_remove(spare.node().place());
     }
 
-    /// Links the node of a spare behind a linked node, at the position of its sort key. The spare
-    /// is no longer out.
+    /// Links the node of a spare right after the linked node `pred`, where the spare's sort key
+    /// belongs. The spare is then no longer out.
     pub fn link_after(&mut self, pred: NodeRef, spare: Spare)
         requires vacant { IsVacant self.old.nodes pred spare.at }
         requires out { IsOut self.old spare }
@@ -189,8 +191,8 @@ impl NodeList {
         advance(&mut self.changes);
     }
 
-    /// Unlinks the marked node behind a linked node, and frees its place.
-    // A separate function, so that a seek is small enough to be compiled into its callers.
+    /// Unlinks the marked node right after the linked node `pred`, and frees its place.
+    // This is a separate function, so that a seek is small enough to be inlined into its callers.
     #[inline(never)]
     pub fn unlink_after(&mut self, pred: NodeRef)
         requires { IsBeforeMarked self.old.nodes pred }
@@ -206,7 +208,7 @@ impl NodeList {
         }
     }
 
-    /// Marks an unmarked regular node. It stays linked, but no longer counts.
+    /// Marks an unmarked regular node. The node stays linked, but `count` no longer counts it.
     pub fn set_mark(&mut self, node: NodeRef)
         requires { IsRegularAt self.old.nodes node }
         ensures marked { Becomes self.old self.new (marked_at self.old.nodes node) }
@@ -241,7 +243,7 @@ impl NodeList {
         node_at(&self.slab, node.place())
     }
 
-    /// The node that is linked at a place now, if one is.
+    /// The node that is linked at a place now, or None if no node is linked there.
     pub fn linked_node(&self, node: NodeRef) -> Option<&Node>
         ensures absent { IfNone result (node_of self.now.nodes node ≡ None) }
         ensures node { IfSome result (λ n. node_of self.now.nodes node
@@ -287,12 +289,12 @@ impl NodeList {
     }
 
     /// A split key at or shortly before the first marked node: no marked node has a lower split
-    /// key, and the split key of the first marked node is less than 2^52 higher. Answers `None`
+    /// key, and the split key of the first marked node is less than 2^52 higher. Returns `None`
     /// exactly if no node is marked.
     ///
     /// # Cost
     ///
-    /// Constant time: the total and at most 64 + 64 counts are looked at.
+    /// Constant time: it reads the total and at most 64 + 64 counts.
     pub fn marks_begin(&self) -> Option<u64>
         ensures none { (result ≡ None) ↔ AllByRecursion (λ n. n.marked ≡ false) self.now.nodes }
         ensures from { IfSome result (λ split. AreMarksFrom split self.now.nodes) }

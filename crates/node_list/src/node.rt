@@ -1,6 +1,7 @@
-//! Nodes, and the references that name them; every other module here but `tally` is built on these.
-//! A reference is a place in the slab. It is plain data, and keeps no node from being unlinked. A
-//! node's stamp tells it from any other node that is ever at its place.
+//! Nodes, and the references that name them. Every other module of this crate except `tally` is
+//! built on them. A reference is a place in the slab. It is plain data, so a node may be unlinked
+//! while references to it exist. A node's stamp differs from that of any other node that is ever at
+//! its place.
 ghost use Rattle.std.specs.Prelude.{◌≡◌, ◌-◌, ◌^◌, ◌<◌, if◌then◌else◌, None, true, false};
 ghost use Rattle.node_list.specs.Nodes.{is_regular};
 ghost use Rattle.node_list.specs.declared.node.Kind.TheVariants.{Dummy};
@@ -32,7 +33,7 @@ impl Kind {
 }
 
 /// The place of a node. It names the node until the node is unlinked. Later another node may be at
-/// the place; the stamp tells whether it is still the same node. A place is below 2^32 - 1, so it
+/// the place. The stamp says whether it is still the same node. A place is below 2^32 - 1, so it
 /// takes half a word of each node. No node has the place 2^32 - 1: `PackedRef` uses this number to
 /// say that there is no node.
 #[derive(Clone, Copy, Debug, PartialEq, Eq)]
@@ -74,9 +75,9 @@ impl NodeRef {
     }
 }
 
-/// A node. Either it is linked, or its place is kept for a spare (`is_linked`). It takes four
-/// words: the first two have the sort key, the kind, the mark, the flag `is_linked` and the place
-/// of the next node.
+/// A node. If `is_linked`, the node is linked; otherwise its place is kept for a spare. A node
+/// takes four words. The first two have the sort key, the kind, the mark, the flag `is_linked` and
+/// the place of the next node.
 #[derive(Clone, Copy, Debug)]
 pub struct Node {
     /// The node's position in the order of the list. The key of a regular node is part of it.
@@ -98,7 +99,7 @@ pub struct Node {
 const _: () = prove!(size_of::<Node>() == 32);
 
 impl Node {
-    /// A dummy with nothing behind it.
+    /// A linked dummy without a next node.
     pub(crate) fn dummy(at: SortKey, stamp: u64) -> Self
         ensures { result ≡ record {
           at = at;

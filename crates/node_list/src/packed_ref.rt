@@ -1,15 +1,15 @@
-//! The place of a node, or none, in half the memory of an option: each node has such a reference,
-//! and a list of buckets keeps thousands. A contract sees a `PackedRef` as an option, so the same
-//! definitions serve for both types. Every number of 32 bits is a place or stands for none, so the
-//! type `PackedRef` needs no invariant.
+//! The place of a node, or None, in half the memory of an `Option`. Each node has such a reference,
+//! and a list of buckets keeps thousands. A contract sees a `PackedRef` as an option, so it can use
+//! the same definitions for both types. Every number of 32 bits is a place or stands for None, so
+//! the type `PackedRef` needs no invariant.
 ghost use Rattle.std.specs.Prelude.{◌≡◌, Some, None};
 
 use crate::node::NodeRef;
 use std::marker::Model;
 use std::mem::size_of;
 
-/// The place of a node, or none, in 4 bytes, for users that keep many; an `Option<NodeRef>` takes
-/// 8. The greatest number of 32 bits is the place of no node, so it stands for none.
+/// The place of a node, or None, in 4 bytes, for users that keep many places. An `Option<NodeRef>`
+/// takes 8 bytes. The greatest number of 32 bits is the place of no node, so it stands for None.
 ///
 /// A contract sees it as the option.
 #[derive(Clone, Copy, Debug)]
@@ -33,14 +33,14 @@ impl Model for PackedRef {
 }
 
 impl PackedRef {
-    /// No node.
+    /// The reference to no node.
     pub fn none() -> PackedRef
         ensures { result ≡ None }
     {
         PackedRef { place: u32::MAX }
     }
 
-    /// This node.
+    /// The reference to this node.
     pub fn of(node: NodeRef) -> PackedRef
         ensures { result ≡ Some node }
     {

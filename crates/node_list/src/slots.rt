@@ -1,6 +1,6 @@
-//! The slots of the slab: a linked node, or a place that is kept for a spare. A slot is as large as
-//! a node, 32 bytes, since the node itself says whether it is linked. Only this module reads that
-//! flag: for the list, and for each contract, a slot is one of two cases.
+//! The slots of the slab. A slot has a linked node, or its place is kept for a spare. A slot is as
+//! large as a node, 32 bytes, since the node's flag `is_linked` says which it is. Only this module
+//! reads this flag. For the list and for each contract, a slot is one of these two cases.
 ghost use Rattle.std.specs.Prelude.{◌≡◌, [], Some, IfOk, true, option_copied};
 ghost use Rattle.slab.specs.Slab.{get, with_value, ContainsKey};
 ghost use Rattle.node_list.specs.declared.node.Node.{Node};
@@ -14,8 +14,8 @@ use std::alloc::{AllocError, Global};
 use std::marker::Model;
 use std::mem::size_of;
 
-/// A linked node, or the stamp of a spare whose place is kept. The node's flag `is_linked`, a byte
-/// beside its mark, tells the two apart; an enum would take one more word for each slot.
+/// A linked node, or the stamp of a spare for which the place is kept. The node's flag `is_linked`,
+/// a byte beside its mark, says which it is. An enum would take one more word for each slot.
 #[derive(Drop)]
 pub struct Slot {
     node: Node,

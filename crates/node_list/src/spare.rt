@@ -109,7 +109,7 @@ impl Spare {
         }
     }
 
-    /// The node that the spare becomes, with `next` behind it.
+    /// The node that the spare becomes, with `next` as the place of the node after it.
     pub(crate) fn into_node(self, next: PackedRef) -> Node
         ensures { result ≡ stored_node (filled self) next }
     {

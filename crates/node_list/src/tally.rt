@@ -1,8 +1,9 @@
 //! The number of marked nodes in each part of the order.
 //!
-//! The split keys are divided into 4,096 regions of 2^52 each, and these into 64 groups of 64. Each
-//! region and each group has a count, and there is a total. So the first region with a marked node
-//! is found by looking at no more than 64 groups and 64 regions.
+//! The split keys are divided into 4,096 regions of 2^52 split keys each, and the regions into 64
+//! groups of 64. Each region and each group has a count, and there is a total. So to find the first
+//! region with a marked node, it is enough to read at most 64 counts of groups and 64 counts of
+//! regions.
 ghost use Rattle.std.specs.Prelude.{◌≡◌, ◌≢◌, ℕ, ◌+◌, ◌-◌, ◌*◌, ◌^◌, ◌<◌, ◌≤◌, ◌↔◌, IfOk, IfSome, None, length, replicate};
 ghost use Rattle.node_list.specs.Tally.{IsFirstCounted, IsFirstOfRun, count_in, one_in, region_of, run_sum};
 
@@ -12,10 +13,10 @@ use std::marker::Model;
 /// A region has 2^52 split keys.
 const REGION_BITS: u32 = 52;
 
-/// The number of groups, and of regions in each.
+/// The number of groups, and the number of regions in each group.
 const WIDTH: usize = 64;
 
-/// The counts of marked nodes: of all, of each group and of each region.
+/// The counts of marked nodes: in total, in each group and in each region.
 #[derive(Drop)]
 pub struct Tally {
     total: u64,
@@ -33,7 +34,7 @@ impl Model for Tally {
     ghost invariant = { λ t. IsSummed t.total t.groups.items t.regions.items };
 }
 
-/// A new vector of this number of zeros.
+/// A new vector of `count` zeros.
 fn zeros(alloc: Global, count: usize) -> Result<Vec<u64>, AllocError>
     ensures { IfOk result (λ counts. counts.items ≡ replicate count 0) }
 {
@@ -112,8 +113,8 @@ impl Tally {
         self.total
     }
 
-    /// The lowest split key of the first region whose count is not 0. At most 64 groups and 64
-    /// regions are looked at.
+    /// The lowest split key of the first region whose count is not 0, or None if there is no such
+    /// region. At most 64 counts of groups and 64 counts of regions are read.
     pub fn first(&self) -> Option<u64>
         ensures none { (result ≡ None) ↔ (self.now.total ≡ 0) }
         ensures first { IfSome result (λ split. IsFirstCounted self.now split) }

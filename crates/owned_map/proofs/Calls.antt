@@ -1,4 +1,4 @@
--- The facts that a transaction's calls keep, by their contracts.
+-- What holds of a transaction across its calls, by the contracts of the calls.
 use Rattle.std.proofs.Common.{◌≡◌, ℕ, Bool, ◌++◌, ◌∷◌, [], refl, sym, ap, subst, ◌∙◌, Option}
 use Rattle.std.specs.Prelude.{Result, Ok, Err, OnErr}
 use mathlib.Core.Logic.{inl, inr}
@@ -13,18 +13,19 @@ use Rattle.owned_map.specs.Keeps.{Keeps}
 use Rattle.owned_map.proofs.Only as only
 use Rattle.owned_map.specs.declared.transaction.Transaction.{Transaction}
 
--- If a transaction goes on in two parts, one after the other, it goes on in both together.
+-- If `GoesOn` holds from `old` to `between`, and from `between` to `new`, it holds from `old` to
+-- `new`.
 pub on : (c : ℕ) (old between new : State) → GoesOn c old between → GoesOn c between new → GoesOn c old new
 on c old between new first second = record {
   back = λ base can. second.back base (first.back base can);
   beside = only.after c old between new first.beside second.beside;
 }
 
--- A transaction in which nothing is done goes on.
+-- If nothing is done, `GoesOn` holds.
 pub stays : (c : ℕ) (old : State) → GoesOn c old old
 stays c old = record { back = λ base can. can; beside = only.same c old old refl }
 
--- If only the table grows, a transaction goes on.
+-- If only the table grows, `GoesOn` holds.
 pub grew : (c : ℕ) (old new : State) → IsGrown old new → GoesOn c old new
 grew c old new is = record {
   back = λ base can. moved base can;
@@ -41,8 +42,8 @@ grew c old new is = record {
     moved base (inl stands) = inl (standing base _ stands)
     moved base (inr stands) = inr (standing base _ stands)
 
--- A call that changes nothing meets `Keeps`. Two calls, one after the other, meet it together if
--- each of them does.
+-- `Keeps` holds of a call that changes nothing. If `Keeps` holds of each of two calls, it holds of
+-- the two calls together, one after the other.
 pub keeps_stay : (t : Transaction) → Keeps t t
 keeps_stay t = record { same_map = refl; same_caller = refl; goes_on = stays t.caller t.map.now.core }
 
@@ -54,23 +55,23 @@ keeps_on old between new first second = record {
       (subst (λ c. GoesOn c between.map.now.core new.map.now.core) first.same_caller second.goes_on);
 }
 
--- A call meets `Keeps` if it leaves the map's reference and the caller unchanged, and the caller
--- goes on.
+-- If a call leaves the map's reference and the caller unchanged, and `GoesOn` holds of the caller,
+-- then `Keeps` holds of the call.
 pub keeps_by : (old new : Transaction) → new.map.ghost_name ≡ old.map.ghost_name → new.caller ≡ old.caller → GoesOn old.caller old.map.now.core new.map.now.core → Keeps old new
 keeps_by old new same_map same_caller goes_on = record { same_map = same_map; same_caller = same_caller; goes_on = goes_on }
 
--- If a transaction goes on and is then taken back, all of it is taken back.
+-- If a transaction continues and is then taken back, all of it is taken back.
 pub back_on : (c : ℕ) (old between new : State) → GoesOn c old between → IsTakenBack c between new → IsTakenBack c old new
 back_on c old between new goes_on back = record {
   back = λ base can. back.back base (goes_on.back base can);
   beside = only.after c old between new goes_on.beside back.beside;
 }
 
--- The effect of an operation still holds after the table has grown.
+-- If `HasDone` holds of an operation, it still holds after the table has grown.
 pub grew_done : (op : Op) (x : Option ℕ) (old between new : State) → HasDone op x old between → IsGrown between new → HasDone op x old new
 grew_done op x old between new done is = record { replied = done.replied; changed = ap now is.history ∙ done.changed }
 
--- A transaction that began, went on and was committed is a run (`IsRun`).
+-- If a transaction began, continued and was committed, `IsRun` holds.
 pub run : (c place : ℕ) (old begun done new : State) → now begun.history ≡ now old.history → OnlyWorked c old begun → GoesOn c begun done → IsCommitted c place done new → IsRun c old begun done new
 run c place old begun done new same beside goes_on committed = record {
   began = same;
@@ -79,7 +80,7 @@ run c place old begun done new same beside goes_on committed = record {
   commits = committed.commits ∙ ap (λ es. es ++ Committed c place ∷ []) (goes_on.beside.commits ∙ beside.commits);
 }
 
--- If a transaction began, went on and was taken back, the map is unchanged (`IsSameMap`).
+-- If a transaction began, continued and was taken back, the map is unchanged (`IsSameMap`).
 pub undone : (c : ℕ) (old begun done new : State) → CanAbort c (now old.history) begun → OnlyWorked c old begun → GoesOn c begun done → IsTakenBack c done new → IsSameMap c old new
 undone c old begun done new can beside goes_on back = record {
   same = (back.back (now old.history) (goes_on.back (now old.history) can)).0;

@@ -1,4 +1,5 @@
--- The answers to the steps of a new history's first transaction. Only caller 0 takes these steps.
+-- The answers that the steps of a new history's first transaction get. Only caller 0 takes these
+-- steps.
 use Rattle.std.proofs.Common.{◌≡◌, ◌≢◌, ℕ, ◌<◌, ◌==◌, zero, suc, Bool, true, false, cond, List, [], ◌∷◌, ◌++◌, length, take, drop, slice_index_or, Option, Some, None, refl, sym, ap, subst, ◌∙◌, arith}
 use Rattle.std.specs.Prelude.{nat_le, not, ◌&&◌, ◌||◌, unwrap_or}
 use Rattle.std.specs.Option.{option_eq}
@@ -44,7 +45,7 @@ use Rattle.owned_map.proofs.Histories.{seat_there}
 use Rattle.owned_map.proofs.Only as only
 use Rattle.owned_map.proofs.Steps.{begins, does, based, phase_in}
 
--- Caller 0 exists.
+-- If the limits are valid, there is a caller 0.
 some_caller : (callers stripes buckets : ℕ) → are_limits callers stripes buckets ≡ true → 0 < callers
 some_caller callers stripes buckets are = grind arith
 
@@ -104,7 +105,8 @@ begin_free s blank within =
 pub begin_lacks : (old new : State) (refusal : Refusal) → old.history ≡ [] → 0 < old.limits.callers → Move old (Begin 0) (answers.Refused refusal) new → IsLack refusal
 begin_lacks old new refusal blank there move = lacks_begin old refusal (lacked old (Begin 0) refusal (begin_free old blank (within_of old there)) move.allowed)
 
--- An open caller whose number is in range passes the tests of readiness.
+-- If caller 0 exists and its transaction is open, the first four tests of a step pass, and the
+-- result is `rest`.
 ready_for : (s : State) (rest : Option Refusal) → nat_le s.limits.callers 0 ≡ false → (seat_in s.history 0).phase ≡ Opened
     → cond (nat_le s.limits.callers 0) (Some refusals.NoSuchCaller)
     (cond (is_closed (seat_in s.history 0).phase) (Some refusals.NotOpen)
@@ -117,7 +119,7 @@ ready_for s rest within opened =
     (cond (is_waiting q) (Some refusals.OperationUnfinished) rest)))) opened
     ∙ ap (λ b. cond b (Some refusals.NoSuchCaller) rest) within
 
--- If the limits take the key of a put, the put is refused only if memory or stamps are missing.
+-- If the limits accept the key of a put, the put is refused only for lack of memory or stamps.
 pub put_lacks : (old new : State) (k v : ℕ) (refusal : Refusal) → IsFilling old → is_bad_key old.limits.half k ≡ false
     → Operates old 0 (Put k v) (answers.Refused refusal) new → IsLack refusal
 put_lacks old new k v refusal filling taken event = lacks_ask old (Put k v) refusal (lacked old (Ask 0 (Put k v)) refusal free event.move.allowed)
@@ -179,7 +181,7 @@ only_commits old new (answers.Refused refusal) filling not_committed move = neve
     never (inr is) = is.1
 only_commits old new _ filling not_committed move = absurd move.allowed.1
 
--- The limits take the key of each pair that was listed.
+-- By `taken_at` below, the limits accept the key of each listed pair.
 rest_none : (b : Bool) (v : ℕ) (rest : Option ℕ) → cond b (Some v) rest ≡ None → rest ≡ None
 rest_none true v rest none = absurd (cc none)
 rest_none false v rest none = none

@@ -47,7 +47,8 @@ seat_there c h shaped = the_seat (seat_after (own c h)) (seated_on c [] h refl s
     the_seat None there = absurd (false≢true there)
     the_seat (Some seat) there = (seat, refl)
 
--- If the change that an operation notes is taken back, the map is the one before the operation.
+-- If the change that an operation adds to the log is taken back, the map is the one before the
+-- operation.
 noted : (op : Op) (x : Option ℕ) (jobs : List (ℕ × Option ℕ)) (m : Map) → x ≡ reply_of m op
     → taken_back (cond (changes op x) ((key_of op, x) ∷ jobs) jobs) (after m op) ≡ taken_back jobs m
 noted op x jobs m right = subst (λ y. taken_back (cond (changes op y) ((key_of op, y) ∷ jobs) jobs) (after m op) ≡ taken_back jobs m) (sym right) (at (changes op (reply_of m op)) refl)
@@ -58,7 +59,7 @@ noted op x jobs m right = subst (λ y. taken_back (cond (changes op y) ((key_of 
         ∙ ap (taken_back jobs) (after_unchanged m op (sym (changes-reply m op) ∙ is))
 
 module _ {rule : Holder} (limits : Sizes) (c : ℕ) (base : Map) (h : List Entry) where
-  -- `IsBasedOn` holds after one more entry of the caller, by the law of this entry.
+  -- After one more entry of the caller, `IsBasedOn` still holds, by the law of this kind of entry.
   pub stands_after : (e : Entry) → caller_of e ≡ c → nat_le limits.callers c ≡ false → (seat : Seat) (log : List (ℕ × Option ℕ)) (committed current : Map) (holder : ℕ → Option ℕ)
       → Next rule limits.stripes h e seat log committed current holder → taken_back log current ≡ base → IsBasedOn rule limits c base seat.phase (h ++ e ∷ [])
   stands_after e mine within seat log committed current holder next back = record {
@@ -82,8 +83,8 @@ module _ {rule : Holder} (limits : Sizes) (c : ℕ) (base : Map) (h : List Entry
       let next = laws.busy limits.stripes h stands.legal c op x stands.seat stands.seat_is stands.phase_is locked in
       (stands_after (entry.Busy c op x) refl stands.within _ _ _ _ _ next stands.back, next.now_is)
 
-  -- After a Did with the right reply, the map is the one that the operation makes of it. The
-  -- transaction is open and can still be taken back to `base`.
+  -- After a Did with the right reply, the map is the one that the operation makes of the map
+  -- before. The transaction is open and can still be taken back to `base`.
   pub did_now : (op : Op) (x : Option ℕ) → IsBasedOn rule limits c base (Waiting op) h → x ≡ reply_of (now h) op
       → IsBasedOn rule limits c base Opened (h ++ entry.Did c x ∷ []) × (now (h ++ entry.Did c x ∷ []) ≡ after (now h) op)
   did_now op x stands right =

@@ -81,7 +81,8 @@ no_other_save old new c (answers.Refused refusal) not_saved not_refused move = n
 no_other_save old new c (answers.Saved n) not_saved not_refused move = not_saved n refl
 no_other_save old new c _ not_saved not_refused move = absurd move.allowed.1
 
--- One change is taken back on the way to a level.
+-- If one change is taken back during a return to a level, the caller is still returning to this
+-- level.
 one_back : (old between new : State) (c : ℕ) (base : Map) (n : ℕ) → IsAt c base (LeavingTo n) old → Move old (Seek c) answers.Placed between → Move between (Act c) answers.Undone new → IsAt c base (LeavingTo n) new
 one_back old between new c base n stands seek act =
     let sought = to_state c base (LeavingTo n) _ between seek.state (unmoved c base (LeavingTo n) old stands) in
@@ -96,8 +97,8 @@ backwards old new c base n (suc changes) steps others stands moves =
     let (between, there, (s1, seek, (s2, act, rest))) = backwards old new c base n changes (Seek c ∷ Act c ∷ steps) (answers.Placed ∷ answers.Undone ∷ others) stands moves in
     (s2, one_back between s1 s2 c base n there seek.move act.move, rest)
 
--- If a Returned has the right shape, it names the level that the caller goes back to, and as many
--- changes stand as when the level was set.
+-- If a Returned has the right shape, it names the level that the caller goes back to. All changes
+-- since this level was set are then taken back.
 pub reached_at : (c n m : ℕ) (h : List Entry) (seat : Seat) → seat_after (own c h) ≡ Some seat → seat.phase ≡ LeavingTo n → IsShaped (h ++ entry.Returned c m ∷ []) → (n ≡ m) × (slice_index seat.kept n ≡ seat.standing)
 reached_at c n m h seat seat_is leaving shaped =
     let e : Entry = entry.Returned c m in
@@ -112,7 +113,8 @@ reached_at c n m h seat seat_is leaving shaped =
     tested true s there = refl
     tested false s there = absurd (false≢true there)
 
--- If `unready` is `None`, so is `rest`: the step also passes the tests after those of readiness.
+-- If `unready` is `None`, `rest` is `None` too: the step also passes the tests that follow those of
+-- readiness.
 pub past : (s : State) (c : ℕ) (rest : Option Refusal) → unready s c rest ≡ None → rest ≡ None
 past s c rest free =
     let q : Phase = (seat_in s.history c).phase in

@@ -24,7 +24,7 @@ use Rattle.boost_core.specs.Machine.{Move, Moves}
 use Rattle.boost_core.specs.Plain.{Operates, Returns, Aborts, Ends, Leaves, undoing, undone}
 use Rattle.owned_map.specs.Within.{OnlyDid, OnlyWorked, commit_entries, is_grown, IsGrown}
 
--- Whether a step is not a commit.
+-- True if the step is not a commit.
 abbrev pub is_quiet : Step → Bool
 is_quiet (Commit c) = false
 is_quiet step = true
@@ -73,7 +73,7 @@ commits_after h step answer quiet =
 pub same : (c : ℕ) (old new : State) → new.history ≡ old.history → OnlyWorked c old new
 same c old new is = record { only = λ d apart. ap (own d) is; commits = ap commit_entries is }
 
--- `OnlyWorked` holds of two changes in a row if it holds of each.
+-- If `OnlyWorked` holds of each of two changes, it holds of both in a row.
 pub after : (c : ℕ) (old between new : State) → OnlyWorked c old between → OnlyWorked c between new → OnlyWorked c old new
 after c old between new first second = record {
   only = λ d apart. second.only d apart ∙ first.only d apart;
@@ -115,7 +115,7 @@ undoing_by : (c changes : ℕ) (steps : List Step) → AllByRecursion (IsBy c) s
 undoing_by c zero steps by = by
 undoing_by c (suc changes) steps by = undoing_by c changes (Seek c ∷ Act c ∷ steps) (seek_by c, (act_by c, by))
 
--- The plain calls add only entries of their caller, and commit nothing.
+-- A plain call adds only entries of its caller, and commits nothing.
 pub operated : (c : ℕ) (old new : State) (op : Op) (answer : Answer) → Operates old c op answer new → OnlyWorked c old new
 operated c old new op (answers.Done reply) moves = all_moved c old new (Ask c op ∷ Seek c ∷ Act c ∷ []) (answers.Asked ∷ answers.Placed ∷ answers.Done reply ∷ []) (ask_by c op, (seek_by c, (act_by c, tt))) moves
 operated c old new op answers.Asked none = absurd none

@@ -1,5 +1,5 @@
--- The maps at the levels of a transaction. Operations and saves keep them, and a return to a level
--- restores the map of this level.
+-- The maps at the levels of a transaction. Operations and saves leave these maps unchanged, and a
+-- return to a level restores the map of this level.
 use Rattle.std.proofs.Common.{◌≡◌, ℕ, ◌+◌, ◌-◌, ◌<◌, ◌≤◌, zero, suc, Bool, true, false, cond, List, [], ◌∷◌, ◌++◌, length, take, get_or, slice_index, Option, Some, None, refl, sym, ap, subst, ◌∙◌, arith}
 use Rattle.std.specs.Prelude.{nat_le, nat_lt, ◌||◌, unwrap_or}
 use Rattle.std.proofs.lemmas.Bool.{and_parts, ltb-true, leb-false}
@@ -45,8 +45,8 @@ level_map n seat log m = taken_back (take (seat.standing - slice_index seat.kept
 abbrev SameLevels : ℕ → ℕ → List Entry → List Entry → Type 0
 SameLevels levels c g h = (n : ℕ) → n < levels → map_at c n h ≡ map_at c n g
 
--- The maps at a caller's levels and the number of its levels, computed from the seat that `IsBasedOn`
--- names.
+-- The maps at a caller's levels and the number of these levels, computed from the seat in
+-- `IsBasedOn`.
 module _ {rule : Holder} {limits : Sizes} {c : ℕ} {base : Map} {q : Phase} (h : List Entry)
     (stands : IsBasedOn rule limits c base q h) where
   the_seat : seat_in h c ≡ stands.seat
@@ -78,8 +78,8 @@ module _ {rule : Holder} {stripes c : ℕ} (h : List Entry) (e : Entry) (mine : 
   levels_next : level_count c (h ++ e ∷ []) ≡ length seat.kept
   levels_next = ap (λ (s : Seat). length s.kept) seat_next
 
--- The map at a level stays the same when a change is noted. It also stays the same when the newest
--- change is taken back, if this change is newer than the level.
+-- The map at a level stays the same when a change is added to the log. It also stays the same when
+-- the newest change is taken back, if this change is newer than the level.
 noted_level : (n : ℕ) (op : Op) (x : Option ℕ) (standing : ℕ) (kept : List ℕ) (log : List (ℕ × Option ℕ)) (m : Map) → get_or kept n 0 ≤ standing → x ≡ reply_of m op
     → taken_back (take (cond (changes op x) (standing + 1) standing - get_or kept n 0) (cond (changes op x) ((key_of op, x) ∷ log) log)) (after m op)
     ≡ taken_back (take (standing - get_or kept n 0) log) m
@@ -191,7 +191,8 @@ module _ {rule : Holder} (limits : Sizes) (c : ℕ) (base : Map) (h : List Entry
             ∙ sym (map_is h stands n),
       )
 
--- States with equal histories have the same savepoints.
+-- The history of a state. By the lemmas below, states with equal histories have the same
+-- savepoints.
 abbrev history_of : State → List Entry
 history_of s = s.history
 
@@ -213,7 +214,7 @@ keeps_on c old between new first second = record {
 keeps_by : (c : ℕ) (old new : State) (g : List Entry) → new.history ≡ g → level_count c g ≡ level_count c old.history → SameLevels (level_count c old.history) c old.history g → KeepsSavepoints c old new
 keeps_by c old new g is levels maps = record { levels = ap (level_count c) is ∙ levels; maps = λ n less. ap (map_at c n) is ∙ maps n less }
 
--- An operation keeps the savepoints.
+-- An operation leaves the savepoints and their maps unchanged.
 kept_done : (old new : State) (c : ℕ) (op : Op) (x : Option ℕ) → IsLegal (holder_by old.words) old.limits.stripes old.history → Operates old c op (answers.Done x) new → KeepsSavepoints c old new
 kept_done old new c op x legal (s1, ask, (s2, seek, (s3, did, last))) =
     let base : Map = based c old in
@@ -239,7 +240,7 @@ keeps_operated old new c op (answers.Busy x) legal event =
 keeps_operated old new c op answers.Asked legal none = absurd none
 keeps_operated old new c op _ legal event = absurd event.move.allowed.1
 
--- A save sets a savepoint at the present map, above those that the caller had.
+-- A save sets a savepoint at the present map, above all levels that the caller had.
 pub is_saved : (old new : State) (c n : ℕ) → IsLegal (holder_by old.words) old.limits.stripes old.history → Move old (Save c) (answers.Saved n) new → IsSaved c n old new
 is_saved old new c n legal move =
     let stands = ready old c _ legal move.allowed.0 in

@@ -29,19 +29,19 @@ use Rattle.owned_map.proofs.Histories.{seat_there, began_now, asked_now, busy_no
 use Rattle.owned_map.proofs.Only as only
 use Rattle.boost_core.proofs.Refused.{closed_is, first_none}
 
--- `IsAt` of a state also holds of an equal state.
+-- If `IsAt` holds of a state, it holds of an equal state.
 pub to_state : (c : ℕ) (base : Map) (q : Phase) (s t : State) → t ≡ s → IsAt c base q s → IsAt c base q t
 to_state c base q s t same = subst (IsAt c base q) (sym same)
 
 abbrev now_of : State → Map
 now_of s = now s.history
 
--- `IsAt` of a state gives `IsBasedOn` of its history with no entry added.
+-- If `IsAt` holds of a state, `IsBasedOn` holds of the state's history with no entry added.
 pub unmoved : (c : ℕ) (base : Map) (q : Phase) (s : State) → IsAt c base q s
     → IsBasedOn (holder_by s.words) s.limits c base q (s.history ++ [])
 unmoved c base q s stands = subst (IsBasedOn (holder_by s.words) s.limits c base q) (sym (append-nil s.history)) stands
 
--- The seat that the core's definitions name (`seat_in`) is the seat of `IsAt`.
+-- The seat that `seat_in` gives is the seat in `IsAt`.
 pub phase_in : (c : ℕ) (base : Map) (q : Phase) (s : State) → (stands : IsAt c base q s) → seat_in s.history c ≡ stands.seat
 phase_in c base q s stands = ap (λ (o : Option Seat). unwrap_or o closed_seat) stands.seat_is
 
@@ -56,7 +56,7 @@ not_not false is = absurd (false≢true (sym is))
 idle_after : (c : ℕ) (s t : State) → t ≡ s → seat_after (own c s.history) ≡ Some closed_seat → IsIdle c t
 idle_after c s t is closed = subst (IsIdle c) (sym is) (ap (λ (o : Option Seat). is_closed (unwrap_or o closed_seat).phase) closed)
 
--- A caller that begins has an open transaction on the present map, and the map is unchanged.
+-- After a begin, the caller has an open transaction on the present map, and the map is unchanged.
 pub begins : (old new : State) (c t : ℕ) → IsLegal (holder_by old.words) old.limits.stripes old.history → Move old (Begin c) (answers.Began t) new
     → IsAt c (now old.history) Opened new × (now new.history ≡ now old.history)
 begins old new c t legal move =
@@ -90,7 +90,7 @@ waits old between next c base op stands ask seek =
       same = ap now_of seek.move.state ∙ ap now (append-nil between.history) ∙ ap now_of ask.move.state ∙ asked.1;
     }
 
--- The reply to a waiting operation is the one that the map gives.
+-- If a waiting operation gets a reply, the reply is the one that the map gives.
 pub replied : (s : State) (c : ℕ) (base : Map) (op : Op) (x : Option ℕ) → IsAt c base (Waiting op) s → IsReply (seat_in s.history c).phase (now s.history) x → x ≡ reply_of (now s.history) op
 replied s c base op x stands reply =
     subst (λ q. IsReply q (now s.history) x) (ap (λ (seat : Seat). seat.phase) (phase_in c base (Waiting op) s stands) ∙ stands.phase_is) reply
@@ -109,7 +109,7 @@ does old new c base op x stands (s1, ask, (s2, seek, (s3, did, last))) =
       },
     )
 
--- A ready caller has a transaction that can go on.
+-- A caller that is ready for its next step has an open transaction.
 open_phase : (q : Phase) → is_closed q ≡ false → is_leaving q ≡ false → is_waiting q ≡ false → q ≡ Opened
 open_phase Opened a b c = refl
 open_phase Closed a b c = absurd (false≢true (sym a))
@@ -144,7 +144,7 @@ ready s c rest legal free =
       back = refl;
     }
 
--- A caller that is leaving to the end is refused as Leaving.
+-- A step of a caller that is aborting its transaction is refused as `Leaving`.
 pub leaves_on : (s : State) (c : ℕ) (base : Map) (rest : Option Refusal) → IsAt c base LeavingToEnd s → unready s c rest ≡ None → ⊥
 leaves_on s c base rest stands free =
     let within = first_none (nat_le s.limits.callers c) _ _ free in
@@ -177,7 +177,7 @@ busy old new c op x legal event =
     let locked = (and_parts (old.words || has_stamp_for old op) _ event.move.allowed.1).1 in
     ap now_of event.move.state ∙ (busy_now old.limits c (based c old) old.history op x (ready old c _ legal event.move.allowed.0) locked).1
 
--- If a call is refused, the transaction goes on.
+-- If a call is refused, `GoesOn` holds.
 pub refused : (old new : State) (c : ℕ) (step : Step) (refusal : Refusal) → Move old step (answers.Refused refusal) new → GoesOn c old new
 refused old new c step refusal move = record {
   back = λ base can. kept base can;
@@ -214,7 +214,7 @@ no_other_commit old new c (answers.Refused refusal) not_committed not_refused mo
 no_other_commit old new c (answers.Committed p) not_committed not_refused move = not_committed p refl
 no_other_commit old new c _ not_committed not_refused move = absurd move.allowed.1
 
--- One change is taken back.
+-- If one change is taken back during an abort, the caller is still aborting its transaction.
 one_back : (old between new : State) (c : ℕ) (base : Map) → IsAt c base LeavingToEnd old → Move old (Seek c) answers.Placed between → Move between (Act c) answers.Undone new → IsAt c base LeavingToEnd new
 one_back old between new c base stands seek act =
     let sought = to_state c base LeavingToEnd _ between seek.state (unmoved c base LeavingToEnd old stands) in
@@ -222,8 +222,8 @@ one_back old between new c base stands seek act =
     let some : nat_lt 0 sought.seat.standing ≡ true = subst (λ q. has_job (record (sought.seat) { phase = q }) ≡ true) sought.phase_is job in
     to_state c base LeavingToEnd _ new act.state (undone_now between.limits c base between.history sought (ltb-true 0 sought.seat.standing some))
 
--- Once the moves of `undoing` have taken `changes` changes back, the caller is still leaving to the
--- end, and the moves of `steps` remain.
+-- The first moves of `undoing` take back `changes` changes. After these moves the caller is still
+-- aborting its transaction, and the moves of `steps` remain.
 backwards : (old new : State) (c : ℕ) (base : Map) (changes : ℕ) (steps : List Step) (others : List Answer) → IsAt c base LeavingToEnd old → Moves old (undoing changes c steps) (undone changes others) new
     → (between : State) × IsAt c base LeavingToEnd between × Moves between steps others new
 backwards old new c base zero steps others stands moves = (old, stands, moves)
@@ -244,7 +244,7 @@ ends old new c base stands (changes, moves) =
     no_more zero is = refl
     no_more (suc n) is = absurd (false≢true (sym (ap not (lt-ltb 0 (suc n) (omega arith))) ∙ is))
 
--- After a caller that can abort has aborted, the map is the one before its transaction, and the
+-- If a caller can abort and its abort succeeds, the map is the one before its transaction, and the
 -- caller has no transaction.
 aborts_all : (old new : State) (c : ℕ) (base : Map) → CanAbort c base old → Aborts old c answers.Aborted new → (now new.history ≡ base) × IsIdle c new
 aborts_all old new c base (inl stands) (left, leaves, ended) =
@@ -254,7 +254,7 @@ aborts_all old new c base (inr stands) (left, leaves, ended) =
     let same : left ≡ old = subst (λ b. Leaves b old c left) (phase_of old c base LeavingToEnd stands is_at_end) leaves in
     ends left new c base (to_state c base LeavingToEnd old left same stands) ended
 
--- The abort of a caller that can abort is not refused.
+-- If a caller can abort, its abort is not refused.
 never_refused : (old new : State) (c : ℕ) (base : Map) (refusal : Refusal) → CanAbort c base old → Aborts old c (answers.Refused refusal) new → ⊥
 never_refused old new c base refusal (inr stands) (on, move) = false≢true (sym on ∙ phase_of old c base LeavingToEnd stands is_at_end)
 never_refused old new c base refusal (inl stands) (on, event) = never event.move.allowed

@@ -32,14 +32,15 @@ use Rattle.boost_core.proofs.Refused.{first_none}
 abbrev pub IsWell : State → Type 0
 IsWell s = asks_well s.limits.half s.history ≡ true
 
--- If two histories ask for no refused key, the first followed by the second asks for none.
+-- If two histories ask for no refused key, the first followed by the second asks for no refused
+-- key.
 both : (half : Bool) (g h : List Entry) → asks_well half g ≡ true → asks_well half h ≡ true → asks_well half (g ++ h) ≡ true
 both half [] h first second = second
 both half (e ∷ g) h first second =
     let parts = and_parts (is_well half e) (asks_well half g) first in
     and_from (is_well half e) (asks_well half (g ++ h)) parts.0 (both half g h parts.1 second)
 
--- The entries of an allowed step ask for no key that is refused.
+-- An allowed step asks for no refused key.
 asked : (old : State) (c : ℕ) (op : Op) → IsAllowed old (Ask c op) answers.Asked → is_bad_key old.limits.half (key_of op) ≡ false
 asked old c op allowed = (first_none (is_bad_key old.limits.half (key_of op)) refusals.BadKey None (past old c (cond (is_bad_key old.limits.half (key_of op)) (Some refusals.BadKey) None) allowed.0)).0
 
@@ -70,7 +71,7 @@ all_moved old new (step ∷ steps) (answer ∷ given) (between, event, rest) wel
 all_moved old new [] (answer ∷ given) none well = absurd none
 all_moved old new (step ∷ steps) [] none well = absurd none
 
--- After a plain call, still no entry asks for a key that is refused.
+-- If no entry asks for a refused key before a plain call, none does after it.
 pub operated : (old new : State) (c : ℕ) (op : Op) (answer : Answer) → Operates old c op answer new → asks_well old.limits.half old.history ≡ true → asks_well new.limits.half new.history ≡ true
 operated old new c op (answers.Done reply) moves well = all_moved old new (Ask c op ∷ Seek c ∷ Act c ∷ []) (answers.Asked ∷ answers.Placed ∷ answers.Done reply ∷ []) moves well
 operated old new c op answers.Asked none well = absurd none
@@ -126,7 +127,7 @@ left_alone keys m None p alike k out = refl
 left_alone keys m (Some r) None alike k out = absurd alike
 left_alone keys m (Some r) (Some s) alike k out = alike.last.left k out
 
--- The map has no key that is refused.
+-- If no entry of a history asks for a refused key, the map has no refused key.
 pub none_there : (half : Bool) (h : List Entry) → asks_well half h ≡ true → HasTakenKeys half (now h)
 none_there half h well k bad = get-now h k ∙ differing (open_txns h) ∙ committed (commits h) empty refl
   where

@@ -40,7 +40,7 @@ use Rattle.owned_map.proofs.Steps.{done}
 abbrev history_of : State → List Entry
 history_of s = s.history
 
--- The begin of the first transaction adds its Began entry, with transaction number 1.
+-- When the first transaction begins, its Began entry is added, with transaction number 1.
 pub begun_first : (old new : State) (t : ℕ) → old.history ≡ [] → Move old (Begin 0) (answers.Began t) new → new.history ≡ Began 0 1 ∷ []
 begun_first old new t none move =
     ap history_of move.state ∙ ap (λ h. h ++ Began 0 t ∷ []) none
@@ -64,7 +64,7 @@ put_once old new k v x legal (s1, ask, (s2, seek, (s3, did, last))) fresh =
 pub committed_first : (old new : State) (p : ℕ) → Move old (Commit 0) (answers.Committed p) new → new.history ≡ old.history ++ Committed 0 (how_many is_commit old.history + 1) ∷ []
 committed_first old new p move = ap history_of move.state ∙ ap (λ n. old.history ++ Committed 0 n ∷ []) move.allowed.1
 
--- The entries before the commit have no commit.
+-- No entry before the commit is a Committed.
 none_committed : (pairs : List (ℕ × ℕ)) → how_many is_commit (flat_map put_new pairs) ≡ 0
 none_committed [] = refl
 none_committed (pair ∷ pairs) = none_committed pairs
@@ -106,8 +106,8 @@ one_more q k v (pair ∷ front) none = elim (cases_eq k pair.0) [
     some_none : {A : Type 0} {x : A} → Some x ≡ None → ⊥
     some_none is = cc is
 
--- The first transaction has put exactly these pairs so far. They determine its history and the
--- values of the map.
+-- The first transaction has put exactly these pairs so far. The history and the values of the map
+-- are those that result from these pairs.
 pub record HasPut (pairs : List (ℕ × ℕ)) (h : List Entry) : Type 0 where
   pub history : h ≡ Began 0 1 ∷ flat_map put_new pairs
   pub values : (q : ℕ) → get (now h) q ≡ value_at q pairs
@@ -127,8 +127,8 @@ put_one k v front h g before fresh noted put = record {
 pub sorted_listed : (m : Map) (pairs front back : List (ℕ × ℕ)) → pairs ≡ ordered m → front ++ back ≡ pairs → IsSortedBySplit (front ++ back)
 sorted_listed m pairs front back is parts = subst IsSortedBySplit (sym (parts ∙ is)) (sorted-ordered m)
 
--- `fresh_at`: the new map lacks the key of the next listed pair. `put_at`: after the put of this
--- pair, `HasPut` holds of one more listed pair.
+-- Lemmas about the next listed pair. `fresh_at`: the new map lacks the pair's key. `put_at`: after
+-- the pair is put, `HasPut` holds of one more listed pair.
 plus_one : (i : ℕ) → i + 1 ≡ suc i
 plus_one i = omega arith
 
@@ -146,15 +146,16 @@ put_at pairs h g i less put fresh noted is =
     subst (λ es. HasPut es g) (sym (ap (λ n. take n pairs) (plus_one i) ∙ take-suc pairs i (0, 0) less))
     (put_one pair.0 pair.1 (take i pairs) h g put fresh noted is)
 
--- When no pair is left, all pairs have been put.
+-- If no pair remains, all pairs have been put.
 pub put_all : (pairs : List (ℕ × ℕ)) (h : List Entry) (i : ℕ) → length pairs ≤ i → HasPut (take i pairs) h → HasPut pairs h
 put_all pairs h i all put = subst (λ es. HasPut es h) (take_all i pairs all) put
 
--- When all pairs of a listed map have been put, the new map is the listed one.
+-- If the pairs of a map were listed, and all of them have been put, the new map is equal to that
+-- map.
 pub same_listed : (pairs : List (ℕ × ℕ)) (h : List Entry) → HasPut pairs h → (m : Map) → pairs ≡ ordered m → now h ≡ m
 same_listed pairs h put m is = same_map (now h) m (λ q. put.values q ∙ ap (value_at q) is ∙ value_at-ordered m q)
 
--- If no entry is owed, no caller has a transaction; if some entry is owed, some caller has one.
+-- If no entry is owed, no caller has a transaction. If some entry is owed, some caller has one.
 closed_in : (n : ℕ) (q : Phase) → owed_in n q ≡ 0 → is_closed q ≡ true
 closed_in n Closed is = refl
 closed_in n Opened is = absurd (omega (arith, is))

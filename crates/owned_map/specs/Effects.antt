@@ -1,4 +1,4 @@
--- The effect of a transaction's calls on the core: which steps they take, and with which answers.
+-- Which steps a transaction's calls take on the core, and which answers these steps get.
 use Rattle.std.specs.Prelude.{ℕ, ◌≡◌, Option}
 use Rattle.txn_words.specs.declared.answer.Answer.{Answer}
 use Rattle.txn_words.specs.declared.answer.Answer.TheVariants as answers
@@ -13,12 +13,12 @@ use Rattle.boost_core.specs.Machine.{Happens}
 use Rattle.boost_core.specs.Plain.{Operates, Aborts}
 use Rattle.owned_map.specs.Within.{OnlyWorked, IsGrown}
 
--- The core's answer for which a call returns this stop.
+-- The answer of the core that makes a call return this stop.
 abbrev pub answer_of : Stop → Answer
 answer_of (stops.Busy holder) = answers.Busy holder
 answer_of (stops.Refused refusal) = answers.Refused refusal
 
--- The core's answer to a step was this stop.
+-- The core answered a step with this stop.
 abbrev pub IsStopped : State → Step → Stop → State → Type 0
 IsStopped old step stop new = Happens old step (answer_of stop) new
 
@@ -34,12 +34,12 @@ pub record HasBegun (c : ℕ) (old new : State) : Type 0 where
   pub same : now new.history ≡ now old.history
   pub beside : OnlyWorked c old new
 
--- The core was told to abort a caller's transaction, and nothing else was done. It aborted the
--- transaction, or refused.
+-- The core was asked to abort a caller's transaction, and nothing else was done. The core aborted
+-- the transaction, or refused.
 abbrev pub HasAborted : ℕ → State → State → Type 0
 HasAborted c old new = (answer : Answer) × Aborts old c answer new
 
--- A caller's commit was stopped, and then the core was told to abort the transaction.
+-- A caller's commit was stopped, and then the core was asked to abort the transaction.
 abbrev pub IsNotCommitted : ℕ → State → Stop → State → Type 0
 IsNotCommitted c old stop new =
     (left : State) × IsStopped old (Commit c) stop left × HasAborted c left new

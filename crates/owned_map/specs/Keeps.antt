@@ -1,10 +1,11 @@
--- The relation between a transaction before and after each of its calls. A work that is made of
--- such calls keeps it too.
+-- A relation between a transaction before a call and after it. The relation holds for each call of
+-- a transaction, and for a work that is made of such calls.
 use Rattle.std.specs.Prelude.{◌≡◌}
 use Rattle.owned_map.specs.declared.transaction.Transaction.{Transaction}
 use Rattle.owned_map.specs.Within.{GoesOn}
 
--- The new transaction is the old one, of the same caller on the same map, and it went on.
+-- The new transaction is the old one, with the same caller and the same map, and it continues
+-- (`GoesOn`).
 pub record Keeps (old new : Transaction) : Type 0 where
   pub same_map : new.map.ghost_name ≡ old.map.ghost_name
   pub same_caller : new.caller ≡ old.caller

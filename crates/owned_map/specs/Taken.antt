@@ -1,17 +1,17 @@
--- The keys that a map's limits take, and the keys that they refuse.
+-- The keys that a map's limits accept, and the keys that they refuse.
 use Rattle.std.specs.Prelude.{ℕ, ◌≡◌, Bool, true, not, ◌&&◌, List, [], ◌∷◌, None}
 use Rattle.txn_words.specs.declared.entry.Entry.{Entry}
 use Rattle.txn_words.specs.declared.entry.Entry.TheVariants.{Asked}
 use Rattle.txn_words.specs.Map.{Map, key_of, get}
 use Rattle.txn_words.specs.Sizes.{is_bad_key}
 
--- `false` exactly if an entry asks for a key that is refused. If `half`, the keys from 2^63 on are
--- refused; if not, no key is.
+-- `false` exactly if the entry asks for a refused key. If `half` is true, the keys from 2^63 on are
+-- refused. If not, no key is refused.
 abbrev pub is_well : Bool → Entry → Bool
 is_well half (Asked c op) = not (is_bad_key half (key_of op))
 is_well half e = true
 
--- Whether no entry of a history asks for a key that is refused.
+-- True if no entry of the history asks for a refused key.
 abbrev pub asks_well : Bool → List Entry → Bool
 asks_well half [] = true
 asks_well half (e ∷ es) = is_well half e && asks_well half es

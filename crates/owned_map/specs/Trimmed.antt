@@ -1,4 +1,4 @@
--- A history that was cut off, and the beginning of the new one.
+-- A history that was cut off, and the beginning of the new history.
 use Rattle.std.specs.Prelude.{ℕ, ◌≡◌, ◌≢◌, ◌<◌, false, List, [], ◌∷◌, ◌++◌, None}
 use Rattle.std.specs.List.{flat_map}
 use Rattle.txn_words.specs.declared.op.Op.TheVariants.{Put}
@@ -19,7 +19,8 @@ use Rattle.owned_map.specs.Within.{IsIdle}
 abbrev pub put_new : ℕ × ℕ → List Entry
 put_new pair = Asked 0 (Put pair.0 pair.1) ∷ Did 0 None ∷ []
 
--- One committed transaction, the first, in which caller 0 puts these pairs into a map without keys.
+-- The entries of one committed transaction, the first, in which caller 0 puts these pairs into a
+-- map without keys.
 abbrev pub filling : List (ℕ × ℕ) → List Entry
 filling pairs = (Began 0 1 ∷ flat_map put_new pairs) ++ Committed 0 1 ∷ []
 
@@ -41,8 +42,8 @@ pub record IsTrimmed (old new : State) : Type 0 where
   pub same : now new.history ≡ now old.history
   pub limits : new.limits ≡ old.limits
 
--- The reason why a history is not cut off: a caller has a transaction, or memory or stamps are
--- missing.
+-- The reason why a history is not cut off: a caller has a transaction, memory is refused, or no
+-- stamps are left.
 abbrev pub IsNotTrimmed : State → Refusal → Type 0
 IsNotTrimmed state AlreadyOpen =
     (c : ℕ) × (c < state.limits.callers) × (is_closed (seat_in state.history c).phase ≡ false)

@@ -1,4 +1,4 @@
--- The effect of the calls of one caller's transaction, if no other caller takes a step in between.
+-- What the calls of one caller's transaction do, if no other caller takes a step in between.
 use Rattle.std.specs.Prelude.{ℕ, ◌+◌, ◌-◌, ◌<◌, ◌≡◌, ◌≢◌, ◌⊎◌, Bool, true, List, [], ◌∷◌, ◌++◌, length, take, slice_index, Option, Some, nat_le, false}
 use Rattle.std.specs.List.{filter}
 use Rattle.txn_words.specs.declared.op.Op.{Op}
@@ -19,13 +19,13 @@ use Rattle.txn_words.specs.Shape.{Seat, seat_after, own}
 use Rattle.txn_trace.specs.Legal.{IsLegal}
 use Rattle.boost_core.specs.State.{State, holder_by, seat_in}
 
--- The map after these changes are taken back, in their order. Each change is given by its key and
--- the value that the key had before.
+-- The map after these changes are taken back, in the order of the list. Each change is given by its
+-- key and the value that the key had before.
 abbrev pub taken_back : List (ℕ × Option ℕ) → Map → Map
 taken_back [] m = m
 taken_back (job ∷ jobs) m = taken_back jobs (set_at m job.0 job.1)
 
--- A caller is in this phase, and if its standing changes are taken back, the map is `base`.
+-- A caller is in this phase. If the changes in the caller's log are taken back, the map is `base`.
 pub record IsBasedOn (rule : Holder) (limits : Sizes) (c : ℕ) (base : Map) (phase : Phase)
     (h : List Entry) : Type 0 where
   pub within : nat_le limits.callers c ≡ false
@@ -39,12 +39,14 @@ abbrev pub IsAt : ℕ → Map → Phase → State → Type 0
 IsAt c base phase state =
     IsBasedOn (holder_by state.words) state.limits c base phase state.history
 
--- A caller has a transaction that began on this map and can be aborted, or is being aborted.
+-- A caller has a transaction that began on this map. The transaction can be aborted, or is being
+-- aborted.
 abbrev pub CanAbort : ℕ → Map → State → Type 0
 CanAbort c base state = IsAt c base Opened state ⊎ IsAt c base LeavingToEnd state
 
--- The map at a level of a caller's transaction: the changes since that level are taken back, newest
--- first. Level 0 is the beginning, and every other level is a savepoint's number.
+-- The map at a level of a caller's transaction: the present map with the changes since that level
+-- taken back, newest first. Level 0 is the beginning of the transaction. Every other level is a
+-- savepoint's number.
 abbrev pub map_at : ℕ → ℕ → List Entry → Map
 map_at c level h =
     taken_back (take ((seat_in h c).standing - slice_index (seat_in h c).kept level) (log_of c h))
@@ -64,14 +66,16 @@ pub record KeepsSavepoints (c : ℕ) (old new : State) : Type 0 where
   pub levels : level_count c new.history ≡ level_count c old.history
   pub maps : KeepsLevels (level_count c old.history) c old new
 
--- A caller set a savepoint of this number at the present map, above those that it had.
+-- A caller set a savepoint with this number at the present map. The savepoint is above all levels
+-- that the caller had.
 pub record IsSaved (c level : ℕ) (old new : State) : Type 0 where
   pub number : level ≡ level_count c old.history
   pub levels : level_count c new.history ≡ level + 1
   pub map : map_at c level new.history ≡ now old.history
   pub maps : KeepsLevels level c old new
 
--- A caller went back to a level: the map is the one of that level, which is now the highest.
+-- A caller went back to a level. The map is the one of that level, and the level is now the
+-- highest.
 pub record IsBackAt (c level : ℕ) (old new : State) : Type 0 where
   pub map : now new.history ≡ map_at c level old.history
   pub levels : level_count c new.history ≡ level + 1
@@ -94,20 +98,20 @@ pub record OnlyWorked (c : ℕ) (old new : State) : Type 0 where
   pub only : OnlyDid c old new
   pub commits : commit_entries new.history ≡ commit_entries old.history
 
--- A caller went on in its transaction, and the transaction can still be taken back to the same map.
--- No other caller did anything, and nothing was committed.
+-- A caller continued its transaction. If the transaction could be taken back to a map before, it
+-- still can be taken back to this map. No other caller did anything, and nothing was committed.
 pub record GoesOn (c : ℕ) (old new : State) : Type 0 where
   pub back : (base : Map) → CanAbort c base old → CanAbort c base new
   pub beside : OnlyWorked c old new
 
--- An operation was done: its reply is the one that the old map gives, and the new map is the one
--- that the operation makes of it.
+-- An operation was done. The reply is the one that the operation has on the old map. The new map is
+-- the one that the operation makes of the old map.
 pub record HasDone (op : Op) (reply : Option ℕ) (old new : State) : Type 0 where
   pub replied : reply ≡ reply_of (now old.history) op
   pub changed : now new.history ≡ after (now old.history) op
 
--- A caller's transaction was taken back: the map is the one that it began on. No other caller did
--- anything, and nothing was committed.
+-- A caller's transaction was taken back: the map is the one that the transaction began on. No other
+-- caller did anything, and nothing was committed.
 pub record IsTakenBack (c : ℕ) (old new : State) : Type 0 where
   pub back : (base : Map) → CanAbort c base old → (now new.history ≡ base) × IsIdle c new
   pub beside : OnlyWorked c old new
@@ -125,16 +129,16 @@ pub record IsSameMap (c : ℕ) (old new : State) : Type 0 where
   pub same : now new.history ≡ now old.history
   pub beside : OnlyWorked c old new
 
--- A caller began a transaction on the map of `old`, which led to `begun`; its work led to `done`;
--- and then the transaction was committed. There is one more Committed entry, the caller's, and the
--- map is the one that the work made.
+-- A caller began a transaction on the map of `old`, which led to the state `begun`. The work led
+-- from there to the state `done`. Then the transaction was committed. There is one more Committed
+-- entry, which is the caller's, and the map is the one that the work made.
 pub record IsRun (c : ℕ) (old begun done new : State) : Type 0 where
   pub began : now begun.history ≡ now old.history
   pub ended : now new.history ≡ now done.history
   pub place : ℕ
   pub commits : commit_entries new.history ≡ commit_entries old.history ++ Committed c place ∷ []
 
--- Whether a step is one of a helper or of the table.
+-- True if the step is one of a helper or of the table.
 abbrev pub is_grown : Step → Bool
 is_grown (InitSeek h b) = true
 is_grown (InitLink h) = true

@@ -2,7 +2,7 @@
 //!
 //! Each call of `Transaction` makes a call of `OwnedMap`, which names the caller and has a contract
 //! about states of the core. `grown` is the number of the next bucket to initialise. It rises only
-//! when that bucket was stored, so every bucket below it is initialised; no contract says so.
+//! when that bucket was stored, so every bucket below it is initialised. No contract states this.
 ghost use Rattle.std.specs.Prelude.{◌≡◌, ◌==◌, true, false, ℕ, ◌⊎◌, IfOk, IfErr, OnOk, OnErr, Ok, Err};
 ghost use Rattle.txn_words.specs.Map.{count_of};
 ghost use Rattle.txn_trace.specs.Now.{now};
@@ -25,12 +25,13 @@ use txn_trace::{Answer, Limits, Op, Refusal, Reply, Step};
 /// operations on a small table walk past few nodes.
 const FEW_BUCKETS: u64 = 4096;
 
-/// How many keys there are for each initialised bucket of a large table. With fewer, the puts of
-/// new keys would initialise more buckets; with more, operations would walk past more nodes.
+/// The number of keys for each initialised bucket of a large table. If it were smaller, the puts of
+/// new keys would initialise more buckets. If it were larger, operations would walk past more
+/// nodes.
 const KEYS_A_BUCKET: u64 = 8;
 
-/// A transactional map from `u64` to `u64` with one owner, who makes every call, for any of its
-/// callers. Contracts see its core.
+/// A transactional map from `u64` to `u64` with one owner. The owner makes every call, on behalf of
+/// any of the map's callers. Contracts see the map's core.
 #[derive(Drop)]
 pub struct OwnedMap {
     pub(crate) core: Core,
@@ -44,7 +45,7 @@ pub struct OwnedMap {
 impl OwnedMap {
     ghost use Rattle.owned_map.specs.Keeps.{Keeps};
 
-    /// A new map, without keys.
+    /// Returns a new map, without keys.
     ///
     /// # Errors
     ///
@@ -52,7 +53,8 @@ impl OwnedMap {
     ///
     /// # Cost
     ///
-    /// Time and memory in proportion to the callers, the stripes and the largest number of buckets.
+    /// Time and memory in proportion to the number of callers, the number of stripes and the
+    /// largest number of buckets.
     pub fn new(alloc: Global, limits: Limits) -> Result<OwnedMap, Refusal>
         ensures ok { IfOk result (λ map. map.core ≡ start limits) }
         ensures err { IfErr result (λ refusal. refusal ≡ Refusal.NoMemory) }
@@ -61,14 +63,16 @@ impl OwnedMap {
         Ok(OwnedMap { core, grown: 1 })
     }
 
-    /// The number of keys of the map, with the changes of open transactions. Constant time.
+    /// Returns the number of keys of the map, including the changes of open transactions. Takes
+    /// constant time.
     pub fn len(&self) -> u64
         ensures { result ≡ count_of (now self.now.core.history) }
     {
         self.core.count()
     }
 
-    /// Whether the map has no keys, with the changes of open transactions. Constant time.
+    /// Returns true if the map has no keys, including the changes of open transactions. Takes
+    /// constant time.
     pub fn is_empty(&self) -> bool
         ensures { result ≡ (count_of (now self.now.core.history) == 0) }
     {
@@ -82,14 +86,15 @@ impl OwnedMap {
         self.core.size()
     }
 
-    /// The core, to read the history, the map and the list. Constant time.
+    /// Returns the core, which gives access to the history, the map and the list. Takes constant
+    /// time.
     pub fn core(&self) -> &Core
         ensures { result.now ≡ self.now.core }
     {
         &self.core
     }
 
-    /// Takes the core out. Constant time.
+    /// Consumes the map and returns its core. Takes constant time.
     pub fn into_core(self) -> Core
         ensures { result ≡ self.core }
     {
@@ -97,7 +102,7 @@ impl OwnedMap {
         core
     }
 
-    /// Begins a transaction of a caller.
+    /// Begins a transaction for a caller.
     fn begin(&mut self, caller: u64) -> Result<(), Stop>
         ensures ok { OnOk result (CanAbort caller (now self.old.core.history) self.new.core) }
         ensures same { now self.new.core.history ≡ now self.old.core.history }
@@ -106,7 +111,7 @@ impl OwnedMap {
         ensures stopped { IfErr result (λ stop. IsStopped self.old.core (steps.Begin caller) stop
             self.new.core) }
     {
-        // The history is legal.
+        // For the proof: the history is legal.
         let _legal = self.core.trace();
         match self.take_step(Step::Begin(caller)) {
             Answer::Began(_) => Ok(()),
@@ -115,7 +120,7 @@ impl OwnedMap {
         }
     }
 
-    /// Does an operation, and then grows the table if the key was absent and growth is due.
+    /// Does an operation. If the key was absent, then grows the table if it has too few buckets.
     #[tactic(auto, using(crate::proofs::Savepoints::keeps_operated, crate::proofs::Savepoints::keeps_grown))]
     pub(crate) fn operate(&mut self, caller: u64, op: Op) -> Result<Reply, Stop>
         ensures goes_on { GoesOn caller self.old.core self.new.core }
@@ -127,7 +132,7 @@ impl OwnedMap {
         ensures stopped { IfErr result (λ stop. IsStopped self.old.core (steps.Ask caller op) stop
             self.new.core) }
     {
-        // The history is legal.
+        // For the proof: the history is legal.
         let _legal = self.core.trace();
         match self.ask(caller, op) {
             Answer::Done(reply) => {
@@ -142,7 +147,7 @@ impl OwnedMap {
         }
     }
 
-    /// Makes the core's plain call for an operation.
+    /// Does an operation by calling the core's function for it.
     #[tactic(auto, using(crate::proofs::Taken::operated))]
     pub(crate) fn ask(&mut self, caller: u64, op: Op) -> Answer
         ensures { Operates self.old.core caller op result self.new.core }
@@ -155,7 +160,7 @@ impl OwnedMap {
         }
     }
 
-    /// Sets a savepoint in a caller's transaction, and answers its level.
+    /// Sets a savepoint in a caller's transaction, and returns its level.
     pub(crate) fn save(&mut self, caller: u64) -> Result<u64, Stop>
         ensures goes_on { GoesOn caller self.old.core self.new.core }
         ensures ok { IfOk result (λ level. IsSaved caller level self.old.core self.new.core) }
@@ -165,7 +170,7 @@ impl OwnedMap {
         ensures stopped { IfErr result (λ stop. IsStopped self.old.core (steps.Save caller) stop
             self.new.core) }
     {
-        // The history is legal.
+        // For the proof: the history is legal.
         let _legal = self.core.trace();
         match self.take_step(Step::Save(caller)) {
             Answer::Saved(level) => Ok(level),
@@ -185,7 +190,7 @@ impl OwnedMap {
         ensures stopped { IfErr result (λ stop. IsStopped self.old.core (steps.Back caller level)
             stop self.new.core) }
     {
-        // The history is legal before and after.
+        // For the proof: the history is legal before and after the call of `back`.
         let _before = self.core.trace();
         let answer = self.core.back(caller, level);
         let _legal = self.core.trace();
@@ -196,7 +201,7 @@ impl OwnedMap {
         }
     }
 
-    /// Commits a caller's transaction, and answers its commit number.
+    /// Commits a caller's transaction, and returns its commit number.
     pub(crate) fn commit(&mut self, caller: u64) -> Result<u64, Stop>
         ensures ok { IfOk result (λ place. IsCommitted caller place self.old.core self.new.core) }
         ensures err { OnErr result (GoesOn caller self.old.core self.new.core) }
@@ -205,7 +210,7 @@ impl OwnedMap {
         ensures stopped { IfErr result (λ stop. IsStopped self.old.core (steps.Commit caller) stop
             self.new.core) }
     {
-        // The history is legal.
+        // For the proof: the history is legal.
         let _legal = self.core.trace();
         match self.take_step(Step::Commit(caller)) {
             Answer::Committed(place) => Ok(place),
@@ -231,8 +236,8 @@ impl OwnedMap {
         most.min(few.max(keys / KEYS_A_BUCKET))
     }
 
-    /// Grows the table by a bucket if too few buckets are initialised: doubles the table if all its
-    /// buckets are initialised, and initialises the next one.
+    /// If too few buckets are initialised, initialises the next one. For this, doubles the table
+    /// first if all its buckets are initialised.
     pub(crate) fn grow(&mut self, caller: u64)
         ensures { IsGrown self.old.core self.new.core }
     {
@@ -270,22 +275,23 @@ impl OwnedMap {
         self.core.step(step)
     }
 
-    /// Runs the work in a transaction of a caller, and commits it. If the work answers an error,
-    /// the transaction is aborted and the error is returned. So, to take everything back, the work
-    /// answers an error of its own type.
+    /// Runs the work in a transaction of a caller, and then commits the transaction. If the work
+    /// returns an error, the transaction is aborted and the error is returned. So a work takes
+    /// everything back by returning an error of its own type.
     ///
     /// # Errors
     ///
-    /// The map is unchanged and nothing was committed.
+    /// If an error is returned, the map is unchanged and nothing was committed. The error is one of
+    /// these:
     ///
     /// - The work's error.
-    /// - A `Stop`, as the work's error type: `Refused` with `NoSuchCaller`, with `AlreadyOpen` if
-    ///   the caller has a transaction, with `NoMemory`, or with `Leaving` if the work went on after
-    ///   a `Busy`.
+    /// - A `Stop`, converted to the work's error type: `Refused` with `NoSuchCaller`, with
+    ///   `AlreadyOpen` if the caller has a transaction, with `NoMemory`, or with `Leaving` if the
+    ///   work continued after a `Busy`.
     ///
     /// # Cost
     ///
-    /// A begin, the work, and a commit or an abort.
+    /// The cost of a begin, of the work, and of a commit or an abort.
     pub fn transact<T: Drop, E: From<Stop> + Drop, F: Fn(&mut Transaction<'_>) -> Result<T, E>>(
         &mut self,
         caller: u64,

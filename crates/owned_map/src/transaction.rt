@@ -1,7 +1,7 @@
 //! A transaction as a value: its operations, and its end.
 //!
-//! A transaction borrows the map, so no other call can be made on the map while it is open. Each
-//! operation promises `Keeps`, and so does a work of several operations.
+//! A transaction borrows the map, so no other call can be made on the map while the transaction is
+//! open. Each operation ensures `Keeps`, and so does a work of several operations.
 ghost use Rattle.std.specs.Prelude.{◌≡◌, ◌==◌, ℕ, Option, nat_eq, is_some, IfErr, IfOk, OnErr, OnOk};
 ghost use Rattle.std.specs.Option.{option_eq};
 ghost use Rattle.txn_words.specs.declared.answer.Answer.TheVariants as answers;
@@ -17,7 +17,7 @@ use crate::owned_map::OwnedMap;
 use map_answers::{Stop, Swapped};
 use txn_trace::{Op, Reply};
 
-/// An open transaction of a caller on a map, which it borrows. If it is dropped before it is
+/// An open transaction of a caller. It borrows the map. If the transaction is dropped before it is
 /// committed, it is aborted: at every `?` and every early return its changes are taken back, and no
 /// stripe stays held.
 pub struct Transaction<'a> {
@@ -28,7 +28,7 @@ pub struct Transaction<'a> {
 impl Transaction<'_> {
     ghost use Rattle.owned_map.specs.Keeps.{Keeps};
 
-    /// Answers the value at a key, if the key is there.
+    /// Returns the value at a key, or `None` if the key is absent.
     ///
     /// # Errors
     ///
@@ -38,13 +38,13 @@ impl Transaction<'_> {
     ///   then only be aborted: every further operation is refused as `Leaving`.
     /// - `Refused` with `BadKey` if the limits have half keys and the key is 2^63 or more, with
     ///   `NoMemory`, or with `Leaving` after a `Busy`. After `BadKey` or `NoMemory` the transaction
-    ///   can go on.
+    ///   can continue.
     ///
     /// # Cost
     ///
-    /// Time in proportion to the nodes from the nearest initialised bucket to the key's position,
-    /// and up to four steps of the table if the key is absent and growth is due; may take memory
-    /// for the history, the log and the growth.
+    /// Time in proportion to the number of nodes from the nearest initialised bucket to the key's
+    /// position. If the key is absent and the table has too few buckets, the call also takes up to
+    /// four steps of the table. May take memory for the history, the log and the growth.
     pub fn get(&mut self, key: u64) -> Result<Reply, Stop>
         ensures keeps { Keeps self.old self.new }
         ensures savepoints { KeepsSavepoints self.old.caller
@@ -61,15 +61,15 @@ impl Transaction<'_> {
         self.operate(Op::Get(key))
     }
 
-    /// Whether a key is there.
+    /// Returns true if the key is present.
     ///
     /// # Errors
     ///
-    /// Those of `get`.
+    /// The errors of `get`.
     ///
     /// # Cost
     ///
-    /// That of `get`.
+    /// The cost of `get`.
     pub fn contains_key(&mut self, key: u64) -> Result<bool, Stop>
         ensures keeps { Keeps self.old self.new }
         ensures savepoints { KeepsSavepoints self.old.caller
@@ -86,16 +86,16 @@ impl Transaction<'_> {
         Ok(self.get(key)?.is_some())
     }
 
-    /// Puts a value at a key, and answers the value before. If the key is new and growth is due,
-    /// the table grows by a bucket.
+    /// Puts a value at a key, and returns the value that the key had before. If the key is new and
+    /// the table has too few buckets, the table grows by a bucket.
     ///
     /// # Errors
     ///
-    /// Those of `get`, and `Refused` with `StampsUsedUp` if no stamp is left.
+    /// The errors of `get`, and `Refused` with `StampsUsedUp` if no stamp is left.
     ///
     /// # Cost
     ///
-    /// That of `get`; may also take memory for a node.
+    /// The cost of `get`. May also take memory for a node.
     pub fn put(&mut self, key: u64, value: u64) -> Result<Reply, Stop>
         ensures keeps { Keeps self.old self.new }
         ensures savepoints { KeepsSavepoints self.old.caller
@@ -112,15 +112,15 @@ impl Transaction<'_> {
         self.operate(Op::Put(key, value))
     }
 
-    /// Takes a key out, and answers the value that it had, if it was there.
+    /// Takes a key out, and returns the value that it had, or `None` if it was absent.
     ///
     /// # Errors
     ///
-    /// Those of `put`.
+    /// The errors of `put`.
     ///
     /// # Cost
     ///
-    /// That of `get`; may also take memory for a node.
+    /// The cost of `get`. May also take memory for a node.
     pub fn take(&mut self, key: u64) -> Result<Reply, Stop>
         ensures keeps { Keeps self.old self.new }
         ensures savepoints { KeepsSavepoints self.old.caller
@@ -137,17 +137,17 @@ impl Transaction<'_> {
         self.operate(Op::Take(key))
     }
 
-    /// Puts a value at a key if the key has the expected value, or, if none is expected, if the key
-    /// is absent. Answers the value before. The new value was put exactly if the value before is
-    /// the expected one.
+    /// Puts a value at a key if the key has the expected value. If none is expected, puts the value
+    /// if the key is absent. Returns the value that the key had before. The new value was put
+    /// exactly if the returned one is the expected one.
     ///
     /// # Errors
     ///
-    /// Those of `put`.
+    /// The errors of `put`.
     ///
     /// # Cost
     ///
-    /// That of `put`.
+    /// The cost of `put`.
     pub fn put_if(&mut self, key: u64, expected: Option<u64>, value: u64) -> Result<Reply, Stop>
         ensures keeps { Keeps self.old self.new }
         ensures savepoints { KeepsSavepoints self.old.caller
@@ -164,16 +164,16 @@ impl Transaction<'_> {
         self.operate(Op::PutIf(key, expected, value))
     }
 
-    /// Puts a value at a key as `put_if` does, and answers whether it did. For callers that need
-    /// not know the value before.
+    /// Puts a value at a key as `put_if` does, and returns whether the value was put. This call is
+    /// for work that need not know the value before.
     ///
     /// # Errors
     ///
-    /// Those of `put`.
+    /// The errors of `put`.
     ///
     /// # Cost
     ///
-    /// That of `put`.
+    /// The cost of `put`.
     pub fn swap(&mut self, key: u64, expected: Option<u64>, value: u64) -> Result<Swapped, Stop>
         ensures keeps { Keeps self.old self.new }
         ensures savepoints { KeepsSavepoints self.old.caller
@@ -194,14 +194,16 @@ impl Transaction<'_> {
         Ok(Swapped(had == expected))
     }
 
-    /// The number of keys of the map, with the changes of open transactions. Constant time.
+    /// Returns the number of keys of the map, including the changes of open transactions. Takes
+    /// constant time.
     pub fn len(&self) -> u64
         ensures { result ≡ count_of (now self.now.map.now.core.history) }
     {
         self.map.len()
     }
 
-    /// Whether the map has no keys, with the changes of open transactions. Constant time.
+    /// Returns true if the map has no keys, including the changes of open transactions. Takes
+    /// constant time.
     pub fn is_empty(&self) -> bool
         ensures { result ≡ (count_of (now self.now.map.now.core.history) == 0) }
     {
@@ -215,15 +217,15 @@ impl Transaction<'_> {
         self.map.buckets()
     }
 
-    /// Sets a savepoint at the present map, and answers its level, counted from 1.
+    /// Sets a savepoint at the present map, and returns its level. The first savepoint has level 1.
     ///
     /// # Errors
     ///
-    /// `Refused` with `NoMemory`, or with `Leaving` after a `Busy`: nothing is changed.
+    /// `Refused` with `NoMemory`, or with `Leaving` after a `Busy`. Nothing is changed.
     ///
     /// # Cost
     ///
-    /// Amortized constant time; may take memory.
+    /// Amortized constant time. May take memory.
     #[tactic(auto, using(crate::proofs::Calls::keeps_by))]
     pub fn save(&mut self) -> Result<u64, Stop>
         ensures keeps { Keeps self.old self.new }
@@ -239,9 +241,9 @@ impl Transaction<'_> {
         self.map.save(caller)
     }
 
-    /// Takes back every change since a savepoint, newest first: the map is the savepoint's again.
-    /// That savepoint is kept, later ones are dropped, and stripes stay held. Level 0 is the
-    /// beginning of the transaction.
+    /// Takes back every change since a savepoint, newest first. The map is then the one at which
+    /// the savepoint was set. That savepoint is kept, later ones are dropped, and stripes stay
+    /// held. Level 0 is the beginning of the transaction.
     ///
     /// # Errors
     ///
@@ -251,7 +253,7 @@ impl Transaction<'_> {
     /// # Cost
     ///
     /// A seek and an act for each change that is taken back, and a step for each savepoint that is
-    /// dropped; may take memory for the history.
+    /// dropped. May take memory for the history.
     #[tactic(auto, using(crate::proofs::Calls::keeps_by))]
     pub fn back(&mut self, level: u64) -> Result<(), Stop>
         ensures keeps { Keeps self.old self.new }
@@ -287,16 +289,16 @@ impl Transaction<'_> {
         self.map.operate(caller, op)
     }
 
-    /// Commits, and answers the commit number, counted from 1.
+    /// Commits the transaction, and returns its commit number. The first commit has number 1.
     ///
     /// # Errors
     ///
-    /// `Refused` with `Leaving` if an operation was `Busy`; the transaction is then aborted.
+    /// `Refused` with `Leaving` if an operation was `Busy`. The transaction is then aborted.
     ///
     /// # Cost
     ///
-    /// A step for each change, savepoint and stripe of the transaction; if the commit is refused,
-    /// that of `abort`. Takes no memory.
+    /// A step for each change, savepoint and stripe of the transaction. If the commit is refused,
+    /// the cost of `abort`. Takes no memory.
     pub fn commit(self) -> Result<u64, Stop>
         ensures ok { IfOk result (λ place. IsCommitted self.entry.caller place
             self.entry.map.now.core self.exit.0.now.core) }
@@ -322,7 +324,7 @@ impl Transaction<'_> {
     ///
     /// # Cost
     ///
-    /// A seek and an act for each change, and a step for each savepoint and each stripe; takes no
+    /// A seek and an act for each change, and a step for each savepoint and each stripe. Takes no
     /// memory.
     pub fn abort(self)
         ensures back { IsTakenBack self.entry.caller self.entry.map.now.core self.exit.0.now.core }

@@ -1,4 +1,4 @@
-//! Cutting a history off, so that a map can be used without end in bounded memory.
+//! Cuts off a map's history, so that the map can be used without end in bounded memory.
 //!
 //! A trim makes a second core, which takes the place of the first. The new history begins with one
 //! transaction, which puts all pairs.
@@ -21,15 +21,15 @@ use std::mem;
 use txn_trace::{Answer, Op, Refusal, Step};
 
 impl OwnedMap {
-    /// Cuts the history off: hands out the core so far, whose history is legal, and goes on with a
-    /// new core of the same limits and the same map. The new history begins with one committed
-    /// transaction, in which caller 0 puts the pairs of the map, in the order of the list. So the
-    /// new history is legal by itself, and the map after its first transaction is the one that the
-    /// old history leaves. Transactions and commits are again numbered from 1.
+    /// Cuts the history off. Returns the present core, whose history is legal, and replaces it with
+    /// a new core that has the same limits and the same map. The new history begins with one
+    /// committed transaction, in which caller 0 puts the pairs of the map, in the order of the
+    /// list. So the new history is legal by itself, and the map after its first transaction is the
+    /// one that the old history leaves. Transactions and commits are again numbered from 1.
     ///
     /// # Errors
     ///
-    /// Nothing is changed.
+    /// Each leaves the map and its core unchanged.
     ///
     /// - `AlreadyOpen` if a caller has a transaction.
     /// - `NoMemory` if memory is refused.
@@ -37,9 +37,9 @@ impl OwnedMap {
     ///
     /// # Cost
     ///
-    /// That of `new` and of a list of the pairs, and a put for each pair. Beside the core that is
-    /// handed out, it takes memory for a core with the same pairs and a history of two entries a
-    /// pair, and, until it returns, for the list of the pairs.
+    /// The cost of `new`, of a list of the pairs, and of a put for each pair. Besides the returned
+    /// core, memory is taken for a core with the same pairs and a history of two entries for each
+    /// pair. Until the call returns, the list of the pairs also takes memory.
     pub fn trim(&mut self, alloc: Global) -> Result<Core, Refusal>
         ensures old { IfOk result (λ core. core ≡ self.old.core) }
         ensures trimmed { OnOk result (IsTrimmed self.old.core self.new.core) }
@@ -74,8 +74,8 @@ impl OwnedMap {
         Ok(())
     }
 
-    /// Begins the first transaction. Caller 0 exists and has no transaction, so only memory can be
-    /// refused.
+    /// Begins the first transaction. Caller 0 exists and has no transaction, so the call fails only
+    /// if memory is refused.
     fn begin_first(&mut self) -> Result<(), Refusal>
         requires blank { self.old.core.history ≡ [] }
         ensures ok { OnOk result (self.new.core.history ≡ entries.Began 0 1 ∷ []) }
@@ -83,7 +83,7 @@ impl OwnedMap {
         ensures limits { self.new.core.limits ≡ self.old.core.limits }
         ensures lack { IfErr result (λ refusal. IsLack refusal) }
     {
-        // The history is legal, and there is a caller 0.
+        // For the proof: the history is legal, and there is a caller 0.
         let _legal = self.core.trace();
         let _callers = self.core.limits().callers();
         match self.take_step(Step::Begin(0)) {
@@ -93,8 +93,9 @@ impl OwnedMap {
         }
     }
 
-    /// Puts a pair whose key is new, and grows the table if that is due. The limits take the key,
-    /// and no other caller holds its stripe, so only memory or stamps can be missing.
+    /// Puts a pair whose key is new, and then grows the table if it has too few buckets. The limits
+    /// accept the key, and no other caller holds its stripe. So the call fails only for lack of
+    /// memory or stamps.
     #[tactic(auto, using(crate::proofs::Filling::only_puts))]
     fn put_new(&mut self, key: u64, value: u64) -> Result<(), Refusal>
         requires only { IsFilling self.old.core }
@@ -108,7 +109,7 @@ impl OwnedMap {
         ensures limits { self.new.core.limits ≡ self.old.core.limits }
         ensures lack { IfErr result (λ refusal. IsLack refusal) }
     {
-        // The history is legal.
+        // For the proof: the history is legal.
         let _legal = self.core.trace();
         match self.ask(0, Op::Put(key, value)) {
             Answer::Done(_) => {
@@ -120,7 +121,7 @@ impl OwnedMap {
         }
     }
 
-    /// Commits the first transaction, which takes no memory.
+    /// Commits the first transaction. This takes no memory.
     #[tactic(auto, using(crate::proofs::Filling::only_commits))]
     fn commit_first(&mut self)
         requires only { IsFilling self.old.core }
@@ -129,7 +130,7 @@ impl OwnedMap {
         ensures map { now self.new.core.history ≡ now self.old.core.history }
         ensures limits { self.new.core.limits ≡ self.old.core.limits }
     {
-        // The history is legal.
+        // For the proof: the history is legal.
         let _legal = self.core.trace();
         let Answer::Committed(_) = self.take_step(Step::Commit(0)) else {
             unreachable!();

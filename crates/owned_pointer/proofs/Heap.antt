@@ -17,14 +17,14 @@ use Rattle.std_alloc.proofs.BoxSteps.Form.{Bx}
 abbrev handle : Ty
 handle = raw (layout heap.the_row)
 
--- The glue that this crate's code names for the heap's handle, which needs no drop.
+-- The drop glue that this crate's code names for the heap's handle. The handle needs no drop.
 abbrev pub glue : Dict
 glue = impl ("owned_pointer::Destruct++none::drop" ∷ []) (tcons handle tnil) dnil
 
--- The heap, with all that a statement assumes of an allocator, as an argument of a call.
+-- The heap as an argument of a call, with everything that a statement assumes about an allocator.
 abbrev pub the_heap : Al
 the_heap = record { row = arg handle no heap.the_row; laws = arg_laws handle no heap.the_row laws.the_row_laws refl; g = ghosts; d = dict; drops = glue }
 
--- A box on the heap, for the type of its element.
+-- A box on the heap, for an element type.
 abbrev pub on_heap : (T : RattleType) → Laws T → Bx
 on_heap T L = record { row = T; laws = L; al = the_heap }

@@ -25,7 +25,7 @@ use Rattle.owned_pointer.specs.contracts.owned_pointer.OwnedPointer as pointer
 abbrev pub word : Ptr → Val
 word p = vstruct (vcons (ptr_val p) vnil)
 
--- The shape of the type, but with a pointer as the only field.
+-- The shape of the type, but with only one field, a pointer.
 abbrev alone : Owning → Shape
 alone T = record (shape T) { fields = RawPtr ∷ [] }
 

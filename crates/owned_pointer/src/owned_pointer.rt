@@ -1,13 +1,13 @@
-//! The pointer, and its conversions from and to a box, which move no value. The pointer's field is
-//! public, so that a crate with its own proof can keep the address elsewhere, for instance as a
-//! pointer whose type is erased. A pointer is not `Drop`, so it ends only by `into_box` or by such
-//! a proof.
+//! The pointer, and its conversions from a box and to a box, which do not move the value. The
+//! pointer's field is public, so that a crate with its own proof can keep the address elsewhere,
+//! for instance as a pointer whose type is erased. A pointer is not `Drop`, so it can only end by
+//! `into_box` or by such a proof.
 ghost use Rattle.std.specs.Prelude.{◌≡◌};
 
 use std::alloc::Global;
 use std::marker::Model;
 
-/// A pointer that owns the value at it, and the block of the heap in which the value lies.
+/// A pointer that owns the value it points to, and the heap block that holds this value.
 ///
 /// Contracts see the value.
 pub struct OwnedPointer<T> {
@@ -23,7 +23,7 @@ impl<T> Model for OwnedPointer<T> {
 }
 
 impl<T: Drop> OwnedPointer<T> {
-    /// Turns a box into a pointer. The pointer owns the block from now on.
+    /// Turns a box into a pointer. From then on, the pointer owns the box's block.
     pub fn from_box(held: Box<T, Global>) -> OwnedPointer<T>
         ensures { result.value ≡ held.value }
     {
@@ -32,7 +32,8 @@ impl<T: Drop> OwnedPointer<T> {
         }
     }
 
-    /// Turns the pointer back into a box. The box gives access to the value, and frees the block.
+    /// Turns the pointer back into a box, which gives access to the value, and frees the block when
+    /// it is dropped.
     pub fn into_box(self, alloc: Global) -> Box<T, Global>
         ensures { result.value ≡ self.value }
     {

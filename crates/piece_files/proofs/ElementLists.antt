@@ -1,4 +1,4 @@
--- Elements that are read one after the other; the plain ones are kept.
+-- Elements that are read one after the other. The plain ones are kept.
 use Rattle.std.proofs.Common.{◌≡◌, ℕ, zero, suc, ◌≤◌, List, [], ◌∷◌, ◌++◌, length, Bool, true, false, ◌&&◌, Option, Some, None, refl, ap, arith}
 use Rattle.std.proofs.lemmas.List.{map-append, length-map}
 use Rattle.json.specs.Token.{Token}
@@ -7,7 +7,7 @@ use Rattle.serde_json.specs.Data.{Data, Items, no_items, item}
 use Rattle.piece_files.specs.declared.plain.Plain.{Plain}
 use Rattle.piece_files.specs.Tokens.{is_plain, are_plain, items_from, IsPlain, AreElements}
 
--- A list of elements before items.
+-- Items, with the elements of a list put in front of them.
 abbrev pub before : List Data → Items → Items
 before [] rest = rest
 before (d ∷ ds) rest = item d (before ds rest)

@@ -12,7 +12,7 @@ use Rattle.std.specs.Bool.{then_some}
 use Rattle.piece_files.specs.Pieces.{piece_at, pieces_from, old_of}
 use Rattle.piece_files.specs.Tokens.{outcome, FindsOld}
 
--- The pieces with one more at the end, or the first fault of reading them.
+-- Adds one more piece at the end. If either result is a fault, the first fault is the result.
 abbrev with_last : {P : Type 0} → Result (List P) FileFault → Result P FileFault → Result (List P) FileFault
 with_last read last = read >>= λ ps. (last >>= λ p. Ok (ps ++ p ∷ []))
 
@@ -35,8 +35,9 @@ pieces-last of part i j (e ∷ ds) d at =
     let later : j ≡ suc i + length ds = omega (arith, at) in
     rw (pieces-last of part (suc i) j ds d later) (first_stays (piece_at of part i e) (pieces_from of part (suc i) ds) (piece_at of part j d))
 
--- The pieces read so far: all elements, or those before the first that is no piece. The first
--- `most` of these pieces are kept, and all are counted.
+-- What was read so far: the pieces of all elements or, if `are_all` is false, those before the
+-- first element that is no piece. All these pieces are counted, and the first `most` of them are
+-- kept.
 pub record IsRead {P : Type 0} (of : List Data → Option P) (part : Part) (most : ℕ) (are_all : Bool) (pieces : List P) (count : ℕ) (ds : List Data) : Type 0 where
   pub all : List P
   pub found : pieces_from of part 0 ds ≡ outcome part are_all all
@@ -51,7 +52,7 @@ nothing_read of part most = record { all = []; found = refl; each = λ e. refl; 
 true≢false : {Q : Type 0} → false ≡ true → Q
 true≢false e = absurd (grind (arith, e))
 
--- One more piece, kept or not.
+-- If the next element is a piece, `IsRead` holds with this piece added, whether it is kept or not.
 piece_read : {P : Type 0} (of : List Data → Option P) (part : Part) (most : ℕ) (pieces kept : List P) (count : ℕ) (ds : List Data) (d : Data) (p : P)
     → Some p ≡ option_and_then of (elements_of d) → (h : IsRead of part most true pieces count ds) → kept ≡ take most (h.all ++ p ∷ []) → IsRead of part most true kept (count + 1) (ds ++ d ∷ [])
 piece_read of part most pieces kept count ds d p is h keeps =
@@ -75,7 +76,7 @@ none_kept most count pieces all p le counted kept =
     let here : most ≤ length all = omega (arith, le, counted) in
     kept ∙ sym (take-append-le most all (p ∷ []) here)
 
--- ---- one more element: a piece (kept, or only counted), an element after a fault, or no piece
+-- ---- one more element: a piece that is kept or only counted, one after a fault, or no piece
 
 pub keep_piece : {P : Type 0} (of : List Data → Option P) (part : Part) (most m : ℕ) (b : Bool) (pieces kept : List P) (count next : ℕ) (ds : List Data) (d : Data) (p : P) (o : Option P)
     → m ≡ most → b ≡ true → count < m → kept ≡ pieces ++ p ∷ [] → next ≡ count + 1 → o ≡ Some p → o ≡ option_and_then of (elements_of d) → IsRead of part most b pieces count ds → IsRead of part most b kept next (ds ++ d ∷ [])
@@ -115,7 +116,7 @@ no_piece of part most true pieces count ds d o none is h =
     }
 no_piece of part most false pieces count ds d o none is h = drop_piece of part most false pieces count ds d refl h
 
--- ---- what version 1 finds
+-- ---- the result in version 1
 
 abbrev pub OldRead : {P : Type 0} → (List Data → Option P) → (P → Bool) → Part → Option ℕ → List Data → Type 0
 OldRead of is_old part first ds = FindsOld part first (pieces_from (old_of is_old of) part 0 ds) (pieces_from of part 0 ds)
@@ -130,7 +131,8 @@ old_later of is_old part i ds d h =
     let last = piece_at (old_of is_old of) part (length ds) d in
     pieces-last (old_of is_old of) part 0 (length ds) ds d (omega arith) ∙ ap (λ read. with_last read last) h
 
--- The next element is the same piece in both versions, or no piece in either.
+-- If the next element is the same piece in both versions, or no piece in either, it does not change
+-- which piece is the first that version 1 lacks.
 old_same : {P : Type 0} (of : List Data → Option P) (is_old : P → Bool) (part : Part) (first : Option ℕ) (ds : List Data) (d : Data)
     → option_and_then (old_of is_old of) (elements_of d) ≡ option_and_then of (elements_of d) → OldRead of is_old part first ds → OldRead of is_old part first (ds ++ d ∷ [])
 old_same of is_old part (Some i) ds d same h = old_later of is_old part i ds d h

@@ -1,4 +1,5 @@
--- How `number_of` reads a text with a minus sign, a text without it, and a text of digits only.
+-- How `number_of` reads a text with a minus sign, a text without a minus sign, and a text of digits
+-- only.
 use Rattle.std.proofs.Common.{◌≡◌, ℕ, ◌+◌, ◌-◌, ◌^◌, ◌<◌, ◌≤◌, ◌&&◌, if◌then◌else◌, true, false, ◌==◌, nat_lt, List, [], ◌∷◌, ◌++◌, length, get_or, take, Some, option_map, refl, sym, ap, subst, ◌∙◌, arith}
 use Rattle.std.specs.Prelude.{slice_range}
 use Rattle.std.specs.Str.Parse.{AllDigits, IsNumeral, digits_value}
@@ -27,7 +28,7 @@ pub nothing_left : (s : List ℕ) → length s ≡ 0 → s ≡ []
 nothing_left [] e = refl
 nothing_left (x ∷ s) e = absurd (omega (arith, e))
 
--- The parts of a text of digits only. All the digits are in the whole part.
+-- The parts of a text that consists of digits. All the digits are in the whole part.
 abbrev digits_alone : List ℕ → Parts
 digits_alone bs = record { whole = bs; point = false; fraction = []; exponent_negative = false; exponent = []; len = length bs }
 

@@ -8,7 +8,7 @@ use Rattle.piece_files.specs.Elements.{◌>>=◌, whole_number, number_at, leadi
 use Rattle.piece_files.specs.Tokens.{is_plain, are_plain}
 use Rattle.piece_files.proofs.ValueKinds.{never}
 
--- ---- the parts of an answer that is `Some`
+-- ---- the parts of a result that is `Some`
 
 pub bound : {A B : Type 0} (o : Option A) (f : A → Option B) (b : B) → (o >>= f) ≡ Some b → (a : A) × (o ≡ Some a) × (f a ≡ Some b)
 bound None f b e = absurd (grind (arith, e))

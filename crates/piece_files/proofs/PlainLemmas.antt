@@ -1,5 +1,5 @@
--- Bytes in plain form, as the reader of JSON reads them: white space, commas and brackets, elements
--- and keys, and the arrays and objects that they make together.
+-- What the reader of JSON makes of bytes in plain form: white space, commas and brackets, elements
+-- and keys, and the arrays and objects that these form.
 use Rattle.std.proofs.Common.{◌≡◌, ℕ, suc, ◌+◌, ◌-◌, ◌^◌, ◌<◌, ◌≤◌, Bool, true, false, cond, List, [], ◌∷◌, ◌++◌, length, take, drop, get_or, map, Some, None, option_map, inl, inr, refl, sym, ap, ap₂, subst, ◌∙◌, add-one, append_assoc, append-nil, arith, drop-cons, take-append-drop}
 use Rattle.std.specs.Prelude.{Option, IfSome, option_and_then, ◌==◌, ◌||◌}
 use Rattle.std.specs.Char.{is_ascii_digit}
@@ -78,9 +78,9 @@ one_passed bytes before rest x first space h =
     let b = blank x rest space in
     record { same = h.same ∙ ap (lex between) first ∙ b.0; ended = λ e. h.ended (ap ends_word first ∙ b.1) }
 
--- ---- the bytes behind a value
+-- ---- the bytes after a value
 
--- Nothing but white space is left.
+-- If white space is passed up to the end of the bytes, nothing but white space follows.
 pub all_passed : (bytes : List ℕ) (at end : ℕ) → PassesSpace (drop at bytes) (drop end bytes) → end ≡ length bytes
     → PassesSpace (drop at bytes) []
 all_passed bytes at end h last = subst (PassesSpace (drop at bytes)) (drop_all end bytes (omega (arith, last))) h
@@ -231,7 +231,7 @@ lex-text s rest h =
     let same = sym (escape_plain s h) in
     ap₂ (λ o l. token (string_token o) ∷ l) (ap (λ t. content plain (t ++ 34 ∷ rest)) same ∙ content-escape s rest) (ap (λ t. lex in_string (t ++ 34 ∷ rest)) same ∙ lex-escape s rest)
 
--- A text without escapes between its quotes.
+-- If the bytes are a text without escapes, in quotes, the reader of JSON reads them as this text.
 pub text_lexed : (bytes s rest : List ℕ) → bytes ≡ 34 ∷ (s ++ 34 ∷ rest) → All (λ byte. is_plain byte ≡ true) s → lex between bytes ≡ token (spec.string s) ∷ lex between rest
 text_lexed bytes s rest whole h = ap (lex between) whole ∙ lex-text s rest h
 
@@ -282,7 +282,7 @@ pub taken_to_bracket : (depth : ℕ) (start bytes rest behind : List ℕ) (ds : 
 taken_to_bracket depth start bytes rest behind ds d taken is h =
     subst (λ fs. Begin depth start fs (tokens_at after_value behind)) (append-nil (ds ++ d ∷ [])) (one_taken depth start bytes rest ds d [] (tokens_at after_value behind) taken is (closed depth rest behind h))
 
--- The same lemmas for elements that are kept as plain values.
+-- Adding a plain value at the end of a list adds its data at the end of the list's data.
 its_data : (kept vs : List Plain) (v : Plain) → kept ≡ vs ++ v ∷ [] → map data_of vs ++ data_of v ∷ [] ≡ map data_of kept
 its_data kept vs v is = sym (ap (map data_of) is ∙ map-append data_of vs (v ∷ []))
 

@@ -41,7 +41,7 @@ not_true : (b : Bool) → not b ≡ true → b ≡ false
 not_true true e = absurd (true≢false (sym e))
 not_true false e = refl
 
--- ---- the last member of a name
+-- ---- the last member with a name
 
 pub last_here : (key name : List ℕ) (d : Data) (ms : Members) → key ≡ name → get_member name (put key d ms) ≡ Some d
 last_here key name d ms same = ap (λ q. get_member q (put key d ms)) (sym same) ∙ get_member-put key d ms
@@ -120,7 +120,7 @@ stands_nowhere key names e =
     let over : nat_lt m (length names) ≡ false = chosen_none (nat_lt m (length names)) m e in
     turned key names (all_pass (λ name. not (bytes_eq name key)) names (grind (arith, nat_tests, over)))
 
--- ---- what was found, with one member more
+-- ---- what was found, after one more member
 
 -- The members of a kind have different names.
 pub record Apart {P : Type 0} (kind : FileKind P) : Type 0 where

@@ -10,7 +10,7 @@ use Rattle.serde_json.specs.Read.{of_json, of_items, of_members, converted}
 
 -- ---- results that are converted
 
--- A value, if there is one, paired with the tokens that are left.
+-- A value, if there is one, paired with the tokens after it.
 abbrev with_rest : {B : Type 0} → List Token → Option B → Option (B × List Token)
 with_rest rest x = option_map (λ b. (b, rest)) x
 

@@ -1,4 +1,4 @@
--- The kind of a value, by the token that it begins with.
+-- What kind of value begins with a token.
 use Rattle.std.proofs.Common.{◌≡◌, ℕ, zero, suc, ◌-◌, List, ◌∷◌, Bool, true, false, Option, Some, None, option_map, refl, sym, ap, ◌∙◌, arith}
 use Rattle.json.specs.Token.{Token}
 use Rattle.json.specs.Json.{parse_map}
@@ -25,7 +25,7 @@ mapped : {A : Type 0} (f : A → Data) (o : Option (A × List Token)) (d : Data)
 mapped f None d r e = never e
 mapped f (Some p) d r e = (p.0, same (f p.0) d p.1 r e)
 
--- The data that may begin with a token.
+-- The values that can begin with a token.
 abbrev pub Begins : Token → Data → Type 0
 Begins Token.begin_object d = (ms : Members) × (d ≡ object ms)
 Begins Token.end_object d = ⊥

@@ -1,4 +1,5 @@
--- How the findings in a file's members (`AreFound`) give its contents or its first fault.
+-- How the contents of a file, or its first fault, follow from what was found in its members
+-- (`AreFound`).
 use Rattle.std.proofs.Common.{◌≡◌, ℕ, zero, suc, ◌<◌, ◌≤◌, List, [], ◌∷◌, ◌++◌, length, map, take, get_or, Bool, true, false, ◌&&◌, nat_le, cond, Option, Some, None, option_map, option_and_then, Result, Ok, Err, refl, sym, ap, subst, ◌∙◌, arith}
 use Rattle.std.specs.Option.{ok_or}
 use Rattle.std.specs.Result.{IsErrAnd}
@@ -44,7 +45,8 @@ fails_first (Piece part i) r next h = ap (λ x. x >>= next) h
 fails_first Limit r next h = ap (λ x. x >>= next) h
 fails_first NoMemory r next h = tt
 
--- The result after a `?` that hands on a fault.
+-- If a function returns a fault by `?`, its result is right (`Gives`) if the fault is right
+-- (`FailsAs`).
 pub gives_fault : {X Y : Type 0} (seen : X → Y) (r : Result X FileFault) (fault : FileFault) (wanted : Result Y FileFault) → IsErrAnd r (λ e. e ≡ fault) → FailsAs fault wanted → Gives seen r wanted
 gives_fault seen (Ok x) fault wanted and h = absurd and
 gives_fault seen (Err e) fault wanted and h = subst (λ f. FailsAs f wanted) (sym and) h

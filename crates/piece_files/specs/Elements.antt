@@ -1,16 +1,16 @@
--- The elements of an array in JSON, taken one after the other.
+-- Functions that take the elements of an array in JSON, one after the other.
 use Rattle.std.specs.Prelude.{ℕ, List, [], ◌∷◌, length, ◌==◌, Option, Some, None, option_map, option_and_then, is_some, ⊤, if◌then◌else◌}
 use Rattle.serde_json.specs.Data.{Data, Items, no_items, item}
 use Rattle.serde_json.specs.Find.{as_null, as_number, as_str, as_array, as_u64}
 
--- Continues with the value in an option, if there is one.
+-- Applies the function to the value in an option, if there is one.
 infixl 10 ◌>>=◌
 abbrev pub ◌>>=◌ : {A B : Type 0} → Option A → (A → Option B) → Option B
 (Some x) >>= f = f x
 None >>= f = None
 
--- A whole number below 2^64 with no sign, fraction or exponent: 2.0, 1e2, -0 and 2^64 are read as
--- floats.
+-- The value, if it is a whole number below 2^64 with no sign, fraction or exponent. 2.0, 1e2, -0
+-- and 2^64 are read as floats, so they do not count.
 abbrev pub whole_number : Data → Option ℕ
 whole_number d = option_and_then as_u64 (as_number d)
 
@@ -23,23 +23,23 @@ list_of (item d ds) = d ∷ list_of ds
 abbrev pub elements_of : Data → Option (List Data)
 elements_of d = option_map list_of (as_array d)
 
--- The first element, a number, and the elements after it.
+-- The first element, if it is a number, and the elements after it.
 unfoldable pub number_at : List Data → Option (ℕ × List Data)
 number_at [] = None
 number_at (d ∷ ds) = option_map (λ n. (n, ds)) (whole_number d)
 
--- The first element, a text, and the elements after it.
+-- The first element, if it is a text, and the elements after it.
 unfoldable pub leading_text : List Data → Option (List ℕ × List Data)
 leading_text [] = None
 leading_text (d ∷ ds) = option_map (λ s. (s, ds)) (as_str d)
 
--- One number and nothing else.
+-- The only element, if it is a number and there is no other.
 unfoldable pub one_of : List Data → Option ℕ
 one_of ds = do
   n ← number_at ds
   if length n.1 == 0 then Some n.0 else None
 
--- No element is left.
+-- `Some` exactly if there is no element.
 unfoldable pub ends_here : List Data → Option ⊤
 ends_here ds = if length ds == 0 then Some tt else None
 
@@ -47,18 +47,18 @@ ends_here ds = if length ds == 0 then Some tt else None
 abbrev pub optional : Data → Option (Option ℕ)
 optional d = if is_some (as_null d) then Some None else option_map (λ n. Some n) (whole_number d)
 
--- The first element, null or a number, and the elements after it.
+-- The first element, if it is null or a number, and the elements after it.
 unfoldable pub optional_at : List Data → Option (Option ℕ × List Data)
 optional_at [] = None
 optional_at (d ∷ ds) = option_map (λ r. (r, ds)) (optional d)
 
--- Null or one number, and nothing else.
+-- The only element, if it is null or a number and there is no other.
 unfoldable pub optional_of : List Data → Option (Option ℕ)
 optional_of ds = do
   r ← optional_at ds
   if length r.1 == 0 then Some r.0 else None
 
--- Two numbers and nothing else.
+-- The two elements, if they are numbers and there is no other.
 unfoldable pub two_of : List Data → Option (ℕ × ℕ)
 two_of ds = do
   m ← number_at ds

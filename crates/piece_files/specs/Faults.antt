@@ -1,10 +1,11 @@
--- Faults of a file: their texts, and the answer of a reader that may also lack memory.
+-- Faults of a file: the words that name them, and the result of a reader to which memory may be
+-- refused.
 use Rattle.std.specs.Prelude.{◌≡◌, ℕ, List, ◌++◌, Option, Some, None, Result, Ok, Err, codes, decimal}
 use Rattle.piece_files.specs.declared.part.Part.TheVariants as parts
 use Rattle.piece_files.specs.declared.file_fault.FileFault.{FileFault}
 use Rattle.piece_files.specs.declared.file_fault.FileFault.TheVariants.{NotJson, Member, Piece, Limit, NoMemory}
 
--- A fault's number, and the place if it has one.
+-- The words that name a fault: its number, and its place if it has one.
 abbrev pub words_of : FileFault → List ℕ
 words_of NotJson = codes "20"
 words_of Member = codes "21"
@@ -14,7 +15,7 @@ words_of (Piece parts.Entry i) = codes "21 entry " ++ decimal i
 words_of Limit = codes "22"
 words_of NoMemory = codes "14"
 
--- Continues with what was read, or keeps the first fault.
+-- Continues with what was read. If there is a fault instead, the fault is the result.
 infixl 10 ◌>>=◌
 abbrev pub ◌>>=◌ : {A B : Type 0}
     → Result A FileFault → (A → Result B FileFault) → Result B FileFault
@@ -26,7 +27,7 @@ abbrev pub or_fault : {A : Type 0} → FileFault → Option A → Result A FileF
 or_fault fault (Some x) = Ok x
 or_fault fault None = Err fault
 
--- The fault is the one that the file has, unless memory was refused.
+-- `fault` is the fault in `wanted`, unless memory was refused.
 abbrev pub FailsAs : {Y : Type 0} → FileFault → Result Y FileFault → Type 0
 FailsAs NoMemory wanted = Unit {0}
 FailsAs NotJson wanted = wanted ≡ Err NotJson
@@ -34,7 +35,7 @@ FailsAs Member wanted = wanted ≡ Err Member
 FailsAs (Piece part i) wanted = wanted ≡ Err (Piece part i)
 FailsAs Limit wanted = wanted ≡ Err Limit
 
--- A reader's answer, as `seen` shows it, is the one that the file has, unless memory was refused.
+-- The result of a reader, as `seen` shows it, is `wanted`, unless memory was refused.
 abbrev pub Gives : {X Y : Type 0} → (X → Y) → Result X FileFault → Result Y FileFault → Type 0
 Gives seen (Ok x) wanted = wanted ≡ Ok (seen x)
 Gives seen (Err e) wanted = FailsAs e wanted

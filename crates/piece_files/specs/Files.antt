@@ -11,8 +11,8 @@ use Rattle.piece_files.specs.Json.{json_of, number_named}
 use Rattle.piece_files.specs.Pieces.{pieces_member, old_of, in_version}
 
 -- A kind of file: the names of its numbers, in the order in which `contents` gives them, the name
--- of its pieces, what a piece is, whether version 1 has this piece too, what a fault calls a piece,
--- and how many pieces there may be.
+-- of the member with its pieces, and what a piece is. Also whether a piece exists in version 1 too,
+-- what a fault calls a piece, and how many pieces there may be.
 pub record FileKind (P : Type 0) : Type 0 where
   pub numbers : List (List ℕ)
   pub pieces : List ℕ
@@ -21,7 +21,7 @@ pub record FileKind (P : Type 0) : Type 0 where
   pub part : Part
   pub most : ℕ
 
--- The member that says how to read the others.
+-- The name of the member with the version of the file.
 abbrev pub version : List ℕ
 version = codes "version"
 
@@ -39,17 +39,18 @@ abbrev pub all_of : List (Option ℕ) → Option (List ℕ)
 all_of [] = Some []
 all_of (number ∷ numbers) = option_and_then (λ n. option_map (λ ns. n ∷ ns) (all_of numbers)) number
 
--- The last version that is read.
+-- The last version of a file that can be read.
 abbrev pub max_version : ℕ
 max_version = 3
 
--- Whether a version is read.
+-- Whether files of this version can be read.
 abbrev pub is_version : ℕ → Bool
 is_version v = nat_le 1 v && nat_le v max_version
 
--- The version, the numbers and the pieces, by what the members have: `old` has the pieces as
--- version 1 has them, and `new` as all other versions have them. The three are looked for in this
--- order. Then it is tested whether the version is read and whether there are at most `most` pieces.
+-- The version, the numbers and the pieces, from what the members have: `old` has the pieces as
+-- version 1 reads them, and `new` as all other versions read them. First the version is looked for,
+-- then the numbers, then the pieces. Then it is tested whether files of the version can be read,
+-- and whether there are at most `most` pieces.
 unfoldable pub contents_from : {P : Type 0} → ℕ → Option ℕ → Option (List ℕ)
     → Result (List P) FileFault → Result (List P) FileFault
     → Result (ℕ × List ℕ × List P) FileFault
@@ -59,7 +60,8 @@ contents_from most version numbers old new = do
   ps ← in_version v old new
   if is_version v && nat_le (length ps) most then Ok (v, ns, ps) else Err Limit
 
--- The version, the numbers and the pieces that a value has as a file of this kind.
+-- Reads a value as a file of this kind: its version, its numbers and its pieces, or the first
+-- fault.
 unfoldable pub contents_of : {P : Type 0}
     → FileKind P → Data → Result (ℕ × List ℕ × List P) FileFault
 contents_of kind d =
@@ -68,7 +70,6 @@ contents_of kind d =
     (pieces_member (old_of kind.is_old kind.of) kind.part kind.pieces d)
     (pieces_member kind.of kind.part kind.pieces d)
 
--- The version, the numbers and the pieces that bytes have as a file of this kind, or the first
--- fault.
+-- Reads bytes as a file of this kind: its version, its numbers and its pieces, or the first fault.
 abbrev pub contents : {P : Type 0} → FileKind P → List ℕ → Result (ℕ × List ℕ × List P) FileFault
 contents kind bytes = json_of bytes >>= contents_of kind

@@ -8,12 +8,13 @@ use Rattle.piece_files.specs.Faults.{◌>>=◌, or_fault}
 use Rattle.piece_files.specs.Elements.{elements_of}
 use Rattle.piece_files.specs.Json.{array_member}
 
--- The piece that a value at this index is, or the fault of this index. `of` says which piece has
--- the value's elements.
+-- Reads the value at index `i` as a piece. If it is no piece, the result is a fault with this
+-- index. `of` says which piece has the value's elements.
 abbrev pub piece_at : {P : Type 0} → (List Data → Option P) → Part → ℕ → Data → Result P FileFault
 piece_at of part i d = or_fault (Piece part i) (option_and_then of (elements_of d))
 
--- The pieces from an index on.
+-- Reads elements as pieces. The first element has the index `i`. The result is the pieces or the
+-- first fault.
 unfoldable pub pieces_from : {P : Type 0} → (List Data → Option P) → Part → ℕ
     → List Data → Result (List P) FileFault
 pieces_from of part i [] = Ok []
@@ -23,15 +24,15 @@ pieces_from of part i (d ∷ ds) = do
   Ok (first ∷ others)
 
 -- The piece that has these elements in version 1, if there is one. A piece of version 2 is also a
--- piece of version 1 exactly if `is_old` answers true for it.
+-- piece of version 1 exactly if `is_old` is true for it.
 abbrev pub old_of : {P : Type 0} → (P → Bool) → (List Data → Option P) → List Data → Option P
 old_of is_old of ds = option_and_then (λ p. if is_old p then Some p else None) (of ds)
 
--- The value for a file of this version: the old value for version 1, the new one for all others.
+-- What is right for a file of this version: `old` for version 1, `new` for all others.
 abbrev pub in_version : {A : Type 0} → ℕ → A → A → A
 in_version version old new = if version == 1 then old else new
 
--- The pieces in the member of this name.
+-- The pieces in the member with this name, or the first fault.
 abbrev pub pieces_member : {P : Type 0} → (List Data → Option P) → Part → List ℕ
     → Data → Result (List P) FileFault
 pieces_member of part name d = array_member name d >>= pieces_from of part 0

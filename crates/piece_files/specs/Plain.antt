@@ -1,4 +1,4 @@
--- The value in JSON of a plain value.
+-- A plain value, as a value of JSON.
 use Rattle.serde_json.specs.Data.{Data, null, number, string, unsigned}
 use Rattle.piece_files.specs.declared.plain.Plain.{Plain}
 use Rattle.piece_files.specs.declared.plain.Plain.TheVariants.{Null, Text, Number}

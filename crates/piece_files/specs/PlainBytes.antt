@@ -1,4 +1,4 @@
--- Bytes in plain form, by the tokens that the reader of JSON makes of them.
+-- What bytes in plain form mean, given by the tokens into which the reader of JSON turns them.
 use Rattle.std.specs.Prelude.{◌≡◌, ℕ, ◌≤◌, true, false, List, [], ◌∷◌, ◌++◌, length, Some, None}
 use Rattle.json.specs.Token.{Token, begin_array, begin_object, end_array, end_object, key}
 use Rattle.json.specs.Json.{after_end_array, items, members, value}
@@ -8,8 +8,8 @@ use Rattle.serde_json.specs.Data.{Data, Members, object}
 use Rattle.serde_json.specs.Read.{converted, of_items, of_members, read}
 use Rattle.piece_files.specs.Tokens.{items_from, value_at}
 
--- The tokens of the bytes. `place` says what stands before the bytes: a value, a comma, a key, or
--- none of these (`fresh`).
+-- The tokens of the bytes. `place` says what is before the bytes: a value, a comma, a key, or none
+-- of these (`fresh`).
 abbrev pub tokens_at : Place → List ℕ → List Token
 tokens_at place bytes = punctuate place (lex between bytes)
 
@@ -20,47 +20,47 @@ pub record PassesSpace (bytes rest : List ℕ) : Type 0 where
   pub same : lex between bytes ≡ lex between rest
   pub ended : ends_word rest ≡ true → ends_word bytes ≡ true
 
--- The bytes may follow a value: they do not continue its word, and do not begin with a colon, which
--- would make the value a key.
+-- The bytes may follow a value. They do not continue the value's word, and they do not begin with a
+-- colon, which would make the value a key.
 pub record EndsValue (bytes : List ℕ) : Type 0 where
   pub ended : ends_word bytes ≡ true
   pub no_colon : begins_colon (lex between bytes) ≡ false
 
--- The bytes behind a value are a comma, and then the rest.
+-- The bytes after a value are a comma, and then the rest.
 pub record Comma (bytes rest : List ℕ) : Type 0 where
   pub ends : EndsValue bytes
   pub left : tokens_at after_value bytes ≡ tokens_at after_comma rest
 
--- The bytes behind a value are the bracket that closes an array, and then the rest.
+-- The bytes after a value are the bracket that closes an array, and then the rest.
 pub record Closes (bytes rest : List ℕ) : Type 0 where
   pub ends : EndsValue bytes
   pub left : tokens_at after_value bytes ≡ end_array ∷ tokens_at after_value rest
 
--- The bytes behind a value are the brace that closes an object, and nothing else.
+-- The bytes after a value are the brace that closes an object, and nothing else.
 pub record Finishes (bytes : List ℕ) : Type 0 where
   pub ends : EndsValue bytes
   pub left : tokens_at after_value bytes ≡ end_object ∷ []
 
--- The bytes open an array, and the rest follows.
+-- The bytes are the opening bracket of an array, and then the rest.
 abbrev pub OpensArray : List ℕ → List ℕ → Type 0
 OpensArray bytes rest = lex between bytes ≡ token begin_array ∷ lex between rest
 
--- The bytes open an object, and the rest follows.
+-- The bytes are the opening brace of an object, and then the rest.
 abbrev pub OpensObject : List ℕ → List ℕ → Type 0
 OpensObject bytes rest = lex between bytes ≡ token begin_object ∷ lex between rest
 
 -- ---- values and keys
 
--- If a value may begin where the bytes stand, and if the rest may follow a value, the bytes are the
--- value `d` and then the rest.
+-- If a value may begin at these bytes, and if `rest` may follow a value, the bytes are the value
+-- `d` and then `rest`.
 abbrev pub IsValue : ℕ → List ℕ → Data → List ℕ → Type 0
 IsValue depth bytes d rest =
     EndsValue rest → (place : Place) → may_begin place ≡ true
     → (value_at depth (tokens_at place bytes) ≡ Some (d, tokens_at after_value rest))
     × (after_end_array (tokens_at place bytes) ≡ None)
 
--- If a key may begin where the bytes stand, the bytes are the key `name` and then the rest. A value
--- may begin where the rest stands.
+-- If a key may begin at these bytes, the bytes are the key `name` and then `rest`. A value may
+-- begin at `rest`.
 abbrev pub IsKey : List ℕ → List ℕ → List ℕ → Type 0
 IsKey bytes name rest =
     (place : Place) → may_begin place ≡ true
@@ -75,12 +75,14 @@ AreLeft depth ts ds others =
     (n : ℕ) → length ts ≤ n
     → converted of_items (items (value depth) n ts) ≡ Some (items_from ds, others)
 
--- If an element may begin where the bytes stand, the bytes are the remaining elements of an array.
+-- If an element may begin at these bytes, the bytes are the elements `ds`, which are the rest of an
+-- array. The tokens after the array are `others`.
 abbrev pub Begin : ℕ → List ℕ → List Data → List Token → Type 0
 Begin depth bytes ds others =
     (place : Place) → may_begin place ≡ true → AreLeft depth (tokens_at place bytes) ds others
 
--- Behind an element, the bytes are the remaining elements of an array.
+-- If an element is just before these bytes, the bytes are the elements `ds`, which are the rest of
+-- an array. The tokens after the array are `others`.
 pub record Follow (depth : ℕ) (bytes : List ℕ) (ds : List Data) (others : List Token) : Type 0 where
   pub ends : EndsValue bytes
   pub left : AreLeft depth (tokens_at after_value bytes) ds others
@@ -91,8 +93,8 @@ AreTaken depth start ds rest =
     (es : List Data) (others : List Token)
     → Begin depth rest es others → Begin depth start (ds ++ es) others
 
--- The tokens are the remaining members of an object, with nothing after the object. Added to the
--- members `old`, they make `all`.
+-- The tokens are the remaining members of an object, and nothing follows the object. If they are
+-- added to the members `old`, the result is `all`.
 abbrev pub AreMembers : List Token → Members → Members → Type 0
 AreMembers ts old all =
     (n : ℕ) → length ts ≤ n

@@ -1,4 +1,4 @@
--- The value that tokens begin with, in the words of `serde_json`, and the tokens after it.
+-- The value that tokens begin with, as `serde_json` defines it, and the tokens after it.
 use Rattle.std.specs.Prelude.{◌≡◌, ℕ, zero, suc, List, [], ◌∷◌, length, take, map, Bool, true, false, ◌&&◌, Option, Some, None}
 use Rattle.json.specs.Token.{Token}
 use Rattle.json.specs.Json.{value, items, members}
@@ -17,11 +17,11 @@ use Rattle.piece_files.specs.declared.file_fault.FileFault.TheVariants.{Piece}
 abbrev pub value_at : ℕ → List Token → Option (Data × List Token)
 value_at depth ts = converted of_json (value depth ts)
 
--- The elements of an array whose opening bracket was taken, and the tokens after the array.
+-- The remaining elements of an array, after its opening bracket, and the tokens after the array.
 abbrev pub items_at : ℕ → List Token → Option (Items × List Token)
 items_at depth ts = converted of_items (items (value depth) (length ts) ts)
 
--- The members of an object whose opening brace was taken, and the tokens after the object.
+-- The remaining members of an object, after its opening brace, and the tokens after the object.
 abbrev pub members_at : ℕ → List Token → Option (Members × List Token)
 members_at depth ts =
     converted (λ ms. of_members ms no_members) (members (value depth) (length ts) ts)
@@ -63,28 +63,29 @@ abbrev pub items_from : List Data → Items
 items_from [] = no_items
 items_from (d ∷ ds) = item d (items_from ds)
 
--- The result of reading pieces: the pieces if all are right, else the fault of the first wrong one.
--- `pieces` are all pieces, or those before the wrong one.
+-- The result of reading pieces: the pieces if no element is wrong, else the fault of the first
+-- wrong element. In the second case, `pieces` are the pieces before this element.
 abbrev pub outcome : {P : Type 0} → Part → Bool → List P → Result (List P) FileFault
 outcome part true pieces = Ok pieces
 outcome part false pieces = Err (Piece part (length pieces))
 
--- The pieces found are all pieces of an array, or those before its first element that is no piece.
--- All of these are counted, and the first `most` of them are kept.
+-- `wanted` is the result of reading some pieces. `count` is their number, and `pieces` are the
+-- first `most` of them. If `are_all` is false, they are the pieces before the first element that is
+-- no piece.
 abbrev pub FindsPieces : {P : Type 0} → Part → ℕ → List P → ℕ → Bool → Result (List P) FileFault
     → Type 0
 FindsPieces {P} part most pieces count are_all wanted =
     (all : List P) × (wanted ≡ outcome part are_all all) × (count ≡ length all)
     × (pieces ≡ take most all)
 
--- Version 1 gives the same result as version 2, unless some piece is valid only in version 2. Then
--- version 1 gives the fault of the first such piece, piece `i`.
+-- Version 1 gives the same result as version 2, unless some piece is valid only in version 2. In
+-- that case version 1 gives the fault of the first such piece, which has the index `i`.
 abbrev pub FindsOld : {P : Type 0} → Part → Option ℕ
     → Result (List P) FileFault → Result (List P) FileFault → Type 0
 FindsOld part None old new = old ≡ new
 FindsOld part (Some i) old new = old ≡ Err (Piece part i)
 
--- The pieces found, with the result in version 2 (`new`) and in version 1 (`old`).
+-- The pieces that were found, with the result in version 2 (`new`) and in version 1 (`old`).
 abbrev pub FindsBoth : {P : Type 0} → Part → ℕ → Pieces P
     → Result (List P) FileFault → Result (List P) FileFault → Type 0
 FindsBoth part most p old new =

@@ -1,6 +1,6 @@
-//! The elements of an array, taken from the front of a slice one after the other, so that a kind of
-//! pieces need not look at tokens. Each call takes constant time and no memory; `None` means that
-//! the elements are not those that the call takes.
+//! Functions that take the elements of an array from the front of a slice, one after the other.
+//! With them, a kind of pieces need not look at tokens. Each function takes constant time and no
+//! memory. It returns `None` if the elements are not those that the function takes.
 
 ghost use Rattle.std.specs.Prelude.{◌≡◌, map, option_map};
 ghost use Rattle.piece_files.specs.Plain.{data_of};
@@ -9,8 +9,8 @@ ghost use Rattle.piece_files.specs.Elements.{optional_of};
 
 use crate::plain::Plain;
 
-/// The first element, which is a whole number below 2^64, and the elements after it. Answers `None`
-/// if there is no element, or the first is no such number.
+/// The first element, which is a whole number below 2^64, and the elements after it. Returns `None`
+/// if there is no element, or if the first is no such number.
 ///
 /// # Cost
 ///
@@ -27,8 +27,8 @@ pub fn number_in<'v, 'a>(values: &'v [Plain<'a>]) -> Option<(u64, &'v [Plain<'a>
     }
 }
 
-/// The first element, which is a text, and the elements after it. Answers `None` if there is no
-/// element, or the first is no text.
+/// The first element, which is a text, and the elements after it. Returns `None` if there is no
+/// element, or if the first is no text.
 ///
 /// # Cost
 ///
@@ -45,8 +45,8 @@ pub fn word_in<'v, 'a>(values: &'v [Plain<'a>]) -> Option<(&'a str, &'v [Plain<'
     }
 }
 
-/// The only element, which is a whole number below 2^64. Answers `None` if there is no element or
-/// more than one, or the element is no such number.
+/// The only element, which is a whole number below 2^64. Returns `None` if there is not exactly one
+/// element, or if the element is no such number.
 ///
 /// # Cost
 ///
@@ -59,7 +59,7 @@ pub fn one_in(values: &[Plain<'_>]) -> Option<u64>
     if rest.is_empty() { Some(number) } else { None }
 }
 
-/// Answers `Some` if there is no element, else `None`.
+/// Returns `Some` if there is no element, else `None`.
 ///
 /// # Cost
 ///
@@ -72,7 +72,8 @@ pub fn end_in(values: &[Plain<'_>]) -> Option<()>
 }
 
 /// The first element, and the elements after it. The first is a whole number below 2^64, or `null`,
-/// which is read as `None`. Answers `None` if there is no element, or the first is another value.
+/// which is read as `None`. Returns `None` if there is no element, or if the first is any other
+/// value.
 ///
 /// # Cost
 ///
@@ -92,8 +93,9 @@ pub fn leading_optional_in<'v, 'a>(
     }
 }
 
-/// The only element: a whole number below 2^64, or `null`, which is `Some(None)`. Answers `None` if
-/// there is no element or more than one, or the element is another value.
+/// The only element, which is a whole number below 2^64, or `null`. Returns `Some(None)` for
+/// `null`. Returns `None` if there is not exactly one element, or if the element is any other
+/// value.
 ///
 /// # Cost
 ///
@@ -106,7 +108,7 @@ pub fn optional_in(values: &[Plain<'_>]) -> Option<Option<u64>>
     if rest.is_empty() { Some(value) } else { None }
 }
 
-/// The two elements, which are whole numbers below 2^64, in their order. Answers `None` if the
+/// The two elements in their order. Both are whole numbers below 2^64. Returns `None` if the
 /// elements are not exactly two such numbers.
 ///
 /// # Cost

@@ -1,7 +1,7 @@
-//! A file as a whole: its numbers and its pieces, by the names of its members. The order in which
-//! faults count is decided here and nowhere else: `members` finds only what a text has, or that it
-//! is not JSON, or that memory was refused. No other module of the crate tests the length of a file
-//! or its version.
+//! Reads a whole file: its version, its numbers and its pieces, found by the names of its members.
+//! This module alone decides which fault is reported if a file has several, and it alone tests the
+//! length of a file and its version. The module `members` only reports what a text contains, or
+//! that it is not JSON, or that memory was refused.
 
 ghost use Rattle.std.specs.Prelude.{◌≡◌, ◌∷◌, ◌≤◌, List, length, take, map, true, Option, Some, Result, Ok, Err, MatchResult};
 ghost use Rattle.std.specs.Str.{IsUtf8};
@@ -18,10 +18,10 @@ use crate::members::{Found, Names, members_in};
 use crate::piece::{PieceKind, Pieces};
 use std::alloc::Global;
 
-/// The length that a file may have, in bytes.
+/// The greatest length of a file, in bytes.
 const MAX_BYTES: usize = 16_777_216;
 
-/// The numbers, if all are there.
+/// The numbers, if all were found.
 fn all_numbers<const N: usize>(found: [Option<u64>; N]) -> Option<[u64; N]>
     ensures { result ≡ all_of found.entry }
 {
@@ -32,17 +32,18 @@ fn all_numbers<const N: usize>(found: [Option<u64>; N]) -> Option<[u64; N]>
     Some(numbers)
 }
 
-/// The last version that is read.
+/// The last version of a file that can be read.
 const MAX_VERSION: u64 = 3;
 
-/// Whether a version is read.
+/// Whether files of this version can be read.
 fn is_version(version: u64) -> bool
     ensures { result ≡ is_version version }
 {
     1 <= version && version <= MAX_VERSION
 }
 
-/// The pieces in a member, if all its elements are pieces of this version.
+/// The pieces that were found in a member, if the member is there and all its elements are pieces
+/// of this version.
 fn pieces_found<K: PieceKind>(
     found: Option<Pieces<K::Piece>>,
     version: u64,
@@ -66,7 +67,7 @@ fn pieces_found<K: PieceKind>(
     }
 }
 
-/// The version, the numbers and the pieces, as they were found in the members.
+/// The version, the numbers and the pieces, from what was found in the members.
 fn contents_found<K: PieceKind, const N: usize>(
     found: Found<K::Piece, N>,
 ) -> Result<(u64, [u64; N], Vec<K::Piece>), FileFault>
@@ -85,34 +86,34 @@ fn contents_found<K: PieceKind, const N: usize>(
     }
 }
 
-/// The version, the numbers and the pieces of a file of version 1 to 3: an object in JSON with the
-/// member `version`, a number in each member of `numbers`, and an array of pieces in the member
-/// `pieces`.
+/// Reads the version, the numbers and the pieces of a file of version 1 to 3. Such a file is an
+/// object in JSON. The member `version` has the version. Each name in `numbers` is the name of a
+/// member with a number. The argument `pieces` is the name of the member with the array of pieces.
 ///
-/// Other members of the object are passed over. If a member is given more than once, the last one
+/// Other members of the object are skipped. If a member is given more than once, the last one
 /// counts. A number is written without a sign, a fraction or an exponent, and is below 2^64.
 ///
 /// # Errors
 ///
-/// The first of these, in this order:
+/// The first of these that applies, in this order:
 ///
 /// - `Limit` if there are more than 16,777,216 bytes.
-/// - `NotJson` if they are not UTF-8 or not JSON, if arrays and objects nest deeper than 127, or if
-///   a number is too large for a float.
-/// - `Member` if the value is no object, or a member is missing or of the wrong kind.
-/// - `Piece` for the first element of `pieces` that is no piece or, if the version is 1, no piece
-///   of version 1.
-/// - `Limit` if the version is not 1 to 3 or there are more pieces than there may be.
+/// - `NotJson` if the bytes are not UTF-8 or not JSON, if arrays and objects nest deeper than 127,
+///   or if a number is too large for a float.
+/// - `Member` if the value is no object, or if a member is missing or of the wrong kind.
+/// - `Piece` for the first element of the array that is no piece or, in a file of version 1, no
+///   piece of version 1.
+/// - `Limit` if the version is not 1 to 3, or if there are more than `K::most()` pieces.
 ///
-/// `NoMemory` if memory is refused. It can replace any other answer, except for bytes that are too
-/// many or not UTF-8.
+/// `NoMemory` if memory is refused. It can take the place of any other result, unless there are too
+/// many bytes or they are not UTF-8.
 ///
 /// # Cost
 ///
-/// Time in proportion to the bytes, if `K::read`, `K::read_plain` and `K::is_old` take time in
-/// proportion to what they read; memory for the pieces, for 16 at least, and what `K::read` and
-/// `K::read_plain` take. A file that is not in plain form also takes scratch memory of its whole
-/// length.
+/// Time in proportion to the number of bytes, if `K::read`, `K::read_plain` and `K::is_old` take
+/// time in proportion to what they read. Takes memory for the pieces, or for 16 pieces if there are
+/// fewer, and what `K::read` and `K::read_plain` take. A file that is not in plain form also takes
+/// scratch memory of its whole length.
 pub fn read_file<'n, K: PieceKind, const N: usize>(
     alloc: Global,
     bytes: &[u8],

@@ -1,6 +1,7 @@
-//! The faults for which a file is refused, with the numbers that users see: those of `Refusal` in
-//! `txn_words`, which this crate does not use. A fault names one piece at most, the first that is
-//! wrong. The contract of `read_file` gives the order in which faults are looked for.
+//! The faults for which a file is refused, with the numbers that users see. The numbers are those
+//! of `Refusal` in `txn_words`, a crate that this crate does not use. A fault names at most one
+//! piece, the first that is wrong. The documentation of `read_file` says which fault is reported if
+//! there are several.
 ghost use Rattle.std.specs.Prelude.{◌≡◌};
 ghost use Rattle.piece_files.specs.Faults.{words_of};
 ghost use Rattle.piece_files.specs.declared.file_fault.FileFault.TheVariants.{NoMemory};
@@ -9,17 +10,17 @@ use crate::part::Part;
 use std::alloc::{AllocError, AllocFailed};
 use std::fmt;
 
-/// Why a file was refused. It is printed as its number, with the place if there is one.
+/// Why a file was refused. A fault is printed as its number, followed by the place if it has one.
 #[derive(Clone, Copy, Debug, PartialEq, Eq)]
 pub enum FileFault {
-    /// 20: the bytes are no JSON.
+    /// 20: the bytes are not JSON.
     NotJson,
     /// 21: the file is no object, or a member is missing or of the wrong kind.
     Member,
-    /// 21, with the index from 0: the first piece with a wrong shape.
+    /// 21, with an index: the first piece that is wrong, and its index from 0.
     Piece(Part, usize),
-    /// 22: the file is too long, or a number in it, the number of its pieces or the length of a
-    /// piece is out of range.
+    /// 22: the file is too long, or one of these is out of range: a number in the file, the number
+    /// of its pieces, or the length of a piece.
     Limit,
     /// 14: memory was refused. This fault says nothing about the file.
     NoMemory,

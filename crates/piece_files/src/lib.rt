@@ -1,29 +1,29 @@
 //! Files that are an object in JSON: a version, some numbers, and an array of pieces. A kind of
-//! file is a table: the names of its numbers, in the order in which `read_file` answers them, the
-//! name of its pieces, and what a piece is (`PieceKind`). A kind of file may allow a piece in
-//! version 2 but not in version 1 (`PieceKind::is_old`). In a file of version 1 such a piece is
-//! wrong. Of steps, scripts and entries this crate knows only the words by which a fault names them
-//! (`Part`).
+//! file has names for its numbers, in the order in which `read_file` returns them, and a name for
+//! the member with its pieces. It also says what a piece is (`PieceKind`). A kind of file may allow
+//! a piece in version 2 but not in version 1 (`PieceKind::is_old`). In a file of version 1 such a
+//! piece is a fault. This crate knows nothing of steps, scripts and entries but the words by which
+//! a fault names them (`Part`).
 //!
-//! The model is a function of the bytes, `contents` of `specs/Files.antt`. It reads the bytes as a
-//! value of JSON (`json_of`), and gives the version, the numbers and the pieces in the value's
-//! members, or the first fault; `pieces_from` gives the pieces of an array, or the first element
-//! that is no piece. Inside, the model of a reader is the tokens that are left, and
+//! The model of a file is the function `contents` in `specs/Files.antt`. It reads the bytes as a
+//! value of JSON (`json_of`). Its result is the version, the numbers and the pieces in the value's
+//! members, or the first fault. Within it, `pieces_from` gives the pieces of an array, or the first
+//! element that is no piece. The model of a reader is the list of tokens that it has not yet read;
 //! `specs/Tokens.antt` says what they begin with. `json` and `serde_json` define what bytes, tokens
 //! and numbers mean as JSON.
 //!
 //! A file in plain form, as most are written, is read straight from its bytes. In such a file no
-//! text has escapes, and no number has more than 19 digits. Its array has at least one piece, only
-//! pieces of the kind, and no more than the kind keeps; its other members have plain values. White
-//! space may stand wherever JSON allows it. A file in any other form is read from its start by the
-//! reader of JSON, which makes an index of the file as it goes, and takes scratch memory of the
-//! file's length (`members.rt`). `specs/PlainBytes.antt` says which tokens the reader of JSON makes
-//! of bytes in plain form.
+//! text has escapes, and no number has more than 19 digits. Its array has at least one element,
+//! each element is a piece of the kind, and there are no more pieces than a file of this kind may
+//! have. Its other members have plain values. White space may stand wherever JSON allows it. The
+//! reader of JSON reads a file in any other form again from its start. It makes an index of the
+//! file while it reads, and takes scratch memory of the file's length (`members.rt`).
+//! `specs/PlainBytes.antt` says into which tokens the reader of JSON turns bytes in plain form.
 //!
-//! Promised: `read_file` computes `contents`, or says that memory was refused. A text is read once,
-//! or twice if it has no plain form, in time proportional to its length. What is passed over is
-//! tested to be JSON, and nothing of it is kept; no more pieces are kept than a file may have, and
-//! the others are only counted.
+//! Guarantees: `read_file` computes `contents`, or reports that memory was refused. A text is read
+//! once, or twice if it has no plain form, in time proportional to its length. Values that are
+//! skipped are tested to be JSON, and nothing of them is kept. No more pieces are kept than a file
+//! may have; further pieces are only counted.
 #![tactic(auto)]
 
 mod elements;

@@ -1,6 +1,6 @@
-//! The members of a file, taken one after the other: those that its kind has are kept, the others
-//! passed over. `plain_members` tries each text first; if it gives up, the reader of JSON reads the
-//! text from its start and decides. So a text is read at most twice.
+//! Reads the members of a file, one after the other. Members that belong to the kind of file are
+//! kept, and all others are skipped. `plain_members` tries each text first. If it gives up, the
+//! reader of JSON reads the text from its start and decides. So a text is read at most twice.
 
 ghost use Rattle.std.specs.Prelude.{◌≡◌, ◌∷◌, ◌≤◌, ◌<◌, true, false, map, length, replicate, Option, Some, None, Ok, Err, IfOk, OnOk, OnErr, MatchResult, codes};
 ghost use Rattle.json.specs.Reads.{token_of};
@@ -38,7 +38,7 @@ pub(crate) struct Names<'a> {
     pub(crate) pieces: &'a str,
 }
 
-/// The findings in a file's members. Of two members with one name the last counts.
+/// What was found in a file's members. If two members have the same name, the last one counts.
 #[derive(Drop)]
 pub(crate) struct Found<P, const N: usize> {
     pub(crate) version: Option<u64>,
@@ -46,7 +46,7 @@ pub(crate) struct Found<P, const N: usize> {
     pub(crate) pieces: Option<Pieces<P>>,
 }
 
-/// The findings before any member is taken.
+/// The state before any member is read, in which nothing is found.
 pub(crate) fn nothing_found<P, const N: usize>() -> Found<P, N>
     requires { N ≤ 64 }
     ensures version { result.version ≡ None }
@@ -60,8 +60,8 @@ pub(crate) fn nothing_found<P, const N: usize>() -> Found<P, N>
     }
 }
 
-/// The number that begins with this token, which was taken. Answers `None` if the value is no whole
-/// number below 2^64.
+/// Reads the number that begins with `token`, which was already taken from the reader. Returns
+/// `None` if the value is no whole number below 2^64.
 fn number_member(
     token: Token<'_>,
     reader: &mut Reader<'_>,
@@ -79,8 +79,8 @@ fn number_member(
     }
 }
 
-/// The pieces of the array that begins with this token, which was taken. Answers `None` if the
-/// value is no array.
+/// Reads the pieces of the array that begins with `token`, which was already taken from the reader.
+/// Returns `None` if the value is no array.
 fn pieces_member<K: PieceKind>(
     alloc: Global,
     token: Token<'_>,
@@ -115,14 +115,15 @@ fn pieces_member<K: PieceKind>(
     }
 }
 
-/// The place of a name among names.
+/// The index of the first of the names that is `key`.
 pub(crate) fn place_of(names: &[&str], key: &str) -> Option<usize>
     ensures { result ≡ position (λ name. bytes_eq name.now key.now) names.now }
 {
     names.iter().position(|name| *name == key)
 }
 
-/// Takes one more member: its key is `key`, and its value begins with this token, which was taken.
+/// Reads one more member into `found`. The member's key is `key`, and its value begins with
+/// `token`, which was already taken from the reader.
 fn take_member<K: PieceKind, const N: usize>(
     found: &mut Found<K::Piece, N>,
     names: Names<'_>,
@@ -156,7 +157,8 @@ fn take_member<K: PieceKind, const N: usize>(
     Ok(())
 }
 
-/// Takes all members of an object, whose brace was taken.
+/// Reads all members of an object into `found`. The object's opening brace was already taken from
+/// the reader.
 fn take_members<K: PieceKind, const N: usize>(
     found: &mut Found<K::Piece, N>,
     names: Names<'_>,
@@ -181,7 +183,7 @@ fn take_members<K: PieceKind, const N: usize>(
     Ok(())
 }
 
-/// Takes all members of a value, if it is an object.
+/// Reads a value. If it is an object, all its members are read into `found`.
 fn take_value<K: PieceKind, const N: usize>(
     found: &mut Found<K::Piece, N>,
     names: Names<'_>,
@@ -216,8 +218,7 @@ fn take_value<K: PieceKind, const N: usize>(
     }
 }
 
-/// The findings in the members of a text, by the reader of JSON. A text that is no object has no
-/// members.
+/// What the reader of JSON finds in the members of a text. A text that is no object has no members.
 fn indexed_members_in<K: PieceKind, const N: usize>(
     alloc: Global,
     text: &str,
@@ -248,7 +249,7 @@ fn indexed_members_in<K: PieceKind, const N: usize>(
     }
 }
 
-/// The findings in the members of a text. A text that is no object has no members. A text in plain
+/// What is found in the members of a text. A text that is no object has no members. A text in plain
 /// form is read straight from its bytes.
 pub(crate) fn members_in<K: PieceKind, const N: usize>(
     alloc: Global,

@@ -1,7 +1,7 @@
 //! The value of a number's text in JSON, if it is a whole number below 2^64. Nearly all numbers in
-//! a file have at most 19 digits, and one short loop reads them. The others are read by
-//! `fast_float`, which only this module uses. Time is in proportion to the text; no memory is
-//! taken.
+//! a file have at most 19 digits, and one short loop reads them. All other numbers are read by
+//! `fast_float`, which no other module of this crate uses. The functions take time in proportion to
+//! the text, and no memory.
 
 ghost use Rattle.std.specs.Prelude.{◌≡◌, false, option_map, IfSome};
 ghost use Rattle.std.specs.Prelude as prelude;
@@ -12,11 +12,11 @@ ghost use Rattle.std.specs.Str.Parse.{IsNumeral, digits_value};
 
 use fast_float::Numeral;
 
-/// The most digits with which a number is always below 2^64.
+/// Every number with this many digits is below 2^64, but not every number with one digit more.
 const FEW: usize = 19;
 
-/// The value of a text of 1 to `FEW` digits and nothing else. Answers `None` for any other text,
-/// which may still be a number.
+/// The value of a text that consists of 1 to `FEW` digits. Returns `None` for any other text, even
+/// if it is a number.
 #[inline(always)]
 fn few_digits_in(bytes: &[u8]) -> Option<u64>
     ensures { IfSome result (λ number.
@@ -35,8 +35,8 @@ fn few_digits_in(bytes: &[u8]) -> Option<u64>
     Some(number)
 }
 
-/// For a number that is no whole number below 2^64: `Some(None)` if it is in range of a float, else
-/// `None`.
+/// Reads a number that is no whole number below 2^64. Returns `None` if it is too large for a
+/// float, else `Some(None)`.
 #[cold]
 #[inline(never)]
 fn float_in(is_negative: bool, bytes: &[u8]) -> Option<Option<u64>>
@@ -46,7 +46,8 @@ fn float_in(is_negative: bool, bytes: &[u8]) -> Option<Option<u64>>
     if float.is_finite() { Some(None) } else { None }
 }
 
-/// The number of a text with no sign.
+/// The value of a number's text, which has no sign: `None` if it is too large for a float,
+/// `Some(None)` if it has a fraction or an exponent, or is 2^64 or more.
 #[inline(always)]
 fn unsigned_in(bytes: &[u8]) -> Option<Option<u64>>
     ensures { result ≡ option_map as_u64 (number_from prelude.false (scan bytes.now)) }
@@ -60,7 +61,8 @@ fn unsigned_in(bytes: &[u8]) -> Option<Option<u64>>
     }
 }
 
-/// The number of a text after a minus sign.
+/// The value of a negative number, given its text without the minus sign: `None` if it is out of
+/// range of a float, else `Some(None)`.
 #[cold]
 #[inline(never)]
 fn negative_in(bytes: &[u8]) -> Option<Option<u64>>
@@ -74,8 +76,8 @@ fn negative_in(bytes: &[u8]) -> Option<Option<u64>>
     float_in(true, bytes)
 }
 
-/// The value of a number's text: `None` if it is out of range of a float, `Some(None)` if it has a
-/// sign, a fraction or an exponent, or is 2^64 or more.
+/// The value of a number's text: `None` if it is too large for a float, `Some(None)` if it has a
+/// minus sign, a fraction or an exponent, or is 2^64 or more.
 #[inline(always)]
 pub(crate) fn number_in_text(text: &str) -> Option<Option<u64>>
     ensures { result ≡ option_map as_u64 (number_of text.now) }

@@ -1,7 +1,7 @@
-//! The names of the pieces that a kind of file has, as a fault prints them before an index. They
-//! are all that this crate knows of steps, scripts and entries: the crates above define these, and
-//! each kind of pieces says which of the names its pieces have.
-/// The kind of pieces that a file has. A fault names it with the index of a piece.
+//! The names for the pieces of each kind of file. A fault prints such a name before an index. This
+//! crate knows nothing else of steps, scripts and entries: the crates above define them, and each
+//! kind of pieces says which name its pieces have.
+/// What a file's pieces are called. A fault gives this name and the index of a piece.
 #[derive(Clone, Copy, Debug, PartialEq, Eq)]
 pub enum Part {
     /// A step of a step file.

@@ -1,6 +1,6 @@
-//! Values that are passed over: they are tested to be JSON, and nothing of them is kept. The kind
-//! of file does not matter, so the same loops serve all kinds. The calls nest as deep as the value
-//! does, and `depth` bounds how deep that may be.
+//! Skips values. They are tested to be JSON, and nothing of them is kept. The kind of file does not
+//! matter, so the same loops serve all kinds. The functions call each other as deeply as the value
+//! nests, and `depth` bounds how deeply it may nest.
 
 ghost use Rattle.std.specs.Prelude.{◌≡◌, ◌∷◌, ◌<◌, ◌≤◌, length, Some, None, OnOk, OnErr};
 ghost use Rattle.json.specs.Reads.{token_of};
@@ -10,17 +10,18 @@ ghost use Rattle.piece_files.specs.Tokens.{value_at, items_at, members_at};
 use crate::numeral::number_in_text;
 use json::{Invalid, Reader, Token};
 
-/// Passes over the value that begins with this token, which was taken from the reader. The reader
-/// is then behind the value.
+/// Skips the value that begins with `token`, which was already taken from the reader. The reader is
+/// then just after the value.
 ///
 /// # Errors
 ///
-/// `Invalid` if this is no value of JSON, if arrays and objects in it nest deeper than `depth`, or
-/// if a number is too large for a float. The reader is then anywhere in the text.
+/// `Invalid` if the token and the text after it are no value of JSON, if arrays and objects in it
+/// nest deeper than `depth`, or if a number is too large for a float. After an error, the reader
+/// may be anywhere in the text.
 ///
 /// # Cost
 ///
-/// Time in proportion to the text that is passed; takes no memory.
+/// Time in proportion to the text that is skipped; takes no memory.
 #[cycle(pass)]
 pub fn pass_value(token: Token<'_>, reader: &mut Reader<'_>, depth: usize) -> Result<(), Invalid>
     ensures ok { OnOk result ((d : Data)
@@ -50,7 +51,7 @@ pub fn pass_value(token: Token<'_>, reader: &mut Reader<'_>, depth: usize) -> Re
     }
 }
 
-/// Passes over the elements of an array.
+/// Skips the remaining elements of an array, and the bracket that closes it.
 #[cycle(pass)]
 fn pass_items(reader: &mut Reader<'_>, depth: usize) -> Result<(), Invalid>
     ensures ok { OnOk result ((ds : Items) × (items_at depth reader.old ≡ Some (ds, reader.new))) }
@@ -64,7 +65,7 @@ fn pass_items(reader: &mut Reader<'_>, depth: usize) -> Result<(), Invalid>
     Ok(())
 }
 
-/// Passes over the members of an object.
+/// Skips the remaining members of an object, and the brace that closes it.
 #[cycle(pass)]
 fn pass_members(reader: &mut Reader<'_>, depth: usize) -> Result<(), Invalid>
     ensures ok { OnOk result ((ms : Members)

@@ -1,6 +1,6 @@
-//! The pieces of an array, read one after the other: one loop for all kinds of pieces, and the
-//! trait by which a kind says what its pieces are. `plain_pieces` leaves to this loop each array
-//! that has a fault. Pieces past the limit are counted, but not kept.
+//! Reads the pieces of an array, one after the other. One loop serves all kinds of pieces, and a
+//! trait says what the pieces of a kind are. `plain_pieces` leaves each array that has a fault to
+//! this loop. Pieces beyond the limit are counted, but not kept.
 
 ghost use Rattle.std.specs.Prelude.{◌≡◌, ℕ, ◌+◌, ◌^◌, ◌∷◌, ◌<◌, ◌≤◌, List, length, Bool, true, Option, Some, None, Err, MatchResult, IfOk, IfSome, OnErr, OnOk, drop, option_and_then};
 ghost use Rattle.json.specs.Token.{Token as SpecToken};
@@ -20,28 +20,29 @@ use crate::stop::Stop;
 use json::{Reader, Token};
 use std::alloc::{AllocError, Global};
 
-/// A kind of pieces; a file has an array of them. Each piece is an array itself, and its elements
-/// say what it is. No value of a kind is made; the kind is named, as a type, where pieces are read.
+/// A kind of pieces. A file has an array of pieces of one kind. Each piece is itself an array, and
+/// its elements say what it is. No value of a `PieceKind` is ever made: it is only used as a type
+/// argument.
 pub trait PieceKind {
     /// A piece of this kind.
     type Piece: Drop;
 
-    /// The piece that has these elements in version 2, if some piece has them.
+    /// The piece of version 2 that has these elements, if there is one.
     ghost of: { List Data → Option Self.Piece };
 
     /// Whether version 1 has this piece too.
     ghost is_old: { Self.Piece → Bool };
 
-    /// The name of this kind of pieces in a fault.
+    /// The name that a fault uses for pieces of this kind.
     ghost part: { Part };
 
     /// How many pieces a file may have.
     ghost most: { ℕ };
 
-    /// Whether memory may be taken to read a piece.
+    /// Whether reading a piece may take memory.
     ghost takes_memory: { Bool };
 
-    /// The name of this kind of pieces in a fault. Constant time.
+    /// The name that a fault uses for pieces of this kind. Constant time.
     fn part() -> Part
         ensures { result ≡ part };
 
@@ -49,29 +50,29 @@ pub trait PieceKind {
     ///
     /// # Cost
     ///
-    /// The kind's own, at most time in proportion to the piece.
+    /// Depends on the kind; at most time in proportion to the length of the piece.
     fn is_old(piece: &Self::Piece) -> bool
         ensures { result ≡ is_old piece.now };
 
-    /// How many pieces a file may have. No more are kept; the others are only counted. Constant
-    /// time.
+    /// The greatest number of pieces in a file. No more are kept; further pieces are only counted.
+    /// Constant time.
     fn most() -> usize
         ensures { result ≡ most };
 
-    /// The piece with the elements that follow, after the bracket that opens their array. Answers
-    /// `None` if no piece of this kind has these elements in version 2. Either way the reader is
-    /// then behind the bracket that closes the array.
+    /// Reads the elements of a piece, after the bracket that opens their array, and returns the
+    /// piece. Returns `None` if no piece of this kind has these elements in version 2. In both
+    /// cases the reader is then just after the bracket that closes the array.
     ///
     /// # Errors
     ///
     /// `NotJson` if the tokens are not the rest of an array, if arrays and objects in it nest
     /// deeper than `depth`, or if a number is too large for a float. `NoMemory` if memory is
-    /// refused, which happens only if the kind `takes_memory`. The reader is then anywhere in the
-    /// text.
+    /// refused, which can happen only if `takes_memory` is true for the kind. After an error, the
+    /// reader may be anywhere in the text.
     ///
     /// # Cost
     ///
-    /// The kind's own.
+    /// Depends on the kind.
     fn read(
         alloc: Global,
         reader: &mut Reader<'_>,
@@ -84,18 +85,20 @@ pub trait PieceKind {
         ensures memory { result ≡ Err NoMemory → takes_memory ≡ true }
         ensures shorter { OnOk result (length reader.new < length reader.old) };
 
-    /// The piece with the elements at the place `at` of a text, after the bracket that opens their
-    /// array; `at` moves behind the bracket that closes the array. Answers `None` if no piece is
-    /// there, or the elements have no plain form: `at` is then anywhere, and `read` decides. A kind
-    /// may always answer `None`.
+    /// Reads the elements of a piece, and returns the piece. `at` is the place of the first
+    /// element, after the bracket that opens the elements' array, and moves to just after the
+    /// bracket that closes the array. Returns `None` if no piece is there, or if the elements have
+    /// no plain form. `at` may then be anywhere, and `read` decides. A kind may always return
+    /// `None`.
     ///
     /// # Errors
     ///
-    /// `AllocError` if memory is refused, which happens only if the kind `takes_memory`.
+    /// `AllocError` if memory is refused, which can happen only if `takes_memory` is true for the
+    /// kind.
     ///
     /// # Cost
     ///
-    /// The kind's own.
+    /// Depends on the kind.
     fn read_plain(
         alloc: Global,
         text: &str,
@@ -111,12 +114,12 @@ pub trait PieceKind {
         ensures memory { OnErr result (takes_memory ≡ true) };
 }
 
-/// The pieces that an array begins with, up to its first element that is no piece.
+/// The pieces at the front of an array, up to the first element that is no piece.
 #[derive(Drop)]
 pub struct Pieces<P> {
-    /// The first of these pieces, at most as many as the kind keeps.
+    /// The pieces in their order, but at most as many as a file may have.
     pub pieces: Vec<P>,
-    /// How many pieces the array begins with.
+    /// How many pieces the array begins with, including those that are not kept.
     pub count: usize,
     /// Whether all elements of the array are pieces.
     pub are_all: bool,
@@ -124,7 +127,8 @@ pub struct Pieces<P> {
     pub first_new: Option<usize>,
 }
 
-/// The piece that begins with this token, which was taken. Answers `None` if the value is no piece.
+/// Reads the piece that begins with `token`, which was already taken from the reader. Returns
+/// `None` if the value is no piece.
 fn piece_in<K: PieceKind>(
     alloc: Global,
     token: Token<'_>,
@@ -160,7 +164,7 @@ fn piece_in<K: PieceKind>(
     }
 }
 
-/// The count plus one, or `NoMemory` if that is 2^64: memory is used up long before.
+/// The count plus one, or `NoMemory` if that is 2^64. So many pieces never fit into memory.
 fn next_count(count: usize) -> Result<usize, Stop>
     ensures { MatchResult result
         (λ next. (next ≡ count + 1) × (next < 2 ^ 64))
@@ -169,19 +173,20 @@ fn next_count(count: usize) -> Result<usize, Stop>
     count.checked_add(1).ok_or(Stop::NoMemory)
 }
 
-/// The pieces of an array, whose bracket was taken from the reader. The reader is then behind the
-/// bracket that closes the array.
+/// Reads the pieces of an array, whose opening bracket was already taken from the reader. The
+/// reader is then just after the bracket that closes the array.
 ///
 /// # Errors
 ///
 /// `NotJson` if the tokens are not the rest of an array, if arrays and objects in it nest deeper
-/// than `depth`, or if a number is too large for a float; `NoMemory` if memory is refused. The
-/// reader is then anywhere in the text.
+/// than `depth`, or if a number is too large for a float. `NoMemory` if memory is refused. After an
+/// error, the reader may be anywhere in the text.
 ///
 /// # Cost
 ///
 /// Time in proportion to the text that is read, if `K::read` and `K::is_old` take time in
-/// proportion to what they read; memory for the pieces that are kept, and what `K::read` takes.
+/// proportion to what they read. Takes memory for the pieces that are kept, and what `K::read`
+/// takes.
 pub fn pieces_in<K: PieceKind>(
     alloc: Global,
     reader: &mut Reader<'_>,

@@ -1,7 +1,7 @@
-//! Plain values, the elements that are kept: null, a text, or a whole number below 2^64. Any other
-//! value is passed over, and its array is then not plain. An element takes no memory: an `ArrayVec`
-//! has room for a fixed number of elements, and a text stays in the file or in the scratch memory
-//! of the reader.
+//! Plain values: null, texts, and whole numbers below 2^64. Only plain values are kept as elements.
+//! Any other value is skipped, and the array that contains it is then not plain. An element takes
+//! no memory: an `ArrayVec` has room for a fixed number of elements, and a text stays in the file
+//! or in the scratch memory of the reader.
 
 ghost use Rattle.std.specs.Prelude.{◌≡◌, ◌∷◌, ◌<◌, ◌≤◌, List, length, Some, None, option_map, IfOk, OnOk, OnErr};
 ghost use Rattle.json.specs.Reads.{token_of};
@@ -39,8 +39,8 @@ impl Plain<'_> {
     }
 }
 
-/// The value that begins with this token, which was taken. Answers `None` if the value is not
-/// plain.
+/// Reads the value that begins with `token`, which was already taken from the reader. Returns
+/// `None` if the value is not plain.
 #[inline(always)]
 pub(crate) fn plain_value<'a>(
     token: Token<'a>,
@@ -74,19 +74,22 @@ pub(crate) fn plain_value<'a>(
     }
 }
 
-/// Takes the elements of an array, whose bracket was taken from the reader, into `elements`, in
-/// place of what is there. Answers whether there are at most `MOST`, each of them null, a text, or
-/// a whole number below 2^64; if not, `elements` has some of them. Either way the reader is then
-/// behind the bracket that closes the array.
+/// Reads the elements of an array into `elements`, in place of what is there. The array's opening
+/// bracket was already taken from the reader. Returns `true` if there are at most `MOST` elements,
+/// and each of them is null, a text, or a whole number below 2^64. Otherwise, returns `false`, and
+/// `elements` has some of the elements. In both cases the reader is then just after the bracket
+/// that closes the array.
 ///
 /// # Errors
 ///
 /// `Invalid` if the tokens are not the rest of an array, if arrays and objects in it nest deeper
-/// than `depth`, or if a number is too large for a float. The reader is then anywhere in the text.
+/// than `depth`, or if a number is too large for a float. After an error, the reader may be
+/// anywhere in the text.
 ///
 /// # Cost
 ///
-/// Time in proportion to the text that is read; takes no memory: a text stays where it was read.
+/// Time in proportion to the text that is read. Takes no memory, since a text stays where it was
+/// read.
 #[inline(always)]
 pub fn plain_elements<'a, const MOST: usize>(
     reader: &mut Reader<'a>,

@@ -1,6 +1,7 @@
-//! Arrays of plain values in plain form, read straight from the bytes into an array of fixed size.
-//! No memory is taken. A piece within a file and a line by itself are read by the same loop. An
-//! array in any other form is left to the reader of JSON, which also decides on faults.
+//! Reads arrays of plain values straight from their bytes into an array of fixed size. The bytes
+//! must be in plain form. No memory is taken. The same loop reads a piece within a file and a line
+//! by itself. An array in any other form is left to the reader of JSON, which also decides on
+//! faults.
 ghost use Rattle.std.specs.Prelude.{◌≡◌, ◌<◌, ◌≤◌, ℕ, true, length, drop, map, Some, IfSome};
 ghost use Rattle.json.specs.Lex.{after_value};
 ghost use Rattle.serde_json.specs.Data.{array};
@@ -13,10 +14,10 @@ use crate::plain::Plain;
 use crate::plain_bytes::{after_bracket, after_comma, after_open, is_over, plain_at};
 use arrayvec::ArrayVec;
 
-/// Takes the elements of an array, whose first is at `start`, into `elements`, in place of what is
-/// there. Answers where the array ends, or `None` if there is no element, there are more than
-/// `MOST`, or the array has no plain form. After `None`, `elements` may have the first elements of
-/// the array.
+/// Reads the elements of an array into `elements`, in place of what is there. The first element is
+/// at `start`. Returns where the array ends. Returns `None` if there is no element, if there are
+/// more than `MOST`, or if the array has no plain form. After `None`, `elements` may have the first
+/// elements of the array.
 ///
 /// # Cost
 ///
@@ -49,9 +50,10 @@ pub fn elements_at<'a, const MOST: usize>(
     None
 }
 
-/// Takes the elements of a text that is one array into `elements`, in place of what is there.
-/// Answers `true` if the text is an array in plain form with 1 to `MOST` elements, and no white
-/// space is before its opening bracket. Else answers `false`, and may have changed `elements`.
+/// Reads the elements of a text that is one array into `elements`, in place of what is there.
+/// Returns `true` if the text is an array in plain form with 1 to `MOST` elements, and no white
+/// space is before its opening bracket. Otherwise, returns `false`, and may have changed
+/// `elements`.
 ///
 /// # Cost
 ///

@@ -1,8 +1,8 @@
 //! JSON in plain form, read straight from its bytes: white space, commas and brackets, keys, and
 //! plain values. In plain form a text has no escapes, and a number has at most 19 digits. The
-//! functions here make no index of the bytes. The reader of the crate `json` makes one, of 4,096
-//! bytes of the input at a time. If the input is not in plain form, some function here answers none
-//! or false. Then the reader of the crate `json` reads the input.
+//! functions here make no index of the bytes, unlike the reader of the crate `json`, which makes an
+//! index of 4,096 bytes at a time. If the input is not in plain form, some function here returns
+//! `None` or `false`. Then the reader of the crate `json` reads the input.
 ghost use Rattle.std.specs.Prelude.{◌≡◌, ◌+◌, ◌∷◌, ◌<◌, ◌≤◌, [], ℕ, true, length, take, drop, get_or, IfSome};
 ghost use Rattle.std.specs.List.{All};
 ghost use Rattle.std.specs.Str.Parse.{AllDigits, digits_value};
@@ -16,7 +16,7 @@ ghost use Rattle.piece_files.specs.PlainBytes.{PassesSpace, Comma, Closes, Finis
 
 use crate::plain::Plain;
 
-/// The most digits with which a number is always below 2^64.
+/// Every number with this many digits is below 2^64, but not every number with one digit more.
 const FEW: usize = 19;
 
 /// Whether a byte is white space.
@@ -27,7 +27,7 @@ fn is_space(byte: u8) -> bool
     byte == b' ' || byte == b'\t' || byte == b'\n' || byte == b'\r'
 }
 
-/// The end of the white space at a place.
+/// The end of the white space that begins at `start`; `start` itself if there is none.
 #[inline(always)]
 fn spaces_end(bytes: &[u8], start: usize) -> usize
     requires { start ≤ length bytes.now }
@@ -41,7 +41,7 @@ fn spaces_end(bytes: &[u8], start: usize) -> usize
     at
 }
 
-/// Whether a byte is at a place.
+/// Whether `byte` is at the place `at`.
 #[inline(always)]
 fn is_at(bytes: &[u8], at: usize, byte: u8) -> bool
     ensures { result ≡ true
@@ -50,7 +50,7 @@ fn is_at(bytes: &[u8], at: usize, byte: u8) -> bool
     at < bytes.len() && bytes[at] == byte
 }
 
-/// Whether only white space follows a place.
+/// Whether nothing but white space follows the place `at`.
 #[tactic(auto, using(crate::proofs::PlainLemmas::all_passed))]
 pub(crate) fn is_over(bytes: &[u8], at: usize) -> bool
     requires { at ≤ length bytes.now }
@@ -59,7 +59,8 @@ pub(crate) fn is_over(bytes: &[u8], at: usize) -> bool
     spaces_end(bytes, at) == bytes.len()
 }
 
-/// The place of the next element or member, if a comma is next.
+/// The place after the next comma and the white space around it. Returns `None` if no comma is
+/// next.
 #[inline(always)]
 pub(crate) fn after_comma(bytes: &[u8], at: usize) -> Option<usize>
     requires { at ≤ length bytes.now }
@@ -73,7 +74,7 @@ pub(crate) fn after_comma(bytes: &[u8], at: usize) -> Option<usize>
     Some(spaces_end(bytes, comma + 1))
 }
 
-/// The end of an array, if its closing bracket is next.
+/// The place after the next closing bracket of an array. Returns `None` if no such bracket is next.
 #[inline(always)]
 pub(crate) fn after_bracket(bytes: &[u8], at: usize) -> Option<usize>
     requires { at ≤ length bytes.now }
@@ -87,7 +88,7 @@ pub(crate) fn after_bracket(bytes: &[u8], at: usize) -> Option<usize>
     Some(bracket + 1)
 }
 
-/// Whether the closing brace of an object is next, and only white space after it.
+/// Whether the closing brace of an object is next, with nothing but white space after it.
 #[tactic(auto, using(crate::proofs::PlainLemmas::finishing))]
 pub(crate) fn is_last_brace(bytes: &[u8], at: usize) -> bool
     requires { at ≤ length bytes.now }
@@ -100,7 +101,7 @@ pub(crate) fn is_last_brace(bytes: &[u8], at: usize) -> bool
     is_over(bytes, brace + 1)
 }
 
-/// The place of the first element, if the opening bracket of an array is at a place.
+/// The place of an array's first element, if the array's opening bracket is at the place `at`.
 #[inline(always)]
 #[tactic(auto, using(crate::proofs::PlainLemmas::opening))]
 pub(crate) fn after_open(bytes: &[u8], at: usize) -> Option<usize>
@@ -113,7 +114,8 @@ pub(crate) fn after_open(bytes: &[u8], at: usize) -> Option<usize>
     Some(spaces_end(bytes, at + 1))
 }
 
-/// The place of the first member, if the bytes open an object.
+/// The place of the first member, if the opening brace of an object is next. White space may
+/// precede the brace.
 #[tactic(auto, using(crate::proofs::PlainLemmas::opening_object))]
 pub(crate) fn after_open_brace(bytes: &[u8]) -> Option<usize>
     ensures place { IfSome result (λ start. start ≤ length bytes.now) }
@@ -134,7 +136,8 @@ fn is_plain(byte: u8) -> bool
     byte != b'"' && byte != b'\\' && byte >= b' '
 }
 
-/// The number of bytes at the front that stand for themselves in a text.
+/// The number of bytes at the front that stand for themselves in a text, up to the first that does
+/// not.
 #[inline(always)]
 fn plain_len(bytes: &[u8]) -> usize
     ensures few { result ≤ length bytes.now }
@@ -147,7 +150,7 @@ fn plain_len(bytes: &[u8]) -> usize
     len
 }
 
-/// The value of the digits at the front, and how many they are. At most 19 of them are read.
+/// The value of the digits at the front, and their number. At most 19 digits are read.
 #[inline(always)]
 fn digits_in(bytes: &[u8]) -> (u64, usize)
     ensures few { result.1 ≤ length bytes.now }
@@ -163,8 +166,8 @@ fn digits_in(bytes: &[u8]) -> (u64, usize)
     (number, len)
 }
 
-/// The value of the digits at a place, of which at most 19 are read, and the place behind them.
-/// Answers `None` if there is no digit, or the first of several digits is 0.
+/// The value of the digits at a place, and the place after them. At most 19 digits are read.
+/// Returns `None` if there is no digit, or if there are several and the first is 0.
 #[inline(always)]
 fn number_at(bytes: &[u8], at: usize) -> Option<(u64, usize)>
     requires { at ≤ length bytes.now }
@@ -179,7 +182,7 @@ fn number_at(bytes: &[u8], at: usize) -> Option<(u64, usize)>
     Some((number, at + len))
 }
 
-/// The end of `null`, if it is at a place.
+/// The place after `null`, if `null` is at the place `at`.
 #[inline(always)]
 fn null_at(bytes: &[u8], at: usize) -> Option<usize>
     requires { at ≤ length bytes.now }
@@ -198,7 +201,7 @@ fn null_at(bytes: &[u8], at: usize) -> Option<usize>
     Some(at + 4)
 }
 
-/// The text at a place, and its end.
+/// The text at a place, and the place after it.
 #[inline(always)]
 fn text_at(text: &str, at: usize) -> Option<(&str, usize)>
     ensures place { IfSome result (λ found. (at < found.1) × (found.1 ≤ length text.now)) }
@@ -217,8 +220,8 @@ fn text_at(text: &str, at: usize) -> Option<(&str, usize)>
     Some((&text[start..end], end + 1))
 }
 
-/// The plain value at a place, and its end. The caller tests whether the bytes from there on may
-/// follow a value: for `1.5` the value is 1, and `.5` may not follow it.
+/// The plain value at a place, and the place after it. The caller must test whether the bytes after
+/// it may follow a value: for `1.5` this returns the value 1, and `.5` may not follow a value.
 #[inline(always)]
 pub(crate) fn plain_at(text: &str, at: usize) -> Option<(Plain<'_>, usize)>
     requires { at ≤ length text.now }
@@ -237,7 +240,7 @@ pub(crate) fn plain_at(text: &str, at: usize) -> Option<(Plain<'_>, usize)>
     Some((Plain::Null, end))
 }
 
-/// The key at a place, and the place of its value.
+/// The key at a place, and the place of the member's value.
 #[tactic(auto, using(crate::proofs::PlainLemmas::key_is))]
 pub(crate) fn key_at(text: &str, at: usize) -> Option<(&str, usize)>
     requires { at ≤ length text.now }

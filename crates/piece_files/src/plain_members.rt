@@ -1,6 +1,6 @@
 //! Reads the members of a file in plain form, one after the other. This module finds what `members`
-//! finds, but reads bytes instead of tokens, and names no fault: if the text has another form, or a
-//! wrong piece, the reader of JSON reads the whole text from its start.
+//! finds, but it reads bytes instead of tokens, and it reports no fault. If the text has another
+//! form, or a wrong piece, the reader of JSON reads the whole text from its start.
 ghost use Rattle.std.specs.Prelude.{◌≡◌, ◌∷◌, ◌<◌, ◌≤◌, true, length, drop, Some, IfOk, IfSome};
 ghost use Rattle.serde_json.specs.Data.{Data, Members, object, put};
 ghost use Rattle.serde_json.specs.Read.{read};
@@ -17,8 +17,8 @@ use crate::plain_bytes::{
 use crate::plain_pieces::pieces_at;
 use std::alloc::{AllocError, Global};
 
-/// The array of pieces at the place `at`, which moves behind the array. Answers `None` if no array
-/// in plain form is there.
+/// Reads the array of pieces at the place `at`, which moves to just after the array. Returns `None`
+/// if no array in plain form is there.
 fn array_at<K: PieceKind>(
     alloc: Global,
     text: &str,
@@ -38,8 +38,8 @@ fn array_at<K: PieceKind>(
     pieces_at::<K>(alloc, text, at, MAX_DEPTH - 2)
 }
 
-/// Takes a further member with this key, whose value is at the place `at`. Answers whether the
-/// value has plain form; if so, `at` moves behind it.
+/// Reads one more member into `found`. Its key is `key`, and its value is at the place `at`.
+/// Returns `true` if the value has plain form; `at` then moves to just after the value.
 fn take_plain_member<K: PieceKind, const N: usize>(
     found: &mut Found<K::Piece, N>,
     names: Names<'_>,
@@ -81,8 +81,8 @@ fn take_plain_member<K: PieceKind, const N: usize>(
     Ok(true)
 }
 
-/// The findings in the members of a text that is an object. Answers `None` if the text has no plain
-/// form.
+/// What is found in the members of a text that is an object. Returns `None` if the text has no
+/// plain form.
 pub(crate) fn plain_members_in<K: PieceKind, const N: usize>(
     alloc: Global,
     text: &str,

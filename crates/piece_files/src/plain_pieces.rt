@@ -1,6 +1,6 @@
-//! Pieces in plain form, read one after the other: one loop for all kinds of pieces. If there is no
-//! piece, an element is no piece in plain form, or there are more pieces than the kind keeps, this
-//! reader gives up, and the reader of JSON decides.
+//! Reads pieces in plain form, one after the other. One loop serves all kinds of pieces. This
+//! reader gives up if there is no piece, if an element is no piece in plain form, or if there are
+//! more pieces than the kind keeps. Then the reader of JSON decides.
 ghost use Rattle.std.specs.Prelude.{◌≡◌, ◌^◌, ◌<◌, ◌≤◌, List, length, drop, Some, IfOk, IfSome, option_and_then};
 ghost use Rattle.json.specs.Lex.{after_value};
 ghost use Rattle.serde_json.specs.Data.{Data};
@@ -13,12 +13,12 @@ use crate::piece::{PieceKind, Pieces};
 use crate::plain_bytes::{after_bracket, after_comma, after_open};
 use std::alloc::{AllocError, Global};
 
-/// The number of pieces for which room is made before the first is read. Most arrays have no more
-/// pieces than this. Making room several times costs more than reading a few pieces.
+/// The number of pieces for which room is made before the first piece is read. Most arrays have no
+/// more pieces than this. Making more room several times costs more than reading a few pieces.
 const FIRST_ROOM: usize = 16;
 
-/// The piece at the place `at`, which moves behind the piece. Answers `None` if no piece in plain
-/// form is there.
+/// Reads the piece at the place `at`, which moves to just after the piece. Returns `None` if no
+/// piece in plain form is there.
 #[inline(always)]
 fn piece_at<K: PieceKind>(
     alloc: Global,
@@ -43,9 +43,9 @@ fn piece_at<K: PieceKind>(
     K::read_plain(alloc, text, at, depth - 1)
 }
 
-/// The pieces of an array, whose first is at the place `at`; `at` moves behind the array. Answers
-/// `None` if there is no piece, there are more than the kind keeps, an element is no piece, or the
-/// array has no plain form: `at` is then anywhere.
+/// Reads the pieces of an array, whose first is at the place `at`. `at` moves to just after the
+/// array. Returns `None` if there is no piece, if there are more than the kind keeps, if an element
+/// is no piece, or if the array has no plain form. `at` may then be anywhere.
 ///
 /// # Errors
 ///
@@ -54,8 +54,8 @@ fn piece_at<K: PieceKind>(
 /// # Cost
 ///
 /// Time in proportion to the text that is read, if `K::read_plain` and `K::is_old` take time in
-/// proportion to what they read; memory for the pieces, for 16 at least, and what `K::read_plain`
-/// takes.
+/// proportion to what they read. Takes memory for the pieces, or for 16 pieces if there are fewer,
+/// and what `K::read_plain` takes.
 pub fn pieces_at<K: PieceKind>(
     alloc: Global,
     text: &str,

@@ -1,7 +1,7 @@
-//! The reasons why reading tokens stops early: no JSON, or no memory. They have a type of their own
-//! beside `FileFault`, since the loops over tokens stop early for no other reason. `?` makes a
-//! `Stop` of an error of the reader or the allocator, and `members` turns a `Stop` into a
-//! `FileFault`.
+//! The reasons why reading tokens stops early: the text is not JSON, or memory was refused. They
+//! have a type of their own, because the loops over tokens stop early for no other reason that a
+//! `FileFault` names. `?` turns an error of the reader or the allocator into a `Stop`, and
+//! `members` turns a `Stop` into a `FileFault`.
 ghost use Rattle.std.specs.Prelude.{◌≡◌};
 ghost use Rattle.piece_files.specs.declared.stop.Stop.TheVariants.{NotJson, NoMemory};
 
@@ -11,7 +11,7 @@ use std::alloc::{AllocError, AllocFailed};
 /// Why reading stopped before the end of a text.
 #[derive(Clone, Copy, Debug, PartialEq, Eq)]
 pub enum Stop {
-    /// The text is no JSON.
+    /// The text is not JSON.
     NotJson,
     /// Memory was refused.
     NoMemory,

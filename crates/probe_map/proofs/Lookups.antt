@@ -1,4 +1,4 @@
--- The value that the pairs of the slots have at a key, if at most one slot has the key.
+-- The value that a key has in the pairs of the slots, if at most one slot has the key.
 use Rattle.std.proofs.Common.{◌≡◌, ◌≢◌, ℕ, zero, suc, ◌+◌, ◌<◌, false, cond, List, [], ◌∷◌, length, Option, None, Some, count_by, sym, refl, ◌∙◌, ap, nat_eq, arith, eq-eqb, ne_eqb, set, get_or, drop, replicate, ◌≤◌}
 use Rattle.std.specs.List.{AllByRecursion, IsDistinct}
 use Rattle.std.specs.Map.{keys_of, lookup}
@@ -32,7 +32,7 @@ found_first Empty slots key is none = none
 found_first (Removed k) slots key is none = none
 found_first (Full k v) slots key is none = ap (λ b. cond b (Some v) (found slots key)) (eq-eqb key k cc)
 
--- The one slot with the key is found.
+-- If exactly one slot has the key, the key's value is that of this slot.
 pub found_at : (slots : List Slot) (key i : ℕ) → i < length slots → key_at slots i ≡ Some key
     → ((m : ℕ) → m < length slots → m ≢ i → key_at slots m ≢ Some key) → found slots key ≡ value_in (slot_at slots i)
 found_at [] key i lt is only = absurd (omega arith)
@@ -45,7 +45,8 @@ found_under Empty slots later key same = same
 found_under (Removed k) slots later key same = same
 found_under (Full k v) slots later key same = ap (cond (nat_eq key k) (Some v)) same
 
--- A write to a slot does not change the value of a key that the slot has neither before nor after.
+-- Writing to a slot does not change the value of a key, if the slot has this key neither before nor
+-- after.
 pub found_set : (slots : List Slot) (key i : ℕ) (slot : Slot) → key_at slots i ≢ Some key → key_in slot ≢ Some key → found (set slots i slot) key ≡ found slots key
 found_set [] key i slot was now = refl
 found_set (first ∷ slots) key zero slot was now = found_behind slot slots key now ∙ sym (found_behind first slots key was)
@@ -58,7 +59,7 @@ length-pairs_of (Empty ∷ slots) = length-pairs_of slots ∙ sym (sum_by-cons (
 length-pairs_of (Removed k ∷ slots) = length-pairs_of slots ∙ sym (sum_by-cons (λ s. cond (is_full s) 1 0) (Removed k) slots ∙ omega arith)
 length-pairs_of (Full k v ∷ slots) = let rest = length-pairs_of slots in let sum = sum_by-cons (λ s. cond (is_full s) 1 0) (Full k v) slots in omega arith
 
--- If no key is in two slots, the pairs have different keys.
+-- If no key is in two slots, no two pairs have the same key.
 others : (slots : List Slot) (key : ℕ) → ((m : ℕ) → m < length slots → key_at slots m ≢ Some key) → AllByRecursion (λ other. nat_eq key other ≡ false) (keys_of (pairs_of slots))
 others [] key none = tt
 others (Empty ∷ slots) key none = others slots key (λ m lt. none (suc m) (omega arith))
@@ -75,7 +76,7 @@ distinct (Full k v ∷ slots) one = (
   distinct slots (λ key i j li lj a b. let e = one key (suc i) (suc j) (omega arith) (omega arith) a b in omega arith),
 )
 
--- The pairs of the slots from a place on are those of the slot there and of the slots behind it.
+-- The pairs of the slots from place `i` on are those of the slot at `i` and of the slots after it.
 pub pairs_of-drop : (slots : List Slot) (i : ℕ) (d : Slot) → i < length slots → pairs_of (drop i slots) ≡ pairs_of (get_or slots i d ∷ drop (i + 1) slots)
 pairs_of-drop slots i d lt = ap pairs_of (drop_more slots i d lt)
 
@@ -90,8 +91,8 @@ pub pairs_of-replicate : (n : ℕ) → pairs_of (replicate n Empty) ≡ []
 pairs_of-replicate zero = refl
 pairs_of-replicate (suc n) = pairs_of-replicate n
 
--- If the slot before `left` is full, the slots from `left` on have at least one pair fewer than all
--- slots.
+-- If the slot before `left` has a value, the slots from `left` on have at least one pair fewer than
+-- all slots.
 pub pairs_more : (slots : List Slot) (i left : ℕ) (d : Slot) (k v : ℕ) → i + 1 ≡ left → left ≤ length slots → get_or slots i d ≡ Full k v
     → length (pairs_of (drop left slots)) + 1 ≤ length (pairs_of slots)
 pairs_more slots i left d k v next within is =

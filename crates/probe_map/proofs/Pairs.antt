@@ -1,4 +1,4 @@
--- The map of a list of pairs: what it has at each key, and its rows.
+-- The map made of a list of pairs: the value of each key, and the map's rows.
 use Rattle.std.proofs.Common.{◌≡◌, ℕ, ◌==◌, false, cond, List, [], ◌∷◌, length, Option, None, Some, sym, refl, ◌∙◌, ap, subst, IsPermutation, is_eq, is_some, nat_cmp, nat_eq, Ordering, Less, Equal, Greater}
 use Rattle.std.specs.FinMap.Entries.{by_order, find, put}
 use Rattle.std.specs.List.{AllByRecursion, IsDistinct}
@@ -14,7 +14,7 @@ use Rattle.probe_map.specs.MapAt.{map_of}
 abbrev Pair : Type 0
 Pair = ℕ × ℕ
 
--- The map of pairs has at each key the value of the key's first pair.
+-- In the map made of a list of pairs, a key has the value in the first pair with this key.
 pub get-map_of : (pairs : List Pair) (q : ℕ) → get (map_of pairs) q ≡ lookup (nat_eq q) pairs
 get-map_of [] q = refl
 get-map_of (pair ∷ pairs) q = get-insert (map_of pairs) pair.0 pair.1 q ∙ ap (cond (q == pair.0) (Some pair.1)) (get-map_of pairs q)
@@ -25,14 +25,14 @@ same_eqb a b = elim (cases_eq a b) [
   | inr other ↦ ne_eqb a b other ∙ sym (ne_eqb b a (λ e. other (sym e)))
 ]
 
--- If `fs` gives `key` the value `value`, and each other key the value that `es` gives it, then the
--- map of `fs` is the map of `es` with `key` set to `value`.
+-- Suppose that `fs` gives `key` the value `value`, and gives each other key the value that `es`
+-- gives it. Then the map of `fs` is the map of `es` with `key` set to `value`.
 pub set_lookups : (es fs : List Pair) (key : ℕ) (value : Option ℕ) → ((q : ℕ) → lookup (nat_eq q) fs ≡ cond (nat_eq key q) value (lookup (nat_eq q) es)) → map_of fs ≡ set_at (map_of es) key value
 set_lookups es fs key value sets = same_map (map_of fs) (set_at (map_of es) key value) (λ q.
     get-map_of fs q ∙ sets q ∙ ap (λ b. cond b value (lookup (nat_eq q) es)) (same_eqb key q)
     ∙ ap (cond (q == key) value) (sym (get-map_of es q)) ∙ sym (get-set_at (map_of es) key value q))
 
--- The map of pairs has no value at a key that none of the pairs has.
+-- If no pair has a key, the key has no value in the map made of the pairs.
 none_there : (key : ℕ) (pairs : List Pair) → AllByRecursion (λ other. nat_eq key other ≡ false) (keys_of pairs) → get (map_of pairs) key ≡ None
 none_there key [] others = refl
 none_there key (pair ∷ pairs) others = get-insert (map_of pairs) pair.0 pair.1 key ∙ ap (λ b. cond b (Some pair.1) (get (map_of pairs) key)) others.0 ∙ none_there key pairs others.1
@@ -48,7 +48,7 @@ put_fresh key v (row ∷ rows) none = from (nat_cmp key row.0) refl (λ later. p
         subst (λ r. IsPermutation ((key, v) ∷ row ∷ rows) (by_order r ((key, v) ∷ row ∷ rows) ((row.0, v) ∷ rows) (row ∷ put nat_cmp key v rows))) (sym is)
         (IsPermutation-trans _ (row ∷ (key, v) ∷ rows) _ (IsPermutation-sym _ _ (IsPermutation-middle (row ∷ []) (key, v) rows)) (IsPermutation-cons row _ _ (deep later)))
 
--- Pairs of different keys are the rows of their map, in another order.
+-- If the pairs have different keys, the rows of their map are the pairs in some order.
 pub rows_map_of : (pairs : List Pair) → IsDistinct nat_eq (keys_of pairs) → IsPermutation (map_of pairs).rows pairs
 rows_map_of [] distinct = IsPermutation-refl []
 rows_map_of (pair ∷ pairs) distinct =

@@ -1,4 +1,5 @@
--- A probe in two passes: over the slots from its start on, and then over those in front of it.
+-- A probe in two passes: first over the slots from its start on, and then over the slots before its
+-- start.
 use Rattle.std.proofs.Common.{◌≡◌, ℕ, ◌+◌, ◌-◌, ◌<◌, ◌≤◌, true, false, Option, Some, None, IfSome, unwrap_or, List, length, take, drop, inl, inr, ⊎_elim, arith, refl, sym, ap, subst, ◌∙◌, length-drop}
 use Rattle.std.proofs.lemmas.Bool.{cases_lt}
 use Rattle.std.proofs.lemmas.List.{get_or-drop, get_or-take, length-take}
@@ -15,7 +16,7 @@ passes slots key j = stops (key_at slots j) key ≡ false
 abbrev passes_below : List Slot → ℕ → ℕ → Type 0
 passes_below slots key n = (j : ℕ) → j < n → passes slots key j
 
--- The slots, cut at the start of the probe.
+-- The slots, cut in two where the probe begins.
 pub record IsCut (slots : List Slot) (start : ℕ) (front back : List Slot) : Type 0 where
   pub within : start ≤ length slots
   pub front_is : front ≡ take start slots

@@ -1,6 +1,6 @@
--- Suppose that each place with a key is the place where that key's probe stops. Then no key is at
--- two places, and a key whose probe stops at an empty place is at no place. If a key is then put
--- where its probe stops, each other key is still where its own probe stops.
+-- Suppose that each key is at the place where its probe stops. Then no key is at two places, and a
+-- key whose probe stops at an empty place is at no place. If a key is put at the place where its
+-- probe stops, each other key is still at the place where its own probe stops.
 use Rattle.std.proofs.Common.{◌≡◌, ◌≢◌, ℕ, ◌<◌, ◌≤◌, ◌⊎◌, true, false, Option, Some, None, inl, inr, ⊎_elim, arith, refl, sym, ap, subst, ◌∙◌, eq-eqb}
 use Rattle.std.proofs.lemmas.Bool.{cases_eq, cases_lt, eqb-true, false≢true}
 use Rattle.probe_map.specs.Probes.{ReachesBefore, IsProbed, LeadsTo, stops}
@@ -12,12 +12,12 @@ from_less home i j less = ⊎_elim
     (λ (h : home ≤ j). inr (inr (inr (low, h)))) (cases_lt j home))
     (λ (high : home ≤ i). inl (inl (high, less))) (cases_lt i home)
 
--- Of two places one is before the other.
+-- If two places are different, the probe reaches one of them before the other.
 either : (home i j : ℕ) → i ≢ j → ReachesBefore home i j ⊎ ReachesBefore home j i
 either home i j other = ⊎_elim (λ (l : i < j). from_less home i j l)
     (λ (h : j ≤ i). let l : j < i = omega arith in ⊎_elim (λ b. inr b) (λ b. inl b) (from_less home j i l)) (cases_lt i j)
 
--- No place is before itself.
+-- The probe does not reach a place before itself.
 not_before : (home i j : ℕ) → ReachesBefore home j i → j ≢ i
 not_before home i j (inl b) same = let low = b.0 in let high = b.1 in absurd (omega arith)
 not_before home i j (inr (inl b)) same = let low = b.0 in let high = b.1 in absurd (omega arith)
@@ -42,7 +42,7 @@ unique keys count home key i j probed li lj at_i at_j = ⊎_elim (λ (e : i ≡ 
     (λ (b : ReachesBefore (home key) j i). absurd (false≢true (sym (probed i key at_i j lj b) ∙ stops_some (keys j) key at_j)))
     (either (home key) i j other)) (cases_eq i j)
 
--- A key whose probe stops at an empty place is nowhere.
+-- If the probe for a key stops at an empty place, no place has the key.
 absent : (keys : ℕ → Option ℕ) (count : ℕ) (home : ℕ → ℕ) (key i m : ℕ) → IsProbed keys count home → i < count → m < count
     → keys i ≡ None → LeadsTo keys count (home key) key i → keys m ≡ Some key → ⊥
 absent keys count home key i m probed li lm none leads at_m = ⊎_elim
@@ -52,14 +52,15 @@ absent keys count home key i m probed li lm none leads at_m = ⊎_elim
     (λ (b : ReachesBefore (home key) m i). false≢true (sym (leads m lm b) ∙ stops_some (keys m) key at_m))
     (either (home key) i m other)) (cases_eq i m)
 
--- No place has the key, except the place at which its probe stops.
+-- No place has the key, except perhaps the place at which the probe for the key stops.
 pub no_other : (keys : ℕ → Option ℕ) (count : ℕ) (home : ℕ → ℕ) (key i : ℕ) → IsProbed keys count home → i < count
     → stops (keys i) key ≡ true → LeadsTo keys count (home key) key i → (m : ℕ) → m < count → m ≢ i → keys m ≢ Some key
 no_other keys count home key i probed li stop leads m lm other at_m = ⊎_elim
     (λ (none : keys i ≡ None). absent keys count home key i m probed li lm none leads at_m)
     (λ (here : keys i ≡ Some key). other (unique keys count home key m i probed lm li at_m here)) (stopped (keys i) key stop)
 
--- If a key is put at the place at which its probe stops, each key is still where its probe stops.
+-- If a key is put at the place at which its probe stops, each key is still at the place where its
+-- own probe stops.
 pub put_there : (keys later : ℕ → Option ℕ) (count : ℕ) (home : ℕ → ℕ) (key i : ℕ) → IsProbed keys count home → i < count
     → stops (keys i) key ≡ true → LeadsTo keys count (home key) key i
     → later i ≡ Some key → ((j : ℕ) → j ≢ i → later j ≡ keys j) → IsProbed later count home

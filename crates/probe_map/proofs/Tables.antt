@@ -1,4 +1,4 @@
--- The value of a key in a sound table, and the table after a write at the place where the key's
+-- The value of a key in a sound table, and the effect of a write to the slot at which the key's
 -- probe stops.
 use Rattle.std.proofs.Common.{◌≡◌, ◌≢◌, ℕ, suc, ◌+◌, ◌-◌, ◌<◌, ◌≤◌, Bool, true, false, cond, List, [], ◌∷◌, length, Option, None, Some, count_by, set, get_or, refl, sym, ap, subst, ◌∙◌, ⊎_elim, arith, nat_eq, IsPermutation, not, is_some}
 use Rattle.std.specs.List.{IsDistinct}
@@ -22,7 +22,7 @@ use Rattle.probe_map.proofs.Rounds.{no_other, put_there, stopped, stops_some, un
 abbrev tally : Bool → ℕ
 tally b = cond b 1 0
 
--- The content of slots.
+-- The map that the slots represent.
 abbrev pub content : List Slot → Map
 content slots = map_of (pairs_of slots)
 
@@ -38,7 +38,7 @@ only : (slots : List Slot) (room len shift key place : ℕ) → IsTable slots ro
     → (m : ℕ) → m < length slots → m ≢ place → key_at slots m ≢ Some key
 only slots room len shift key place table at = no_other (key_at slots) (length slots) (home (length slots) shift) key place table.probed at.within at.stops at.leads
 
--- The value of a key is in the slot at which its probe stops.
+-- The value of a key is in the slot at which the key's probe stops.
 pub get_there : (slots : List Slot) (room len shift key place : ℕ) → IsTable slots room len shift → StopsAt slots (begins slots shift key) key place
     → get (content slots) key ≡ value_in (slot_at slots place)
 get_there slots room len shift key place table at = get-map_of (pairs_of slots) key ∙ ⊎_elim
@@ -49,7 +49,7 @@ get_there slots room len shift key place table at = get-map_of (pairs_of slots) 
     (λ (here : key_at slots place ≡ Some key). found_at slots key place at.within here (only slots room len shift key place table at))
     (stopped (key_at slots place) key at.stops)
 
--- If the probe for a key passes over all slots, the key has no value.
+-- If the probe for a key does not stop at any slot, the key has no value.
 pub get_nowhere : (slots : List Slot) (key : ℕ) → ((j : ℕ) → j < length slots → stops (key_at slots j) key ≡ false) → get (content slots) key ≡ None
 get_nowhere slots key passed = get-map_of (pairs_of slots) key
     ∙ found_nowhere slots key (λ m lt is. false≢true (sym (passed m lt) ∙ stops_some (key_at slots m) key is))
@@ -60,7 +60,8 @@ key_at-set_here slots place slot lt = ap key_in (get_or-set_same slots place slo
 key_at-set_other : (slots : List Slot) (place : ℕ) (slot : Slot) (j : ℕ) → j ≢ place → key_at (set slots place slot) j ≡ key_at slots j
 key_at-set_other slots place slot j ne = ap key_in (get_or-set_other slots place j slot Empty ne)
 
--- After the write the key has the new slot's value, and each other key has the value that it had.
+-- After the write, the key has the value of the new slot, and each other key has the value that it
+-- had before.
 pub content_set : (slots : List Slot) (room len shift key place : ℕ) (slot : Slot) → IsTable slots room len shift → StopsAt slots (begins slots shift key) key place
     → key_in slot ≡ Some key → content (set slots place slot) ≡ set_at (content slots) key (value_in slot)
 content_set slots room len shift key place slot table at is = set_lookups (pairs_of slots) (pairs_of later) key (value_in slot) (λ q. ⊎_elim
@@ -87,9 +88,9 @@ content_set slots room len shift key place slot table at is = set_lookups (pairs
     was q ne there = ⊎_elim (λ (none : key_at slots place ≡ None). let both : None ≡ Some q = sym none ∙ there in absurd (cc))
         (λ (same : key_at slots place ≡ Some key). ne (ap num (sym same ∙ there))) (stopped (key_at slots place) key at.stops)
 
--- After the write the slots are sound with `fewer` in place of `room` and `more` in place of `len`.
--- `fewer` is at most `room`, and below `room` if the old slot was empty. `more` is `len`, less 1 if
--- the old slot had a value, plus 1 if the new slot has one.
+-- After the write, the slots are sound with `fewer` in place of `room` and `more` in place of
+-- `len`. `fewer` is at most `room`, and below `room` if the old slot was empty. `more` is `len`,
+-- minus 1 if the old slot had a value, plus 1 if the new slot has one.
 pub table_set : (slots : List Slot) (room len shift key place : ℕ) (slot : Slot) (fewer more : ℕ) → IsTable slots room len shift → StopsAt slots (begins slots shift key) key place
     → key_in slot ≡ Some key → fewer + tally (is_empty (slot_at slots place)) ≤ room
     → more + tally (is_full (slot_at slots place)) ≡ len + tally (is_full slot)
@@ -111,13 +112,13 @@ table_set slots room len shift key place slot fewer more table at is less counts
     not_empty (Removed k) h = refl
     not_empty (Full k v) h = refl
 
--- Taking out a key that has no value changes nothing.
+-- Removing a key that has no value changes nothing.
 pub removed_none : (m : Map) (key : ℕ) → get m key ≡ None → m ≡ set_at m key None
 removed_none m key none = same_map m (set_at m key None) (λ q. ⊎_elim
     (λ (e : q ≡ key). ap (get m) e ∙ none ∙ sym (get-set_at m key None q ∙ ap (λ b. cond b None (get m q)) (eq-eqb q key e)))
     (λ (ne : q ≢ key). sym (get-set_at m key None q ∙ ap (λ b. cond b None (get m q)) (ne_eqb q key ne))) (cases_eq q key))
 
--- A slot at which a probe does not stop is not empty.
+-- If a probe does not stop at a slot, the slot is not empty.
 in_use : (slot : Slot) (key : ℕ) → stops (key_in slot) key ≡ false → is_empty slot ≡ false
 in_use Empty key goes = absurd (false≢true (sym goes))
 in_use (Removed k) key goes = refl
@@ -149,7 +150,7 @@ all_empty slots room shift none few full = record {
   len_is = sym full;
 }
 
--- The slot that the code reads at a place is the slot at this place.
+-- If there is such a place, what the code reads there is `slot_at`.
 read_is : (slots : List Slot) (place : ℕ) (slot : Slot) → place < length slots → slot ≡ get_or slots place slot → slot ≡ slot_at slots place
 read_is slots place slot lt read = read ∙ get_or_default slots place slot Empty lt
 
@@ -170,7 +171,7 @@ one_of Empty = refl
 one_of (Removed k) = refl
 one_of (Full k v) = refl
 
--- The slots are sound after a key was put.
+-- After a key is put into the table, the slots are sound.
 pub table_put : (slots : List Slot) (room len shift key value place : ℕ) (slot : Slot) (used added : ℕ) → IsTable slots room len shift → StopsAt slots (begins slots shift key) key place
     → slot ≡ get_or slots place slot → 0 < room → used ≡ bool_byte (is_empty slot) → added ≡ bool_byte (not (is_some (value_in slot)))
     → IsTable (set slots place (Full key value)) (room - used) (len + added) shift
@@ -182,7 +183,7 @@ table_put slots room len shift key value place slot used added table at read som
     let o = one_of (slot_at slots place) in
     table_set slots room len shift key place (Full key value) (room - used) (len + added) table at refl (omega arith) (omega arith)
 
--- The slots are sound after a key with a value was removed.
+-- After a key that has a value is removed, the slots are sound.
 pub table_remove : (slots : List Slot) (room len shift key place : ℕ) (slot : Slot) (k v : ℕ) → IsTable slots room len shift → StopsAt slots (begins slots shift key) key place
     → slot ≡ get_or slots place slot → slot ≡ Full k v → IsTable (set slots place (Removed key)) room (len - 1) shift
 table_remove slots room len shift key place slot k v table at read full_is =

@@ -1,4 +1,5 @@
--- A contract sees a map as its content, and as the number of new keys that it has room for.
+-- A contract sees two things of a map: its content, and the number of new keys for which it has
+-- room.
 use Rattle.std.specs.Prelude.{◌≡◌, ℕ, List, [], ◌∷◌, refl}
 use Rattle.std.proofs.Common.{ap}
 use Rattle.std.specs.Coded.{Coded, code_by, coded×, coded_list, coded_ℕ}
@@ -8,16 +9,16 @@ use base.Stored.{coded_via}
 use Rattle.txn_words.specs.Map.{Map, empty, insert}
 use Rattle.txn_words.proofs.Maps.{same_map}
 
--- The content, and how many new keys can be put without memory.
+-- The content of a map, and how many new keys can be put without taking memory.
 pub record MapAt : Type 0 where
   pub content : Map
   pub spare : ℕ
 
--- No key, and no room.
+-- A map with no key and no room.
 abbrev pub nothing : MapAt
 nothing = record { content = empty; spare = 0 }
 
--- Maps of the same pairs are equal.
+-- If two maps have the same pairs, they are equal.
 pub same_rows : (m n : Map) → m.rows ≡ n.rows → m ≡ n
 same_rows m n rows = same_map m n (λ k. ap (find nat_cmp k) rows)
 
@@ -29,7 +30,7 @@ abbrev pub map_code : Coded MapAt
 map_code = code_by (Map × ℕ) (coded× content_code coded_ℕ) (λ p. (p.content, p.spare))
     (λ t. record { content = t.0; spare = t.1 }) (λ _. refl)
 
--- The map of these pairs.
+-- The map that has these pairs. If a key is in several pairs, the first of them counts.
 abbrev pub map_of : List (ℕ × ℕ) → Map
 map_of [] = empty
 map_of (pair ∷ pairs) = insert (map_of pairs) pair.0 pair.1

@@ -1,4 +1,4 @@
--- The content of a map's slots, and when they are sound.
+-- The content of a map's slots, and the conditions under which the slots are sound.
 use Rattle.std.specs.Prelude.{◌≡◌, ℕ, ◌*◌, ◌/◌, ◌%◌, ◌^◌, ◌-◌, ◌<◌, ◌≤◌, Bool, true, false, Option, Some, None, List, [], ◌∷◌, length, count_by, slice_index_or, nat_lt, if◌then◌else◌}
 use Rattle.probe_map.specs.declared.slot.Slot.{Slot}
 use Rattle.probe_map.specs.declared.slot.Slot.TheVariants.{Empty, Removed, Full}
@@ -26,22 +26,23 @@ is_full Empty = false
 is_full (Removed key) = false
 is_full (Full key value) = true
 
--- The slot at a place, and its key. If there is no such place, they are an empty slot and no key.
+-- The slot at a place, and the key of this slot. If there is no such place, the slot is empty and
+-- there is no key.
 abbrev pub slot_at : List Slot → ℕ → Slot
 slot_at slots i = slice_index_or slots i Empty
 
 abbrev pub key_at : List Slot → ℕ → Option ℕ
 key_at slots i = key_in (slot_at slots i)
 
--- The keys that have values, each with its value.
+-- The keys that have values, each with its value, in the order of the slots.
 abbrev pub pairs_of : List Slot → List (ℕ × ℕ)
 pairs_of [] = []
 pairs_of (Empty ∷ slots) = pairs_of slots
 pairs_of (Removed key ∷ slots) = pairs_of slots
 pairs_of (Full key value ∷ slots) = (key, value) ∷ pairs_of slots
 
--- The place where the probe for a key begins: the high bits of a product if they are a place, else
--- 0.
+-- The place where the probe for a key begins. It is the number in the high bits of a product, or 0
+-- if there is no place with this number.
 unfoldable pub home : ℕ → ℕ → ℕ → ℕ
 home count shift key =
     let high = key * 0x9E37_79B9_7F4A_7C15 % 2 ^ 64 / 2 ^ (shift % 64) in
@@ -53,8 +54,8 @@ pub record StopsAt (slots : List Slot) (start key place : ℕ) : Type 0 where
   pub stops : stops (key_at slots place) key ≡ true
   pub leads : LeadsTo (key_at slots) (length slots) start key place
 
--- The slots are sound: each key is where its probe stops, there are at least `room` empty slots,
--- and `len` slots have a value.
+-- The slots are sound. Each key is at the place where its probe stops, at least `room` slots are
+-- empty, and `len` slots have a value.
 pub record IsTable (slots : List Slot) (room len shift : ℕ) : Type 0 where
   pub probed : IsProbed (key_at slots) (length slots) (home (length slots) shift)
   pub room_is : room ≤ count_by is_empty slots

@@ -1,7 +1,7 @@
-//! The public type: the slots, with the numbers that say how many more may be used and how many
-//! have a value. `probe.rt` only finds slots; the methods here fill, count and replace them.
-//! Invariant: each key is where its probe stops, and there are at least as many empty slots as may
-//! still be used.
+//! The public type `ProbeMap`: the slots, how many more slots may be used, and how many have a
+//! value. `probe.rt` only finds slots. The methods of this module fill, count and replace them.
+//! Invariant: each key is at the slot where its probe stops, and the number of empty slots is at
+//! least the number of slots that may still be used.
 ghost use Rattle.std.specs.Prelude.{◌≡◌, ℕ, ◌+◌, ◌<◌, ◌≤◌, Option, IfOk, OnOk, OnErr, IfSome, length};
 ghost use Rattle.std.specs.List.Sorted.{IsPermutation};
 ghost use Rattle.txn_words.specs.Map.{count_of, empty, get, set_at};
@@ -13,21 +13,21 @@ use crate::slot::Slot;
 use std::alloc::{AllocError, Global};
 use std::marker::Model;
 
-/// A map of fewer keys than this grows to four times its size. Its growths together move a third as
-/// many keys as growths by doubling would. A larger map doubles, since an array of four times the
-/// size would leave too much memory unused.
+/// A map of fewer keys than this grows to four times its size. If it doubled instead, all its
+/// growths together would move three times as many keys. A larger map doubles, because an array of
+/// four times the size would leave too much memory unused.
 const FEW: usize = 1024;
 
 /// A map from whole numbers to whole numbers.
 ///
-/// A contract sees a `MapAt`: the content, a finite map, and the number of new keys that it has
-/// room for.
+/// A contract sees a `MapAt`: the content, which is a finite map, and the number of new keys for
+/// which there is room.
 ///
 /// # Cost
 ///
 /// A map takes no memory until room is made, by `with_capacity` or `reserve`. A new array has at
-/// least 4 slots, each of 24 bytes. For each key that is there or reserved it has at most 4 slots,
-/// or at most 8 if there are fewer than 1,024 of these keys. It shrinks only when it is rebuilt.
+/// least 4 slots of 24 bytes each. If `n` keys are in the map or reserved, it has at most `4 * n`
+/// slots, or at most `8 * n` if `n` is below 1,024. The array shrinks only when it is rebuilt.
 #[derive(Drop)]
 pub struct ProbeMap {
     slots: Vec<Slot>,
@@ -52,8 +52,8 @@ impl Model for ProbeMap {
     ghost invariant = { λ m. IsTable m.slots.items m.room m.len m.shift };
 }
 
-/// The number of slots of an array with room for this number of keys. The keys leave at least an
-/// eighth of the slots empty.
+/// The number of slots in an array with room for this number of keys. With so many keys, at least
+/// an eighth of the slots is empty.
 fn count_for(keys: usize) -> Option<usize>
     ensures { IfSome result (λ count. keys ≤ most_used count) }
 {
@@ -63,8 +63,8 @@ fn count_for(keys: usize) -> Option<usize>
         .checked_next_power_of_two()
 }
 
-/// The number of keys for which a growing map makes room in its new array. At first at most half of
-/// the new slots have a key, and at most a quarter if the map has few keys.
+/// The number of keys for which a growing map makes room in its new array. Right after the growth,
+/// at most half of the new slots have a key, or at most a quarter if the map has few keys.
 fn grown(len: usize, more: usize) -> Option<usize>
     ensures { IfSome result (λ keys. len + more ≤ keys) }
 {
@@ -73,7 +73,7 @@ fn grown(len: usize, more: usize) -> Option<usize>
     Some(keys.checked_mul(times)? / 4)
 }
 
-/// Puts the keys that have values into an empty map.
+/// Puts the keys of `slots` that have values into `map`, which is empty.
 fn put_all(map: &mut ProbeMap, slots: &[Slot])
     requires empty { map.old.content ≡ empty }
     requires room { length (pairs_of slots.now) ≤ map.old.spare }
@@ -93,7 +93,7 @@ fn put_all(map: &mut ProbeMap, slots: &[Slot])
     }
 }
 
-/// The keys that have values, each with its value.
+/// The keys of `slots` that have values, each with its value.
 fn list(alloc: Global, slots: &[Slot], len: usize) -> Result<Vec<(u64, u64)>, AllocError>
     ensures { IfOk result (λ pairs. pairs.items ≡ pairs_of slots.now) }
 {
@@ -129,12 +129,13 @@ impl ProbeMap {
     ///
     /// # Errors
     ///
-    /// `AllocError` if memory is refused, or if no memory can have room for the keys.
+    /// `AllocError` if memory is refused, or if there are more keys than any memory can hold.
     ///
     /// # Cost
     ///
-    /// Time and memory in proportion to the keys; none for 0 keys. For one key the array has 4
-    /// slots. For more keys it has fewer than 3 slots for each key.
+    /// Time and memory in proportion to the number of keys. For 0 keys, constant time and no
+    /// memory. For one key, the array has 4 slots. For more keys, it has fewer than 3 slots for
+    /// each key.
     pub fn with_capacity(alloc: Global, keys: usize) -> Result<ProbeMap, AllocError>
         ensures empty { IfOk result (λ map. map.content ≡ empty) }
         ensures room { IfOk result (λ map. keys ≤ map.spare) }
@@ -157,7 +158,8 @@ impl ProbeMap {
     ///
     /// # Cost
     ///
-    /// Constant time on the average, except for keys whose homes collide: the hash is fixed.
+    /// Constant time on average, unless the homes of many keys collide. The hash is fixed, so it is
+    /// possible to choose keys whose homes collide.
     #[inline(always)]
     pub fn get(&self, key: u64) -> Option<u64>
         ensures { result ≡ get self.now.content key }
@@ -175,7 +177,8 @@ impl ProbeMap {
         self.len
     }
 
-    /// Gives a key a value, and answers the value before it. Needs room for a key (`reserve`).
+    /// Gives a key a value, and returns the value that the key had. There must be room for one more
+    /// key (`reserve`).
     ///
     /// # Cost
     ///
@@ -198,11 +201,11 @@ impl ProbeMap {
         before
     }
 
-    /// Takes a key out, and answers the value that it had.
+    /// Removes a key, and returns the value that it had.
     ///
     /// # Cost
     ///
-    /// That of `get`; takes no memory, and gives none back.
+    /// That of `get`; takes no memory, and frees none.
     #[inline(always)]
     pub fn remove(&mut self, key: u64) -> Option<u64>
         ensures before { result ≡ get self.old.content key }
@@ -224,13 +227,13 @@ impl ProbeMap {
     ///
     /// # Errors
     ///
-    /// `AllocError` if memory is refused, or if no memory can have room for the keys. Then the map
-    /// is unchanged.
+    /// `AllocError` if memory is refused, or if there are more keys than any memory can hold. In
+    /// both cases the map is unchanged.
     ///
     /// # Cost
     ///
-    /// Constant time if there is room; else the time of a walk over the slots, and time and memory
-    /// for a new array. That is amortized constant time for each new key.
+    /// Constant time if there is room. Otherwise, the time of a walk over the slots, and time and
+    /// memory for a new array. This amounts to amortized constant time for each new key.
     #[inline(always)]
     pub fn reserve(&mut self, keys: usize) -> Result<(), AllocError>
         ensures content { self.new.content ≡ self.old.content }
@@ -244,7 +247,7 @@ impl ProbeMap {
         self.rebuild(keys)
     }
 
-    /// Lays the keys that have values into a new array, with room for more.
+    /// Moves the keys that have values into a new array, with room for `more` new keys.
     #[cold]
     #[inline(never)]
     fn rebuild(&mut self, more: usize) -> Result<(), AllocError>
@@ -261,7 +264,7 @@ impl ProbeMap {
         Ok(())
     }
 
-    /// The keys with their values, in no order.
+    /// The keys with their values, in no particular order.
     ///
     /// # Errors
     ///
@@ -269,7 +272,7 @@ impl ProbeMap {
     ///
     /// # Cost
     ///
-    /// Memory in proportion to the keys, and the time of a walk over the slots.
+    /// Memory in proportion to the number of keys, and the time of a walk over the slots.
     pub fn pairs(&self, alloc: Global) -> Result<Vec<(u64, u64)>, AllocError>
         ensures { IfOk result (λ pairs. IsPermutation self.now.content.rows pairs.items) }
     {

@@ -1,14 +1,14 @@
-//! Probes over the slots. These are functions of the slots, and not methods of the map, so that
-//! they can be called while the map's other fields change. A probe reads each slot at most once and
-//! writes none; if it answers no place, no slot is empty or has the key.
+//! Probes over the slots. They are functions of the slots and not methods of the map, so that they
+//! can be called while the map's other fields change. A probe reads each slot at most once, and
+//! writes to none. If it returns `None`, no slot is empty, and none has the key.
 ghost use Rattle.std.specs.Prelude.{◌≡◌, ℕ, ◌<◌, ◌≤◌, Some, None, true, false, length, IfSome, unwrap_or};
 ghost use Rattle.probe_map.specs.Probes.{stops};
 ghost use Rattle.probe_map.specs.Slots.{StopsAt, home, key_at};
 
 use crate::slot::Slot;
 
-/// 2^64 divided by the golden ratio: the high bits of a key's product with it are spread well, also
-/// for consecutive keys.
+/// 2^64 divided by the golden ratio. If keys are multiplied by this number, the high bits of the
+/// products are spread well, even for consecutive keys.
 const SPREAD: u64 = 0x9E37_79B9_7F4A_7C15;
 
 /// The place where the probe for a key begins.
@@ -22,7 +22,7 @@ fn home_of(count: usize, shift: u32, key: u64) -> usize
     if high < count { high } else { 0 }
 }
 
-/// The first of the slots at which the probe for a key stops.
+/// The index of the first slot at which the probe for a key stops.
 #[inline(always)]
 fn first_stop(slots: &[Slot], key: u64) -> Option<usize>
     ensures some { IfSome result (λ i. i < length slots.now
@@ -38,7 +38,8 @@ fn first_stop(slots: &[Slot], key: u64) -> Option<usize>
     None
 }
 
-/// The place at which a probe stops, if it stops within one round.
+/// The place at which the probe for a key stops, if it begins at `start` and stops within one
+/// round.
 #[inline(always)]
 fn probe(slots: &[Slot], start: usize, key: u64) -> Option<usize>
     requires { start ≤ length slots.now }

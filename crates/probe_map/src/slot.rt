@@ -1,12 +1,12 @@
-//! A slot of the array: 24 bytes, so that a cache line has two or three of them. Probes read its
-//! key, and the map reads its value. A probe goes on over the slot of any other key, also of a
-//! removed key, so a removal need not move other slots. A slot keeps its key until the array is
-//! replaced; no contract promises this.
+//! A slot of the array. It has 24 bytes, so a cache line has two or three slots. Probes read a
+//! slot's key, and the map reads its value. A probe passes the slot of any other key, even if that
+//! key was removed. So a removal need not move other slots. A slot keeps its key until the array is
+//! replaced, but no contract promises this.
 ghost use Rattle.std.specs.Prelude.{◌≡◌};
 ghost use Rattle.probe_map.specs.Probes.{stops};
 ghost use Rattle.probe_map.specs.Slots.{is_empty, key_in, value_in};
 
-/// A slot: a probe stops at an empty one, and goes on over one that has another key.
+/// A slot. A probe stops at an empty slot, and passes a slot that has another key.
 #[derive(Clone, Copy)]
 pub(crate) enum Slot {
     /// No key.
@@ -20,7 +20,7 @@ pub(crate) enum Slot {
 const _: () = prove!(size_of::<Slot>() == 24);
 
 impl Slot {
-    /// Whether the probe for a key stops here.
+    /// Whether the probe for a key stops at this slot.
     #[inline(always)]
     pub(crate) fn stops(&self, key: u64) -> bool
         ensures { result ≡ stops (key_in self.now) key }

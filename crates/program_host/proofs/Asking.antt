@@ -1,5 +1,5 @@
--- From the result of a parse by `clap` to the call that the words ask for. Both command lines cite
--- these lemmas.
+-- Lemmas that lead from the result of a parse by `clap` to the call that the words ask for. Both
+-- command lines cite them.
 use Rattle.std.proofs.Common.{◌≡◌, ◌⊎◌, inl, inr, true, List, [], Option, Some, None, Result, refl, sym, ap, ap₂, subst, ◌∙◌}
 use Rattle.std.specs.Prelude.{IfOk, IfErr, option_map}
 use Rattle.std.specs.Option.{ok_or}
@@ -12,7 +12,8 @@ use Rattle.clap.specs.Matches.{subcommand_name_of}
 use Rattle.clap.specs.Words.{App, HasKind, IsAmong, Row, Text, fault_of, found_of, is_simple, is_simple_and_free, kind_of, rows_of, subcommand_of, subcommand_rows_of}
 use Rattle.std.specs.Box.{box_value}
 
--- If a parse fails, and not for lack of memory, its error is of a kind that the words may give.
+-- If a parse fails for another reason than lack of memory, the kind of its error is one that the
+-- words may cause.
 pub fails_by : (line app : App) (words : List Text) (error : Error) → is_simple_and_free line ≡ true → app ≡ line → (is_simple_and_free app ≡ true → HasKind (fault_of app words) error) → (kind_of error ≡ OutOfMemory → ⊥)
     → IsAmong (kind_of error) (fault_of line words)
 fails_by line app words error free same fails other = elim (fails (ap is_simple_and_free same ∙ free)) [
@@ -20,7 +21,7 @@ fails_by line app words error free same fails other = elim (fails (ap is_simple_
   | inr among ↦ subst (λ a. IsAmong (kind_of error) (fault_of a words)) same among
 ]
 
--- If a parse passes, the words give no error, and name the command that was met.
+-- If a parse succeeds, the words have no fault, and they name the command that the parse found.
 pub passes_with : (line app : App) (words : List Text) (met : Option (Text × List Row)) → is_simple_and_free line ≡ true → app ≡ line → (is_simple_and_free app ≡ true → fault_of app words ≡ []) → (is_simple app ≡ true → met ≡ subcommand_of app words)
     → (fault_of line words ≡ []) × (met ≡ subcommand_of line words)
 passes_with line app words met free same passes meets = (
@@ -44,8 +45,8 @@ pub together : (matches : ArgMatches) (name : Text) (rows : List Row) → Some n
     → subcommand_rows_of matches ≡ Some (name, rows)
 together matches = paired (λ b. (out-SubCommand (box_value b)).name.now) (λ b. rows_of (found_of (out-SubCommand (box_value b)).matches)) (out-ArgMatches matches).subcommand
 
--- The answer is the call that was found. If none was found, it is the usage error, and the words
--- ask for no call.
+-- If a call was found, the result is this call. Otherwise the result is the usage error, and the
+-- words ask for no call.
 pub answered : {C A E : Type 0} (Asks : Option A → Type 0) (asked_of : C → A) (memory usage : E) (looked : Option C) (answer : Result C E) → answer ≡ ok_or looked usage → Asks (option_map asked_of looked)
     → IfOk answer (λ call. Asks (Some (asked_of call))) × IfErr answer (λ reason. (reason ≡ memory) ⊎ ((reason ≡ usage) × Asks None))
 answered Asks asked_of memory usage (Some call) answer is asks = rw is (asks, tt)

@@ -1,4 +1,4 @@
--- A word is a numeral exactly if `parse` takes it for one.
+-- A word is a numeral exactly if `parse` reads it as one.
 use Rattle.std.proofs.Common.{◌≡◌, ℕ, true, List, [], ◌∷◌, length, refl}
 use Rattle.std.specs.Prelude.{nat_lt}
 use Rattle.std.specs.List.{list_all}

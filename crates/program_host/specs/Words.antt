@@ -11,7 +11,7 @@ use Rattle.clap.specs.Words.{App, Rule, Text, app_of, new_rule}
 abbrev pub IsApp : Command → App → Type 0
 IsApp command app = (app_of command ≡ app) × ((out-Command command).has_globals ≡ false)
 
--- The word that names a file, and may not be left out.
+-- The rule for the word that names a file. The word must be given.
 abbrev pub file_word : Text → Rule
 file_word name = record (new_rule name) { required = true; action = Some Set }
 

@@ -3,10 +3,10 @@
 //!
 //! `System` has the services that a program needs: the words of its call, and files. So a program
 //! can also be tried on a system in memory. `Host` is the system behind a runtime.
-//! `specs/Words.antt` has three definitions for a command line that `clap` reads: that a command is
-//! an application of `clap`, the word that names a file, and which words are numerals. `proofs/`
-//! has the lemmas that both command lines cite, about these definitions and about the result of a
-//! parse.
+//! `specs/Words.antt` has three definitions for a command line that `clap` reads. They say what it
+//! means that a command is an application of `clap`, which word names a file, and which words are
+//! numerals. `proofs/` has lemmas about these definitions and about the result of a parse. Both
+//! command lines cite them.
 #![tactic(auto)]
 
 mod system;

@@ -1,7 +1,6 @@
-//! The system that a program runs on, as a trait, and the system behind a runtime. Programs are
-//! written for the trait: their contracts say more if words and files are known. The toolchain
-//! promises nothing of a process's words and files, so nothing is known of the words and files of
-//! `Host`.
+//! The system that a program runs on, as a trait, and `Host`, the system behind a runtime. Programs
+//! are written for the trait. Their contracts say more if the words and the files are known. The
+//! toolchain promises nothing about a process's words and files, so those of `Host` are unknown.
 ghost use Rattle.std.specs.Prelude.{◌≡◌, ℕ, List, Option, Some, None, IfOk, IfErr, IfSome, map};
 ghost use Rattle.std.specs.String.{string_bytes};
 ghost use Rattle.std.specs.IoError.{error_kind};
@@ -21,15 +20,15 @@ pub trait System {
     /// The words of the call, if they are known.
     ghost spoken: { Self → Option (List (List ℕ)) } = { λ _. None };
 
-    /// The bytes of the file of this name, if they are known.
+    /// The bytes of the file with this name, if they are known.
     ghost bytes: { Self → List ℕ → Option (List ℕ) } = { λ _ _. None };
 
-    /// The words of the call; the first is the program's name.
+    /// The words of the call. The first word is the program's name.
     ///
     /// # Errors
     ///
-    /// `OutOfMemory` if memory is refused; another kind if a word is no text, which cannot happen
-    /// if the words are known.
+    /// - `OutOfMemory` if memory is refused.
+    /// - Another kind if a word is not text. This cannot happen if the words are known.
     ///
     /// # Cost
     ///
@@ -40,11 +39,12 @@ pub trait System {
         ensures err { IfErr result (λ error. IfSome (spoken self.now)
             (λ known. error_kind error ≡ OutOfMemory)) };
 
-    /// Opens the file of this name for reading.
+    /// Opens the file with this name for reading.
     ///
     /// # Errors
     ///
-    /// `OutOfMemory` if memory is refused; another kind if the file cannot be opened.
+    /// - `OutOfMemory` if memory is refused.
+    /// - Another kind if the file cannot be opened.
     ///
     /// # Cost
     ///

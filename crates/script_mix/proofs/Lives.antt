@@ -8,7 +8,7 @@ use Rattle.script_worker.proofs.Vocabulary.{All-cons, All-nil, cases_Bool, count
 abbrev lives : Worker → Bool
 lives w = is_some (step_by w)
 
--- The list has as many numbers as there are live workers.
+-- `live_from` lists as many numbers as there are live workers.
 pub length-live : (n : ℕ) (ws : List Worker) → length (live_from n ws) ≡ live ws
 length-live n [] = refl
 length-live n (w ∷ ws) = elim (cases_Bool (lives w)) [
@@ -16,8 +16,8 @@ length-live n (w ∷ ws) = elim (cases_Bool (lives w)) [
   | inr idle ↦ rw (idle, length-live (suc n) ws)
 ]
 
--- At each place of the list is the number of a live worker. The place counts the live workers
--- before this worker.
+-- At `place`, the list has the number of a live worker. Exactly `place` live workers precede this
+-- worker.
 abbrev Stands : List Worker → ℕ → List ℕ → ℕ → ℕ → Type 0
 Stands ws n numbers place d =
     (i : ℕ) × (get_or numbers place d ≡ n + i) × (i < length ws) × (live (take i ws) ≡ place) × (live (take (suc i) ws) ≡ suc place)
@@ -58,8 +58,8 @@ lives_at ws place i d at = elim (cases_Bool (lives (get_or ws i d))) [
       absurd (omega (arith, same, at.before, at.lives))
 ]
 
--- The list after the worker at a place has taken a turn: if the worker has a step left, the list is
--- unchanged; if not, the number at this place is removed.
+-- The list after the worker at a place has taken a turn. If the worker has a step left, the list is
+-- unchanged. If not, the number at this place is removed.
 still_live : (n : ℕ) (ws : List Worker) (i : ℕ) (d after : Worker) → i < length ws → lives (get_or ws i d) ≡ true → lives after ≡ true
     → live_from n (set ws i after) ≡ live_from n ws
 still_live n [] i d after within was is = refl

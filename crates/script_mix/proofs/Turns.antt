@@ -16,7 +16,7 @@ step_mine : (tries workers : ℕ) (scripts : List (List Action)) (w : ℕ) (task
 step_mine tries workers scripts w None seen step answer keeps is = absurd (cc is)
 step_mine tries workers scripts w (Some task) seen step answer keeps is = rw keeps.caller at (entries_callers task.drive step answer is)
 
--- A worker that takes a step moves on (`MovesOn`).
+-- If a worker takes a step, `MovesOn` holds.
 step_goes : (scripts : List (List Action)) (tries : ℕ) (old new : State) (before : Worker) (step : Step) (answer : Answer) → Happens old step answer new → step_by before ≡ Some step
     → KeepsScripts scripts tries before (own before.number old.history)
     → MovesOn scripts tries old new before (told_by scripts tries before answer)
@@ -40,7 +40,7 @@ goes_then scripts tries a b c x y z first next =
     let limits = next.limits ∙ first.limits in
     record { limits = limits; number = next.number ∙ first.number; same = next.same ∙ first.same; others = others; keeps = next.keeps }
 
--- A worker that takes a turn moves on.
+-- If a worker takes a turn, `MovesOn` holds.
 module _ (scripts : List (List Action)) (tries : ℕ) where
   one_goes : (old : Working State) (step : Step) (answer : Answer) (new : Working State) → step_by old.worker ≡ Some step
       → KeepsScripts scripts tries old.worker (own old.worker.number old.taker.history)
@@ -63,8 +63,8 @@ module _ (scripts : List (List Action)) (tries : ℕ) where
       rw same (one_goes old first answer between is.0 keeps takes)
   turn_goes_in old turn new is keeps takes = absurd takes
 
-  -- A worker notes the table's size, and then takes its turn. This adds only entries of the worker,
-  -- and the worker still keeps to its scripts.
+  -- A worker notes the table's size, and then takes its turn. The turn adds only entries of the
+  -- worker, and the worker still keeps to its scripts.
   pub turn_goes : (size : ℕ) (old new : State) (before after : Worker) (finish : Option Finish) → IsTurnBy (sized_by size before) (turn_by (sized_by size before)) → KeepsScripts scripts tries before (own before.number old.history)
       → TakesNext Happens size scripts tries old before finish new after → MovesOn scripts tries old new before after
   turn_goes size old new before after finish is keeps takes =
@@ -117,8 +117,8 @@ crew_more scripts tries count crew worker member each w other less = elim (cases
       rw (last, get_or-append_seam crew worker [] other) member
 ]
 
--- In a crew's history the outcomes of each worker's scripts are true, and its committed
--- transactions play its scripts.
+-- If the workers are a crew, each worker's scripts have outcomes that are true of the history, and
+-- each worker's committed transactions play its scripts.
 pub crew_told : {rule : Holder} (limits : Sizes) (scripts : List (List Action)) (tries count stripes : ℕ) (h : List Entry) (crew : List Worker) → IsLegal rule stripes h → IsCrew scripts tries count h crew
     → (c : ℕ) → c < count → (outcomes : List Outcome) × AreTrue c tries h (tolds_of (every count c scripts) outcomes)
 crew_told limits scripts tries count stripes h crew legal is c below =

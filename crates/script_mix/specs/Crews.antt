@@ -12,8 +12,8 @@ use Rattle.script_worker.specs.Keeps.{KeepsScripts}
 use Rattle.script_worker.specs.Workers.{IsReady}
 use Rattle.script_mix.specs.Turns.{live, AreFinished, Mixing, beginning, TakeDrawn}
 
--- The worker with the number `w`, one of `count` workers. Its entries in the history so far are
--- those of its scripts.
+-- The worker has the number `w` and is one of `count` workers. Its entries in the history so far
+-- are those of its scripts.
 pub record IsMember (scripts : List (List Action)) (tries count : ℕ) (h : List Entry) (w : ℕ)
     (worker : Worker) : Type 0 where
   pub number : worker.number ≡ w
@@ -21,14 +21,14 @@ pub record IsMember (scripts : List (List Action)) (tries count : ℕ) (h : List
   pub keeps : KeepsScripts scripts tries worker (own w h)
   pub ready : IsReady worker
 
--- The workers, by rising numbers.
+-- The crew has `count` workers, in the order of their numbers.
 pub record IsCrew (scripts : List (List Action)) (tries count : ℕ) (h : List Entry)
     (crew : List Worker) : Type 0 where
   pub size : length crew ≡ count
   pub each : (w : ℕ) (other : Worker) → w < length crew → IsMember scripts tries count h w
       (slice_index_or crew w other)
 
--- A worker moved on: it keeps to its scripts, and has added no entry of another caller.
+-- The worker still keeps to its scripts, and the only entries added are its own.
 pub record MovesOn (scripts : List (List Action)) (tries : ℕ) (old new : State)
     (before after : Worker) : Type 0 where
   pub limits : new.limits ≡ old.limits
@@ -37,11 +37,11 @@ pub record MovesOn (scripts : List (List Action)) (tries : ℕ) (old new : State
   pub others : (c : ℕ) → c ≢ before.number → own c new.history ≡ own c old.history
   pub keeps : KeepsScripts scripts tries after (own after.number new.history)
 
--- A core of the limits asked for, whose stripes are not words. The workers took turns on it as they
--- were drawn, until none had a step or a script left, or 2^64 - 1 turns were taken. In the core's
--- history each worker's committed transactions play its scripts, with rising numbers. For each
--- worker there is a list of its scripts' outcomes, from the first script on, which is true of the
--- history. A script that did not begin has no outcome in the list.
+-- The core has the limits asked for, and its stripes are not words. Workers were drawn and took
+-- turns on it, until no worker had a step or a script left, or 2^64 - 1 turns were taken. In the
+-- core's history each worker's committed transactions play its scripts, and the numbers of these
+-- scripts rise. For each worker there is a list of its scripts' outcomes, from the first script on.
+-- The list is true of the history. A script that did not begin has no outcome in the list.
 pub record IsMixed (work : Work) (seed : ℕ) (state : State) : Type 0 where
   pub limits : state.limits ≡ work.sizes
   pub words : state.words ≡ false

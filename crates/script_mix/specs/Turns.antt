@@ -18,7 +18,7 @@ live [] = 0
 live (worker ∷ workers) = if is_some (step_by worker) then suc (live workers) else live workers
 
 -- The numbers of the workers that have a step to take, in rising order. The first worker of the
--- list has the number `n`.
+-- given list has the number `n`.
 abbrev pub live_from : ℕ → List Worker → List ℕ
 live_from n [] = []
 live_from n (worker ∷ workers) =
@@ -28,29 +28,29 @@ live_from n (worker ∷ workers) =
 abbrev pub AreFinished : List Worker → Type 0
 AreFinished workers = All (λ (worker : Worker). worker.task ≡ None) workers
 
--- The worker of this number is live, and `place` live workers precede it.
+-- The worker with this number is live, and `place` live workers precede it.
 pub record IsAtPlace (workers : List Worker) (place number : ℕ) : Type 0 where
   pub within : number < length workers
   pub before : live (take number workers) ≡ place
   pub lives : live (take (number + 1) workers) ≡ place + 1
 
--- A worker takes its next turn on the core, at the size of the core's table.
+-- The worker notes the size of the core's table, and then takes its next turn on the core.
 abbrev pub TakesTurn : List (List Action) → ℕ → State → Worker → State → Worker → Type 0
 TakesTurn scripts tries old before new after =
     (finish : Option Finish) × TakesNext Happens old.size scripts tries old before finish new after
 
--- A core, the workers that take turns on it, and the generator by which they are drawn.
+-- A core, the workers that take turns on it, and the generator that draws the workers.
 pub record Mixing : Type 0 where
   pub core : State
   pub crew : List Worker
   pub generator : Lcg
 
--- This number of workers, before their first steps.
+-- The first workers, as many as the last argument says. None of them has taken a step.
 abbrev pub first_crew : List (List Action) → Sizes → ℕ → List Worker
 first_crew scripts limits zero = []
 first_crew scripts limits (suc w) = first_crew scripts limits w ++ new_worker scripts w limits ∷ []
 
--- A new core with its workers, and the generator of this seed.
+-- A new core with its workers, and the generator with this seed.
 abbrev pub beginning : Work → ℕ → Mixing
 beginning work seed = record {
   core = start work.sizes;
@@ -58,7 +58,7 @@ beginning work seed = record {
   generator = pcg32_of_seed (pcg32_seed 16 seed);
 }
 
--- The worker of this number takes its next turn. Its place among the live workers is the
+-- The worker with this number takes its next turn. Its place among the live workers is the
 -- generator's next word modulo the number of live workers.
 pub record TakesDrawn (scripts : List (List Action)) (tries : ℕ) (old : Mixing) (number : ℕ)
     (new : Mixing) : Type 0 where

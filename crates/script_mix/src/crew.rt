@@ -1,6 +1,6 @@
-//! Two lists, which the run makes once: the workers by rising numbers, and the numbers of the live
-//! workers. The run removes the number of a worker that has no step left. So a draw needs only the
-//! length of the list of numbers, and takes constant time and no memory.
+//! The two lists that a run makes once: the workers in the order of their numbers, and the numbers
+//! of the live workers. When a worker has no step left, the run removes its number. So a draw needs
+//! only the length of the list of numbers, and takes constant time and no memory.
 ghost use Rattle.std.specs.Prelude.{◌≡◌, ℕ, ◌<◌, ◌%◌, IfOk, IfSome, None, [], length};
 ghost use Rattle.rand_pcg.specs.Pcg.{pcg32};
 ghost use Rattle.script_mix.specs.Turns.{first_crew, live_from};
@@ -12,7 +12,7 @@ use script_worker::Worker;
 use std::alloc::{AllocError, Global};
 use txn_trace::{Limits, Script};
 
-/// One worker for each caller, by rising numbers, before their first steps.
+/// One worker for each caller, in the order of the callers' numbers. No worker has taken a step.
 pub(crate) fn workers_of(
     alloc: Global,
     limits: Limits,
@@ -44,7 +44,7 @@ pub(crate) fn live_numbers(alloc: Global, workers: &[Worker]) -> Result<Vec<usiz
     Ok(numbers)
 }
 
-/// Draws a place in the list of live workers, even if only one worker is live. Answers `None` if
+/// Draws a place in the list of live workers, even if only one worker is live. Returns `None` if
 /// the list is empty.
 pub(crate) fn draw_place(generator: &mut Pcg32, live: &[usize]) -> Option<usize>
     ensures below { IfSome result (λ place. place < length live.now) }

@@ -1,6 +1,6 @@
 //! The draw of a place among the live workers. Nothing else uses the generator, and each draw takes
-//! one word, so the turns of a seed depend only on `Pcg32`. `draw` is public and in a module apart,
-//! so that a test can draw the turns of a run by itself.
+//! one word from it, so the turns that a seed gives depend only on `Pcg32`. `draw` is public and in
+//! its own module, so that a test can draw the turns of a run itself.
 ghost use Rattle.std.specs.Prelude.{◌≡◌, ◌<◌, ◌%◌};
 ghost use Rattle.rand_pcg.specs.Pcg.{pcg32};
 

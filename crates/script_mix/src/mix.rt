@@ -13,19 +13,19 @@ use rand_pcg::Pcg32;
 use std::alloc::{AllocError, Global};
 use txn_trace::Scripts;
 
-/// Runs the scripts on a new core, with the workers' turns mixed as the seed says, until no worker
-/// has a step left, and answers the core with the history. Before each turn a place among the live
-/// workers is drawn, even if there is only one.
+/// Runs the scripts on a new core until no worker has a step left, or until 2^64 - 1 turns were
+/// taken, and returns the core with the history. The seed decides how the workers' turns are mixed.
+/// Before each turn a place among the live workers is drawn, even if there is only one.
 ///
 /// # Errors
 ///
-/// `AllocError` if memory is refused outside a step. A step that is refused memory has the answer
-/// `Refused(NoMemory)`, which ends its script.
+/// `AllocError` if memory is refused outside a step. If memory is refused in a step, the step gets
+/// the answer `Refused(NoMemory)`, which ends the worker's script.
 ///
 /// # Cost
 ///
-/// That of `Core::new` and of the steps. When a worker's last script is over, also time in
-/// proportion to the workers. Memory for the workers, the core and the steps.
+/// The cost of `Core::new` and of the steps. Each time a worker's last script is over, also time in
+/// proportion to the number of workers. Memory for the workers, the core and the steps.
 pub fn mix_scripts(alloc: Global, seed: u64, work: &Scripts) -> Result<Core, AllocError>
     ensures { IfOk result (λ core. IsMixed work.now seed core) }
 {

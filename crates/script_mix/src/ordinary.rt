@@ -1,7 +1,7 @@
-//! The type of a core whose stripes are not words. On such a core a worker's turn may ask without a
-//! claim. The type's invariant says that the stripes are not words, so the loops over turns need
-//! not carry this fact. Each method costs what its one call of the core costs, or only moves the
-//! core.
+//! `OrdinaryCore`, the type of a core whose stripes are not words. On such a core a worker's turn
+//! may ask without a claim. The type's invariant says that the stripes are not words, so the loops
+//! over turns need not carry this fact. Each method makes one call of the core and costs what this
+//! call costs, or only moves the core.
 ghost use Rattle.std.specs.Prelude.{◌≡◌, false, IfOk};
 ghost use Rattle.boost_core.specs.Machine.{start};
 
@@ -43,7 +43,7 @@ impl OrdinaryCore {
         Ok(OrdinaryCore { core })
     }
 
-    /// Takes one step.
+    /// Takes one step of the core.
     pub(crate) fn step(&mut self, step: Step) -> Answer
         ensures { Happens self.old step result self.new }
     {
@@ -57,7 +57,7 @@ impl OrdinaryCore {
         self.core.size()
     }
 
-    /// The core.
+    /// Returns the core itself.
     pub(crate) fn into_core(self) -> Core
         ensures value { result ≡ self }
         ensures ordinary { result.words ≡ false }

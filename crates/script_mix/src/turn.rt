@@ -12,8 +12,8 @@ use crate::ordinary::OrdinaryCore;
 use script_worker::Worker;
 use txn_trace::Script;
 
-/// Takes the next turn of a live worker on the core, of one step or of two, and answers whether the
-/// worker has a step left.
+/// Takes the next turn of a live worker on the core: one step or two. Returns whether the worker
+/// has a step left.
 pub(crate) fn take_turn(
     core: &mut OrdinaryCore,
     worker: &mut Worker,

@@ -1,4 +1,4 @@
--- The outcomes so far and a worker's way, after the first entries of a history.
+-- What holds of the outcomes and of a worker's `Way` after the first entries of a history.
 use Rattle.std.proofs.Common.{◌≡◌, ◌≢◌, ℕ, Option, zero, suc, ◌+◌, ◌%◌, ◌<◌, ◌≤◌, ◌⊎◌, ◌==◌, ◌&&◌, Bool, true, false, cond, List, [], ◌∷◌, ◌++◌, length, take, drop, get_or, set, Some, None, refl, sym, ap, subst, ◌∙◌, inl, inr, arith}
 use Rattle.std.specs.Prelude.{slice_get}
 use Rattle.std.specs.List.{fold}
@@ -21,7 +21,8 @@ use Rattle.script_outcomes.specs.Outcomes.{grown, latest_entries, CommitsScript,
 use Rattle.script_outcomes.specs.Ways.{IsFirstPlayed, Advances, IsCountedFor, CountsAt, TakesEntry}
 use Rattle.script_outcomes.proofs.Strides.{stride}
 
--- One outcome is written, and the others are unchanged.
+-- If an element of a list is written, a read gives its new value, and the other elements are
+-- unchanged.
 pub get-set_same : {X : Type 0} (xs : List X) (i : ℕ) (x : X) → i < length xs → slice_get (set xs i x) i ≡ Some x
 get-set_same [] i x within = absurd (omega arith)
 get-set_same (y ∷ ys) zero x within = refl
@@ -47,14 +48,14 @@ past_later next turn fed next' turn' fed' n (Committed place entry) a b d past =
 past_later next turn fed next' turn' fed' n (Aborted entry) a b d past = let x = past.0 in let y = past.1 in (omega arith, omega arith)
 past_later next turn fed next' turn' fed' n GivenUp a b d past = tt
 
--- The bound `low` of `PlayInOrder` may be replaced by `low'`, if each number of the caller's
--- scripts that is at least `low` is also at least `low'`.
+-- If each number of the caller's scripts that is at least `low` is also at least `low'`, then the
+-- bound `low` of `PlayInOrder` may be replaced by `low'`.
 pub play_lower : (w : ℕ) (scripts : List (List Action)) (c low low' : ℕ) (parts : List (List Entry)) → ((n : ℕ) → low ≤ n → n % w ≡ c → low' ≤ n)
     → PlayInOrder w scripts c low parts → PlayInOrder w scripts c low' parts
 play_lower w scripts c low low' [] less play = tt
 play_lower w scripts c low low' (part ∷ parts) less play = (play.0, play.1, less play.0 play.2 play.3.mine, play.3, play.4, play.5)
 
--- The facts about the outcomes of a caller's scripts.
+-- The facts about the outcomes of a caller's scripts after the first `fed` entries.
 pub record Known (w : ℕ) (scripts : List (List Action)) (h : List Entry) (c next turn fed : ℕ) (os : List Outcome) : Type 0 where
   pub each : (n : ℕ) (script : List Action) (o : Outcome) → IsScriptOf w scripts c n script → slice_get os n ≡ Some o → HasCome c script h o
   pub past : (n : ℕ) (o : Outcome) → n % w ≡ c → slice_get os n ≡ Some o → IsPast next turn fed n o
@@ -138,7 +139,7 @@ known_written w scripts h c next turn fed next' turn' os os' number x is within 
     read : (n : ℕ) (o : Outcome) → slice_get os' n ≡ Some o → ((n ≡ number) × (o ≡ x)) ⊎ (slice_get os n ≡ Some o)
     read n o there = read_written os number x n o within (ap (λ ys. slice_get ys n) (sym is) ∙ there)
 
--- The facts about a caller's scripts after the first entries.
+-- The facts about a caller's outcomes and its `Way` after the first `fed` entries.
 pub record Follows (w : ℕ) (scripts : List (List Action)) (h : List Entry) (c fed : ℕ) (os : List Outcome) (way : Way) : Type 0 where
   pub part : way.part.items ≡ latest_entries c (take fed h)
   pub next : way.next % w ≡ c
@@ -184,7 +185,7 @@ module _ (w : ℕ) (scripts : List (List Action)) (h : List Entry) (c fed : ℕ)
         (n, mine, is ∙ ap (λ k. Some (Committed place k)) (sym now))
   ]
 
-  -- An entry of another caller changes nothing.
+  -- After an entry of another caller, `Follows` still holds.
   pub other_follows : (os os' : List Outcome) (way : Way) → (caller_of e == c) ≡ false → ((n : ℕ) → n % w ≡ c → slice_get os' n ≡ slice_get os n)
       → Follows w scripts h c fed os way → Follows w scripts h c (fed + 1) os' way
   other_follows os os' way other agree f = record {
@@ -213,7 +214,7 @@ module _ (w : ℕ) (scripts : List (List Action)) (h : List Entry) (c fed : ℕ)
     no_commit : is_commit e ≡ false → (place : ℕ) → e ≡ entries.Committed c place → ⊥
     no_commit quiet place is = false≢true (sym quiet ∙ ap is_commit is)
 
-    -- Nothing is counted.
+    -- If the entry is no commit and nothing is counted, `Follows` still holds.
     quiet_follows : is_commit e ≡ false → new.next ≡ old.next → os' ≡ os → Follows w scripts h c (fed + 1) os' new
     quiet_follows quiet same outcomes = record {
       part = part_is;
@@ -227,13 +228,13 @@ module _ (w : ℕ) (scripts : List (List Action)) (h : List Entry) (c fed : ℕ)
       );
     }
 
-    -- A commit that was counted stays counted if an outcome is written at a later script.
+    -- If an outcome is written for a later script, a commit that was counted stays counted.
     kept : (number : ℕ) (x : Outcome) → os' ≡ set os number x → old.next ≤ number → (n place entry : ℕ) → n % w ≡ c → slice_get os n ≡ Some (Committed place entry) → slice_get os' n ≡ Some (Committed place entry)
     kept number x is low n place entry m there =
         let before = (f.known.past n (Committed place entry) m there).0 in
         ap (λ ys. slice_get ys n) is ∙ get-set_other os number n x (λ same. omega (arith, same, before, low)) ∙ there
 
-    -- An abort is counted.
+    -- If an abort is counted, `Follows` still holds.
     abort_follows : e ≡ entries.Aborted c → new.next ≡ old.next → (number : ℕ) → old.turn ≤ number → number % w ≡ old.turn % w → IsCountedFor scripts (Aborted fed) number new.turn os os'
         → ((script : List Action) → slice_get scripts number ≡ Some script → AbortsItself script new.part.items) → Follows w scripts h c (fed + 1) os' new
     abort_follows ends same number from its counts did =
@@ -258,14 +259,14 @@ module _ (w : ℕ) (scripts : List (List Action)) (h : List Entry) (c fed : ℕ)
     commit_play place ends play =
         subst (PlayInOrder w scripts c old.next) (taken_in old.part.items mine ∙ ap (λ b. cond b (grown old.part.items e ∷ committed_from c (grown old.part.items e) (drop (fed + 1) h)) (committed_from c (grown old.part.items e) (drop (fed + 1) h))) (ap is_commit ends)) play
 
-    -- The script `number` is not after the script that the transaction plays by `play`.
+    -- The script `number` is not after the script that the transaction plays according to `play`.
     no_later : (number : ℕ) → IsFirstPlayed w scripts new.part.items old.next number → (parts : List (List Entry)) → (play : PlayInOrder w scripts c old.next (grown old.part.items e ∷ parts)) → number ≤ play.0
     no_later number first parts play = elim (cases_lt play.0 number) [
       | inl early ↦ absurd (first.passed play.0 play.1 play.2 early (play.3.mine ∙ sym f.next) play.3.there (subst (IsPlayed play.1) (sym grows) play.4))
       | inr late ↦ late
     ]
 
-    -- A commit is counted.
+    -- If a commit is counted, `Follows` still holds.
     commit_follows : (place : ℕ) → e ≡ entries.Committed c place → (number : ℕ) → IsFirstPlayed w scripts new.part.items old.next number → IsCountedFor scripts (Committed place fed) number new.next os os'
         → new.next ≡ number + w → Follows w scripts h c (fed + 1) os' new
     commit_follows place ends number first counts then =
@@ -298,8 +299,8 @@ module _ (w : ℕ) (scripts : List (List Action)) (h : List Entry) (c fed : ℕ)
         place_of : (p q : ℕ) → entries.Committed c p ≡ entries.Committed c q → p ≡ q
         place_of p q is = ap place_in is
 
-    -- The transaction commits, but plays none of the caller's scripts at the position `next` or
-    -- after it.
+    -- If the transaction commits but plays none of the caller's scripts from the position `next`
+    -- on, `Follows` still holds.
     lost_follows : (place : ℕ) → e ≡ entries.Committed c place → (number : ℕ) → IsFirstPlayed w scripts new.part.items old.next number → length scripts ≤ number → os' ≡ os → Follows w scripts h c (fed + 1) os' new
     lost_follows place ends number first past same = record {
       part = part_is;

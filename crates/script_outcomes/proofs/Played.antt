@@ -51,7 +51,7 @@ none_noted false k part is = refl
 abbrev entries_of : List Entry → List ℕ → List (List Entry)
 entries_of h ts = map (λ t. without_undone (of t h)) ts
 
--- The committed transactions of a caller have ended, and their entries are the committed parts.
+-- The committed transactions of a caller have ended, and their entries are those of `committed_by`.
 record Told (c : ℕ) (h : List Entry) : Type 0 where
   parts_are : entries_of h (commits_of c h) ≡ committed_by c h
   all_ended : AllByRecursion (λ t. ended t h ≡ true) (commits_of c h)

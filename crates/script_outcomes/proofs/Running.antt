@@ -1,4 +1,4 @@
--- A history with one more entry: the outcomes and the ways follow it.
+-- The facts about the outcomes and the ways still hold after one more entry.
 use Rattle.std.proofs.Common.{◌≡◌, ◌≢◌, ℕ, zero, suc, ◌+◌, ◌%◌, ◌<◌, ◌≤◌, ◌⊎◌, ◌==◌, Bool, true, false, List, [], ◌∷◌, ◌++◌, length, take, drop, set, Some, None, Option, refl, sym, ap, subst, ◌∙◌, inl, inr, arith, length-set}
 use Rattle.std.specs.Prelude.{slice_get}
 use Rattle.std.proofs.lemmas.Bool.{cases_order, eqb-true, cases_Bool}
@@ -47,7 +47,7 @@ module _ (w : ℕ) (scripts : List (List Action)) (h : List Entry) (fed : ℕ) (
         other_follows w scripts h c fed e at os os way (apart (caller_of e) c (λ same. omega (arith, same, past, inside))) (λ n mine. refl) (all.each c way there);
   }
 
-  -- After a worker has taken in the entry of its caller, the facts hold.
+  -- After a worker has processed an entry of its caller, `AllFollow` still holds.
   pub all_step : (os' : List Outcome) (old new : Way) (ways' : List Way) → slice_get ways (caller_of e) ≡ Some old → TakesEntry w scripts e fed old new os os' → ways' ≡ set ways (caller_of e) new
       → AllFollow w scripts h (fed + 1) os' ways'
   all_step os' old new ways' there goes is = record {
@@ -84,7 +84,7 @@ module _ (w : ℕ) (scripts : List (List Action)) (h : List Entry) (fed : ℕ) (
             | inr wrote ↦ ap (λ ys. slice_get ys n) wrote.3 ∙ get-set_other os wrote.0 n wrote.1 (λ same. not (sym mine ∙ ap (λ k. k % w) same ∙ wrote.2))
           ]
 
--- `MayCount` and `TakesEntry` of equal arguments.
+-- `MayCount` and `TakesEntry` still hold if their arguments are replaced by equal ones.
 pub may_same : (w w' : ℕ) (ss ss' : List (List Action)) (way : Way) (os os' : List Outcome) → w' ≡ w → ss' ≡ ss → os' ≡ os → MayCount w ss way os → MayCount w' ss' way os'
 may_same w w' ss ss' way os os' a b d may =
     subst (λ k. MayCount k ss' way os') (sym a) (subst (λ k. MayCount w k way os') (sym b) (subst (MayCount w ss way) (sym d) may))

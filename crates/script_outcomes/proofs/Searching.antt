@@ -8,8 +8,8 @@ use Rattle.txn_words.specs.declared.entry.Entry.{Entry}
 use Rattle.txn_trace.specs.Plays.{IsPlayed}
 use Rattle.script_outcomes.proofs.Strides.{stride}
 
--- If the transaction plays no script before `number`, and not the one at `number`, it plays none
--- before `number + w`.
+-- If the transaction plays no script of the worker before `number`, and does not play the script at
+-- `number`, then it plays no script of the worker before `number + w`.
 pub not_played : (w : ℕ) (scripts : List (List Action)) (part : List Entry) (low number : ℕ) (here d : List Action) (read : List Entry) → here ≡ get_or scripts number d → read ≡ part
     → number % w ≡ low % w → (IsPlayed here read → ⊥)
     → ((n : ℕ) (script : List Action) → low ≤ n → n < number → n % w ≡ low % w → slice_get scripts n ≡ Some script → IsPlayed script part → ⊥)
@@ -26,8 +26,8 @@ not_played w scripts part low number here d read is same mine not before n scrip
 pub past_all : (scripts : List (List Action)) (number : ℕ) (script : List Action) → length scripts ≤ number → slice_get scripts number ≡ Some script → ⊥
 past_all scripts number script past there = let inside = slice_get_within scripts number script there in omega arith
 
--- The script `here` was read at `number`. If `scripts` has a script of this number, it is `here`.
--- So if `here` is played, the script of this number is played.
+-- The script `here` was read at `number`. If `scripts` has a script with this number, it is `here`.
+-- So if `here` is played, the script with this number is played.
 pub plays_there : (scripts : List (List Action)) (part : List Entry) (number : ℕ) (here d : List Action) (read : List Entry) → here ≡ get_or scripts number d → read ≡ part → IsPlayed here read
     → (script : List Action) → slice_get scripts number ≡ Some script → IsPlayed script part
 plays_there scripts part number here d read is same played script there =

@@ -4,8 +4,8 @@ use Rattle.std.proofs.Math.Nat.{suc-mul, mul-le-mul_right}
 use Rattle.std.proofs.lemmas.Nat.{div-add-mod'}
 use Rattle.std.proofs.lemmas.Bool.{cases_lt}
 
--- If `a` and `b` have the same remainder modulo `w`, the greater number is at least `w` above the
--- other.
+-- If `a` and `b` have the same remainder modulo `w`, and `a` is less than `b`, then `b` is at least
+-- `a + w`.
 pub stride : (w a b : ℕ) → a % w ≡ b % w → a < b → a + w ≤ b
 stride w a b same less =
     let one : a / w * w + a % w ≡ a = div-add-mod' a w in

@@ -6,8 +6,8 @@ use Rattle.txn_words.specs.declared.action.Action.TheVariants as actions
 use Rattle.txn_words.specs.declared.entry.Entry.{Entry}
 use Rattle.txn_words.specs.declared.entry.Entry.TheVariants.{Began, Asked, Did, Saved, Leave, Returned, Aborted}
 
--- The entries are those of an action, in order, and then the rest. An abort has no rest: it ends
--- its transaction.
+-- The entries begin with those of the action, and the others are `rest`. There is no rest after an
+-- abort, since an abort ends its transaction.
 abbrev pub PlaysAction : Action → List Entry → List Entry → Type 0
 PlaysAction (actions.Op op) (Asked c asked ∷ Did d reply ∷ es) rest = (asked ≡ op) × (es ≡ rest)
 PlaysAction actions.Save (Saved c ∷ es) rest = es ≡ rest
@@ -27,8 +27,8 @@ ReachAbort (actions.Help k ∷ script) es = ReachAbort script es
 ReachAbort (actions.Abort ∷ script) (Leave c None ∷ Aborted d ∷ []) = Unit {0}
 ReachAbort _ _ = ⊥
 
--- The entries are Began, those of the script's actions before its first abort, and those of the
--- abort.
+-- The entries are a Began, then those of the script's actions before its first abort, and then
+-- those of the abort.
 abbrev pub AbortsItself : List Action → List Entry → Type 0
 AbortsItself script (Began c t ∷ es) = ReachAbort script es
 AbortsItself script _ = ⊥

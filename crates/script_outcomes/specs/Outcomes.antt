@@ -12,8 +12,8 @@ use Rattle.script_outcomes.specs.declared.outcome.Outcome.{Outcome}
 use Rattle.script_outcomes.specs.declared.outcome.Outcome.TheVariants.{Committed, Aborted, GivenUp}
 use Rattle.script_outcomes.specs.Matches.{AbortsItself}
 
--- The entries of a caller's transaction after one more entry of the caller: a Began starts a new
--- one, and an entry that takes a change back is left out.
+-- The entries of a caller's transaction after one more entry of the caller. A Began starts a new
+-- transaction, and an entry that takes a change back is left out.
 abbrev pub grown : List Entry → Entry → List Entry
 grown part e = if is_began e then e ∷ [] else if is_undone e then part else part ++ e ∷ []
 
@@ -21,34 +21,34 @@ grown part e = if is_began e then e ∷ [] else if is_undone e then part else pa
 abbrev pub latest_entries : ℕ → List Entry → List Entry
 latest_entries c h = fold grown [] (own c h)
 
--- The entry of this index is a Committed of the caller with this commit number (`place`), and its
--- transaction plays the script.
+-- The entry with this index is a Committed of the caller with this commit number (`place`), and the
+-- entry's transaction plays the script.
 pub record CommitsScript (c : ℕ) (script : List Action) (place entry : ℕ) (h : List Entry) :
     Type 0 where
   pub at : slice_get h entry ≡ Some (entries.Committed c place)
   pub plays : IsPlayed script (latest_entries c (take (entry + 1) h))
 
--- The entry of this index ends a transaction of the caller that did the script's actions up to its
--- abort, and no more.
+-- The entry with this index ends a transaction of the caller. This transaction did the script's
+-- actions up to the script's own abort, and no more.
 pub record AbortsScript (c : ℕ) (script : List Action) (entry : ℕ) (h : List Entry) : Type 0 where
   pub at : slice_get h entry ≡ Some (entries.Aborted c)
   pub did : AbortsItself script (latest_entries c (take (entry + 1) h))
 
--- The meaning of an outcome for the history.
+-- The outcome of a script is true of the history.
 abbrev pub HasCome : ℕ → List Action → List Entry → Outcome → Type 0
 HasCome c script h (Committed place entry) = CommitsScript c script place entry h
 HasCome c script h (Aborted entry) = AbortsScript c script entry h
 HasCome c script h GivenUp = Unit {0}
 
--- The outcomes are those of an earlier and of a later script. If both are commits, or both are
--- aborts, the entry of the first outcome is before that of the second.
+-- If the outcomes of an earlier and of a later script are both commits or both aborts, the entry of
+-- the earlier script's outcome comes first.
 abbrev pub AreInOrder : Outcome → Outcome → Type 0
 AreInOrder (Committed place entry) (Committed later_place later) = entry < later
 AreInOrder (Aborted entry) (Aborted later) = entry < later
 AreInOrder outcome other = Unit {0}
 
 -- The caller's transactions that commit in a history, each as the list of its entries. `part` has
--- the entries that the caller's transaction got before the history.
+-- the entries that the caller's transaction had already before the history.
 abbrev pub committed_from : ℕ → List Entry → List Entry → List (List Entry)
 committed_from c part [] = []
 committed_from c part (e ∷ h) =
@@ -62,8 +62,8 @@ committed_from c part (e ∷ h) =
 abbrev pub committed_by : ℕ → List Entry → List (List Entry)
 committed_by c h = committed_from c [] h
 
--- Each of these transactions plays one of the caller's scripts. The scripts' numbers rise. Each is
--- at least `low`.
+-- Each of these transactions plays one of the caller's scripts. The numbers of these scripts rise,
+-- and each number is at least `low`.
 abbrev pub PlayInOrder : ℕ → List (List Action) → ℕ → ℕ → List (List Entry) → Type 0
 PlayInOrder callers scripts c low [] = Unit {0}
 PlayInOrder callers scripts c low (part ∷ parts) =
@@ -71,16 +71,16 @@ PlayInOrder callers scripts c low (part ∷ parts) =
     × IsPlayed script part × PlayInOrder callers scripts c (suc n) parts
 
 -- Each Committed entry of the caller among the first `fed` entries is counted: one of the caller's
--- scripts has the outcome with its place and index.
+-- scripts has the outcome committed, with the place and the index of this entry.
 abbrev pub CommitsCounted : ℕ → ℕ → ℕ → List Entry → List Outcome → Type 0
 CommitsCounted callers c fed h outcomes =
     (entry place : ℕ) → entry < fed → slice_get h entry ≡ Some (entries.Committed c place)
     → (n : ℕ) × (n % callers ≡ c) × (slice_get outcomes n ≡ Some (Committed place entry))
 
--- The outcomes of a caller's scripts in a history. Each is true of the history. Commits are in the
--- order of the scripts, and so are aborts, so each transaction is counted for at most one script.
--- If the caller's transactions that commit play its scripts in order, each of these transactions is
--- counted.
+-- The outcomes of a caller's scripts in a history. Each outcome is true of the history. Commits are
+-- in the order of the scripts, and so are aborts, so each transaction is counted for at most one
+-- script. If the caller's transactions that commit play its scripts in order, each of these
+-- transactions is counted.
 pub record AreOutcomesOf (callers : ℕ) (scripts : List (List Action)) (h : List Entry)
     (outcomes : List Outcome) (c : ℕ) : Type 0 where
   pub each : (n : ℕ) (script : List Action) (outcome : Outcome)

@@ -1,4 +1,4 @@
--- The position of a worker on its way through its scripts.
+-- The progress of a worker through its scripts.
 use Rattle.std.specs.Prelude.{◌≡◌, ◌⊎◌, ℕ, ◌+◌, ◌%◌, ◌<◌, ◌≤◌, Bool, true, Some, None, List, [], ◌∷◌, length, slice_get, slice_set}
 use Rattle.txn_words.specs.declared.action.Action.{Action}
 use Rattle.txn_words.specs.declared.entry.Entry.{Entry}
@@ -13,7 +13,7 @@ use Rattle.script_outcomes.specs.declared.way.Way.{Way}
 use Rattle.script_outcomes.specs.Matches.{AbortsItself}
 use Rattle.script_outcomes.specs.Outcomes.{grown}
 
--- The entries are Began and then the rest.
+-- The entries are a Began, followed by `rest`.
 abbrev pub StartsWithBegan : List Entry → List Entry → Type 0
 StartsWithBegan (Began c t ∷ es) rest = es ≡ rest
 StartsWithBegan es rest = ⊥
@@ -28,14 +28,14 @@ abbrev pub IsLeft : List Entry → Type 0
 IsLeft (Leave c None ∷ entries.Aborted d ∷ []) = Unit {0}
 IsLeft es = ⊥
 
--- A comparison answers `Itself` only if `P` holds.
+-- If the result of a comparison is `Itself`, then `P` holds.
 abbrev pub SaysItself : Fit → Type 0 → Type 0
 SaysItself Itself P = P
 SaysItself Refused P = Unit {0}
 SaysItself Other P = Unit {0}
 
--- Of the numbers `low`, `low + workers` and so on, this is the first whose script the transaction
--- plays; or it is past all scripts, and the transaction plays no script at the numbers before it.
+-- The number is the first of `low`, `low + workers` and so on whose script the transaction plays.
+-- If the transaction plays none of these scripts, the number is past all scripts.
 pub record IsFirstPlayed (workers : ℕ) (scripts : List (List Action)) (part : List Entry)
     (low number : ℕ) : Type 0 where
   pub from : low ≤ number
@@ -63,8 +63,8 @@ pub record MayCount (workers : ℕ) (scripts : List (List Action)) (way : Way)
   pub order : way.next ≤ way.turn
   pub mine : way.next % workers ≡ way.turn % workers
 
--- The worker goes on: `next` and `turn` do not fall, each keeps its remainder modulo `workers`, and
--- `next` is not after `turn`.
+-- `next` and `turn` do not fall, each keeps its remainder modulo `workers`, and afterwards `next`
+-- is not after `turn`.
 pub record Advances (workers : ℕ) (old new : Way) : Type 0 where
   pub next : old.next ≤ new.next
   pub turn : old.turn ≤ new.turn
@@ -72,8 +72,8 @@ pub record Advances (workers : ℕ) (old new : Way) : Type 0 where
   pub next_mine : new.next % workers ≡ old.next % workers
   pub turn_mine : new.turn % workers ≡ old.turn % workers
 
--- The transaction is counted for the script of this number, and the worker goes on to the position
--- `low`, which is greater than this number.
+-- The transaction is counted for the script with this number: this script gets the outcome. The
+-- worker continues at the position `low`, which is greater than this number.
 pub record IsCountedFor (scripts : List (List Action)) (outcome : Outcome) (number low : ℕ)
     (outcomes outcomes' : List Outcome) : Type 0 where
   pub within : number < length scripts
@@ -81,8 +81,8 @@ pub record IsCountedFor (scripts : List (List Action)) (outcome : Outcome) (numb
   pub passed : number < low
 
 -- The worker's scripts are tried in order, beginning at the position `next`. The commit is counted
--- for the first one that the transaction plays. If the transaction plays none of them, the commit
--- is not counted.
+-- for the first script that the transaction plays. If the transaction plays none of them, the
+-- commit is not counted.
 pub record CountsCommit (workers : ℕ) (scripts : List (List Action)) (place entry : ℕ)
     (old new : Way) (outcomes outcomes' : List Outcome) : Type 0 where
   pub part : new.part.items ≡ old.part.items
@@ -109,7 +109,7 @@ pub record CountsAbort (workers : ℕ) (scripts : List (List Action)) (entry : �
       → AbortsItself script old.part.items))
       ⊎ (outcomes' ≡ outcomes)
 
--- The effect of the entry with this index on the outcomes. After the entry, the transaction has the
+-- What the entry with this index does to the outcomes. After the entry, the transaction has the
 -- entries `part`.
 abbrev pub CountsAt : ℕ → List (List Action) → Entry → ℕ → List Entry → Way → Way
     → List Outcome → List Outcome → Type 0
@@ -128,20 +128,20 @@ CountsAt workers scripts (entries.Aborted c) entry part old new outcomes outcome
 CountsAt workers scripts e entry part old new outcomes outcomes' =
     (new.next ≡ old.next) × (outcomes' ≡ outcomes)
 
--- The worker has taken in an entry with this index.
+-- The worker has processed the entry `e`, which has this index.
 pub record TakesEntry (workers : ℕ) (scripts : List (List Action)) (e : Entry) (entry : ℕ)
     (old new : Way) (outcomes outcomes' : List Outcome) : Type 0 where
   pub part : new.part.items ≡ grown old.part.items e
   pub on : Advances workers old new
   pub counts : CountsAt workers scripts e entry new.part.items old new outcomes outcomes'
 
--- The ways of this many workers before the first entry.
+-- One `Way` for each of `workers` workers, before the first entry.
 pub record AreFresh (workers : ℕ) (ways : List Way) : Type 0 where
   pub size : length ways ≡ workers
   pub each : (c : ℕ) (way : Way) → slice_get ways c ≡ Some way
       → (way.part.items ≡ []) × (way.next ≡ c) × (way.turn ≡ c)
 
--- This many outcomes, each of them `GivenUp`.
+-- One outcome for each of `scripts` scripts, each of them `GivenUp`.
 pub record AreNone (scripts : ℕ) (outcomes : List Outcome) : Type 0 where
   pub size : length outcomes ≡ scripts
   pub each : (n : ℕ) (outcome : Outcome) → slice_get outcomes n ≡ Some outcome → outcome ≡ GivenUp

@@ -1,6 +1,6 @@
-//! The run over a history: each entry is passed to the way of its caller's worker, which writes the
-//! outcomes. Only this module sees all workers together; it skips the entries of callers without a
-//! worker. It holds one way for each worker and one outcome for each script.
+//! The pass over a history. Each entry is given to the `Way` of its caller's worker, and the `Way`
+//! writes the outcomes. Entries of callers without a worker are skipped. Only this module handles
+//! all workers together: it holds one `Way` for each worker and one outcome for each script.
 ghost use Rattle.std.specs.Prelude.{◌≡◌, ℕ, ◌<◌, List, IfOk, length};
 ghost use Rattle.script_outcomes.specs.Outcomes.{AreOutcomes};
 ghost use Rattle.script_outcomes.specs.Ways.{AreFresh, AreNone};
@@ -10,7 +10,7 @@ use crate::way::{Way, Work};
 use std::alloc::{AllocError, Global};
 use txn_trace::{Scripts, SmallEntry};
 
-/// The ways of this many workers before the first entry.
+/// One `Way` for each of `workers` workers, before the first entry.
 fn new_ways(alloc: Global, workers: usize) -> Result<Vec<Way>, AllocError>
     ensures { IfOk result (λ ways. AreFresh workers ways.items) }
 {
@@ -21,7 +21,7 @@ fn new_ways(alloc: Global, workers: usize) -> Result<Vec<Way>, AllocError>
     Ok(ways)
 }
 
-/// The outcomes of this many scripts before the first entry: each is given up.
+/// One outcome for each of `scripts` scripts, before the first entry: `GivenUp`.
 fn none_yet(alloc: Global, scripts: usize) -> Result<Vec<Outcome>, AllocError>
     ensures { IfOk result (λ outcomes. AreNone scripts outcomes.items) }
 {
@@ -36,10 +36,10 @@ fn none_yet(alloc: Global, scripts: usize) -> Result<Vec<Outcome>, AllocError>
 /// the number of callers in the limits of `scripts`. Script `i` belongs to worker `i` modulo that
 /// number. Worker `w` is caller `w` of the history.
 ///
-/// For a commit, the caller's scripts are tried in order. The scripts up to that of the caller's
-/// last counted commit are left out. The commit is counted for the first script that its
-/// transaction plays. If the transaction plays none of the scripts that are tried, neither this
-/// commit nor a later one of the caller is counted.
+/// For a commit, the caller's scripts are tried in order, beginning after the last script for which
+/// a commit was counted. The commit is counted for the first script that its transaction plays. If
+/// the transaction plays none of the scripts that are tried, neither this commit nor a later one of
+/// the caller is counted.
 ///
 /// An abort is counted for one script or for none. If it is counted, its transaction did exactly
 /// the script's actions up to the script's own abort. If this is true of several scripts, the
@@ -49,7 +49,7 @@ fn none_yet(alloc: Global, scripts: usize) -> Result<Vec<Outcome>, AllocError>
 /// order of its scripts, and so are its counted aborts. If the caller's commits play its scripts in
 /// order, every commit of the caller is counted.
 ///
-/// The history is not judged.
+/// The function does not test whether the history is legal.
 ///
 /// # Errors
 ///
@@ -57,8 +57,8 @@ fn none_yet(alloc: Global, scripts: usize) -> Result<Vec<Outcome>, AllocError>
 ///
 /// # Cost
 ///
-/// Time in proportion to the entries and to the actions of all scripts; memory for an outcome of
-/// each script, and for the entries of each caller's longest transaction.
+/// Time in proportion to the number of entries plus the number of actions of all scripts. Memory
+/// for one outcome of each script, and for the entries of each caller's longest transaction.
 pub fn outcomes(
     alloc: Global,
     scripts: &Scripts,

@@ -1,6 +1,6 @@
-//! Laws of outcomes, as functions whose contracts are the laws: what an outcome means for the
-//! history, and that no commit in a history that `mix` prints is missed. They do nothing when they
-//! run. They hold of histories of the right shape, which `outcomes` does not test.
+//! Laws of outcomes. Each law is the contract of a function that does nothing when it runs. The
+//! laws say what an outcome means for the history, and that no commit is missed in a history that
+//! `mix` prints. They hold of histories of the right shape; `outcomes` does not test the shape.
 
 ghost use Rattle.std.specs.Prelude.{◌≡◌, ℕ, ◌<◌, true, List, [], ◌∷◌, ◌++◌, length};
 ghost use Rattle.txn_trace.specs.History.{is_committed, of};
@@ -12,12 +12,11 @@ ghost use Rattle.txn_words.specs.declared.entry.Entry.TheVariants as entries;
 ghost use Rattle.script_outcomes.specs.declared.outcome.Outcome.{Outcome};
 ghost use Rattle.script_outcomes.specs.Outcomes.{CommitsCounted, AreOutcomes, CommitsScript};
 
-/// Let the history have the right shape, as each legal history has, and let a script have the
-/// outcome committed. Then a committed transaction plays the script (`Plays` of `txn_trace`). The
-/// last entry of this transaction is the Committed with the script's caller and the outcome's
-/// place.
+/// If the history has the right shape, as each legal history has, and a script has the outcome
+/// committed, then a committed transaction plays the script (`Plays` of `txn_trace`). The last
+/// entry of this transaction is a Committed entry with the script's caller and the outcome's place.
 ///
-/// The contract is the law.
+/// The law is the contract of this function.
 ///
 /// # Cost
 ///
@@ -29,12 +28,12 @@ pub fn committed_plays()
         × Plays t script h × (is_committed t h ≡ true) }
 {}
 
-/// If each caller's committed transactions play its scripts in order (`PlayScripts` of
-/// `txn_trace`), as they do in a history that `mix` prints, every commit is counted: for each
-/// Committed entry, one of the caller's scripts has the outcome committed, with the place and the
-/// index of this entry.
+/// If the history has the right shape, and each caller's committed transactions play its scripts in
+/// order (`PlayScripts` of `txn_trace`), then every commit is counted: for each Committed entry,
+/// one of the caller's scripts has the outcome committed, with the place and the index of this
+/// entry. A history that `mix` prints meets both conditions.
 ///
-/// The contract is the law.
+/// The law is the contract of this function.
 ///
 /// # Cost
 ///

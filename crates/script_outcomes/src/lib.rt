@@ -1,17 +1,18 @@
-//! The outcome of each script of a file in a history of its workers: committed, aborted by its own
-//! action, or given up.
+//! Finds the outcome of each script of a file in the history that the file's workers made:
+//! committed, aborted by the script's own action, or given up.
 //!
 //! Workers run scripts as in `script_worker`: script `i` belongs to worker `i` modulo the number of
 //! workers, a worker takes its scripts in order, and a script that found a stripe held is tried
 //! again at most `tries` times. Only the worker's entries show how a script ended. `outcomes` finds
-//! the transaction of each script among them; it does not judge the history.
+//! the transaction of each script among these entries; it does not test whether the history is
+//! legal.
 //!
 //! The model is `AreOutcomes` of `specs/Outcomes.antt`. Proved, of any history:
 //!
 //! - If a script has the outcome committed, there is a Committed entry of its worker, at the index
-//!   and with the `place` of the outcome. The transaction of this entry plays the script. In a
-//!   history of the right shape, this transaction has a number. By the definitions of `txn_trace`,
-//!   too, the transaction with this number is committed and plays the script
+//!   and with the `place` of the outcome. The transaction of this entry plays the script. If the
+//!   history has the right shape, this transaction has a number, and `txn_trace` also says of the
+//!   transaction with this number that it is committed and plays the script
 //!   (`laws::committed_plays`).
 //! - If a script has the outcome aborted, there is an Aborted entry of its worker, at the index of
 //!   the outcome. The transaction of this entry did exactly the script's actions up to the script's
@@ -23,9 +24,9 @@
 //!
 //! Only tested: each script that aborts itself in a run has the outcome aborted.
 //!
-//! Takes one pass over the history. A transaction that has ended, except after a Busy, is compared
-//! with scripts until one fits; no script is compared with two commits or with two aborts, but no
-//! contract promises that.
+//! `outcomes` reads the history once. Each transaction that has ended, unless it ended after a
+//! Busy, is compared with scripts until one fits. No script is compared with two commits or with
+//! two aborts, but no contract promises this.
 #![tactic(auto)]
 
 mod assigning;

@@ -1,7 +1,7 @@
-//! Compares one transaction with one script: tells whether the transaction's entries are those of
-//! the script. This module knows no workers and no outcomes: `way.rt` says which scripts a
-//! transaction is compared with. A comparison takes a step for each action of the script that
-//! agrees, and no memory.
+//! Compares one transaction with one script, to find out whether the transaction's entries are
+//! those of the script. This module knows no workers and no outcomes: `way.rt` decides which
+//! scripts a transaction is compared with. A comparison takes one step for each action that agrees,
+//! and no memory.
 ghost use Rattle.std.specs.Prelude.{◌≡◌, true, false, IfSome, IsNone, List};
 ghost use Rattle.txn_words.specs.declared.entry.Entry.{Entry as AnEntry};
 ghost use Rattle.txn_trace.specs.Plays.{IsPlayed};
@@ -13,15 +13,16 @@ use txn_trace::{Action, Entry, PackedAction};
 /// How far an aborted transaction follows a script.
 #[derive(Clone, Copy, Debug, PartialEq, Eq)]
 pub(crate) enum Fit {
-    /// It did the actions up to the script's own abort.
+    /// The transaction did the script's actions up to the script's own abort.
     Itself,
-    /// It did none, some or all of the actions, and the call after these was refused.
+    /// The transaction did none, some or all of the script's actions, and its next call was
+    /// refused.
     Refused,
-    /// It did something else.
+    /// The transaction did something else.
     Other,
 }
 
-/// The rest of the entries, if they begin with those of the action. Constant time.
+/// If the entries begin with those of the action, returns the entries after these. Constant time.
 fn after<'a>(action: Action, entries: &'a [Entry]) -> Option<&'a [Entry]>
     ensures does { IfSome result (λ rest. PlaysAction action entries.now rest.now) }
     ensures other { IsNone result →
@@ -49,7 +50,7 @@ fn after<'a>(action: Action, entries: &'a [Entry]) -> Option<&'a [Entry]>
     }
 }
 
-/// The rest of the entries, if they begin with Began. Constant time.
+/// If the entries begin with a Began, returns the entries after it. Constant time.
 fn after_began(entries: &[Entry]) -> Option<&[Entry]>
     ensures begun { IfSome result (λ rest. StartsWithBegan entries.now rest.now) }
     ensures other { IsNone result → (rest : List AnEntry) → StartsWithBegan entries.now rest → ⊥ }

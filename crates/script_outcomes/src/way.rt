@@ -1,8 +1,8 @@
-//! A worker's way through its scripts, as the entries of its caller show it. The run over a history
-//! has one way for each worker, and passes it only that worker's entries. The two positions of a
-//! way, `next` and `turn`, never fall. The remainder of each modulo the number of workers is always
-//! the worker's number (`Advances`). How often a script is compared with transactions is not
-//! promised.
+//! The progress of a worker through its scripts, as the entries of the worker's caller show it. The
+//! pass over a history has one `Way` for each worker, and gives it only the entries of that
+//! worker's caller. The two positions of a `Way`, `next` and `turn`, are numbers of scripts. They
+//! never fall, and modulo the number of workers each is the worker's number (`Advances`). No
+//! contract says how often a script is compared with transactions.
 ghost use Rattle.std.specs.Prelude.{◌≡◌, ◌⊎◌, ℕ, ◌+◌, ◌%◌, ◌^◌, ◌<◌, ◌≤◌, [], OnOk, length};
 ghost use Rattle.script_outcomes.specs.Outcomes.{grown};
 ghost use Rattle.script_outcomes.specs.Ways.{IsFirstPlayed, IsFirstLeft, MayCount, CountsCommit, CountsAbort, TakesEntry};
@@ -12,7 +12,8 @@ use crate::outcome::Outcome;
 use std::alloc::{AllocError, Global};
 use txn_trace::{Entry, Script};
 
-/// Scripts, and how often each is tried again; script `i` belongs to worker `i` modulo `workers`.
+/// The scripts, and how often each is tried again. Script `i` belongs to worker `i` modulo
+/// `workers`.
 #[derive(Drop)]
 pub(crate) struct Work<'a> {
     pub(crate) scripts: &'a [Script],
@@ -22,21 +23,21 @@ pub(crate) struct Work<'a> {
     ghost few: { length scripts.now + workers < 2 ^ 64 },
 }
 
-/// A worker's way through its scripts.
+/// The progress of a worker through its scripts.
 #[derive(Drop)]
 pub(crate) struct Way {
-    /// The entries of its transaction, without those that take changes back.
+    /// The entries of the worker's latest transaction, without those that take changes back.
     pub(crate) part: Vec<Entry>,
-    /// Its first script for which a commit may still be counted.
+    /// The worker's first script for which a commit may still be counted.
     pub(crate) next: usize,
-    /// Its first script that may still be tried: `next` or a later one.
+    /// The worker's first script that may still be tried: `next` or a later one.
     pub(crate) turn: usize,
-    /// How many attempts at that script found a stripe held.
+    /// How many attempts at the script `turn` found a stripe held.
     pub(crate) busy: u64,
 }
 
 impl Way {
-    /// The way of a worker before its first entry.
+    /// The progress of a worker that has no entry yet.
     pub(crate) fn new(alloc: Global, worker: usize) -> Way
         ensures part { result.part.items ≡ [] }
         ensures next { result.next ≡ worker }
@@ -50,7 +51,8 @@ impl Way {
         }
     }
 
-    /// Adds an entry to the transaction: a Began starts a new one, and an Undone is left out.
+    /// Adds an entry to the transaction. A Began starts a new transaction, and an Undone is left
+    /// out.
     fn grow(&mut self, entry: Entry) -> Result<(), AllocError>
         ensures part { OnOk result (self.new.part.items ≡ grown self.old.part.items entry) }
         ensures next { self.new.next ≡ self.old.next }
@@ -67,9 +69,9 @@ impl Way {
         Ok(())
     }
 
-    /// Tries the worker's scripts in order, beginning at the position `next`. Answers the number of
-    /// the first one that the transaction plays. If the transaction plays none of them, answers a
-    /// number past all scripts.
+    /// Tries the worker's scripts in order, beginning at the position `next`. Returns the number of
+    /// the first script that the transaction plays. If the transaction plays none of them, returns
+    /// a number past all scripts.
     fn first_played(&self, work: &Work<'_>) -> usize
         requires { 0 < work.now.workers }
         ensures { IsFirstPlayed work.now.workers work.now.scripts.now self.now.part.items
@@ -85,10 +87,10 @@ impl Way {
         number
     }
 
-    /// Tries the worker's scripts in order, beginning at the position `turn`. Answers the number of
-    /// the first one that the aborted transaction follows (`compare`), and whether the transaction
-    /// reached this script's own abort. If the transaction follows none of them, answers a number
-    /// past all scripts, and `false`.
+    /// Tries the worker's scripts in order, beginning at the position `turn`. Returns the number of
+    /// the first script that the aborted transaction follows (`compare`), and whether the
+    /// transaction reached this script's own abort. If the transaction follows none of them,
+    /// returns a number past all scripts, and `false`.
     fn first_left(&self, work: &Work<'_>) -> (usize, bool)
         requires { 0 < work.now.workers }
         ensures { IsFirstLeft work.now.workers work.now.scripts.now self.now.part.items
@@ -105,7 +107,8 @@ impl Way {
         (number, false)
     }
 
-    /// Goes on to this script, since those before it are over.
+    /// Sets `next` to `number`, and `turn` too if it is smaller. The scripts before `number` are
+    /// over.
     fn go_on(&mut self, number: usize)
         ensures part { self.new.part.items ≡ self.old.part.items }
         ensures next { self.new.next ≡ number }
@@ -120,8 +123,8 @@ impl Way {
     }
 
     /// The transaction has committed. The worker's scripts are tried in order, beginning at the
-    /// position `next`. The commit is counted for the first one that the transaction plays. If the
-    /// transaction plays none of them, neither this commit nor a later one of the worker is
+    /// position `next`. The commit is counted for the first script that the transaction plays. If
+    /// the transaction plays none of them, neither this commit nor a later one of the worker is
     /// counted.
     fn commit(&mut self, work: &Work<'_>, place: u64, entry: u64, outcomes: &mut [Outcome])
         requires may { MayCount work.now.workers work.now.scripts.now self.old outcomes.old }
@@ -138,7 +141,7 @@ impl Way {
     }
 
     /// The transaction was aborted after a Leave without a level. The worker's scripts are tried in
-    /// order, beginning at the position `turn`. The first one that the transaction follows
+    /// order, beginning at the position `turn`. The first script that the transaction follows
     /// (`compare`) is over now. If the transaction reached this script's own abort, the abort is
     /// counted for the script. If the transaction follows none of the scripts, neither this abort
     /// nor a later one of the worker is counted.
@@ -159,7 +162,8 @@ impl Way {
         }
     }
 
-    /// An attempt found a stripe held: the script is over if it was tried often enough.
+    /// An attempt at the script `turn` found a stripe held. If the script may not be tried again,
+    /// it is over.
     fn give_way(&mut self, work: &Work<'_>)
         requires { 0 < work.now.workers }
         ensures part { self.new.part.items ≡ self.old.part.items }
@@ -183,7 +187,7 @@ impl Way {
         )
     }
 
-    /// Takes in the next entry of the worker's caller, which has this index in the history.
+    /// Processes the next entry of the worker's caller. The entry has this index in the history.
     pub(crate) fn take_in(
         &mut self,
         work: &Work<'_>,

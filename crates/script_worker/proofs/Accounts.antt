@@ -1,4 +1,4 @@
--- The accounts of a caller's scripts after one more script, and the scripts that the caller's
+-- How a caller's accounts change when one more script is over, and which scripts the caller's
 -- committed transactions play.
 use Rattle.std.proofs.Common.{◌≡◌, ℕ, suc, ◌+◌, ◌*◌, ◌%◌, ◌<◌, ◌≤◌, List, [], ◌∷◌, ◌++◌, append_assoc, append-nil, length, slice_get}
 use Rattle.std.proofs.Common.{filter_map, Some, refl, ap, ◌∙◌, arith, mod-eq_of_lt}
@@ -11,7 +11,7 @@ pub tolds_of-none : (scripts : List (List Action)) → tolds_of scripts [] ≡ [
 tolds_of-none [] = refl
 tolds_of-none (script ∷ scripts) = refl
 
--- `tolds_of` with one more outcome.
+-- What `tolds_of` becomes when one more outcome is appended.
 pub tolds_of-push : (scripts : List (List Action)) (outcomes : List Outcome) (script : List Action) (outcome : Outcome) → slice_get scripts (length outcomes) ≡ Some script
     → tolds_of scripts (outcomes ++ outcome ∷ []) ≡ tolds_of scripts outcomes ++ record { script = script; outcome = outcome } ∷ []
 tolds_of-push [] outcomes script outcome is = absurd (cc (get_empty (length outcomes), is))
@@ -31,12 +31,12 @@ account_more c tries (first ∷ scripts) (o ∷ outcomes) script outcome es chun
     let others = account_more c tries scripts outcomes script outcome later chunk is rest account in
     (here, later ++ chunk, rw (es_is, append_assoc), account_here, others)
 
--- The committed transactions of a caller play its scripts, with rising numbers.
+-- The committed transactions of a caller play its scripts. The numbers of these scripts rise.
 module _ (callers c : ℕ) (below : c < callers) (scripts : List (List Action)) (h : List Entry) where
   abbrev number : ℕ → ℕ
   number k = c + k * callers
 
-  -- The scripts `xs` are the caller's, from its script `k` on. Its scripts are counted from 0.
+  -- The scripts `xs` are scripts `k`, `k + 1`, .. of the caller, counted from 0.
   abbrev AreFrom : List (List Action) → ℕ → Type 0
   AreFrom xs k = (j : ℕ) (script : List Action) → slice_get xs j ≡ Some script → slice_get scripts (number (k + j)) ≡ Some script
 

@@ -1,5 +1,5 @@
--- The chunk of a caller's entries since its script began. The chunk grows with each call, and is
--- the account of the script when the script is over.
+-- The chunk of the entries that a caller has added since its script began. Each call adds to the
+-- chunk. When the script is over, the chunk is the account of the script.
 use Rattle.std.proofs.Common.{◌≡◌, ℕ, zero, suc, Bool, false, List, ◌∷◌, ◌++◌, filter, refl, ap, ◌∙◌, ◌+◌, [], not, length, length-append}
 use Rattle.std.proofs.Common.{append_assoc, append-nil, Option, arith, nat_lt, true, if◌then◌else◌, drop, drop-cons, slice_get, Some, None}
 use Rattle.std.proofs.Common.{sym, add-one, ltb-false}
@@ -12,18 +12,18 @@ use Rattle.script_worker.proofs.Vocabulary.{progress_at, progress_of, Refusal, p
 use Rattle.script_worker.proofs.Vocabulary.{slice_get_within, Stage, txn_then, Undone, undone_by, without_undone}
 use Rattle.script_worker.proofs.Every.{get_none}
 
--- The number of entries that pass a test, in two joined lists.
 pub how_many-append : (test : Entry → Bool) (xs ys : List Entry) → how_many test (xs ++ ys) ≡ how_many test xs + how_many test ys
 how_many-append test xs ys = ap length (filter-append test xs ys) ∙ length-append (filter test xs) (filter test ys)
 
--- `AreBusy` after one more attempt that found a stripe held.
+-- If one more attempt found a stripe held, `AreBusy` holds for one more attempt.
 busy_more : (n : ℕ) (es fs : List Entry) → AreBusy n es → AreBusy 1 fs → AreBusy (n + 1) (es ++ fs)
 busy_more n es fs busy one = record {
   nothing = append_quiet es fs busy.nothing one.nothing;
   enough = omega (arith, how_many-append is_busy es fs, busy.enough, one.enough);
 }
 
--- A test that no Undone entry passes finds nothing among the Undone entries in front of a list.
+-- If no Undone entry passes a test, Undone entries in front of a list do not change which entries
+-- of the list pass.
 filter_undone : (test : Entry → Bool) (c k : ℕ) (rest : List Entry) → test (Undone c) ≡ false
     → filter test (undone_by c k ++ rest) ≡ filter test rest
 filter_undone test c zero rest never = refl
@@ -42,8 +42,8 @@ from_here script i action is =
 pub chunk_begun : (c : ℕ) (script : List Action) → IsChunk c script first_heard []
 chunk_begun c script = record { before = []; part = []; whole = refl; busy = record { nothing = refl; enough = omega arith }; at = refl }
 
--- The entries since the script began, after a call: if the attempt goes on or a new one follows,
--- they are the chunk of that attempt; if the script is over, they are the account of the script.
+-- Describes the entries since the script began, after a call. If another call follows, they are the
+-- chunk of its attempt. If the script is over, they are the account of the script.
 abbrev pub ChunkAfter : ℕ → ℕ → List Action → Heard → List Entry → End → Progress → Type 0
 ChunkAfter c tries script heard chunk end (Next attempt) = IsChunk c script (heard_then heard end attempt) chunk
 ChunkAfter c tries script heard chunk end (Over finish) = IsAccount c tries script (outcome_by finish end heard) chunk
@@ -58,7 +58,7 @@ module _ (c tries : ℕ) (script : List Action) (heard : Heard) (before part : L
   all_quiet : (added : List Entry) → CommitNothing part → CommitNothing added → CommitNothing (before ++ (part ++ added))
   all_quiet added quiet silent = append_quiet before (part ++ added) busy.nothing (append_quiet part added quiet silent)
 
-  -- A call that found a stripe held.
+  -- A call that found a stripe held is an attempt for `AreBusy`.
   busy_one : (call : Call) (x : ℕ) (added : List Entry) → IsMade c call (End.Busy x) added → AreBusy 1 added
   busy_one (Call.Op op) x added (undone, is) =
       let none = ap length (filter_undone is_busy c undone (Entry.Aborted c ∷ []) refl) in
@@ -75,7 +75,7 @@ module _ (c tries : ℕ) (script : List Action) (heard : Heard) (before part : L
       at true is = record { before = _; part = []; whole = sym (append-nil _); busy = more; at = refl }
       at false is = record { nothing = more.nothing; enough = omega (arith, more.enough, ltb-false again tries is) }
 
-  -- The transaction goes on after an action that is done.
+  -- After an action that was done, `ChunkAfter` holds: the same attempt moves to its next action.
   goes : (i : ℕ) (action : Action) (end : End) (es added : List Entry) → slice_get script i ≡ Some action → added ≡ es
       → txn_then heard.txn end ≡ heard.txn → replies_then heard.replies end ≡ heard.replies ++ replies_in es → CommitNothing es
       → ((rest : List Entry) → ArePlayed (drop (i + 1) script) rest → ArePlayed (action ∷ drop (i + 1) script) (without_undone es ++ rest))
@@ -99,8 +99,8 @@ module _ (c tries : ℕ) (script : List Action) (heard : Heard) (before part : L
   aborted added made quiet =
       all_quiet added quiet (ap (filter is_commit) made.1 ∙ filter_undone is_commit c made.0 (Entry.Aborted c ∷ []) refl)
 
-  -- The entries after a call that did what it was asked to do. The cases are the stage of the
-  -- attempt, the action (or the commit, after the last action), and the answer.
+  -- After a call that was done, `ChunkAfter` holds. The cases are the stage of the attempt, the
+  -- action (or the commit, after the last action), and the answer.
   done_told : (stage : Stage) (a : Answer) (added : List Entry) → IsMade c (call_at script stage) (End.Answered a) added → IsAtStage c script heard part stage → After added (End.Answered a) (done_at script again stage)
   done_told Beginning (Answer.Began t) added made none =
       let front : IsFront c script script t [] added =
@@ -135,7 +135,7 @@ module _ (c tries : ℕ) (script : List Action) (heard : Heard) (before part : L
   done_told (Leaving refusal) Answer.Aborted added made quiet = aborted added made quiet
   done_told stage a added made at = absurd made
 
-  -- The entries after a call of help that is done.
+  -- After a call of help that was done, `ChunkAfter` holds.
   helped_told : (stage : Stage) (added : List Entry) → IsMade c (call_at script stage) End.Helped added → IsAtStage c script heard part stage → After added End.Helped (done_at script again stage)
   helped_told (Acting i) added made front = by (slice_get script i) refl made
     where
@@ -150,7 +150,7 @@ module _ (c tries : ℕ) (script : List Action) (heard : Heard) (before part : L
   stage_quiet (Acting i) at = at.quiet
   stage_quiet (Leaving refusal) at = at
 
-  -- The entries after a refused call that has added nothing that commits.
+  -- If a refused call has added no entry that commits, `ChunkAfter` holds after the call.
   refused_action : (refusal : Refusal) (o : Option Action) (added : List Entry) → CommitNothing added → CommitNothing part
       → After added (End.Refused refusal) (refused_with again o refusal)
   refused_action refusal None added silent quiet = all_quiet added quiet silent
@@ -171,8 +171,8 @@ module _ (c tries : ℕ) (script : List Action) (heard : Heard) (before part : L
   told_at stage (End.Busy x) added made silent at = after_busy x added (stage_quiet stage at) (busy_one (call_at script stage) x added made)
   told_at stage (End.Refused refusal) added made silent at = refused_told stage refusal added made silent (stage_quiet stage at)
 
--- After a call of a script, the entries are the chunk of the attempt that goes on or follows, or
--- the account of the script if it is over.
+-- After a call of a script, `ChunkAfter` holds for the entries of the script with those of the
+-- call.
 pub after_call : (c tries : ℕ) (script : List Action) (heard : Heard) (chunk added : List Entry) (end : End) (p : Progress)
     → IsMade c (call_at script heard.attempt.stage) end added → IsQuiet end added → IsChunk c script heard chunk
     → progress_of script tries heard.attempt end ≡ p → ChunkAfter c tries script heard (chunk ++ added) end p
@@ -180,7 +180,7 @@ after_call c tries script heard chunk added end p made silent so_far is =
     rw (so_far.whole, append_assoc, ← is)
     (told_at c tries script heard so_far.before so_far.part so_far.busy heard.attempt.stage end added made silent so_far.at)
 
--- If another call follows, the call did not end out of step, so `IsQuiet` holds.
+-- If another call follows, the call did not end with `OutOfStep`, so `IsQuiet` holds.
 pub goes_quiet : (script : List Action) (tries : ℕ) (attempt next : Attempt) (end : End) (added : List Entry)
     → progress_of script tries attempt end ≡ Next next → IsQuiet end added
 goes_quiet script tries attempt next (End.Refused OutOfStep) added is = absurd (cc is)

@@ -1,5 +1,5 @@
--- Lemmas on the elements of lists by their places, on every n-th element of a list that grows, and
--- on the remainders of numbers.
+-- Lemmas about the elements of lists at given places, about every n-th element of a list that
+-- grows, and about the remainders of numbers.
 use Rattle.std.proofs.Common.{◌≡◌, ℕ, ◌+◌, ◌<◌, ◌≤◌, List, [], ◌∷◌, ◌++◌, length, slice_get, Some, None, sym, ap, ◌∙◌, arith, zero, suc}
 use Rattle.std.proofs.Common.{◌-◌, ◌*◌, ◌/◌, ◌%◌, map, refl, mod-eq_of_lt}
 use Rattle.script_worker.proofs.Vocabulary.{add-mul-mod_self_right, every, mod-add-div', slice_get_past, slice_get_within}
@@ -20,7 +20,7 @@ get_within [] k within = absurd (omega (arith, within))
 get_within (x ∷ xs) zero within = (x, refl)
 get_within (x ∷ xs) (suc k) within = get_within xs k (omega (arith, within))
 
--- The last element of a list.
+-- If `x` is appended to a list, the element at the list's old length is `x`.
 pub get_last : {X : Type 0} (xs : List X) (x : X) → slice_get (xs ++ x ∷ []) (length xs) ≡ Some x
 get_last [] x = refl
 get_last (y ∷ xs) x = get_last xs x
@@ -70,7 +70,7 @@ every-map f n (x ∷ xs) (suc after) = every-map f n xs after
 pub number_at : (number n : ℕ) → number ≡ number % n + number / n * n
 number_at number n = sym (mod-add-div' number n)
 
--- A number has only one remainder below `n`.
+-- If `a + k * n` equals `b + j * n`, and `a` and `b` are below `n`, then `a` equals `b`.
 pub one_remainder : (n a b k j : ℕ) → a < n → b < n → a + k * n ≡ b + j * n → a ≡ b
 one_remainder n a b k j low high same =
     sym (add-mul-mod_self_right a k n ∙ mod-eq_of_lt low) ∙ ap (λ m. m % n) same ∙ add-mul-mod_self_right b j n ∙ mod-eq_of_lt high

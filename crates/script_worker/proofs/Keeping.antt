@@ -1,4 +1,4 @@
--- A worker keeps to its scripts with each answer, and when it moves on to its next call.
+-- A worker still keeps to its scripts after each answer, and after it moves to its next call.
 use Rattle.std.proofs.Common.{ℕ, ◌<◌, List, [], ◌∷◌, ◌++◌, length, slice_get, Option, Some, None, refl, sym, ap, ◌∙◌, arith, ◌≡◌, ◌+◌, ◌*◌}
 use Rattle.std.proofs.Common.{nat_lt, Bool, true, false, if◌then◌else◌, append_assoc, append-nil, get_or, subst, inl, inr, ltb-true}
 use Rattle.script_worker.proofs.Vocabulary.{Action, Answer, append_quiet, AreAccounts, Attempt, attempt_at, Beginning, Call, call_at}
@@ -12,7 +12,7 @@ use Rattle.script_worker.proofs.Vocabulary.{txn_then, with_drive}
 use Rattle.script_worker.proofs.Chunks.{chunk_quiet, ChunkAfter, after_call, chunk_begun}
 use Rattle.script_worker.proofs.{Accounts.account_more, Accounts.no_account, Every.get-every, Ready.steps_ended}
 
--- A call whose drive has ended out of step has committed nothing.
+-- If a drive has ended with `OutOfStep`, its call has committed nothing.
 ended_quiet : (d : Drive) (outcome : End) → end_of d ≡ Some outcome → IsQuiet outcome (made d)
 ended_quiet d (End.Refused OutOfStep) is = elim (made_quiet d) [
   | inl quiet ↦ quiet
@@ -20,7 +20,7 @@ ended_quiet d (End.Refused OutOfStep) is = elim (made_quiet d) [
 ]
 ended_quiet d outcome is = tt
 
--- A worker that starts its next script, if it has one, keeps to its scripts.
+-- If a worker starts its next script, or has none left, it keeps to its scripts.
 module _ (tries workers : ℕ) (half : Bool) (scripts : List (List Action)) (w : ℕ) where
   keeps_started : (outcomes : List Outcome) (n : ℕ) (seen : List Entry) → n ≡ w + length outcomes * workers → AreAccounts w tries (tolds_of (every workers w scripts) outcomes) seen
       → KeepsAt tries workers scripts w (started half scripts w n) seen
@@ -44,7 +44,7 @@ module _ (tries workers : ℕ) (half : Bool) (scripts : List (List Action)) (w :
       }
       at false is = (outcomes, told)
 
-  -- A task that gets another attempt and another drive keeps to its scripts if the entries of its
+  -- A task gets another attempt and another drive. It keeps to its scripts if the entries of its
   -- present script are a chunk of the new attempt, followed by the entries of the new drive.
   moved_to : (task : Task) (attempt : Attempt) (drive : Drive) (txn : ℕ) (replies : List (Option ℕ)) (chunk seen later : List Entry)
       → (at : KeepsTask tries workers scripts w task seen) → drive.caller ≡ w → drive.call ≡ call_at at.script attempt.stage
@@ -66,8 +66,8 @@ module _ (tries workers : ℕ) (half : Bool) (scripts : List (List Action)) (w :
     so_far = so_far;
   }
 
-  -- A task keeps to its scripts when its drive is told an answer, and when it notes the table's
-  -- size.
+  -- If a task keeps to its scripts, it still does after its drive is given an answer, and after its
+  -- drive notes the table's size.
   drive_keeps : (task : Option Task) (step : Step) (answer : Answer) (seen : List Entry) → task_step task ≡ Some step → KeepsAt tries workers scripts w task seen
       → KeepsAt tries workers scripts w (drive_told task answer) (seen ++ entries_of step answer)
   drive_keeps None step answer seen is at = absurd (cc is)
@@ -112,7 +112,7 @@ module _ (scripts : List (List Action)) (tries w : ℕ) (limits : Sizes) (below 
       let quiet = ended_quiet task.drive outcome ended in
       rw at.there (follows _ (after_call w tries at.script heard at.chunk (made task.drive) outcome _ made_is quiet at.so_far refl))
 
--- A task that is settled keeps to its scripts.
+-- If a task keeps to its scripts, it still does after it is settled.
 module _ (scripts : List (List Action)) (tries w : ℕ) (limits : Sizes) (below : w < limits.callers) (seen : List Entry) where
   settled_in_keeps : (task : Task) (o : Option End) → end_of task.drive ≡ o → KeepsTask tries limits.callers scripts w task seen → KeepsAt tries limits.callers scripts w (settled_in scripts tries w limits task o) seen
   settled_in_keeps task None ended at = at
@@ -122,7 +122,7 @@ module _ (scripts : List (List Action)) (tries w : ℕ) (limits : Sizes) (below 
   settled_keeps None at = at
   settled_keeps (Some task) at = settled_in_keeps task (end_of task.drive) refl at
 
--- A worker that is told an answer keeps to its scripts.
+-- If a worker keeps to its scripts, it still does after it is given an answer.
 pub told_keeps : (scripts : List (List Action)) (tries : ℕ) (worker : Standing) (answer : Answer) (seen : List Entry) (step : Step) → step_by worker ≡ Some step → KeepsScripts scripts tries worker seen
     → KeepsScripts scripts tries (told_by scripts tries worker answer) (seen ++ entries_of step answer)
 told_keeps scripts tries worker answer seen step is keeps =
@@ -148,8 +148,8 @@ told_on scripts tries worker answer step is =
     let once = stays scripts tries worker.number worker.limits step (drive_told worker.task answer) is in
     rw (once, once)
 
--- The entries of a worker are the accounts of its scripts. If the last script is not over, its
--- entries commit nothing, so they are the account of a script that has aborted.
+-- The entries of a worker are the accounts of its scripts. If its present script is not over, the
+-- script's entries commit nothing, so they are the account of a script with the outcome `Aborted`.
 module _ (tries workers : ℕ) (scripts : List (List Action)) (w : ℕ) (below : w < workers) where
   at_told : (task : Option Task) (seen : List Entry) → IsReadyTask task → KeepsAt tries workers scripts w task seen
       → (outcomes : List Outcome) × AreAccounts w tries (tolds_of (every workers w scripts) outcomes) seen

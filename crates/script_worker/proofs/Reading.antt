@@ -1,5 +1,5 @@
--- The entries of a transaction that plays a script, and the committed transactions of a caller,
--- read from its own entries.
+-- The entries of a transaction that plays a script, and how a caller's committed transactions are
+-- read from the caller's own entries.
 use Rattle.std.proofs.Common.{◌≡◌, ℕ, Bool, true, false, List, [], ◌∷◌, ◌++◌, append-nil, fold, filter, Some, None, Option, option_and_then}
 use Rattle.std.proofs.Common.{is_some, refl, sym, ap, ◌∙◌, ◌==◌, cond, inl, inr, eq-eqb, ne_eqb}
 use Rattle.script_worker.proofs.Vocabulary.{Action, and-false, and-true, ArePlayed, Asked, Began, by_entries, caller_of, cases_eq}
@@ -12,7 +12,7 @@ use Rattle.script_worker.proofs.Vocabulary.{txn_at, txn_in, txn_in-push, txns_of
 abbrev pub BeginNothing : List Entry → Type 0
 BeginNothing es = filter is_began es ≡ []
 
--- The entries of a script begin no transaction, and commit only at its end.
+-- Entries that play a script begin no transaction, and have exactly one entry that commits.
 played : (script : List Action) (es : List Entry) → ArePlayed script es → BeginNothing es × (e : Entry) × (filter is_commit es ≡ e ∷ [])
 played [] (Committed c p ∷ []) plays = (refl, Committed c p, refl)
 played (Action.Op op ∷ script) (Asked c asked ∷ Did d reply ∷ es) plays = played script es plays.1
@@ -21,7 +21,8 @@ played (Action.Back n ∷ script) (Leave c (Some level) ∷ Returned d reached �
 played (Action.Help k ∷ script) es plays = played script es plays
 played _ _ plays = absurd plays
 
--- A test that no Undone entry passes finds the same entries with and without the Undone entries.
+-- If no Undone entry passes a test, the same entries pass the test with and without the Undone
+-- entries.
 with_undone : (test : Entry → Bool) → ((c : ℕ) → test (Undone c) ≡ false) → (es : List Entry)
     → filter test es ≡ filter test (without_undone es)
 with_undone test never [] = refl
@@ -42,7 +43,8 @@ module _ (c : ℕ) (script : List Action) (txn place : ℕ) (inner : List Entry)
       (same_from_push (filter is_commit inner) [] (Committed c place) e
       (sym (filter-append is_commit inner (Committed c place ∷ [])) ∙ with_undone is_commit (λ c. refl) rest ∙ one)).0
 
--- If every entry of a list has a row, so has every entry of a front part of the list.
+-- The seat after one more entry. By `seat_front`, if every entry of a list has a row, then every
+-- entry of a front part of the list has a row.
 abbrev seat_step : Option Seat → Entry → Option Seat
 seat_step seat e = option_and_then (λ s. row s s.phase e) seat
 
@@ -57,7 +59,7 @@ seat_front es fs some = at (seat_after es) (ap is_some (sym (fold-append seat_st
     at None some = absurd (false≢true (sym (ap is_some (none_stays fs)) ∙ some))
     at (Some s) some = refl
 
--- The committed transactions, read from a caller's own entries: each Committed entry commits the
+-- Reads the committed transactions from a caller's own entries: each Committed entry commits the
 -- transaction of the last Began entry before it.
 abbrev pub next_txn : Option ℕ → Entry → Option ℕ
 next_txn o (Began c t) = Some t
@@ -112,7 +114,7 @@ quiet_txns o [] quiet = refl
 quiet_txns o (Committed c p ∷ es) quiet = absurd (cc quiet)
 quiet_txns o (e ∷ es) quiet = quiet_txns (next_txn o e) es quiet
 
--- Entries that begin nothing leave the present transaction unchanged.
+-- Entries that begin no transaction leave the present transaction unchanged.
 pub same_txn : (o : Option ℕ) (es : List Entry) → BeginNothing es → fold next_txn o es ≡ o
 same_txn o [] quiet = refl
 same_txn o (Began c t ∷ es) quiet = absurd (cc quiet)

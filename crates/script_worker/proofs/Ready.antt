@@ -11,7 +11,7 @@ steps_in : (c : ℕ) (call : Call) (phase : Phase) → ended_by (turn_in c call 
 steps_in c call Fresh is = refl
 steps_in c call phase is = cc is
 
--- A drive with a step to take has not ended.
+-- The drive has a step to take. By `steps_ended`, such a drive has not ended.
 abbrev HasStep : Drive → Type 0
 HasStep drive = is_some (step_of drive) ≡ true
 
@@ -19,8 +19,8 @@ pub steps_ended : (o : Option Step) (drive : Drive) → step_of drive ≡ o → 
 steps_ended None drive is some = absurd (cc some)
 steps_ended (Some step) drive is some = goes_on drive step is
 
--- The task's drive is new, and is the drive of the call of the attempt's stage. After a call, the
--- task has such a drive, or a drive with a step to take (`IsCalledIfAny`).
+-- The task's drive is new, and its call is the call of the attempt's stage. After a call, the task
+-- has such a drive, or a drive with a step to take (`IsCalledIfAny`).
 abbrev IsCalled : List (List Action) → Task → Type 0
 IsCalled scripts task = (half : Bool) × (caller : ℕ) × (script : List Action) × (slice_get scripts task.script ≡ Some script)
     × (task.drive ≡ new_drive half caller (call_at script task.attempt.stage))
@@ -45,7 +45,8 @@ module _ (scripts : List (List Action)) (tries w : ℕ) (limits : Sizes) where
   called_in task (Some outcome) None ended there = rw there tt
   called_in task (Some outcome) (Some script) ended there = rw there (called_followed task script _ there)
 
-  -- A new drive that has already ended is the drive of a help with a bad key. An abort follows it.
+  -- The task that follows has a step to take. A new drive that has already ended is the drive of a
+  -- help with a bad key, and then an abort follows, which takes a step.
   abbrev FollowsReady : Task → List Action → Progress → Type 0
   FollowsReady task script progress = IsReadyTask (followed scripts w limits task script progress)
 
@@ -77,7 +78,7 @@ module _ (scripts : List (List Action)) (tries w : ℕ) (limits : Sizes) where
   ready_at None called = refl
   ready_at (Some task) called = ready_in task (end_of task.drive) refl called
 
-  -- The task of a worker that was told an answer is ready, whatever it was before.
+  -- After a worker is given an answer, its task has a step to take, whatever the task was before.
   pub told_ready : (task : Option Task) (answer : Answer) → IsReadyTask (task_told scripts tries w limits task answer)
   told_ready None answer = refl
   told_ready (Some task) answer = ready_at _ (called_in (record task { drive = told_of task.drive answer }) _ _ refl refl)

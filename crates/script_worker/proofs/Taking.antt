@@ -3,7 +3,7 @@ use Rattle.std.proofs.Common.{◌≡◌, ℕ, List, Option, Some, None, sym, ap,
 use Rattle.script_worker.proofs.Vocabulary.{Action, Answer, Ended, Finish, HasTaken, IsTurnBy, sized_by, Standing, Step, TakesTurnBy, TakesNext}
 use Rattle.script_worker.proofs.Vocabulary.{TakesStep, TakesTurn, Turn, turn_by, turn_maps, Working}
 
--- A worker's turn is never `Ended`, so it is taken as `TakesTurn` says.
+-- A worker's turn is never `Ended`. So if `TakesTurn` holds for the turn, `TakesTurnBy` holds too.
 taken_in : {X : Type 0} (takes : X → Step → Answer → X → Type 0) (scripts : List (List Action)) (tries : ℕ) (w : Standing) (x : Working X)
     (turn : Turn) (y : Working X) → IsTurnBy w (Some turn) → TakesTurn (TakesStep takes scripts tries) x turn y
     → TakesTurnBy takes scripts tries x (Some turn) y
@@ -54,8 +54,8 @@ next_maps takes R I p scripts tries size x before finish y after i taken each =
     (turn_by (sized_by size before)) (record { taker = y; worker = after; finish = finish }) i taken.steps in
     (record { steps = mapped.0 }, mapped.1)
 
--- In `TakesNext`, the finish of the script and the state and the worker after the turn may be
--- replaced by equal values.
+-- If `TakesNext` holds, it still holds after the finish of the script, the later state or the later
+-- worker is replaced by an equal value.
 pub next_at : {X : Type 0} (takes : X → Step → Answer → X → Type 0) (size : ℕ) (scripts : List (List Action)) (tries : ℕ) (old : X) (before : Standing) (o p : Option Finish) (y z : X) (v w : Standing)
     → TakesNext takes size scripts tries old before o y v → o ≡ p → y ≡ z → v ≡ w → TakesNext takes size scripts tries old before p z w
 next_at takes size scripts tries old before o p y z v w taken o_is y_is v_is = rw (o_is, y_is, v_is) at taken

@@ -1,5 +1,5 @@
--- The outcomes of a caller's scripts, as the caller's own entries tell them, and as statements
--- about the history.
+-- The outcomes of a caller's scripts: what each outcome says about the caller's own entries, and
+-- what it says about the whole history.
 use Rattle.std.specs.Prelude.{◌≡◌, ℕ, ◌+◌, ◌-◌, ◌*◌, ◌<◌, ◌≤◌, Bool, true, false, Option, Some, None, List, [], ◌∷◌, ◌++◌, length, slice_get}
 use Prim.Native.Nat.{zero, suc}
 use Rattle.std.specs.List.{filter, filter_map, AllByRecursion}
@@ -13,8 +13,8 @@ use Rattle.txn_words.specs.Shape.{own, how_many}
 use Rattle.txn_trace.specs.Plays.{without_undone, IsPlayed, Plays, commits_of}
 use Rattle.txn_drive.specs.Made.{CommitNothing}
 
--- The outcome of a script: it is committed as this transaction, with this commit number and these
--- replies, or nothing is committed.
+-- The outcome of a script. `Committed` has the transaction, its commit number and its replies. With
+-- any other outcome the script commits nothing.
 pub data Outcome : Type 0 where
   Committed : ℕ → ℕ → List (Option ℕ) → Outcome
   Aborted : Outcome
@@ -26,7 +26,7 @@ pub record Told : Type 0 where
   pub script : List Action
   pub outcome : Outcome
 
--- Whether an entry tells that a stripe was held.
+-- Whether an entry is a Busy: it records that a stripe was held.
 abbrev pub is_busy : Entry → Bool
 is_busy (entries.Busy c op x) = true
 is_busy _ = false
@@ -40,8 +40,8 @@ reply_in _ = None
 abbrev pub replies_in : List Entry → List (Option ℕ)
 replies_in es = filter_map reply_in es
 
--- This number of attempts found a stripe held: nothing is committed, and at least this many entries
--- tell of a held stripe.
+-- This number of attempts found a stripe held. The entries commit nothing, and at least this many
+-- of them are Busy entries.
 pub record AreBusy (attempts : ℕ) (es : List Entry) : Type 0 where
   pub nothing : CommitNothing es
   pub enough : attempts ≤ how_many is_busy es
@@ -55,8 +55,10 @@ pub record IsPlayedBy (c : ℕ) (script : List Action) (txn place : ℕ) (replie
   pub plays : IsPlayed script (without_undone es)
   pub replied : replies_in es ≡ replies
 
--- The entries that a caller has added by a script with this outcome: first those of attempts
--- without a commit, and then, if the script is committed, those of its transaction.
+-- The entries that a caller has added while it ran a script that has this outcome. If the script is
+-- committed, they are first entries that commit nothing, and then those of the committed
+-- transaction. If not, none of them commits. A Busy outcome also needs at least `tries + 1` Busy
+-- entries.
 abbrev pub IsAccount : ℕ → ℕ → List Action → Outcome → List Entry → Type 0
 IsAccount c tries script (Committed txn place replies) es =
     (before : List Entry) × (part : List Entry) × (es ≡ before ++ part) × CommitNothing before
@@ -65,7 +67,7 @@ IsAccount c tries script Aborted es = CommitNothing es
 IsAccount c tries script Busy es = AreBusy (tries + 1) es
 IsAccount c tries script (Refused refusal) es = CommitNothing es
 
--- The entries are those of these scripts, one after the other.
+-- The entries are the accounts of these scripts, one after the other.
 abbrev pub AreAccounts : ℕ → ℕ → List Told → List Entry → Type 0
 AreAccounts c tries [] es = es ≡ []
 AreAccounts c tries (told ∷ more) es =
@@ -83,12 +85,13 @@ pub record IsCommittedAs (c : ℕ) (script : List Action) (txn place : ℕ)
   pub placed : slice_get (commits h) (place - 1) ≡ Some txn
   pub replied : replies_in (of txn h) ≡ replies
 
--- An outcome, as a statement about the history.
+-- What an outcome says about the history. Only a committed outcome says something.
 abbrev pub HasCome : ℕ → List Entry → List Action → Outcome → Type 0
 HasCome c h script (Committed txn place replies) = IsCommittedAs c script txn place replies h
 HasCome c h script outcome = Unit {0}
 
--- The Committed entry and the transaction of an outcome, if it has them.
+-- The Committed entry of an outcome, and the transaction of an outcome. Only a committed outcome
+-- has them.
 abbrev pub commit_in : ℕ → Outcome → Option Entry
 commit_in c (Committed txn place replies) = Some (entries.Committed c place)
 commit_in c outcome = None
@@ -103,9 +106,9 @@ is_busy_outcome Busy = true
 is_busy_outcome outcome = false
 
 -- The outcomes of a caller's scripts are true of the history. Each committed outcome stands for a
--- transaction of the caller. The caller's Committed entries and its committed transactions are
--- those of the outcomes, in order. For each busy outcome there are at least `tries + 1` Busy
--- entries.
+-- committed transaction of the caller. The caller's Committed entries are those of its committed
+-- outcomes, in order, and so are its committed transactions. The caller has at least `tries + 1`
+-- Busy entries for each busy outcome.
 pub record AreTrue (c tries : ℕ) (h : List Entry) (tolds : List Told) : Type 0 where
   pub each : AllByRecursion (λ told. HasCome c h told.script told.outcome) tolds
   pub entries_are : filter is_commit (own c h) ≡ filter_map (λ told. commit_in c told.outcome) tolds
@@ -119,14 +122,15 @@ every n after [] = []
 every n zero (x ∷ xs) = x ∷ every n (n - 1) xs
 every n (suc after) (x ∷ xs) = every n after xs
 
--- Each script with its outcome, as far as there are both.
+-- Pairs each script with the outcome at the same place. If one list is longer, the rest of it is
+-- ignored.
 abbrev pub tolds_of : List (List Action) → List Outcome → List Told
 tolds_of (script ∷ scripts) (outcome ∷ outcomes) =
     record { script = script; outcome = outcome } ∷ tolds_of scripts outcomes
 tolds_of scripts outcomes = []
 
--- The outcomes of all scripts are true of the history. A caller has every `callers`-th script,
--- beginning with the one that has the caller's number.
+-- The outcomes of all scripts are true of the history. Caller `c` runs every `callers`-th script,
+-- beginning with script `c`, counted from 0.
 abbrev pub AreAllTrue : ℕ → ℕ → List (List Action) → List Outcome → List Entry → Type 0
 AreAllTrue callers tries scripts outcomes h = (c : ℕ) → c < callers
     → AreTrue c tries h (tolds_of (every callers c scripts) (every callers c outcomes))

@@ -15,14 +15,14 @@ use Rattle.script_worker.specs.declared.attempt.Finish.TheVariants as finishes
 use Rattle.script_worker.specs.declared.attempt.Progress.{Progress}
 use Rattle.script_worker.specs.declared.attempt.Progress.TheVariants.{Next, Over}
 
--- The attempt that is at this stage and has this number of attempts before it.
+-- The attempt at this stage, after `again` earlier attempts.
 abbrev pub attempt_at : ℕ → Stage → Attempt
 attempt_at again stage = record { again = again; stage = stage }
 
 abbrev pub first_attempt : Attempt
 first_attempt = attempt_at 0 Beginning
 
--- The call of an action.
+-- The call that does this action.
 abbrev pub call_for : Action → Call
 call_for (actions.Op op) = calls.Op op
 call_for actions.Save = calls.Save
@@ -30,19 +30,19 @@ call_for (actions.Back n) = calls.Back n
 call_for (actions.Help k) = calls.Help k
 call_for actions.Abort = calls.Abort
 
--- The call of an action, or the commit if there is no action left.
+-- The call that does this action, or the commit if no action is left.
 abbrev pub call_of : Option Action → Call
 call_of (Some action) = call_for action
 call_of None = calls.Commit
 
--- The call of a stage.
+-- The call that an attempt makes at this stage.
 abbrev pub call_at : List Action → Stage → Call
 call_at script Beginning = calls.Begin
 call_at script (Acting i) = call_of (slice_get script i)
 call_at script (Leaving refusal) = calls.Abort
 
--- After an action that is done comes the next action. After an abort or the commit the script is
--- over.
+-- The progress after an action that was done, or after the commit if there is no action. After an
+-- abort or the commit, the script is over. After any other action, the next action follows.
 abbrev pub done_with : ℕ → ℕ → Option Action → Progress
 done_with again i None = Over finishes.Committed
 done_with again i (Some actions.Abort) = Over finishes.Aborted
@@ -60,7 +60,8 @@ abbrev pub busy_at : ℕ → ℕ → Progress
 busy_at tries again =
     if nat_lt again tries then Next (attempt_at (again + 1) Beginning) else Over finishes.Busy
 
--- After a refused action the transaction is aborted; a refused abort or commit ends the script.
+-- The progress after a refused action, or after a refused commit if there is no action. A refused
+-- abort or commit ends the script. After any other refused action, the transaction is aborted.
 abbrev pub refused_with : ℕ → Option Action → Refusal → Progress
 refused_with again None refusal = Over (finishes.Refused refusal)
 refused_with again (Some actions.Abort) refusal = Over (finishes.Refused refusal)
@@ -75,7 +76,7 @@ abbrev pub progress_refused : List Action → ℕ → Stage → Refusal → Prog
 progress_refused script again stage OutOfStep = Over (finishes.Refused OutOfStep)
 progress_refused script again stage refusal = refused_in script again stage refusal
 
--- The progress after the call of a stage, if the call has this end.
+-- The progress after the call of this stage has ended with this end.
 abbrev pub progress_at : List Action → ℕ → ℕ → Stage → End → Progress
 progress_at script tries again stage (ends.Answered answer) = done_at script again stage
 progress_at script tries again stage ends.Helped = done_at script again stage

@@ -18,8 +18,8 @@ use Rattle.script_worker.specs.Attempts.{first_attempt}
 use Rattle.script_worker.specs.Accounts as accounts
 use Rattle.script_worker.specs.Accounts.{Outcome, replies_in, AreBusy}
 
--- An attempt with what its caller has been told: the number of its transaction, and the replies of
--- its operations.
+-- An attempt, with what its answers have reported so far: the number of its transaction, and the
+-- replies to its operations.
 pub record Heard : Type 0 where
   pub attempt : Attempt
   pub txn : ℕ
@@ -31,7 +31,7 @@ heard_at attempt txn replies = record { attempt = attempt; txn = txn; replies = 
 abbrev pub first_heard : Heard
 first_heard = heard_at first_attempt 0 []
 
--- The transaction and the replies after a call with this end.
+-- The transaction after a call with this end, and the replies after it.
 abbrev pub txn_then : ℕ → End → ℕ
 txn_then txn (ends.Answered (answers.Began t)) = t
 txn_then txn outcome = txn
@@ -41,12 +41,13 @@ replies_then replies (ends.Answered (answers.Began t)) = []
 replies_then replies (ends.Answered (answers.Done reply)) = replies ++ reply ∷ []
 replies_then replies outcome = replies
 
--- The next attempt, or the next stage of this one, after a call with this end.
+-- What is known after a call with this end. `next` is the same attempt at its next stage, or the
+-- next attempt.
 abbrev pub heard_then : Heard → End → Attempt → Heard
 heard_then heard outcome next =
     heard_at next (txn_then heard.txn outcome) (replies_then heard.replies outcome)
 
--- The outcome of a script that ended with this finish, if its last call had this end.
+-- The outcome of a script with this finish, if its last call had this end.
 abbrev pub outcome_by : Finish → End → Heard → Outcome
 outcome_by finishes.Committed (ends.Answered (answers.Committed place)) heard =
     accounts.Committed heard.txn place heard.replies
@@ -55,8 +56,8 @@ outcome_by finishes.Aborted outcome heard = accounts.Aborted
 outcome_by finishes.Busy outcome heard = accounts.Busy
 outcome_by (finishes.Refused refusal) outcome heard = accounts.Refused refusal
 
--- The entries of a transaction that has played all of the script except the actions `left`, with
--- these replies.
+-- The entries so far of a transaction. It has these replies, and has played all of the script
+-- except the actions `left`.
 pub record IsFront (c : ℕ) (script left : List Action) (txn : ℕ) (replies : List (Option ℕ))
     (es : List Entry) : Type 0 where
   pub inner : List Entry
@@ -65,15 +66,15 @@ pub record IsFront (c : ℕ) (script left : List Action) (txn : ℕ) (replies : 
   pub replied : replies_in es ≡ replies
   pub goes : (rest : List Entry) → ArePlayed left rest → IsPlayed script (without_undone es ++ rest)
 
--- The entries of the present attempt, at a stage.
+-- The entries of the present attempt, if it is at this stage.
 abbrev pub IsAtStage : ℕ → List Action → Heard → List Entry → Stage → Type 0
 IsAtStage c script heard part Beginning = part ≡ []
 IsAtStage c script heard part (Acting i) =
     IsFront c script (drop i script) heard.txn heard.replies part
 IsAtStage c script heard part (Leaving refusal) = CommitNothing part
 
--- The entries since the script began: those of the attempts that found a stripe held, and those of
--- the present one.
+-- The entries since the script began: first those of the earlier attempts, which each found a
+-- stripe held, and then those of the present attempt.
 pub record IsChunk (c : ℕ) (script : List Action) (heard : Heard) (chunk : List Entry) : Type 0
   where
     pub before : List Entry

@@ -1,4 +1,5 @@
--- A worker keeps to its scripts: its entries in the history so far are the accounts of its scripts.
+-- A worker keeps to its scripts: its entries so far are the accounts of its finished scripts, and
+-- then the entries of its present script.
 use Rattle.std.specs.Prelude.{◌≡◌, ℕ, ◌+◌, ◌*◌, ◌<◌, List, ◌++◌, length, Option, Some, None, slice_get}
 use Rattle.txn_words.specs.declared.action.Action.{Action}
 use Rattle.txn_words.specs.declared.entry.Entry.{Entry}
@@ -28,16 +29,16 @@ pub record KeepsTask (tries workers : ℕ) (scripts : List (List Action)) (w : �
   pub replies : List (Option ℕ)
   pub so_far : IsChunk w script (heard_at task.attempt txn replies) chunk
 
--- If no script is left, the entries are the accounts of the worker's scripts. A script without an
--- outcome has no account.
+-- Describes the worker's entries if this is its task. If no script is left, they are the accounts
+-- of those of the worker's scripts that have an outcome.
 abbrev pub KeepsAt : ℕ → ℕ → List (List Action) → ℕ → Option Task → List Entry → Type 0
 KeepsAt tries workers scripts w None seen =
     (outcomes : List Outcome)
     × AreAccounts w tries (tolds_of (every workers w scripts) outcomes) seen
 KeepsAt tries workers scripts w (Some task) seen = KeepsTask tries workers scripts w task seen
 
--- The worker's entries in the history so far are those of its scripts; each script is tried again
--- at most `tries` times.
+-- The worker's entries so far are those of its scripts. `tries` says how often a script may be
+-- tried again.
 pub record KeepsScripts (scripts : List (List Action)) (tries : ℕ) (worker : Standing)
     (seen : List Entry) : Type 0 where
   pub number : worker.number < worker.limits.callers

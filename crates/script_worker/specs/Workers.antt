@@ -1,4 +1,5 @@
--- A worker: the script that it is at, its next step, and its state after the answer to that step.
+-- A worker: the script that it is at, its next step, and its state after it is given the answer to
+-- that step.
 use Rattle.std.specs.Prelude.{◌≡◌, ℕ, ◌+◌, nat_lt, Bool, if◌then◌else◌, List, length, Option, Some, None, is_some, slice_get}
 use Rattle.std.specs.Option.{option_map, option_and_then, option_or}
 use Rattle.txn_words.specs.declared.action.Action.{Action}
@@ -26,7 +27,7 @@ pub record Standing : Type 0 where
   pub limits : Sizes
   pub task : Option Task
 
--- The first attempt at the script with this number, if there is one.
+-- The first attempt at script `n`, or `None` if there is no such script.
 abbrev pub started : Bool → List (List Action) → ℕ → ℕ → Option Task
 started half scripts w n =
     if nat_lt n (length scripts)
@@ -38,8 +39,8 @@ abbrev pub new_worker : List (List Action) → ℕ → Sizes → Standing
 new_worker scripts w limits =
     record { number = w; limits = limits; task = started limits.half scripts w w }
 
--- The task of a worker after a call for its present script: the next call of this script, or the
--- worker's next script.
+-- The worker's task after a call of its present script, if the script makes this progress: the next
+-- call of this script, or the first call of the worker's next script.
 abbrev pub followed : List (List Action) → ℕ → Sizes → Task → List Action → Progress → Option Task
 followed scripts w limits task script (Next attempt) =
     Some (record {
@@ -50,14 +51,14 @@ followed scripts w limits task script (Next attempt) =
 followed scripts w limits task script (Over finish) =
     started limits.half scripts w (task.script + limits.callers)
 
--- The worker's task after the call of this task has ended with `outcome`: `None` if no script is
--- left, or if no script has the task's number.
+-- The worker's task after the call of this task has ended with `outcome`. It is `None` if no script
+-- is left, or if no script has the task's number.
 abbrev pub progressed : List (List Action) → ℕ → ℕ → Sizes → Task → End → Option Task
 progressed scripts tries w limits task outcome =
     option_and_then (λ script. followed scripts w limits task script
     (progress_of script tries task.attempt outcome)) (slice_get scripts task.script)
 
--- If the call has ended, the next one follows.
+-- The task after its call has ended with this end, or the same task if the call has not ended.
 abbrev pub settled_in : List (List Action) → ℕ → ℕ → Sizes → Task → Option End → Option Task
 settled_in scripts tries w limits task None = Some task
 settled_in scripts tries w limits task (Some outcome) =
@@ -68,34 +69,34 @@ settled scripts tries w limits None = None
 settled scripts tries w limits (Some task) =
     settled_in scripts tries w limits task (end_of task.drive)
 
--- How the script ended, if this progress ends it.
+-- How the script ended, if this progress ends the script.
 abbrev pub finish_of : Progress → Option Finish
 finish_of (Next attempt) = None
 finish_of (Over finish) = Some finish
 
--- How the script of a task ended, if this end of the call ends it.
+-- How the task's script ended, if this end of the call ends the script.
 abbrev pub finish_at : List (List Action) → ℕ → Task → End → Option Finish
 finish_at scripts tries task outcome =
     option_and_then (λ script. finish_of (progress_of script tries task.attempt outcome))
     (slice_get scripts task.script)
 
--- How the task's script ended, if the end of the task's call ends the script.
+-- How the task's script ended, if the task's call has ended and its end ends the script.
 abbrev pub finish_by : List (List Action) → ℕ → Option Task → Option Finish
 finish_by scripts tries None = None
 finish_by scripts tries (Some task) =
     option_and_then (finish_at scripts tries task) (end_of task.drive)
 
--- The task with its drive changed.
+-- The task after this function has changed its drive.
 abbrev pub with_drive : (Drive → Drive) → Option Task → Option Task
 with_drive f None = None
 with_drive f (Some task) = Some (record task { drive = f task.drive })
 
--- The task whose drive was told an answer.
+-- The task after its drive has been given this answer.
 abbrev pub drive_told : Option Task → Answer → Option Task
 drive_told task answer = with_drive (λ drive. told_of drive answer) task
 
--- The task of a worker that was told an answer. A call may end before its first step, and then the
--- next one follows.
+-- The task of a worker after it has been given this answer. The task is settled twice, since the
+-- call that follows may end before its first step.
 abbrev pub task_told : List (List Action) → ℕ → ℕ → Sizes → Option Task → Answer → Option Task
 task_told scripts tries w limits task answer =
     settled scripts tries w limits (settled scripts tries w limits (drive_told task answer))
@@ -107,11 +108,11 @@ finish_after scripts tries w limits task answer =
     option_or (finish_by scripts tries (drive_told task answer))
     (finish_by scripts tries (settled scripts tries w limits (drive_told task answer)))
 
--- The worker whose drive was told an answer.
+-- The worker after its drive has been given this answer.
 abbrev pub told_drive : Standing → Answer → Standing
 told_drive worker answer = record worker { task = drive_told worker.task answer }
 
--- The worker after it was told an answer.
+-- The worker after it has been given this answer.
 abbrev pub told_by : List (List Action) → ℕ → Standing → Answer → Standing
 told_by scripts tries worker answer = record worker {
   task = task_told scripts tries worker.number worker.limits worker.task answer;
@@ -126,7 +127,7 @@ finish_told scripts tries worker answer =
 abbrev pub sized_by : ℕ → Standing → Standing
 sized_by size worker = record worker { task = with_drive (sized_of size) worker.task }
 
--- The worker's turn, if it has a script left.
+-- The worker's next turn, or `None` if no script is left.
 abbrev pub turn_by : Standing → Option Turn
 turn_by worker = option_map (λ task. turn_of task.drive) worker.task
 
@@ -137,15 +138,15 @@ task_step task = option_and_then (λ task. step_of task.drive) task
 abbrev pub step_by : Standing → Option Step
 step_by worker = task_step worker.task
 
--- A worker with a script left has a step to take: its call has not ended.
+-- If there is a task, it has a step to take: its call has not ended.
 abbrev pub IsReadyTask : Option Task → Type 0
 IsReadyTask task = is_some (task_step task) ≡ is_some task
 
 abbrev pub IsReady : Standing → Type 0
 IsReady worker = IsReadyTask worker.task
 
--- The first step of a turn is the worker's next step. A second step is the worker's next step after
--- the answer `Placed`. Only a worker with no script left has no turn.
+-- The first step of the turn is the worker's next step. A second step is the worker's next step
+-- after the answer `Placed`. If there is no turn, no script is left.
 abbrev pub IsTurnBy : Standing → Option Turn → Type 0
 IsTurnBy worker None = worker.task ≡ None
 IsTurnBy worker (Some (One step)) = step_by worker ≡ Some step
@@ -153,14 +154,14 @@ IsTurnBy worker (Some (Two step next)) =
     (step_by worker ≡ Some step) × (step_by (told_drive worker answers.Placed) ≡ Some next)
 IsTurnBy worker (Some (Ended outcome)) = ⊥
 
--- The state on which a worker's steps are taken, the worker, and how its script ended, if this turn
--- ended it.
+-- The state on which a worker takes its steps, the worker, and how its script ended, if it ended in
+-- this turn.
 pub record Working (X : Type 0) : Type 0 where
   pub taker : X
   pub worker : Standing
   pub finish : Option Finish
 
--- A step of the worker is taken, and the worker is told the answer.
+-- A step of the worker is taken, and the worker is given the answer.
 pub record TakesStep {X : Type 0} (takes : X → Step → Answer → X → Type 0)
     (scripts : List (List Action)) (tries : ℕ)
     (old : Working X) (step : Step) (answer : Answer) (new : Working X) : Type 0 where
@@ -176,7 +177,7 @@ TakesTurnBy takes scripts tries old (Some (Ended outcome)) new = ⊥
 TakesTurnBy takes scripts tries old (Some turn) new =
     TakesTurn (TakesStep takes scripts tries) old turn new
 
--- The next turn of a worker is taken, at this size of the table.
+-- The worker takes its next turn while the table has this size.
 pub record TakesNext {X : Type 0} (takes : X → Step → Answer → X → Type 0)
     (size : ℕ) (scripts : List (List Action)) (tries : ℕ)
     (old : X) (before : Standing) (finish : Option Finish) (new : X)

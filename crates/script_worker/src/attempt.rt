@@ -1,6 +1,6 @@
-//! One attempt at a script: the next call, and the progress after the end of a call. These rules
-//! are about one script only and take no step; those of the worker are in `task`. An attempt keeps
-//! its stage and the number of attempts before it, and nothing of the script.
+//! One attempt at a script: the attempt's next call, and the progress after a call has ended. This
+//! module is about a single script and takes no step; `task` has the rules about a worker. An
+//! attempt stores its stage and the number of attempts before it. It does not store the script.
 ghost use Rattle.std.specs.Prelude.{◌≡◌};
 ghost use Rattle.script_worker.specs.Attempts.{first_attempt, call_for, call_at, done_with, done_at, busy_at, refused_with, progress_refused, progress_of};
 
@@ -24,36 +24,36 @@ pub enum Stage {
 pub struct Attempt {
     /// How many attempts at the script were made before.
     pub again: u64,
-    /// Its stage.
+    /// The stage of this attempt.
     pub stage: Stage,
 }
 
-/// The finish of a script: how the script ended. `Attempt::progress` answers it. The outcome that
-/// `thread_runs` tells of a committed script also has the transaction, its commit number and the
-/// replies.
+/// How a script ended. `Attempt::progress` returns this. For a committed script, the outcome that
+/// `thread_runs` reports also has the transaction, its commit number and the replies.
 #[derive(Clone, Copy, Debug, PartialEq, Eq)]
 pub enum Finish {
-    /// Its transaction is committed.
+    /// The script's transaction is committed.
     Committed,
     /// The script has aborted its transaction itself.
     Aborted,
     /// Each attempt found a stripe held by another caller, and was aborted.
     Busy,
-    /// A call was refused with this refusal. The script's transaction is aborted, or did not begin;
-    /// but after `OutOfStep`, or if a commit or an abort was refused, it may still be open.
+    /// A call was refused with this refusal. The script's transaction did not begin or is aborted.
+    /// But after `OutOfStep`, or if a commit or an abort was refused, the transaction may still be
+    /// open.
     Refused(Refusal),
 }
 
-/// The progress after the end of a call.
+/// What follows after a call has ended.
 #[derive(Clone, Copy, Debug, PartialEq, Eq)]
 pub enum Progress {
-    /// The next call of this attempt.
+    /// The script continues with the next call of this attempt.
     Next(Attempt),
     /// No further call: the script is over.
     Over(Finish),
 }
 
-/// The call of an action.
+/// The call that does this action.
 fn call_for(action: Action) -> Call
     ensures { result ≡ call_for action }
 {
@@ -77,7 +77,7 @@ impl Attempt {
         }
     }
 
-    /// The next call of the attempt at this script.
+    /// The attempt's next call. Pass the script that the attempt is at.
     pub fn call(self, script: &[PackedAction]) -> Call
         ensures { result ≡ call_at script.now self.stage }
     {
@@ -91,12 +91,12 @@ impl Attempt {
         }
     }
 
-    /// The progress after the call that `call` names, if the call ends with `end`.
+    /// The progress after the call that `call` names has ended with `end`.
     ///
-    /// A script that found a stripe held is attempted again if fewer than `tries` attempts were
-    /// made before this one. If an operation, a savepoint, a return or help is refused, the
-    /// transaction is aborted; any other refusal, and `OutOfStep` from any call, ends the script at
-    /// once.
+    /// If a stripe was held, the script is attempted again, provided that fewer than `tries`
+    /// attempts were made before this one. If an operation, a savepoint, a return or help is
+    /// refused, the transaction is aborted. Any other refusal ends the script at once, and so does
+    /// `OutOfStep` from any call.
     pub fn progress(self, script: &[PackedAction], tries: u64, end: End) -> Progress
         ensures { result ≡ progress_of script.now tries self end }
     {
@@ -158,7 +158,7 @@ impl Attempt {
         }
     }
 
-    /// This attempt at another stage.
+    /// The progress to another stage of this attempt.
     fn goes_to(self, stage: Stage) -> Progress
         ensures { result ≡ Progress.Next (record { again = self.again; stage = stage }) }
     {

@@ -1,27 +1,27 @@
 //! Workers: each runs its scripts one after the other, each script as a transaction.
 //!
-//! A script is a list of actions. An attempt at it begins a transaction, does the actions in order,
-//! and commits. If a key's stripe is held by another caller, the transaction is aborted and the
+//! A script is a list of actions. An attempt at a script begins a transaction, does the actions in
+//! order, and commits. If another caller holds a key's stripe, the transaction is aborted and the
 //! script is attempted again, as often as is allowed. If an operation, a savepoint, a return or
-//! help is refused, the transaction is aborted and the script is over; any other refusal, and
-//! `OutOfStep` from any call, ends the script at once. An action may ask for the abort. A worker
-//! names the next step of its present call and is then told the answer, like a `Drive` of
-//! `txn_drive`. `take_turn` takes a whole turn, with a closure that takes the steps. A worker takes
-//! no step itself, so its owner decides how the steps of several workers mix. A worker takes no
-//! memory.
+//! help is refused, the transaction is aborted and the script is over. Any other refusal ends the
+//! script at once, and so does `OutOfStep` from any call. A script may also have an action that
+//! aborts its transaction. Like a `Drive` of `txn_drive`, a worker names the next step of its
+//! present call and is then given the answer. `take_turn` takes a whole turn, with a closure that
+//! takes the steps. A worker takes no step itself, so its owner decides how the steps of several
+//! workers mix. A worker takes no memory.
 //!
 //! A contract sees a worker as its number, the limits of the map, and the script that it is at,
 //! with the attempt and the call's drive. The map's callers are the workers. The functions of
-//! `specs/Attempts.antt` and `specs/Workers.antt` define the worker's reaction to each answer.
-//! Proved: the code follows these, and the worker keeps to its scripts (`specs/Keeps.antt`): the
-//! entries that it added to the history are the accounts of its scripts, one after the other
-//! (`specs/Accounts.antt`), and then the entries of the present script so far. The account of a
-//! committed script ends with a transaction that plays it, and the account of any other script
-//! commits nothing. So in a legal history the outcomes of a worker's scripts are true, and its
-//! committed transactions play its scripts, with rising numbers: `script_mix` and `thread_runs`
-//! both conclude this. A worker with a script left has a step to take: that is the invariant of its
-//! type. Calls take constant time and no memory unless they say otherwise; the search for a
-//! helper's next bucket takes up to 32 rounds.
+//! `specs/Attempts.antt` and `specs/Workers.antt` define how a worker reacts to each answer.
+//! Proved: the code follows these functions, and the worker keeps to its scripts
+//! (`specs/Keeps.antt`). This means that the entries that the worker added to the history are first
+//! the accounts of its finished scripts, one after the other (`specs/Accounts.antt`), and then the
+//! entries of the present script so far. The account of a committed script ends with a transaction
+//! that plays the script. The account of any other script commits nothing. So in a legal history
+//! the outcomes of a worker's scripts are true, and its committed transactions play its scripts,
+//! with rising numbers. `script_mix` and `thread_runs` both conclude this. The invariant of the
+//! type says that a worker with a script left has a step to take. Calls take constant time and no
+//! memory unless they say otherwise. The search for a helper's next bucket takes up to 32 rounds.
 #![tactic(auto)]
 
 mod attempt;

@@ -1,6 +1,6 @@
-//! The script that a worker is at, and the effect of an answer on it. The drive is told the answer.
-//! After a call that ended comes the next call. After a script that is over comes the worker's next
-//! script. A worker without a script left has no task.
+//! The script that a worker is at, and what an answer changes. The answer goes to the drive. If the
+//! call has then ended, the script's next call follows. If the script is over, the worker's next
+//! script follows. A worker without a script left has no task.
 ghost use Rattle.std.specs.Prelude.{◌≡◌};
 ghost use Rattle.script_worker.specs.Workers.{started, progressed, settled, task_told};
 ghost use Rattle.script_worker.specs.Workers.{finish_at, finish_by, finish_after};
@@ -9,19 +9,19 @@ use crate::attempt::{Attempt, Finish, Progress};
 use txn_drive::{Call, Drive};
 use txn_trace::{Answer, Limits, Script};
 
-/// A script that a worker is at. Its call may have ended.
+/// A script that a worker is at. The drive's call may have ended.
 #[derive(Clone, Copy, Debug, PartialEq, Eq)]
 pub struct Task {
     /// The number of the script among all scripts, from 0.
     pub script: usize,
-    /// The attempt at it.
+    /// The present attempt at the script.
     pub attempt: Attempt,
     /// The drive of the attempt's present call.
     pub drive: Drive,
 }
 
 impl Task {
-    /// The first attempt at the script of this number, if there is one.
+    /// The first attempt at the script with this index, or `None` if there is no such script.
     pub(crate) fn start(
         worker: usize,
         limits: Limits,
@@ -42,8 +42,8 @@ impl Task {
     }
 }
 
-/// Moves on to the next call if the call of the worker's task has ended. If that call was the last
-/// of the task's script, answers how the script ended.
+/// If the call of the worker's task has ended, moves to the next call. If that call was the last of
+/// its script, returns how the script ended.
 fn settle(
     task: &mut Option<Task>,
     worker: usize,
@@ -79,8 +79,8 @@ fn settle(
     }
 }
 
-/// Tells the worker's task the answer to its step and finds its next step. If this answer ends the
-/// task's script, answers how the script ended.
+/// Gives the worker's task the answer to its step, and finds the task's next step. If this answer
+/// ends the task's script, returns how the script ended.
 pub(crate) fn tell(
     task: &mut Option<Task>,
     worker: usize,

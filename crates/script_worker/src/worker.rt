@@ -16,19 +16,19 @@ use std::marker::Model;
 use txn_drive::Turn;
 use txn_trace::{Answer, Limits, Script, Step};
 
-/// One of several workers among which scripts are distributed: worker `w` of `n` runs the scripts
-/// `w`, `w + n`, `w + 2 n` and so on, in this order. While it has a script left it has a step to
-/// take.
+/// One of several workers among which scripts are distributed. Worker `w` of `n` runs the scripts
+/// `w`, `w + n`, `w + 2 n` and so on, in this order. While a worker has a script left, it has a
+/// step to take.
 ///
-/// Begin with `new`. While the worker is live, take turns by `take_turn`. Or call `turn`, take its
-/// steps yourself, and pass the answer to each step to `told`.
+/// Begin with `new`. While the worker is live, call `take_turn`. Or call `turn`, take the steps of
+/// that turn yourself, and pass the answer to each step to `told`.
 #[derive(Clone, Copy, Debug, PartialEq, Eq)]
 pub struct Worker {
     /// The number of the worker and of its caller, counted from 0.
     number: usize,
     /// The limits of the map; its callers are the workers.
     limits: Limits,
-    /// The script that it is at, or `None` if no script is left.
+    /// The script that the worker is at, or `None` if no script is left.
     task: Option<Task>,
 }
 
@@ -53,8 +53,8 @@ impl Model for Worker {
 }
 
 impl Worker {
-    /// The worker of this number before its first step, on a map of these limits. The map's callers
-    /// are the workers.
+    /// The worker with this number before its first step, on a map with these limits. The map's
+    /// callers are the workers.
     pub fn new(number: usize, limits: Limits, scripts: &[Script]) -> Worker
         requires { number < limits.callers }
         ensures worker { result ≡ new_worker scripts.now number limits }
@@ -76,7 +76,8 @@ impl Worker {
         self.task
     }
 
-    /// Whether the worker has a step to take: it has one until the last step of its last script.
+    /// Returns true if the worker has a step to take. It has one until the last step of its last
+    /// script is taken.
     pub fn is_live(&self) -> bool
         ensures step { result ≡ is_some (step_by self.now) }
         ensures script { result ≡ is_some self.now.task }
@@ -84,8 +85,8 @@ impl Worker {
         self.task.is_some()
     }
 
-    /// The next turn, of one step or of two, for a table that has this size now; `None` if the
-    /// worker is not live.
+    /// The next turn, which has one step or two, or `None` if the worker is not live. `size` is the
+    /// present size of the table.
     pub fn turn(&mut self, size: u32) -> Option<Turn>
         ensures worker { self.new ≡ sized_by size self.old }
         ensures turn { result ≡ turn_by self.new }
@@ -100,13 +101,13 @@ impl Worker {
         }
     }
 
-    /// Takes the next turn, for a table that has this size now: `step` takes each of its steps, and
-    /// the worker is told the answers, as by `told`. If this turn ends the worker's script, answers
-    /// how the script ended.
+    /// Takes the next turn. `size` is the present size of the table. The closure `step` takes each
+    /// step of the turn, and the worker is given each answer, as by `told`. If this turn ends the
+    /// worker's script, returns how the script ended.
     ///
     /// # Cost
     ///
-    /// That of one or two calls of `step`, and of `told` after each.
+    /// One or two calls of `step`, and a call of `told` after each.
     pub fn take_turn<F: FnMut(Step) -> Answer>(
         &mut self,
         size: u32,
@@ -142,17 +143,18 @@ impl Worker {
         finish
     }
 
-    /// Tells the worker the answer to a step that its turn named. For a turn of two steps, call
-    /// `told` after each step that was taken. Pass the same scripts and tries each time: a script
-    /// that found a stripe held is attempted again up to `tries` times. If this answer ends the
-    /// worker's script, answers how the script ended.
+    /// Gives the worker the answer to a step of its turn. If the turn has two steps, call `told`
+    /// after each step that was taken. Pass the same scripts and tries each time. A script that
+    /// found a stripe held is attempted again up to `tries` times. If this answer ends the worker's
+    /// script, returns how the script ended.
     ///
-    /// If the answer ended the worker's call, `told` moves the worker on to the next call of the
-    /// same script, or to the first call of the worker's next script, if there is one.
+    /// If the answer ended the worker's call, `told` moves the worker to the next call of the same
+    /// script. If the script is over, it moves the worker to the first call of the worker's next
+    /// script, if there is one.
     ///
     /// # Cost
     ///
-    /// Constant time: the search for a helper's next bucket takes up to 32 rounds.
+    /// Constant time. The search for a helper's next bucket takes up to 32 rounds.
     pub fn told(&mut self, scripts: &[Script], tries: u64, answer: Answer) -> Option<Finish>
         ensures finish { result ≡ finish_told scripts.now tries self.old answer }
         ensures worker { self.new ≡ told_by scripts.now tries self.old answer }

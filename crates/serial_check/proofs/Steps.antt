@@ -1,4 +1,4 @@
--- The effect of one more entry in right shape on transactions and on the committed map.
+-- What one more entry of the right shape does to transactions and to the committed map.
 use Rattle.std.proofs.Common.{◌≡◌, ◌≢◌, ℕ, true, false, List, [], ◌∷◌, ◌++◌, refl, ap, sym, ◌∙◌, Some}
 use Rattle.std.proofs.lemmas.Bool.{false≢true}
 use mathlib.Core.Logic.{inl, inr}
@@ -30,8 +30,8 @@ module _ (g : List Entry) (e : Entry) (shape : IsShaped g) (shaped : is_shaped g
   pub serial_grows : (t : ℕ) → is_commit e ≡ true → txn_at g e ≡ Some t → serial (g ++ e ∷ []) ≡ map_after (serial g) (of t g)
   serial_grows t commit at = serial-push_commit g e callers shape shaped shape_after t commit at ∙ ap (map_after (serial g)) (of-push_in t g e at) ∙ map_after-commit (serial g) (of t g) e commit
 
-  -- If the entry begins no transaction, and a transaction of its caller is open after it, this
-  -- transaction was open before, and the entry is its newest entry.
+  -- Suppose that the entry begins no transaction, and that a transaction of its caller is open
+  -- after it. Then this transaction was open before, and the entry is its newest entry.
   pub was_there : is_began e ≡ false → (t : ℕ) → txn_in (g ++ e ∷ []) (caller_of e) ≡ Some t → is_open t (g ++ e ∷ []) ≡ true
       → (txn_in g (caller_of e) ≡ Some t) × (is_open t g ≡ true) × (of t (g ++ e ∷ []) ≡ of t g ++ e ∷ [])
   was_there began t in_t is_going = elim (step g e callers shaped (caller_of e) t in_t) [
@@ -39,7 +39,7 @@ module _ (g : List Entry) (e : Entry) (shape : IsShaped g) (shaped : is_shaped g
     | inr other ↦ absurd (other.0 refl)
   ]
 
-  -- A transaction that the entry begins has this entry only.
+  -- If the entry begins a transaction, this transaction has no other entry.
   pub begins_there : is_began e ≡ true → (t : ℕ) → txn_in (g ++ e ∷ []) (caller_of e) ≡ Some t → of t (g ++ e ∷ []) ≡ e ∷ []
   begins_there began t in_t = elim (step g e callers shaped (caller_of e) t in_t) [
     | inl mine ↦ of-push_in t g e mine.1 ∙ ap (λ es. es ++ e ∷ []) (none_before g e callers shaped (are_seated g shape) t began mine.1)

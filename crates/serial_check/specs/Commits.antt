@@ -19,7 +19,7 @@ use Rattle.serial_check.specs.Serializable.{txn_in, commits_right}
 use Rattle.serial_check.specs.Footprints.{FootsIf}
 use Rattle.serial_check.specs.Kept.{IsFresh, cell_of}
 
--- The footprint is that of the caller's transaction, if one is open.
+-- If the caller has an open transaction, the footprint is that of this transaction.
 abbrev pub IsOfTxn : List Entry → ℕ → Footprint → Type 0
 IsOfTxn h c foot =
     (t : ℕ) → txn_in h c ≡ Some t → is_open t h ≡ true
@@ -47,8 +47,8 @@ pub record JudgesAt (h : List Entry) (e : Entry) (right : Bool) (new : Commits) 
   pub right_is : commits_right h e ≡ right
   pub keeps : right ≡ true → ShowsSerial (h ++ e ∷ []) new
 
--- The entry is judged as `JudgesAt` says after each history `h` of which three facts hold:
--- - The table `callers` has taken in the entries `h` (`HaveEntered`).
+-- The entry is judged as `JudgesAt` says after each history `h` for which three facts hold:
+-- - The table `callers` has entered the entries `h` (`HaveEntered`).
 -- - `old` shows `h` (`ShowsSerial`).
 -- - The entry has the right shape after `h`.
 abbrev pub Judges : Entry → Callers → Commits → Bool → Commits → Type 0
@@ -56,14 +56,14 @@ Judges e callers old right new =
     (h : List Entry) → HaveEntered h callers → ShowsSerial h old → is_shaped h e ≡ true
     → JudgesAt h e right new
 
--- By the transaction's replies the key must have had the value `read`; the committed map has
--- another one, `due`.
+-- The transaction's replies require that the key had the value `read`, but the committed map has
+-- another value there, `due`.
 pub record IsMisread (h : List Entry) (t : ℕ) (miss : Misread) : Type 0 where
   pub read_is : (m : Map) (r : AloneRun) → alone m (of t h) ≡ Some r → get m miss.key ≡ miss.read
   pub due_is : get (serial h) miss.key ≡ miss.due
   pub differs : miss.read ≢ miss.due
 
--- The replies of a transaction contradict one another: it runs alone on no map.
+-- The replies of a transaction contradict one another: no map gives the transaction all of them.
 abbrev pub IsTorn : List Entry → ℕ → Type 0
 IsTorn h t = (m : Map) → alone m (of t h) ≡ None
 

@@ -1,7 +1,8 @@
 //! The checker that judges a history by the order of its commits. The checker adds two things to
 //! the state: the number of entries and the first bad entry. After a bad entry the verdict no
 //! longer changes. A transaction's replies are judged at its Committed entry. Before that entry,
-//! `misread` and `is_torn` tell whether the transaction could commit, and change nothing.
+//! `misread` and `is_torn` report whether the transaction could commit. These two calls change
+//! nothing.
 ghost use Rattle.std.specs.Prelude.{◌≡◌, ℕ, ◌<◌, ◌++◌, [], ◌∷◌, List, IfOk, OnOk, OnErr, IfSome, IsNone, Some, true, false};
 ghost use Rattle.txn_words.specs.Kinds.{caller_of};
 ghost use Rattle.serial_check.specs.Verdicts.{IsVerdictOn};
@@ -18,7 +19,7 @@ use txn_trace::Entry;
 #[derive(Drop)]
 pub struct Checker {
     state: State,
-    /// The number of entries before the first bad one, so far.
+    /// The number of entries fed so far, without the first bad one and all later ones.
     fed: u64,
     /// The first bad entry and the rule that it breaks.
     bad: Option<(u64, Rule)>,
@@ -33,7 +34,7 @@ impl Checker {
     ghost use Rattle.serial_check.specs.Fed.{IsFed};
     ghost use Rattle.serial_check.specs.Serializable.{IsSerializable, txn_in};
 
-    /// A checker before the first entry.
+    /// Returns a checker that was fed no entry yet.
     ///
     /// # Errors
     ///
@@ -41,7 +42,7 @@ impl Checker {
     ///
     /// # Cost
     ///
-    /// Time and memory for 64 callers.
+    /// Time and memory for 64 callers, so both are constant.
     pub fn new(alloc: Global) -> Result<Checker, AllocError>
         ensures { IfOk result (IsFed []) }
     {
@@ -53,22 +54,25 @@ impl Checker {
         })
     }
 
-    /// Feeds the checker the next entry, whose caller is below 64. Entries after the first bad one
-    /// change nothing.
+    /// Feeds the checker the next entry. The entry's caller must be below 64. After a bad entry,
+    /// feeding more entries changes nothing.
     ///
     /// # Errors
     ///
-    /// `AllocError` if memory is refused, or if 2^64 - 1 entries were fed. Then the entry was not
-    /// fed, and may be fed again.
+    /// `AllocError` if memory is refused, or if 2^64 - 1 entries were fed already. The entry is
+    /// then not fed, and may be fed again.
     ///
     /// # Cost
     ///
-    /// A Did or an Undone costs the logarithm of the number of keys that its transaction asked for.
-    /// A Committed costs, for each of these keys, the logarithm of the number of keys in the map.
-    /// An Aborted costs a step for each of these keys. Any other entry takes constant time. All
-    /// times are amortized, since an entry may drop changes and savepoints. A Did takes memory,
-    /// even if its operation changes nothing. So do a Saved, and a Committed that adds keys to the
-    /// map. After the first bad entry a call takes constant time and no memory.
+    /// A Did or an Undone takes time in proportion to the logarithm of the number of keys that its
+    /// transaction asked for. A Committed takes, for each of these keys, time in proportion to the
+    /// logarithm of the number of keys in the map. An Aborted takes constant time for each of these
+    /// keys. Any other entry takes constant time. All times are amortized, since an entry may drop
+    /// changes and savepoints.
+    ///
+    /// A Did takes memory, even if its operation changes nothing. So does a Saved, and so does a
+    /// Committed that adds keys to the map. After the first bad entry a call takes constant time
+    /// and no memory.
     pub fn feed(&mut self, entry: &Entry) -> Result<(), AllocError>
         requires { caller_of entry.now < 64 }
         ensures ok { OnOk result ((h : List Entry) →
@@ -86,13 +90,13 @@ impl Checker {
         Ok(())
     }
 
-    /// The verdict on the history that was fed. `Illegal` names the first bad entry, and the rule
-    /// that it breaks: `Shape`, or `Replies` if the entry is the Committed of a transaction with a
-    /// wrong reply.
+    /// Returns the verdict on the history that was fed. `Illegal` names the first bad entry and the
+    /// rule that it breaks. The rule is `Replies` if the entry has the right shape and is the
+    /// Committed of a transaction with a wrong reply, else `Shape`.
     ///
     /// # Cost
     ///
-    /// A look at each of 64 callers.
+    /// Constant time: one look at each of the 64 callers.
     pub fn verdict(&self) -> Verdict
         ensures { (h : List Entry) → IsFed h self.now → IsVerdictOn h result }
     {
@@ -105,8 +109,8 @@ impl Checker {
         }
     }
 
-    /// The callers after the entries so far, as long as no entry is bad. A caller's phase says
-    /// which of its entries may follow.
+    /// Returns the callers as they are after the entries fed so far. They are meaningful only if no
+    /// entry is bad. A caller's phase says which entries of the caller may follow.
     pub fn callers(&self) -> &Callers
         ensures { (h : List Entry) →
             IsFed h self.now → IsSerializable h → HaveEntered h result.now }
@@ -114,12 +118,12 @@ impl Checker {
         &self.state.callers
     }
 
-    /// The value of a key in the map that the committed transactions leave, as long as no entry is
-    /// bad.
+    /// Returns the value of a key in the map that the committed transactions leave. The value is
+    /// meaningful only if no entry is bad.
     ///
     /// # Cost
     ///
-    /// The logarithm of the number of keys.
+    /// Time in proportion to the logarithm of the number of keys in the map.
     pub fn value(&self, key: u64) -> Option<u64>
         ensures { (h : List Entry) →
             IsFed h self.now → IsSerializable h → result ≡ get (serial h) key }
@@ -127,17 +131,20 @@ impl Checker {
         self.state.commits.values.get(&key).copied()
     }
 
-    /// A key at which the open transaction of a caller read a value that is not the committed one.
-    /// If the next entry were this transaction's Committed, of the right shape, that entry would be
-    /// bad for this reason. The caller is below 64; nothing is said if an entry is bad, or if the
-    /// caller has no open transaction.
+    /// Returns a key at which the open transaction of a caller read a value that is not the
+    /// committed one. If the next entry were this transaction's Committed and had the right shape,
+    /// it would be bad because of this key.
     ///
-    /// Answers `None` if the transaction could commit, or if its replies contradict one another, so
-    /// that it could commit on no map.
+    /// The caller must be below 64. If an entry is bad, or if the caller has no open transaction,
+    /// the result means nothing.
+    ///
+    /// Returns `None` if the transaction could commit. Also returns `None` if its replies
+    /// contradict one another, so that it could commit on no map.
     ///
     /// # Cost
     ///
-    /// For each key that the transaction asked for, the logarithm of the number of keys.
+    /// For each key that the transaction asked for, time in proportion to the logarithm of the
+    /// number of keys in the map.
     pub fn misread(&self, caller: u64) -> Option<Misread>
         requires { caller < 64 }
         ensures some { (h : List Entry) (t : ℕ) → IsFed h self.now → IsSerializable h →
@@ -148,13 +155,15 @@ impl Checker {
         self.state.commits.misread(caller)
     }
 
-    /// Whether the replies of the open transaction of a caller contradict one another. If so, no
-    /// map gives the transaction all its replies, and it may only abort. The caller is below 64;
-    /// nothing is said if an entry is bad, or if the caller has no open transaction.
+    /// Returns true if the replies of a caller's open transaction contradict one another. No map
+    /// then gives the transaction all its replies, and it may only abort.
+    ///
+    /// The caller must be below 64. If an entry is bad, or if the caller has no open transaction,
+    /// the result means nothing.
     ///
     /// # Cost
     ///
-    /// Constant time; takes no memory.
+    /// Constant time. Takes no memory.
     pub fn is_torn(&self, caller: u64) -> bool
         requires { caller < 64 }
         ensures torn { result ≡ true → (h : List Entry) (t : ℕ) → IsFed h self.now →

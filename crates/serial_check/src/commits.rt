@@ -1,6 +1,7 @@
 //! The judge of commits: the committed map and the footprints of open transactions. A commit is
-//! right if the committed map has the values that its footprint needs, and no reply contradicts
-//! another. Only a right commit changes the map; any other entry changes at most one footprint.
+//! right if no reply of its transaction contradicts another, and the committed map has the values
+//! that the transaction's footprint needs. Only a right commit changes the map. Any other entry
+//! changes at most one footprint.
 ghost use Rattle.std.specs.Prelude.{◌≡◌, ℕ, ◌<◌, true, false, [], List, Some, IfOk, OnErr, IfSome, IsNone, vec_len};
 ghost use Rattle.txn_trace.specs.History.{is_open};
 ghost use Rattle.txn_words.specs.Kinds.{caller_of};
@@ -20,16 +21,16 @@ const CALLERS: usize = 64;
 pub struct Misread {
     /// The key.
     pub key: u64,
-    /// The reply of the transaction's first operation there.
+    /// The reply of the transaction's first operation at this key.
     pub read: Reply,
-    /// The value of the committed map there: the reply that was due.
+    /// The value of the committed map at this key, which the reply should have been.
     pub due: Reply,
 }
 
 /// The map that the committed transactions leave, and the footprint of each caller's transaction.
 #[derive(Drop)]
 pub(crate) struct Commits {
-    /// The values of the keys.
+    /// The committed map.
     pub(crate) values: BTreeMap<u64, u64>,
     /// The footprint of each caller's transaction, by the caller's number.
     pub(crate) footprints: Vec<Footprint>,
@@ -40,7 +41,7 @@ impl Commits {
     ghost use Rattle.serial_check.specs.Serializable.{txn_in};
     ghost use Rattle.serial_check.specs.Commits.{ShowsSerial, Judges, Stays, IsMisread, IsTorn, FitsOrTorn, RunsSomewhere};
 
-    /// The empty map, with no transactions.
+    /// Returns the empty map, with an empty footprint for each caller.
     pub(crate) fn new(alloc: Global) -> Result<Commits, AllocError>
         ensures { IfOk result (ShowsSerial []) }
     {
@@ -54,8 +55,8 @@ impl Commits {
         })
     }
 
-    /// Takes in an entry of the right shape and answers `true`, or answers `false` if the entry
-    /// commits a transaction with a wrong reply.
+    /// Applies an entry of the right shape and returns `true`. If the entry commits a transaction
+    /// with a wrong reply, returns `false` instead.
     pub(crate) fn take_in(&mut self, callers: &Callers, entry: &Entry) -> Result<bool, AllocError>
         requires { caller_of entry.now < 64 }
         ensures ok { IfOk result (λ right. Judges entry.now callers.now self.old right self.new) }
@@ -79,9 +80,9 @@ impl Commits {
         Ok(true)
     }
 
-    /// Commits the caller's transaction if its replies are the same as if it ran alone on the map.
-    /// Answers whether they are. After a commit the map has the values that the transaction leaves,
-    /// and the caller's footprint is empty.
+    /// If the caller's transaction has the same replies as if it ran alone on the map, commits the
+    /// transaction and returns true. If not, returns false. After a commit the map has the values
+    /// that the transaction leaves, and the caller's footprint is empty.
     fn commit(&mut self, caller: u64) -> Result<bool, AllocError>
         requires { caller < 64 }
         ensures ok { IfOk result (λ right. (callers : Callers) (number : ℕ) →
@@ -97,9 +98,9 @@ impl Commits {
         Ok(true)
     }
 
-    /// A key at which the caller's transaction got a first reply that the committed map does not
-    /// give. Answers `None` if there is no such key, or if the transaction's replies fit no map.
-    /// Takes a look-up for each key.
+    /// Returns a key at which the first reply to the caller's transaction differs from the value in
+    /// the committed map. Returns `None` if there is no such key, or if the transaction's replies
+    /// fit no map. Takes a look-up in the map for each key of the transaction.
     pub(crate) fn misread(&self, caller: u64) -> Option<Misread>
         requires { caller < 64 }
         ensures some { (h : List Entry) (t : ℕ) → ShowsSerial h self.now →
@@ -116,7 +117,8 @@ impl Commits {
         Some(Misread { key, read, due })
     }
 
-    /// Whether the replies of the caller's transaction contradict one another. Constant time.
+    /// Returns true if the replies of the caller's transaction contradict one another. Takes
+    /// constant time.
     pub(crate) fn is_torn(&self, caller: u64) -> bool
         requires { caller < 64 }
         ensures torn { result ≡ true → (h : List Entry) (t : ℕ) → ShowsSerial h self.now →

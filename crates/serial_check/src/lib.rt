@@ -9,7 +9,7 @@
 //! There is no rule of locks, and transactions that abort or stay open may have read anything. So
 //! this crate judges stores whose readers share locks, and stores that validate at the commit
 //! (optimistic, or multi-version). `history_check` judges stores that lock each key for one
-//! transaction at a time. A history that is serializable only in another order than that of its
+//! transaction at a time. A history that is serializable only in an order other than that of its
 //! commits is refused.
 //!
 //! No transaction is run again, and no entry is kept. Instead the checker keeps a *footprint* of
@@ -21,24 +21,25 @@
 //!   may change it. A return to a savepoint sets it back.
 //!
 //! Each later reply at a key must be `now`. If one is not, the replies contradict one another, and
-//! no map gives the transaction all of them. Otherwise a map gives the transaction all of them
-//! exactly if it has the value `need` at each of the keys. No commit of another caller changes a
-//! footprint, since a footprint is about all maps and not only about the present one.
+//! no map gives the transaction all of them. Otherwise, a map gives the transaction all its replies
+//! exactly if the map has the value `need` at each of the keys. No commit of another caller changes
+//! a footprint, since a footprint is about all maps and not only about the present one.
 //!
 //! At a Committed entry each `need` is compared with the committed map. If all are equal, the keys
 //! get the values `now` in the committed map. Comparing reads with the committed state is the
 //! validation of Kung and Robinson, "On Optimistic Methods for Concurrency Control" (TODS 1981).
 //!
-//! An entry costs the logarithm of the number of its transaction's keys. A Committed costs, for
-//! each of these keys, the logarithm of the number of keys in the map. An Aborted costs a step for
-//! each of these keys. Memory is in proportion to the committed map and to the different keys,
-//! standing changes and savepoints of the transactions that are open at one time. Calls take
-//! constant time and no memory unless they say otherwise.
+//! An entry takes time in proportion to the logarithm of the number of its transaction's keys. A
+//! Committed takes, for each of these keys, time in proportion to the logarithm of the number of
+//! keys in the map. An Aborted takes constant time for each of these keys. Memory is in proportion
+//! to the committed map plus what the transactions that are open at one time have: their different
+//! keys, their savepoints, and their changes that are not taken back. Calls take constant time and
+//! no memory unless they say otherwise.
 //!
-//! Proved: `check`, `check_packed`, and a `Checker` that was fed the same entries, answer what the
-//! definition `verdict` says, with the first bad entry, and they answer legal exactly if
-//! `IsSerializable` holds. An entry that is refused for lack of memory was not fed to the checker.
-//! A history that is legal by locks is serializable: `serializable`.
+//! Proved: `check`, `check_packed`, and a `Checker` that was fed the same entries return the
+//! verdict that the definition `verdict` gives, including the first bad entry. They return legal
+//! exactly if `IsSerializable` holds. If memory is refused for an entry, the checker was not fed
+//! this entry. A history that is legal by locks is serializable (`serializable`).
 #![tactic(auto)]
 
 mod checker;

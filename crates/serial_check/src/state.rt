@@ -1,7 +1,7 @@
-//! The state of a checker: callers, committed map and footprints. It puts two judges together: the
-//! judge of shape from `history_check`, which is asked first, and the judge of commits. The model
-//! of the state is the history that it was fed. A refusal of memory leaves this model unchanged. No
-//! list of the entries is kept.
+//! The state of a checker: callers, committed map and footprints. It combines two judges: the judge
+//! of shape from `history_check`, which is asked first, and the judge of commits. Contracts see the
+//! state as the history that it was fed. If memory is refused, this history is unchanged. The
+//! entries themselves are not kept.
 ghost use Rattle.std.specs.Prelude.{◌<◌, [], IfOk, OnErr};
 ghost use Rattle.txn_words.specs.Kinds.{caller_of};
 
@@ -10,12 +10,12 @@ use history_check::{Callers, Rule};
 use std::alloc::{AllocError, Global};
 use txn_trace::Entry;
 
-/// The state of a serializable history, enough to judge the next entry.
+/// What is kept of a serializable history. It is enough to judge the next entry.
 #[derive(Drop)]
 pub(crate) struct State {
-    /// The callers, by which shape is judged.
+    /// The callers. They are used to judge the shape of entries.
     pub(crate) callers: Callers,
-    /// The committed map and the footprints, by which the replies of commits are judged.
+    /// The committed map and the footprints. They are used to judge the replies of commits.
     pub(crate) commits: Commits,
 }
 
@@ -32,7 +32,7 @@ impl State {
         })
     }
 
-    /// Takes the entry in, or answers the rule that it breaks.
+    /// Adds the entry and returns `None`. If the entry breaks a rule, returns the rule instead.
     pub(crate) fn take_in(&mut self, entry: &Entry) -> Result<Option<Rule>, AllocError>
         requires { caller_of entry.now < 64 }
         ensures ok { IfOk result (λ rule. Judges entry.now self.old rule self.new) }

@@ -17,8 +17,8 @@ use Rattle.shared_transactions.specs.Keeps.{Keeps}
 use Rattle.shared_transactions.specs.Within.{GoesOn, HoldsWithin, is_quiet}
 use Rattle.shared_transactions.proofs.Within.{Adds, BeginsNone, adds, adds_undoing, append_none, undone_none, same_txn, not_broken, steady_after, goes_on, holds_open}
 
--- `GoesOn` after a call that passed, if its entries neither commit nor begin a transaction and
--- leave nothing unfinished, and `HoldsWithin` holds after the call.
+-- Suppose that a call succeeded, that its entries neither commit nor begin a transaction and leave
+-- nothing unfinished, and that `HoldsWithin` holds after the call. Then `GoesOn` holds.
 passed_on : {S : Type 0} (k : Token S) (call : Call) (l : Token S) (es : List Entry) → l.seen ≡ k.seen ++ es → Adds es → BeginsNone es → HoldsWithin l → Passed k call l → GoesOn k l
 passed_on k call l es seen which none holds passed = record {
   since = λ base since. adds base k l es since passed.whose seen which;
@@ -28,7 +28,7 @@ passed_on k call l es seen which none holds passed = record {
   holds = λ _. holds;
 }
 
--- `GoesOn` after a call that stopped, if the call neither begins nor commits.
+-- If a call that neither begins nor commits has failed, `GoesOn` holds.
 stopped_on : {S : Type 0} (words : S → List ℕ) (k : Token S) (call : Call) (stop : Stop) (l : Token S) → is_quiet call ≡ true → Stopped words k call stop l → GoesOn k l
 stopped_on words k call (stops.Busy holder) l inner stopped = goes_on words k call (ends.Busy holder) l inner stopped
 stopped_on words k call (stops.Refused refusal) l inner stopped = goes_on words k call (ends.Refused refusal) l inner stopped

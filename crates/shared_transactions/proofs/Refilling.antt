@@ -69,7 +69,7 @@ put_at pairs i reply base k l less put whose seen =
 pub put_all : {S : Type 0} (pairs : List (ℕ × ℕ)) (i : ℕ) (base k : Token S) → length pairs ≤ i → HasPut (take i pairs) base k → HasPut pairs base k
 put_all pairs i base k all put = subst (λ ps. HasPut ps base k) (take_all i pairs all) put
 
--- A committed transaction that put all pairs is a refill.
+-- If a transaction put all pairs and was committed, `IsRefilled` holds.
 pub refilled : {S : Type 0} (pairs : List (ℕ × ℕ)) (txn place : ℕ) (base begun done last : Token S) → base.seen ≡ [] → IsBegun base txn begun → HasPut pairs begun done → GoesOn begun done
     → (other : ℕ) → IsCommitted other place done last → IsRefilled pairs last
 refilled pairs txn place base begun done last fresh begins put goes_on other committed = record {
@@ -92,7 +92,7 @@ refilled pairs txn place base begun done last fresh begins put goes_on other com
     of_base : base.number ≡ last.number
     of_base = sym begins.whose.number ∙ of_begun
 
--- If a transaction put all pairs and its commit was refused, the refill stopped.
+-- If a transaction put all pairs and its commit was refused, `StopsRefilling` holds.
 pub not_committed : {S : Type 0} (words : S → List ℕ) (pairs : List (ℕ × ℕ)) (txn : ℕ) (stop : Stop) (base begun done last : Token S) → IsBegun base txn begun → HasPut pairs begun done → IsNotCommitted stop done last → StopsRefilling words pairs base stop last
 not_committed words pairs txn stop base begun done last begins put refused =
     inr (record { begun = begun; txn = txn; began = begins; why = inr (record { done = done; put = put; refused = refused }) })
@@ -172,7 +172,7 @@ unclosed_otherwise stop unclosed is =
     let refusal_is : unclosed.refusal ≡ CallersMissing = cc (sym unclosed.is ∙ is) in
     subst IsUnclosed refusal_is unclosed.why
 
--- The pass at an index has the index as its number, and the map's limits.
+-- The number of the pass at an index is this index, and its limits are those of the map.
 pub ticket_at : (limits : Sizes) (items : List Ticket) (place : ℕ) (pass : Ticket) → place < limits.callers → AreTickets limits items → pass ≡ slice_index_or items place pass → (pass.number ≡ place) × (pass.limits ≡ limits)
 ticket_at limits items place pass less all value =
     let here : pass ≡ new_ticket limits all.words place = value ∙ ap (λ ts. slice_index_or ts place pass) all.are ∙ get_or-map-range_with_len (new_ticket limits all.words) 0 limits.callers place place pass less (omega arith) in

@@ -1,4 +1,4 @@
--- The causes for which a call stopped.
+-- Why a call failed.
 use Rattle.std.proofs.Common.{◌≡◌, ℕ, false, List, is_some, Option, Some, None, sym, subst, inr}
 use Rattle.std.proofs.lemmas.Bool.{false≢true}
 use Rattle.map_answers.specs.declared.stop.Stop.{Stop}
@@ -13,7 +13,7 @@ use Rattle.locked_map.specs.Calls.{Ran, WasRefused}
 use Rattle.core_tokens.specs.Tokens.{Token}
 use Rattle.shared_transactions.specs.Stops.{StoppedGrowing}
 
--- If an operation was done at a key that was absent, and the help then fell out of step,
+-- If an operation was done at a key that was absent, and the help was then refused as `OutOfStep`,
 -- `StoppedGrowing` holds.
 pub out_growing : {S : Type 0} (words : S → List ℕ) (k : Token S) (op : Op) (reply : Option ℕ) (key : ℕ) (between l : Token S) (stop : Stop) → Ran words k (calls.Op op) (ends.Answered (answers.Done reply)) between → is_some reply ≡ false → key ≡ key_of op
     → (stop ≡ stops.Refused OutOfStep) × WasRefused between (calls.Help key) OutOfStep l → StoppedGrowing words k op stop l

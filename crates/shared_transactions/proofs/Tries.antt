@@ -1,4 +1,4 @@
--- How a row of tries grows, and how it ends.
+-- How a series of tries grows, and how it ends.
 use Rattle.std.proofs.Common.{◌≡◌, ℕ, ◌+◌, ◌≤◌, suc, true, subst, inl, inr, arith}
 use Rattle.std.specs.Prelude.{Result, Ok, Err, IfOk, IfErr, OnErr}
 use Rattle.std.proofs.lemmas.Bool.{false≢true}
@@ -8,20 +8,21 @@ use Rattle.core_tokens.specs.Tokens.{Token}
 use Rattle.shared_transactions.specs.Within.{GoesOn, IsBegun, IsTakenBack, IsUndone}
 use Rattle.shared_transactions.specs.Tries.{is_busy_stop, is_busy, IsWhy, Fails, BusyTries, HasRetried, GivesUp}
 
--- A busy result is an error, so what is known of an error (`OnErr`) holds.
+-- A busy result is an error. So if a statement holds for all errors (`OnErr`), it holds for a busy
+-- result.
 pub if_busy : {R P : Type 0} (result : Result R Stop) → is_busy result ≡ true → OnErr result P → P
 if_busy (Ok value) busy held = absurd (false≢true busy)
 if_busy (Err stop) busy held = held
 
--- If the result is `Ok`, its run began with the token `base`, after the tries that found a stripe
--- held.
+-- If the result is `Ok`, the successful run began with the token `base`, which is the token after
+-- the tries that found a stripe held.
 pub run_after : {V X S : Type 0} (did : V → X → X → Type 0) (run : V → Token S → X → X → Type 0) (tries over : Token S → Type 0) (base : Token S) (result : Result V Stop) → tries base
     → IfOk result (λ r. (t : X) × (u : X) × did r t u × over base × run r base t u) → IfOk result (λ r. (b : Token S) × (t : X) × (u : X) × did r t u × tries b × over b × run r b t u)
 run_after did run tries over base (Ok value) tried (t, u, worked, is_over, ran) = (base, t, u, worked, tried, is_over, ran)
 run_after did run tries over base (Err stop) tried ran = ran
 
 module _ {S X T : Type 0} (work : X → Result T Stop → X → Type 0) (me : X → Token S) where
-  -- A busy try after `n` busy tries makes `n + 1`.
+  -- One more busy try after `n` busy tries makes `n + 1` busy tries.
   busy_more : (n : ℕ) (old between new : Token S) (stop : Stop) → is_busy_stop stop ≡ true → BusyTries work me n old between → Fails work me stop between new → BusyTries work me (n + 1) old new
   busy_more n old between new (Busy holder) busy tries (inl failed) =
       let next : suc n ≡ n + 1 = omega arith in subst (λ k. BusyTries work me k old new) next (between, holder, tries, failed)
@@ -32,18 +33,18 @@ module _ {S X T : Type 0} (work : X → Result T Stop → X → Type 0) (me : X 
   one_more n old between new (Ok value) busy tries failed = absurd (false≢true busy)
   one_more n old between new (Err stop) busy tries failed = busy_more n old between new stop busy tries failed
 
-  -- A try began a transaction. Then the work or the commit failed, and the transaction was taken
-  -- back. Such a try fails (`Fails`).
+  -- If a try began a transaction, the work or the commit failed, and the transaction was taken
+  -- back, the try has failed (`Fails`).
   pub failed_try : (old new : Token S) (txn : ℕ) (t u : X) (answer : Result T Stop) (stop : Stop) → IsBegun old txn (me t) → work t answer u → IsWhy answer stop (me u) new → GoesOn (me t) (me u) → IsTakenBack (me u) new → Fails work me stop old new
   failed_try old new txn t u answer stop began worked why goes_on back =
       inl (record { begun = t; left = u; txn = txn; answer = answer; began = began; worked = worked; why = why; goes_on = goes_on; back = back })
 
-  -- `HasRetried` after `n` busy tries, if `n` is at most `most` and all tries together are undone
-  -- (`IsUndone`).
+  -- If `n` busy tries were made, `n` is at most `most`, and all tries together are undone
+  -- (`IsUndone`), `HasRetried` holds.
   pub tried : (most n : ℕ) (old new : Token S) → n ≤ most → BusyTries work me n old new → IsUndone old new → HasRetried work me most old new
   tried most n old new within tries undone = record { busy = n; within = within; tries = tries; undone = undone }
 
-  -- If the last try fails, the tries are given up.
+  -- If the last try fails, `GivesUp` holds.
   pub gives_up : {R : Type 0} (most n : ℕ) (old last new : Token S) (result : Result R Stop) → n ≤ most → (is_busy result ≡ true → n ≡ most) → BusyTries work me n old last → IsUndone old last → IfErr result (λ stop. Fails work me stop last new)
       → IfErr result (λ stop. GivesUp work me most stop old new)
   gives_up most n old last new (Ok value) within all tries undone failed = tt

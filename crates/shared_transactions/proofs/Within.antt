@@ -38,13 +38,13 @@ use Rattle.map_answers.specs.declared.stop.Stop.TheVariants as stops
 use Rattle.locked_map.specs.Calls.{Stopped, Passed, LeavesBy}
 use Rattle.std.specs.Prelude.{Result, Ok, Err, IfErr}
 
--- The entries of a call that takes changes back commit nothing.
+-- If a call takes changes back, its entries commit nothing.
 undoing_quiet : (c k : ℕ) (opening closing : Entry) → is_commit opening ≡ false → is_commit closing ≡ false → CommitNothing (opening ∷ undone_by c k ++ closing ∷ [])
 undoing_quiet c k opening closing first last =
     ap (λ b. cond b (opening ∷ filter is_commit (undone_by c k ++ closing ∷ [])) (filter is_commit (undone_by c k ++ closing ∷ []))) first
     ∙ append_quiet (undone_by c k) (closing ∷ []) (undone_quiet c k) (ap (λ b. cond b (closing ∷ []) []) last)
 
--- Once there is no seat, no entry leads to one.
+-- If there is no seat after some entries, there is none after any further entries.
 none_stays : (es : List Entry) → fold (λ seat e. option_and_then (λ (s : Seat). row s s.phase e) seat) None es ≡ None
 none_stays [] = refl
 none_stays (e ∷ es) = none_stays es
@@ -110,7 +110,7 @@ row_steady phase standing kept (entries.Leave c n) ends = absurd ends
 row_steady phase standing kept (entries.Undone c) ends = absurd ends
 row_steady phase standing kept (entries.Busy c op x) ends = absurd ends
 
--- After an entry of `ends_steady` nothing is unfinished.
+-- If the last entry is of a kind in `ends_steady`, nothing is unfinished.
 pub steady_after : (xs : List Entry) (e : Entry) → ends_steady e → is_steady (seat_after (xs ++ e ∷ [])) ≡ true
 steady_after xs e ends = ap is_steady (seat_append xs (e ∷ [])) ∙ at (seat_after xs)
   where
@@ -118,7 +118,7 @@ steady_after xs e ends = ap is_steady (seat_append xs (e ∷ [])) ∙ at (seat_a
     at None = refl
     at (Some s) = row_steady s.phase s.standing s.kept e ends
 
--- After an Aborted there is no transaction.
+-- After an `Aborted` entry, no transaction is open.
 over_after : (xs : List Entry) (c : ℕ) → is_over (seat_after (xs ++ entries.Aborted c ∷ [])) ≡ true
 over_after xs c = ap is_over (seat_append xs (entries.Aborted c ∷ [])) ∙ at (seat_after xs)
   where
@@ -137,7 +137,7 @@ over_after xs c = ap is_over (seat_append xs (entries.Aborted c ∷ [])) ∙ at 
     at None = refl
     at (Some s) = in_phase s s.phase
 
--- Entries that commit nothing and leave nothing unfinished, whatever is before them.
+-- The entries commit nothing, and leave nothing unfinished, whatever entries are before them.
 pub record Adds (es : List Entry) : Type 0 where
   pub quiet : CommitNothing es
   pub steady : (xs : List Entry) → is_steady (seat_after (xs ++ es)) ≡ true
@@ -165,8 +165,8 @@ adds_undoing c k opening closing first last ends = record {
   steady = λ xs. ap (λ es. is_steady (seat_after es)) (sym (append_assoc xs (opening ∷ undone_by c k) (closing ∷ []))) ∙ steady_after (xs ++ (opening ∷ undone_by c k)) closing ends;
 }
 
--- A token that has seen no more entries keeps `IsSince`. For a token that has seen more, see
--- `grows`.
+-- If a token has seen no more entries, `IsSince` still holds. `grows` is the lemma for a token that
+-- has seen more.
 stays : {S : Type 0} (base k l : Token S) → IsSince base k → IsSameCaller k l → l.seen ≡ k.seen → (l.broken ≡ false → k.broken ≡ false) → IsSince base l
 stays base k l since whose same sound = record {
   whose = record { number = whose.number ∙ since.whose.number; limits = whose.limits ∙ since.whose.limits };
@@ -190,12 +190,12 @@ pub adds : {S : Type 0} (base k l : Token S) (es : List Entry) → IsSince base 
 adds base k l es since whose more which =
     grows base k l es since whose more (λ _. which.quiet) (λ _. ap (λ xs. is_steady (seat_after xs)) more ∙ which.steady k.seen)
 
--- A call that falls out of step keeps `IsSince`.
+-- If a call fails with `OutOfStep` and breaks the token, `IsSince` still holds.
 fell_out : {S : Type 0} (base k : Token S) (call : Call) (l : Token S) → IsSince base k → FellOut k call l → IsSince base l
 fell_out base k call l since fell =
     grows base k l fell.added since fell.whose fell.entries fell.quiet (λ b. absurd (false≢true (sym b ∙ fell.broken)))
 
--- A token that let a call pass is not broken.
+-- If a token does not refuse a call, the token is not broken.
 pub not_broken : {S : Type 0} (k : Token S) (call : Call) → refused_by k call ≡ None → k.broken ≡ false
 not_broken k call free = at k.broken (seat_after k.seen) free
   where
@@ -215,7 +215,7 @@ abbrev is_refused : End → Bool
 is_refused (ends.Refused r) = true
 is_refused outcome = false
 
--- If a call is not refused, and neither begins nor commits, it adds no entries, or `Adds` holds of
+-- If a call is not refused, and neither begins nor commits, it adds no entries, or `Adds` holds for
 -- the entries that it adds.
 made_adds : (c : ℕ) (call : Call) (outcome : End) (es : List Entry) → is_quiet call ≡ true → is_refused outcome ≡ false → IsMade c call outcome es → (es ≡ []) ⊎ Adds es
 made_adds c calls.Begin outcome es inner sound is = absurd (false≢true inner)
@@ -236,14 +236,14 @@ ran words base k call outcome l since inner sound did =
       | inr which ↦ adds base k l did.added since did.whose did.entries which
     ]
 
--- A call that neither begins nor commits keeps `IsSince`, however it ends.
+-- If a call neither begins nor commits, `IsSince` still holds after it, however it ends.
 pub since_ended : {S : Type 0} (words : S → List ℕ) (base k : Token S) (call : Call) (outcome : End) (l : Token S) → IsSince base k → is_quiet call ≡ true → Ended words k call outcome l → IsSince base l
 since_ended words base k call (ends.Refused r) l since inner refused = since_refused base k call r l since refused
 since_ended words base k call (ends.Answered a) l since inner did = ran words base k call (ends.Answered a) l since inner refl did
 since_ended words base k call (ends.Busy x) l since inner did = ran words base k call (ends.Busy x) l since inner refl did
 since_ended words base k call ends.Helped l since inner did = ran words base k call ends.Helped l since inner refl did
 
--- An abort of a token with nothing unfinished leaves no transaction.
+-- If nothing was unfinished before an abort, no transaction is open after it.
 over_ended : {S : Type 0} (words : S → List ℕ) (base k : Token S) (outcome : End) (l : Token S) → IsSince base k → Ended words k calls.Abort outcome l → IsOver l
 over_ended words base k (ends.Refused r) l since (inl (free, same)) = subst IsOver (sym same) (λ sound. at k.broken (seat_after k.seen) sound (since.steady sound) free)
   where
@@ -266,7 +266,7 @@ over_ended words base k (ends.Answered answers.Aborted) l since did = λ sound. 
     closes (n, is) = ap (λ es. is_over (seat_after es)) (did.entries ∙ ap (λ es. k.seen ++ es) is ∙ sym (append_assoc k.seen (entries.Leave k.number None ∷ undone_by k.number n) (entries.Aborted k.number ∷ []))) ∙ over_after (k.seen ++ (entries.Leave k.number None ∷ undone_by k.number n)) k.number
 over_ended words base k outcome l since did = absurd did.made
 
--- After a Committed there is no transaction.
+-- After a `Committed` entry, no transaction is open.
 over_committed : (xs : List Entry) (c p : ℕ) → is_over (seat_after (xs ++ entries.Committed c p ∷ [])) ≡ true
 over_committed xs c p = ap is_over (seat_append xs (entries.Committed c p ∷ [])) ∙ at (seat_after xs)
   where
@@ -284,7 +284,7 @@ over_committed xs c p = ap is_over (seat_append xs (entries.Committed c p ∷ []
 over_commit : {S : Type 0} (k l : Token S) (c p : ℕ) → l.seen ≡ k.seen ++ entries.Committed c p ∷ [] → IsOver l
 over_commit k l c p is = λ sound. ap (λ es. is_over (seat_after es)) is ∙ over_committed k.seen c p
 
--- The token after a call that failed is of the same caller.
+-- After a call that failed, the token belongs to the same caller.
 whose_failed : {S : Type 0} (k : Token S) (call : Call) (r : Refusal) (l : Token S) → Failed k call r l → IsSameCaller k l
 whose_failed k call OutOfStep l fell = fell.whose
 whose_failed k call r l found = found.whose
@@ -319,7 +319,7 @@ since_start k over = record {
   steady = λ sound. over_steady (seat_after k.seen) (over sound);
 }
 
--- After a begin that stopped, no transaction is open if none was open before.
+-- If no transaction was open before a begin that failed, none is open after it.
 over_stopped : {S : Type 0} (words : S → List ℕ) (k : Token S) (stop : Stop) (l : Token S) → IsOver k → Stopped words k calls.Begin stop l → IsOver l
 over_stopped words k (stops.Busy x) l over did = absurd did.made
 over_stopped words k (stops.Refused r) l over (inl (free, same)) = subst IsOver (sym same) over
@@ -337,7 +337,7 @@ sound_ended words k call (ends.Answered a) l did = λ sound. not_broken k call d
 sound_ended words k call (ends.Busy x) l did = λ sound. not_broken k call did.free
 sound_ended words k call ends.Helped l did = λ sound. not_broken k call did.free
 
--- The entries of a call that is not refused, and neither begins nor commits, begin no transaction.
+-- If a call is not refused, and neither begins nor commits, its entries begin no transaction.
 made_none : (c : ℕ) (call : Call) (outcome : End) (es : List Entry) → is_quiet call ≡ true → is_refused outcome ≡ false → IsMade c call outcome es → BeginsNone es
 made_none c calls.Begin outcome es inner sound is = absurd (false≢true inner)
 made_none c calls.Commit outcome es inner sound is = absurd (false≢true inner)
@@ -410,7 +410,8 @@ row_open phase standing kept (entries.Busy c op x) ends = absurd ends
 row_open phase standing kept (entries.Committed c p) ends = absurd ends
 row_open phase standing kept (entries.Aborted c) ends = absurd ends
 
--- `HoldsWithin` holds of a token if a transaction is open after the token's last entry.
+-- If a transaction is open after the last entry that a token has seen, `HoldsWithin` holds for the
+-- token.
 pub holds_open : {S : Type 0} (l : Token S) (xs : List Entry) (e : Entry) → ends_open e → l.seen ≡ xs ++ e ∷ [] → HoldsWithin l
 holds_open l xs e ends seen =
     λ sound idle. absurd (false≢true (sym (ap (λ es. is_idle (seat_after es)) seen ∙ ap is_idle (seat_append xs (e ∷ [])) ∙ at (seat_after xs)) ∙ idle))
@@ -419,11 +420,11 @@ holds_open l xs e ends seen =
     at None = refl
     at (Some s) = row_open s.phase s.standing s.kept e ends
 
--- After all rights are given back, no stripe is held.
+-- After all rights have been given back, the caller holds no stripe.
 given_none : (l k : Claimed) → l ≡ given_back k → HoldsNone l
 given_none l k is = (ap (λ (c : Claimed). c.held) is, ap (λ (c : Claimed). c.seat.held) is)
 
--- A token keeps `HoldsWithin` if it has seen no more entries and its claims are unchanged.
+-- If a token has seen no more entries and its claims are unchanged, `HoldsWithin` still holds.
 holds_same : {S : Type 0} (k l : Token S) → k.broken ≡ false → l.seen ≡ k.seen → l.claims ≡ k.claims → HoldsWithin k → HoldsWithin l
 holds_same k l sound seen claims holds =
     λ _ idle. subst HoldsNone (sym claims) (holds sound (sym (ap (λ es. is_idle (seat_after es)) seen) ∙ idle))
@@ -449,7 +450,7 @@ holds_ran words k (calls.Help key) ends.Helped l inner sound did holds =
     (did.went.claims ∙ did.went.readied) holds
 holds_ran words k call outcome l inner sound did holds = absurd did.made
 
--- A token that lets an operation pass has a transaction.
+-- If a token does not refuse an operation, it has a transaction.
 op_open : {S : Type 0} (k : Token S) (op : Op) → refused_by k (calls.Op op) ≡ None → is_idle (seat_after k.seen) ≡ false
 op_open k op free = at k.broken (seat_after k.seen) free
   where
@@ -465,8 +466,7 @@ op_open k op free = at k.broken (seat_after k.seen) free
     at false None is = refl
     at false (Some s) is = seated s s.phase is
 
--- A call that is refused leaves all claims unchanged, if no claim changes when the call is made
--- ready.
+-- If a call is refused, and getting ready for it changes no claims, the claims are unchanged.
 same_claims : {S : Type 0} (k : Token S) (call : Call) (r : Refusal) (l : Token S) → ((c d : Claimed) → Readies c call d → d ≡ c) → TriedNothing k r l ⊎ WentOn k call (ends.Refused r) l → l.claims ≡ k.claims
 same_claims k call r l readied (inl (memory, same)) = same
 same_claims k call r l readied (inr went) = went.claims ∙ readied k.claims went.ready.claims went.readied
@@ -488,7 +488,7 @@ holds_ended words k call (ends.Answered a) l inner did = holds_ran words k call 
 holds_ended words k call (ends.Busy x) l inner did = holds_ran words k call (ends.Busy x) l inner refl did
 holds_ended words k call ends.Helped l inner did = holds_ran words k call ends.Helped l inner refl did
 
--- `GoesOn` after a call that neither begins nor commits, however the call ends.
+-- If a call neither begins nor commits, `GoesOn` holds after it, however the call ends.
 pub goes_on : {S : Type 0} (words : S → List ℕ) (k : Token S) (call : Call) (outcome : End) (l : Token S) → is_quiet call ≡ true → Ended words k call outcome l → GoesOn k l
 goes_on words k call outcome l inner ended = record {
   since = λ base since. since_ended words base k call outcome l since inner ended;
@@ -511,7 +511,7 @@ goes_further k l m first second = record {
 pub keeps_by : {S : Type 0} (words : S → List ℕ) (old new : MutBor (Token S)) (call : Call) (outcome : End) → new.ghost_name ≡ old.ghost_name → is_quiet call ≡ true → Ended words old.now call outcome new.now → Keeps old new
 keeps_by words old new call outcome same inner ended = record { same_token = same; goes_on = goes_on words old.now call outcome new.now inner ended }
 
--- `Keeps` of a work that makes no call; `keeps_on` joins one part of a work to the next.
+-- If a work makes no call, `Keeps` holds. `keeps_on` joins one part of a work to the next.
 pub keeps_stay : {S : Type 0} (me : MutBor (Token S)) → Keeps me me
 keeps_stay me = record { same_token = refl; goes_on = record { since = λ base since. since; whose = record { number = refl; limits = refl }; sound = λ sound. sound; txn = λ sound. refl; holds = λ holds. holds } }
 
@@ -526,7 +526,7 @@ idle_of : (seat : Option Seat) → is_over seat ≡ true → is_some seat ≡ tr
 idle_of None over rows = absurd (false≢true rows)
 idle_of (Some s) over rows = over
 
--- An abort takes the transaction back, however it ends.
+-- An abort takes the transaction back, however the call ends.
 pub taken_back_by : {S : Type 0} (words : S → List ℕ) (k : Token S) (outcome : End) (l : Token S) → Ended words k calls.Abort outcome l → IsTakenBack k l
 taken_back_by words k outcome l ended = record {
   goes_on = goes_on words k calls.Abort outcome l refl ended;
@@ -535,7 +535,7 @@ taken_back_by words k outcome l ended = record {
       holds_ended words k calls.Abort outcome l refl ended holds sound (idle_of (seat_after l.seen) (over_ended words base k outcome l since ended sound) rows);
 }
 
--- `GoesOn` after any call that was refused.
+-- If a call was refused, `GoesOn` holds.
 refused_on : {S : Type 0} (k : Token S) (call : Call) (r : Refusal) (l : Token S) → WasRefused k call r l → GoesOn k l
 refused_on k call r l refused = record {
   since = λ base since. since_refused base k call r l since refused;
@@ -545,7 +545,7 @@ refused_on k call r l refused = record {
   holds = holds_refused k call r l refused;
 }
 
--- A refused commit and the abort after it take the transaction back.
+-- If a commit is refused, and an abort follows, the transaction has been taken back.
 pub not_committed : {S T : Type 0} (words : S → List ℕ) (k : Token S) (result : Result T Stop) (stop : Stop) (l m : Token S) → result ≡ Err stop → LeavesBy words k calls.Commit result l → IsTakenBack l m → IsTakenBack k m
 not_committed words k result stop l m is leaves back =
     after stop (subst (λ r. LeavesBy words k calls.Commit r l) is leaves)
@@ -560,7 +560,7 @@ not_committed words k result stop l m is leaves back =
           given = λ base since holds. back.given base (on.since base since) (on.holds holds);
         }
 
--- `IsNotCommitted` after a refused commit and the abort that follows it.
+-- If a commit is refused, and an abort follows, `IsNotCommitted` holds.
 pub commit_refused : {S T : Type 0} (words : S → List ℕ) (k : Token S) (result : Result T Stop) (stop : Stop) (l m : Token S) → result ≡ Err stop → LeavesBy words k calls.Commit result l → IsTakenBack l m → IsNotCommitted stop k m
 commit_refused words k result stop l m is leaves back = record {
   left = l;
@@ -572,7 +572,7 @@ commit_refused words k result stop l m is leaves back = record {
     after (stops.Busy x) did = absurd did.made
     after (stops.Refused r) refused = refused
 
--- `IsCommitted` after a commit that passed.
+-- If a commit succeeds, `IsCommitted` holds.
 pub committed : {S : Type 0} (k l : Token S) (txn place : ℕ) → txn ≡ last_txn k.seen → l.seen ≡ k.seen ++ entries.Committed k.number place ∷ [] → l.claims ≡ given_back k.claims → Passed k calls.Commit l → IsCommitted txn place k l
 committed k l txn place txn_is seen claims passed = record {
   numbered = txn_is;
@@ -583,7 +583,7 @@ committed k l txn place txn_is seen claims passed = record {
   claims = claims;
 }
 
--- A token that lets a begin pass has no transaction.
+-- If a token does not refuse a begin, it has no transaction.
 over_free : {S : Type 0} (k : Token S) → refused_by k calls.Begin ≡ None → IsOver k
 over_free k free = λ sound. at k.broken (seat_after k.seen) free
   where
@@ -620,7 +620,7 @@ undone_not_begun stop k l none = record { since = none.goes_on.since; over = non
 since_begun : {S : Type 0} (base k l : Token S) (txn : ℕ) → IsSince base k → IsBegun k txn l → IsSince base l
 since_begun base k l txn since begun = adds base k l (entries.Began k.number txn ∷ []) since begun.whose begun.seen (record { quiet = refl; steady = λ xs. steady_after xs (entries.Began k.number txn) tt })
 
--- A transaction that began, went on and was taken back is undone.
+-- If a transaction was begun, continued and taken back, `IsUndone` holds.
 pub undone_after : {S : Type 0} (k t u m : Token S) (txn : ℕ) → IsBegun k txn t → GoesOn t u → IsTakenBack u m → IsUndone k m
 undone_after k t u m txn begun goes_on back = record {
   since = λ base since. back.goes_on.since base (goes_on.since base (since_begun base k t txn since begun));
@@ -628,7 +628,7 @@ undone_after k t u m txn begun goes_on back = record {
   holds = λ _. back.goes_on.holds (goes_on.holds (holds_open t k.seen (entries.Began k.number txn) tt begun.seen));
 }
 
--- A transaction that began, went on and was committed is a run, and the receipt has the
+-- If a transaction was begun, continued and committed, `IsRun` holds, and the receipt has the
 -- transaction's number.
 pub run : {S : Type 0} (base t u l : Token S) (began txn place : ℕ) → IsBegun base began t → GoesOn t u → IsCommitted txn place u l → IsRun base t u l txn place
 run base t u l began txn place begun goes_on committed =
@@ -642,7 +642,7 @@ run base t u l began txn place begun goes_on committed =
       given = given_none l.claims u.claims committed.claims;
     }
 
--- `IsUndone` of an unchanged token; `undone_on` joins one try to the next.
+-- If the token is unchanged, `IsUndone` holds. `undone_on` joins one try to the next.
 pub undone_same : {S : Type 0} (k : Token S) → IsUndone k k
 undone_same k = record { since = λ base since. since; over = λ over. over; holds = λ holds. holds }
 

@@ -1,5 +1,5 @@
--- A closed map has only entries of the callers that worked on it, and `AreDone` holds of the works
--- of threads and their outcomes.
+-- A closed map has only entries of the callers that worked on it, and `AreDone` holds for the works
+-- and their outcomes.
 use Rattle.std.proofs.Common.{◌≡◌, ℕ, ◌+◌, ◌<◌, ◌≤◌, zero, suc, cond, List, [], ◌∷◌, ◌++◌, length, length-append, map, Option, Some, None, refl, sym, ap, subst, ◌∙◌, inl, inr, arith}
 use Rattle.std.specs.Prelude.{All, slice_get}
 use Rattle.std.specs.List.{sum_by}
@@ -19,7 +19,7 @@ use Rattle.core_tokens.specs.Tokens.{Token, AreCounted}
 use Rattle.locked_map.specs.Closes.{IsOwn}
 use Rattle.shared_transactions.specs.Works.{IsNew, AreIn, AreNumbered, IsClosedBy, AreDone}
 
--- The number of entries that the callers with numbers below a bound have in a history.
+-- The number of entries in a history that belong to callers with numbers below a bound.
 abbrev together : ℕ → List Entry → ℕ
 together zero h = 0
 together (suc n) h = together n h + length (own n h)
@@ -61,8 +61,8 @@ together_most n (e ∷ h) = elim (cases_lt (caller_of e) n) [
   | inr past ↦ let none = together_out n e h past in let rest = together_most n h in omega (arith, none, rest)
 ]
 
--- If the callers with numbers below `n` have as many entries as the history, each entry is of one
--- of them.
+-- If the callers with numbers below `n` have as many entries as the whole history, each entry
+-- belongs to one of these callers.
 all_below : (n : ℕ) (h : List Entry) → together n h ≡ length h → All (λ e. caller_of e < n) h
 all_below n [] whole i d less = absurd (omega (arith, less))
 all_below n (e ∷ h) whole zero d less = elim (cases_lt (caller_of e) n) [
@@ -82,7 +82,7 @@ module _ {S : Type 0} (h : List Entry) where
   sum_by-one k ks = let parts = sum_by-append (λ (l : Token S). length l.seen) (k ∷ []) ks in omega (arith, parts)
 
   -- Callers with the numbers `j`, `j + 1` and so on have together seen as many entries as the
-  -- history has of them.
+  -- history has from these callers.
   seen_together : (j : ℕ) (ks : List (Token S)) → ((i : ℕ) (k : Token S) → slice_get ks i ≡ Some k → k.number ≡ j + i) → ((i : ℕ) (k : Token S) → slice_get ks i ≡ Some k → IsOwn h k)
       → sum_by (λ k. length k.seen) ks + together j h ≡ together (j + length ks) h
   seen_together j [] numbered theirs = let same : together j h ≡ together (j + 0) h = ap (λ n. together n h) (omega arith) in omega (arith, same)
@@ -100,7 +100,8 @@ module _ {S : Type 0} (h : List Entry) where
       let rest = none_seen ks (λ i x less. new (suc i) x (omega (arith, less))) in
       omega (arith, here, rest, sum_by-one k ks)
 
--- If only the first callers of a map worked, closing it gives `IsClosedBy` of these callers.
+-- If only the first callers of a map worked, and the map is closed, `IsClosedBy` holds for these
+-- callers.
 pub closed_by : {S : Type 0} (limits : Sizes) (ks unused all : List (Token S)) (core : State) → AreNumbered ks → All IsNew unused → all ≡ ks ++ unused → core.limits ≡ limits → IsLegal Begun core.limits.stripes core.history → All (λ k. IsOwn core.history k) all → AreCounted core.history all → IsClosedBy limits ks core
 closed_by {S} limits ks unused all core numbered new are limits_are legal own_all counted =
     let h = core.history in
@@ -134,9 +135,9 @@ get_right (x ∷ xs) ys i =
     let next : suc (length xs) + i ≡ suc (length xs + i) = omega arith in
     ap (slice_get (x ∷ xs ++ ys)) next ∙ get_right xs ys i
 
--- Each work was seated with a caller, and this caller did the work. Then a map was closed with a
--- list of callers. The list has the callers of the works first, and the callers `others` at its
--- end. `AreDone` holds of the closed map.
+-- Each work was joined with a caller, and this caller did the work. Then a map was closed with a
+-- list of callers: first the callers of the works, and then the callers `others`. Under these
+-- conditions, `AreDone` holds for the closed map.
 pub are_done : {S J D W T : Type 0} (work_of : J → W) (me_of : D → Token S) (outcome_of : D → T) (promises : W → T → Token S → Type 0) (limits : Sizes) (works : List W) (seated : List J) (done : List D) (others : List (Token S)) (core : State) (callers : ℕ)
     → length works + length others ≡ callers → callers ≤ limits.callers → map work_of seated ≡ works → length done ≡ length seated
     → ((i : ℕ) (s : J) (d : D) → slice_get seated i ≡ Some s → slice_get done i ≡ Some d → promises (work_of s) (outcome_of d) (me_of d))
@@ -163,15 +164,16 @@ are_done work_of me_of outcome_of promises limits works seated done others core 
       only = subst (λ (n : ℕ). All (λ e. caller_of e < n) core.history) in_all closed.only;
     }
 
--- A map was closed with the list of callers `ks ++ others`. Each caller in `others` has seen
--- exactly its own entries in the history. The first caller in `others` has the number `place`,
--- which is the length of `ks`.
+-- If a map was closed with the callers `ks ++ others`, each caller in `others` has seen exactly its
+-- own entries in the history. The first caller in `others` has the number `place`, which is the
+-- length of `ks`.
 pub are_in : {S : Type 0} (limits : Sizes) (ks others : List (Token S)) (place : ℕ) (core : State) → length ks ≡ place → IsClosedBy limits (ks ++ others) core → AreIn core.history place others
 are_in limits ks others place core as_many closed i k at =
     let here : slice_get (ks ++ others) (length ks + i) ≡ Some k = get_right ks others i ∙ at in
     (closed.numbered (length ks + i) k here ∙ ap (λ n. n + i) as_many, all_at (λ k. IsOwn core.history k) (ks ++ others) closed.own (length ks + i) k here)
 
--- A single caller has the number `place`, and has seen exactly its own entries in the history.
+-- If `AreIn` holds for a single caller, its number is `place`, and it has seen exactly its own
+-- entries in the history.
 pub is_in : {S : Type 0} (h : List Entry) (place : ℕ) (me : Token S) → AreIn h place (me ∷ []) → (me.number ≡ place) × IsOwn h me
 is_in h place me are =
     let (number, own) = are 0 me refl in

@@ -1,11 +1,11 @@
--- The relation between a caller's token before and after each call within a transaction. A work
--- that is made of such calls keeps it too.
+-- How each call within a transaction may change a caller's token. The same holds for a work that
+-- consists of such calls.
 use Rattle.std.specs.Prelude.{◌≡◌}
 use Rattle.std.specs.Borrow.{MutBor}
 use Rattle.core_tokens.specs.Tokens.{Token}
 use Rattle.shared_transactions.specs.Within.{GoesOn}
 
--- The new token has the old one's name, and goes on from it.
+-- The new token has the same name as the old one, and continues it (`GoesOn`).
 pub record Keeps {S : Type 0} (old new : MutBor (Token S)) : Type 0 where
   pub same_token : new.ghost_name ≡ old.ghost_name
   pub goes_on : GoesOn old.now new.now

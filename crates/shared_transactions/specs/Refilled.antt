@@ -1,5 +1,5 @@
--- A map that begins with the pairs of a core: the entries of the caller that puts them, and the
--- causes for which they are not put.
+-- A map that begins with the pairs of a core: the entries of the caller that puts the pairs, and
+-- the reasons why the pairs may not be put.
 use Rattle.std.specs.Prelude.{ℕ, ◌≡◌, ◌<◌, ◌≤◌, ◌⊎◌, List, [], ◌∷◌, ◌++◌, length, take, Option}
 use Rattle.std.specs.Prelude.{slice_index_or}
 use Rattle.map_answers.specs.declared.stop.Stop.{Stop}
@@ -18,22 +18,22 @@ use Rattle.shared_transactions.specs.Tries.{IsNotBegun}
 use Rattle.shared_transactions.specs.Within.{IsBegun, IsOver, IsTakenBack}
 use Rattle.shared_transactions.specs.Works.{IsNew, IsUnclosed}
 
--- The entries by which caller `c` puts these pairs in their order, with any replies.
+-- The entries by which caller `c` puts these pairs in their order. The replies may be any.
 abbrev pub ArePuts : ℕ → List (ℕ × ℕ) → List Entry → Type 0
 ArePuts c [] es = es ≡ []
 ArePuts c (pair ∷ pairs) es =
     (reply : Option ℕ) × (rest : List Entry)
     × (es ≡ Asked c (Put pair.0 pair.1) ∷ Did c reply ∷ rest) × ArePuts c pairs rest
 
--- A caller's token was `k` at first, and is `l` now. In between the caller has put these pairs, and
--- has done nothing else.
+-- A caller's token was `k` at first, and is `l` now. In between, the caller has put these pairs,
+-- and has done nothing else.
 pub record HasPut {S : Type 0} (pairs : List (ℕ × ℕ)) (k l : Token S) : Type 0 where
   pub puts : List Entry
   pub are : ArePuts k.number pairs puts
   pub seen : l.seen ≡ k.seen ++ puts
 
--- The caller has seen just one committed transaction, which puts these pairs. No transaction is
--- open.
+-- The caller has seen exactly one transaction, which puts these pairs and is committed. No
+-- transaction is open.
 pub record IsRefilled {S : Type 0} (pairs : List (ℕ × ℕ)) (k : Token S) : Type 0 where
   pub txn : ℕ
   pub place : ℕ
@@ -50,8 +50,8 @@ pub record IsRefilledIn (h : List Entry) (number : ℕ) (pairs : List (ℕ × �
   pub refilled : IsRefilled pairs me
   pub own : IsOwn h me
 
--- A caller's token was `k` at first, and is `l` now. In between the caller has put the first pairs
--- of `pairs`; their number is `put`. Then the put of the next pair stopped.
+-- A caller's token was `k` at first, and is `l` now. In between, the caller has put the first `put`
+-- pairs of `pairs`. Then the put of the next pair failed.
 pub record StopsPutting {S : Type 0} (words : S → List ℕ) (pairs : List (ℕ × ℕ)) (k : Token S)
     (stop : Stop) (l : Token S) : Type 0 where
   pub put : ℕ
@@ -61,7 +61,7 @@ pub record StopsPutting {S : Type 0} (words : S → List ℕ) (pairs : List (ℕ
   pub stopped : StoppedGrowing words between
       (Put (slice_index_or pairs put (0, 0)).0 (slice_index_or pairs put (0, 0)).1) stop l
 
--- A caller's token was `k` at first, and is `l` now. In between a put of these pairs stopped
+-- A caller's token was `k` at first, and is `l` now. In between, a put of one of these pairs failed
 -- (`StopsPutting`), and then the transaction was taken back.
 pub record IsPutBack {S : Type 0} (words : S → List ℕ) (pairs : List (ℕ × ℕ)) (k : Token S)
     (stop : Stop) (l : Token S) : Type 0 where
@@ -69,15 +69,15 @@ pub record IsPutBack {S : Type 0} (words : S → List ℕ) (pairs : List (ℕ ×
   pub stopped : StopsPutting words pairs k stop left
   pub back : IsTakenBack left l
 
--- A caller's token was `k` at first, and is `l` now. In between the caller has put all these pairs,
--- and then the commit was refused.
+-- A caller's token was `k` at first, and is `l` now. In between, the caller has put all these
+-- pairs, and then the commit was refused.
 pub record StopsCommitting {S : Type 0} (pairs : List (ℕ × ℕ)) (k : Token S) (stop : Stop)
     (l : Token S) : Type 0 where
   pub done : Token S
   pub put : HasPut pairs k done
   pub refused : IsNotCommitted stop done l
 
--- The transaction that puts these pairs was begun, and then a put or the commit stopped.
+-- The transaction that puts these pairs was begun, and then a put or the commit failed.
 pub record StopsWithin {S : Type 0} (words : S → List ℕ) (pairs : List (ℕ × ℕ)) (k : Token S)
     (stop : Stop) (l : Token S) : Type 0 where
   pub begun : Token S
@@ -85,28 +85,28 @@ pub record StopsWithin {S : Type 0} (words : S → List ℕ) (pairs : List (ℕ 
   pub began : IsBegun k txn begun
   pub why : IsPutBack words pairs begun stop l ⊎ StopsCommitting pairs begun stop l
 
--- Putting these pairs in one transaction stopped: the begin was refused, or a put or the commit
--- stopped.
+-- Putting these pairs in one transaction failed: either the begin was refused, or a put or the
+-- commit failed.
 abbrev pub StopsRefilling : {S : Type 0} → (S → List ℕ) → List (ℕ × ℕ) → Token S → Stop → Token S
     → Type 0
 StopsRefilling words pairs k stop l =
     IsNotBegun stop k l ⊎ StopsWithin words pairs k stop l
 
--- Why a caller did not put these pairs: memory was refused for their list, and nothing was done; or
--- its transaction stopped.
+-- Why a caller did not put these pairs. Either memory was refused for their list, and nothing was
+-- done, or the caller's transaction failed.
 abbrev pub IsNotRefilled : {S : Type 0} → (S → List ℕ) → List (ℕ × ℕ) → Token S → Stop → Token S
     → Type 0
 IsNotRefilled words pairs k stop l =
     ((stop ≡ Refused NoMemory) × (l ≡ k)) ⊎ StopsRefilling words pairs k stop l
 
--- The stop is a refusal: of memory, or because the map does not close.
+-- The stop is a refusal, because memory was refused or the map does not close.
 pub record IsUnclosedBy (stop : Stop) : Type 0 where
   pub refusal : Refusal
   pub is : stop ≡ Refused refusal
   pub why : IsUnclosed refusal
 
--- On a new map of these limits the caller `number`, which had done nothing before, did not put
--- these pairs.
+-- On a new map with these limits, the caller `number` did not put these pairs. The caller had done
+-- nothing before.
 pub record IsUnrefilled {S : Type 0} (words : S → List ℕ) (limits : Sizes) (number : ℕ)
     (pairs : List (ℕ × ℕ)) (stop : Stop) : Type 0 where
   pub old : Token S
@@ -124,9 +124,9 @@ pub record IsUnended {S : Type 0} (words : S → List ℕ) (limits : Sizes) (wor
   pub other : stop ≡ Refused CallersMissing → ⊥
   pub why : IsUnclosedBy stop ⊎ IsUnrefilled words limits works pairs stop
 
--- Why works have no outcomes on a map of these limits that begins with these pairs. The number of
--- works is `works`. The refusal is `CallersMissing` exactly if there are not more callers than
--- works.
+-- Why works have no outcomes on a new map. The map has these limits and begins with these pairs,
+-- and `works` is the number of works. The refusal is `CallersMissing` exactly if the number of
+-- callers is at most `works`.
 abbrev pub IsUnrunFrom : {S : Type 0} → (S → List ℕ) → Sizes → ℕ → List (ℕ × ℕ) → Stop → Type 0
 IsUnrunFrom words limits works pairs stop =
     ((stop ≡ Refused CallersMissing) × (limits.callers ≤ works))

@@ -1,5 +1,5 @@
--- The causes for which a call of a transaction stops, and the token that the call leaves. The
--- causes are those of the map's call.
+-- The reasons why a call of a transaction fails, which are those of the map's call, and the token
+-- after the call.
 use Rattle.std.specs.Prelude.{ℕ, ◌≡◌, ◌⊎◌, List, None}
 use Rattle.map_answers.specs.declared.stop.Stop.{Stop}
 use Rattle.map_answers.specs.declared.stop.Stop.TheVariants as stops
@@ -14,7 +14,7 @@ use Rattle.locked_map.specs.Calls.{Ran, Stopped, WasRefused}
 use Rattle.core_tokens.specs.Tokens.{Token}
 use Rattle.shared_transactions.specs.Within.{IsTakenBack}
 
--- A call that is never busy was refused, with this stop.
+-- A call that cannot be busy was refused, and `stop` is the refusal.
 abbrev pub IsRefusalOf : {S : Type 0} → Token S → Call → Stop → Token S → Type 0
 IsRefusalOf k call (stops.Busy holder) l = ⊥
 IsRefusalOf k call (stops.Refused refusal) l = WasRefused k call refusal l
@@ -25,15 +25,16 @@ pub record IsNotCommitted {S : Type 0} (stop : Stop) (k l : Token S) : Type 0 wh
   pub refused : IsRefusalOf k calls.Commit stop left
   pub back : IsTakenBack left l
 
--- An operation was done at a key that was absent. Then the help for the key fell out of step.
+-- An operation was done at a key that was absent. Then the help for the key was refused as
+-- `OutOfStep`.
 pub record IsOutGrowing {S : Type 0} (words : S → List ℕ) (k : Token S) (op : Op) (l : Token S) :
     Type 0 where
   pub between : Token S
   pub done : Ran words k (calls.Op op) (ends.Answered (answers.Done None)) between
   pub out : WasRefused between (calls.Help (key_of op)) OutOfStep l
 
--- Why a call stopped, if it does an operation and may then grow the table: the operation was
--- stopped, or it was done and the growth fell out of step.
+-- Why a call failed that does an operation and may then grow the table. Either the operation
+-- failed, or the operation was done and growing the table was refused as `OutOfStep`.
 abbrev pub StoppedGrowing : {S : Type 0} → (S → List ℕ) → Token S → Op → Stop → Token S → Type 0
 StoppedGrowing words k op stop l =
     Stopped words k (calls.Op op) stop l

@@ -1,6 +1,6 @@
 -- Tries of one work, one after another, each in its own transaction. The work runs on a value that
--- holds the caller's token. `work` relates this value before a run, the run's answer, and the value
--- after the run; `me` gives the token that a value holds.
+-- holds the caller's token. `work` relates the value before a run, the result of the run, and the
+-- value after the run. `me` gives the token that a value holds.
 use Rattle.std.specs.Prelude.{ℕ, ◌≡◌, ◌≤◌, ◌⊎◌, zero, suc, Bool, true, false, Result, Ok, Err}
 use Rattle.map_answers.specs.declared.stop.Stop.{Stop}
 use Rattle.map_answers.specs.declared.stop.Stop.TheVariants.{Busy, Refused}
@@ -19,7 +19,7 @@ is_busy (Ok value) = false
 is_busy (Err stop) = is_busy_stop stop
 
 -- Why a try failed after its begin: the work failed, or the commit was refused. A commit is never
--- busy.
+-- `Busy`.
 abbrev pub IsWhy : {S T : Type 0} → Result T Stop → Stop → Token S → Token S → Type 0
 IsWhy (Err found) stop done new = stop ≡ found
 IsWhy (Ok value) stop done new = IsNotCommitted stop done new
@@ -38,7 +38,7 @@ pub record IsFailedTry {S X T : Type 0} (work : X → Result T Stop → X → Ty
   pub goes_on : GoesOn (me begun) (me left)
   pub back : IsTakenBack (me left) new
 
--- A begin was refused, and no transaction was begun. A begin is never busy.
+-- A begin was refused, and no transaction was begun. A begin is never `Busy`.
 pub record IsNotBegun {S : Type 0} (stop : Stop) (old new : Token S) : Type 0 where
   pub refused : IsRefusalOf old calls.Begin stop new
   pub goes_on : GoesOn old new
@@ -49,7 +49,7 @@ abbrev pub Fails : {S X T : Type 0} → (X → Result T Stop → X → Type 0) �
     → Token S → Token S → Type 0
 Fails work me stop old new = IsFailedTry work me stop old new ⊎ IsNotBegun stop old new
 
--- A number of tries in a row each found a stripe held.
+-- A number of tries in a row, each of which found a stripe held.
 abbrev pub BusyTries : {S X T : Type 0} → (X → Result T Stop → X → Type 0) → (X → Token S) → ℕ
     → Token S → Token S → Type 0
 BusyTries work me zero old new = new ≡ old
@@ -57,7 +57,7 @@ BusyTries {S} work me (suc n) old new =
     (between : Token S) × (holder : ℕ) × BusyTries work me n old between
     × IsFailedTry work me (Busy holder) between new
 
--- At most `most` tries each found a stripe held, and nothing else was done.
+-- At most `most` tries were made, each found a stripe held, and nothing else was done.
 pub record HasRetried {S X T : Type 0} (work : X → Result T Stop → X → Type 0) (me : X → Token S)
     (most : ℕ) (old new : Token S) : Type 0 where
   pub busy : ℕ
@@ -65,8 +65,8 @@ pub record HasRetried {S X T : Type 0} (work : X → Result T Stop → X → Typ
   pub tries : BusyTries work me busy old new
   pub undone : IsUndone old new
 
--- The tries were given up: each try before the last found a stripe held, and the last try failed.
--- If the last try found a stripe held too, `most` tries had been made before it.
+-- The work was given up. Each try before the last found a stripe held, and the last try failed. If
+-- the last try found a stripe held too, there were `most` tries before it.
 pub record GivesUp {S X T : Type 0} (work : X → Result T Stop → X → Type 0) (me : X → Token S)
     (most : ℕ) (stop : Stop) (old new : Token S) : Type 0 where
   pub last : Token S

@@ -14,8 +14,8 @@ use Rattle.core_tokens.specs.Claims.{Claimed, given_back}
 use Rattle.core_tokens.specs.Noted.{last_txn}
 use Rattle.core_tokens.specs.Tokens.{Token, IsSameCaller, is_over}
 
--- Whether nothing is unfinished: no transaction is open, or one is open with no operation, return
--- or abort under way.
+-- Whether no operation, return or abort is in progress, so that nothing is unfinished. A
+-- transaction may be open or not.
 abbrev pub is_steady_in : Phase → Bool
 is_steady_in Closed = true
 is_steady_in Opened = true
@@ -25,26 +25,27 @@ abbrev pub is_steady : Option Seat → Bool
 is_steady None = true
 is_steady (Some s) = is_steady_in s.phase
 
--- The caller has no transaction. Nothing is said of a broken token, whose every call is refused.
+-- The caller has no transaction. This says nothing about a broken token, because each call with it
+-- is refused.
 abbrev pub IsOver : {S : Type 0} → Token S → Type 0
 IsOver k = k.broken ≡ false → is_over (seat_after k.seen) ≡ true
 
--- Whether there is a seat, with no transaction open. There is a seat if all entries have rows.
+-- Whether there is a seat and it has no open transaction. There is a seat if all entries have rows.
 abbrev pub is_idle : Option Seat → Bool
 is_idle None = false
 is_idle (Some s) = is_closed s.phase
 
--- The caller holds no right to a stripe, and no stripe's word names it.
+-- The caller holds no right to a stripe, and no stripe's word names the caller.
 abbrev pub HoldsNone : Claimed → Type 0
 HoldsNone claims = (claims.held ≡ []) × (claims.seat.held ≡ [])
 
--- The caller holds stripes only while it has a transaction; this is true of a new token, which
--- holds none. Nothing is said of a broken token, which keeps its rights.
+-- The caller holds stripes only while it has a transaction. This is true for a new token, which
+-- holds no stripe. It says nothing about a broken token, which keeps its rights.
 abbrev pub HoldsWithin : {S : Type 0} → Token S → Type 0
 HoldsWithin k = k.broken ≡ false → is_idle (seat_after k.seen) ≡ true → HoldsNone k.claims
 
--- The token is `base` with added entries. None of them commits, as long as all entries have rows;
--- and nothing is unfinished, unless the token is broken.
+-- The token is `base` with added entries. If all entries have rows, none of the added entries
+-- commits. Unless the token is broken, nothing is unfinished.
 pub record IsSince {S : Type 0} (base k : Token S) : Type 0 where
   pub whose : IsSameCaller base k
   pub added : List Entry
@@ -52,8 +53,8 @@ pub record IsSince {S : Type 0} (base k : Token S) : Type 0 where
   pub quiet : is_some (seat_after k.seen) ≡ true → CommitNothing added
   pub steady : k.broken ≡ false → is_steady (seat_after k.seen) ≡ true
 
--- The caller went on, within its transaction or after it, and committed nothing. A broken token
--- stays broken. If `HoldsWithin` was true, it stays true.
+-- The caller has made further calls, in its transaction or after it, and has committed nothing. If
+-- the token was broken, it still is. If `HoldsWithin` was true, it still is.
 pub record GoesOn {S : Type 0} (k l : Token S) : Type 0 where
   pub since : (base : Token S) → IsSince base k → IsSince base l
   pub whose : IsSameCaller k l
@@ -62,8 +63,9 @@ pub record GoesOn {S : Type 0} (k l : Token S) : Type 0 where
   pub holds : HoldsWithin k → HoldsWithin l
 
 -- A transaction was taken back, and no other was begun. If nothing was unfinished before, no
--- transaction is open now. If, besides, stripes were held only within a transaction, all rights to
--- stripes are given back, as long as all entries have rows and the token is not broken.
+-- transaction is open now. Suppose also that stripes were held only within a transaction, that all
+-- entries have rows, and that the token is not broken. Then all rights to stripes have been given
+-- back.
 pub record IsTakenBack {S : Type 0} (k l : Token S) : Type 0 where
   pub goes_on : GoesOn k l
   pub over : (base : Token S) → IsSince base k → IsOver l
@@ -71,7 +73,8 @@ pub record IsTakenBack {S : Type 0} (k l : Token S) : Type 0 where
       → is_some (seat_after l.seen) ≡ true → HoldsNone l.claims
 
 -- A transaction was refused or taken back, and nothing was committed. If no transaction was open
--- before, none is open now; if stripes were held only within a transaction, they still are.
+-- before, none is open now. If the caller held stripes only within a transaction, this is still
+-- true.
 pub record IsUndone {S : Type 0} (k l : Token S) : Type 0 where
   pub since : (base : Token S) → IsSince base k → IsSince base l
   pub over : IsOver k → IsOver l
@@ -88,8 +91,8 @@ pub record IsBegun {S : Type 0} (base : Token S) (txn : ℕ) (k : Token S) : Typ
   pub seen : k.seen ≡ base.seen ++ Began base.number txn ∷ []
   pub whose : IsSameCaller base k
 
--- A token committed its transaction `txn`, with the commit number `place`. It has no transaction
--- now, and all its rights to stripes are given back.
+-- The token has committed its transaction `txn`, with the commit number `place`. It has no
+-- transaction now, and all its rights to stripes have been given back.
 pub record IsCommitted {S : Type 0} (txn place : ℕ) (k l : Token S) : Type 0 where
   pub numbered : txn ≡ last_txn k.seen
   pub seen : l.seen ≡ k.seen ++ Committed k.number place ∷ []

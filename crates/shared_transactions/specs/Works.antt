@@ -22,8 +22,8 @@ pub record IsNew {S : Type 0} (k : Token S) : Type 0 where
 abbrev pub AreNumbered : {S : Type 0} → List (Token S) → Type 0
 AreNumbered {S} ks = (i : ℕ) (k : Token S) → slice_get ks i ≡ Some k → k.number ≡ i
 
--- A map of these limits was closed. Its history is legal, and has no entries but those that these
--- callers saw; the number of each caller is its index.
+-- A map with these limits was closed. Its history is legal, and has no entries but those that these
+-- callers saw. The number of each caller is its index.
 pub record IsClosedBy {S : Type 0} (limits : Sizes) (ks : List (Token S)) (core : State) : Type 0
   where
     pub limits_are : core.limits ≡ limits
@@ -38,8 +38,8 @@ abbrev pub AreIn : {S : Type 0} → List Entry → ℕ → List (Token S) → Ty
 AreIn {S} h place ks =
     (i : ℕ) (k : Token S) → slice_get ks i ≡ Some k → (k.number ≡ place + i) × IsOwn h k
 
--- The caller with the number `place` did the work, with this outcome. The work's promise holds of a
--- token that has exactly the entries of this caller in the history.
+-- The caller with the number `place` did the work, with this outcome. The work has kept its promise
+-- about a token that has exactly the entries of this caller in the history.
 pub record IsDoneIn {S W T : Type 0} (promises : W → T → Token S → Type 0) (h : List Entry)
     (place : ℕ) (work : W) (outcome : T) : Type 0 where
   pub me : Token S
@@ -47,9 +47,9 @@ pub record IsDoneIn {S W T : Type 0} (promises : W → T → Token S → Type 0)
   pub promised : promises work outcome me
   pub own : IsOwn h me
 
--- These works were done on a map of these limits, with these outcomes, each by the caller whose
--- number is the work's index. The map was closed: its history is legal, and has only entries of
--- callers with numbers below `callers`.
+-- These works were done on a map with these limits, and have these outcomes. Each work was done by
+-- the caller whose number is the work's index. The map was closed. Its history is legal, and has
+-- only entries of callers with numbers below `callers`.
 pub record AreDone {S W T : Type 0} (promises : W → T → Token S → Type 0) (limits : Sizes)
     (callers : ℕ) (works : List W) (core : State) (outcomes : List T) : Type 0 where
   pub limits_are : core.limits ≡ limits
@@ -60,14 +60,15 @@ pub record AreDone {S W T : Type 0} (promises : W → T → Token S → Type 0) 
       → slice_get outcomes i ≡ Some outcome → IsDoneIn promises core.history i work outcome
   pub only : All (λ e. caller_of e < callers) core.history
 
--- The refusals if there is no closed map: memory was refused, or the map does not close.
+-- The refusals if there is no closed map, because memory was refused or the map does not close.
 abbrev pub IsUnclosed : Refusal → Type 0
 IsUnclosed NoMemory = Unit {0}
 IsUnclosed OutOfStep = Unit {0}
 IsUnclosed refusal = ⊥
 
--- The refusals of works that need `needed` callers on a map with `callers` callers:
--- `CallersMissing` exactly if the map has too few callers, else those of `IsUnclosed`.
+-- The refusals of works that need `needed` callers on a map with `callers` callers. The refusal is
+-- `CallersMissing` exactly if the map has too few callers. Otherwise, it is one that `IsUnclosed`
+-- allows.
 abbrev pub IsUnrun : ℕ → ℕ → Refusal → Type 0
 IsUnrun callers needed CallersMissing = callers < needed
 IsUnrun callers needed refusal = (needed ≤ callers) × IsUnclosed refusal

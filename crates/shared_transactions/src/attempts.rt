@@ -1,9 +1,9 @@
-//! Work that is run in a transaction, and begun again if another caller holds a stripe.
+//! Work that is run in a transaction, and is run again if another caller holds a stripe.
 //!
-//! The toolchain refuses a bound that names `Transaction`, such as
-//! `Fn(&mut Transaction<'_, L, R>)`. The cause is the parameter `L` of `Transaction`: its bound is
-//! the trait `Ledger`, and this trait has ghost members. So `transact` is generic over the trait
-//! `Attempts`, and `Transaction` implements this trait.
+//! The toolchain refuses a bound that names `Transaction`, such as `Fn(&mut Transaction<'_, L,
+//! R>)`. The cause is the parameter `L` of `Transaction`, because its bound is the trait `Ledger`,
+//! which has ghost members. So `transact` is generic over the trait `Attempts`, and `Transaction`
+//! implements this trait.
 ghost use Rattle.std.specs.Prelude.{◌≡◌, true, false, IfOk, IfErr, OnErr, Ok};
 ghost use Rattle.std.specs.Borrow.{MutBor};
 ghost use Rattle.core_tokens.specs.Tokens.{Token};
@@ -17,20 +17,20 @@ ghost use Rattle.shared_transactions.specs.Within.{IsTakenBack, IsUndone};
 use crate::retry::Retry;
 use locked_map::{Receipt, Stop};
 
-/// A value whose calls begin a transaction, work in it and end it. `Transaction` implements this
-/// trait; no other type needs to.
+/// A value with calls that begin a transaction, work in it and end it. `Transaction` implements
+/// this trait; no other type needs to.
 pub trait Attempts {
     /// The caller's token.
     ghost me: { Self → MutBor (Token NoSide) };
 
-    /// Begins a transaction, and answers its number.
+    /// Begins a transaction, and returns its number.
     fn begin_anew(&mut self) -> Result<u64, Stop>
         ensures same_token { (me self.new).ghost_name ≡ (me self.old).ghost_name }
         ensures ok { IfOk result (λ txn. IsBegun (me self.old).now txn (me self.new).now
             × IsOver (me self.old).now) }
         ensures err { IfErr result (λ stop. IsNotBegun stop (me self.old).now (me self.new).now) };
 
-    /// Commits; aborts if the commit is refused.
+    /// Commits the transaction. If the commit is refused, aborts the transaction.
     fn finish(&mut self) -> Result<Receipt, Stop>
         ensures same_token { (me self.new).ghost_name ≡ (me self.old).ghost_name }
         ensures ok { IfOk result (λ receipt. IsCommitted receipt.txn receipt.place
@@ -44,11 +44,13 @@ pub trait Attempts {
         ensures same_token { (me self.new).ghost_name ≡ (me self.old).ghost_name }
         ensures back { IsTakenBack (me self.old).now (me self.new).now };
 
-    /// Waits after the try with number `round`, counted from 0, for as long as `retry` says.
+    /// Waits after a try, for as long as `retry` says. The tries are counted from 0, and this one
+    /// has the number `round`.
     fn wait(&self, retry: Retry, round: u64);
 }
 
-/// Begins, runs the work, and commits; aborts if the work or the commit fails.
+/// Begins a transaction, runs the work in it, and commits. If the work or the commit fails, aborts
+/// the transaction.
 #[tactic(auto, using(crate::proofs::Within::undone_after, crate::proofs::Within::undone_not_begun))]
 fn attempt<T: Drop, G: Attempts, F: Fn(&mut G) -> Result<T, Stop>>(
     it: &mut G,
@@ -87,22 +89,23 @@ fn found_busy<T>(outcome: &Result<T, Stop>) -> bool
 }
 
 /// Runs the work in a transaction and commits it. If another caller held a stripe, waits and begins
-/// again, as often and as long as `retry` says. So the work may run several times. Only the calls
-/// of its transaction are taken back: anything else that the work does is done each time.
+/// again. `retry` says how often it may do so, and how long it waits. So the work may run several
+/// times. If a try fails, only the calls of its transaction are taken back. Anything else that the
+/// work does is done again at each try.
 ///
 /// Pass a `Transaction` as `it`. Write the closure `work` with the type of its parameter, for
 /// example `|t: &mut Transaction<'_, L, R>| count(t)`.
 ///
 /// # Errors
 ///
-/// No transaction is open if none was before, and nothing was committed.
-/// - `Busy` if every try found a stripe held: the first one, and all further ones that `retry`
-///   allows.
-/// - Any other error of `begin`, of the work or of `commit`: after it no further try is made.
+/// After an error, nothing was committed. No transaction is open if none was open before.
+/// - `Busy` if the first try and all further tries that `retry` allows found a stripe held.
+/// - Any other error of `begin`, of the work or of `commit`. After such an error, no further try is
+///   made.
 ///
 /// # Cost
 ///
-/// For each try a begin, the work, and a commit or an abort; and the waits between the tries.
+/// For each try, a begin, the work, and a commit or an abort. Also the waits between the tries.
 #[tactic(auto, using(crate::proofs::Within::undone_same, crate::proofs::Within::undone_on))]
 pub fn transact<T: Drop, G: Attempts, F: Fn(&mut G) -> Result<T, Stop>>(
     it: &mut G,

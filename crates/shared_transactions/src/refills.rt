@@ -1,9 +1,9 @@
-//! Puts the pairs of a core in a map of threads, so that a new map continues from a closed one and
-//! no history grows without end.
+//! Puts the pairs of a core into a map of threads, so that a new map continues from a closed one,
+//! and no history grows without end.
 //!
-//! A map of threads cannot cut off its history: the map's type has the name of its ledger, and each
-//! token has a share of that ledger. So the map is closed, which returns the core with its legal
-//! history, and a new map with another ledger begins with the core's pairs.
+//! A map of threads cannot cut off its history, because the map's type has the name of its ledger,
+//! and each token has a share of that ledger. So the map is closed, which returns the core with its
+//! legal history. Then a new map with another ledger begins with the core's pairs.
 ghost use Rattle.std.specs.Prelude.{◌≡◌, [], IfErr, OnErr, OnOk};
 ghost use Rattle.txn_trace.specs.Now.{now};
 ghost use Rattle.txn_words.specs.Ordered.{ordered};
@@ -22,21 +22,23 @@ use std::sync::Wait;
 use std::sync::ledger::Ledger;
 use undo_log::Side;
 
-/// Puts the pairs of a core, in the order of its list, in one committed transaction of a caller
-/// that has done nothing yet. The core, whose history is legal, is unchanged, and may be dropped
-/// afterwards.
+/// Puts the pairs of a core into a map, in the order of the core's list, in one committed
+/// transaction. The caller must have done nothing before. The core is unchanged, its history is
+/// legal, and it may be dropped afterwards.
 ///
-/// To trim the history of a map of threads, close the map, and call `refill` on a new map with the
-/// core of the closed one, before other callers of the new map work. `run_works_from` does so.
+/// To trim the history of a map of threads, close the map, and make a new one. Then call `refill`
+/// on the new map with the core of the closed map, before other callers of the new map work.
+/// `run_works_from` does this.
 ///
 /// # Errors
 ///
-/// No transaction is open, and none was committed.
-/// - `Refused` with `NoMemory` if memory is refused. If it is refused for the list of pairs,
+/// After an error, no transaction is open, and none was committed.
+/// - `Refused` with `NoMemory` if memory is refused. If memory was refused for the list of pairs,
 ///   nothing was done.
 /// - `Refused` with `StampsUsedUp` if no stamp is left for a put.
-/// - Any other error of the begin, a put or the commit, such as `Refused` with `BadKey` for a key
-///   of 2^63 or more if the map takes only half keys, and `Busy` if another caller held a stripe.
+/// - Any other error of the begin, a put or the commit. An example is `Busy`, if another caller
+///   held a stripe. Another is `Refused` with `BadKey`, if the map takes only half keys and a key
+///   is 2^63 or more.
 ///
 /// # Cost
 ///
@@ -82,7 +84,7 @@ fn put_pairs<L: Ledger, R: Wait>(
     Ok(())
 }
 
-/// Puts pairs in their order.
+/// Puts the pairs, in their order.
 fn put_each<L: Ledger, R: Wait>(
     t: &mut Transaction<'_, L, R>,
     pairs: &[(u64, u64)],

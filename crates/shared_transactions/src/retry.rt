@@ -10,7 +10,7 @@ use std::thread;
 use std::thread::Parker;
 use std::time::Duration;
 
-/// The number of rounds in which a thread gives way before it sleeps.
+/// The number of rounds in which a thread yields before it sleeps.
 const YIELDING: u64 = 6;
 /// The first sleep, in microseconds.
 const FIRST_SLEEP: u64 = 16;
@@ -18,10 +18,10 @@ const FIRST_SLEEP: u64 = 16;
 const DOUBLINGS: u64 = 40;
 
 /// How often a transaction is begun again if another caller holds a stripe, and how long the thread
-/// waits before each further try. At first it gives way: once, then twice, four times and so on, up
-/// to 32 times in a row. Then it sleeps: 16 microseconds, then twice as long and so on, up to the
-/// longest sleep. That is a millisecond unless it is set by `sleeping_at_most`; the system may wake
-/// a thread a little later.
+/// waits before each further try. At first the thread yields: once, then twice, four times and so
+/// on, up to 32 times in a row. Then it sleeps: 16 microseconds, then twice as long and so on, up
+/// to the longest sleep. The longest sleep is a millisecond unless `sleeping_at_most` sets it. The
+/// system may wake a thread a little later.
 #[derive(Clone, Copy, Debug, PartialEq, Eq)]
 pub struct Retry {
     times: u64,
@@ -49,8 +49,8 @@ impl Retry {
     }
 
     /// Limits each sleep to `longest`, and leaves the number of tries unchanged. If `longest` is
-    /// below a microsecond, the thread never sleeps, and gives way 32 times in a row instead.
-    /// Constant time.
+    /// below a microsecond, the thread never sleeps, but yields 32 times in a row instead. Constant
+    /// time.
     pub fn sleeping_at_most(self, longest: Duration) -> Retry
         ensures times { result.times ≡ self.times }
         ensures longest { result.longest ≡ min (as_nanos longest / 1_000) (2 ^ 64 - 1) }
@@ -66,7 +66,7 @@ impl Retry {
         self.times
     }
 
-    /// Waits after the try with number `round`, counted from 0.
+    /// Waits after a try. The tries are counted from 0, and this one has the number `round`.
     pub(crate) fn wait<R: Wait>(self, rt: &R, round: u64) {
         if round < YIELDING || self.longest == 0 {
             for _ in 0..1u64 << round.min(YIELDING - 1) {

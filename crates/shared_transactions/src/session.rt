@@ -1,10 +1,10 @@
-//! A call that makes a map of threads and runs a session on it. Whoever calls it need not name the
-//! map's ledger.
+//! A call that makes a map of threads and runs a session on it. Code that uses this call need not
+//! name the map's ledger.
 //!
 //! A closure cannot be generic over the ledger's name, so a session is a trait with a generic
-//! method. The toolchain does not prove a `run` that starts threads: it assumes the bounds of a
-//! trait's method for the calling thread only, and not for the threads that the method starts. So a
-//! session is for callers that take turns in one thread; for threads there is `run_works`.
+//! method. The toolchain cannot prove a `run` that starts threads: it assumes the bounds of a
+//! trait's method only for the calling thread, and not for the threads that the method starts. So a
+//! session is for callers that take turns in one thread. For threads there is `run_works`.
 ghost use Rattle.std.specs.Prelude.{◌≡◌, ◌<◌, All, IfOk, IfErr, OnErr, length, map};
 ghost use Rattle.core_tokens.specs.Tokens.{AreTickets};
 ghost use Rattle.shared_transactions.specs.Works.{IsNew};
@@ -15,15 +15,15 @@ use std::marker::Brand;
 use std::sync::ledger::{Blank, Ledger};
 use txn_trace::{Limits, Refusal};
 
-/// A session on a map of threads, for any name of the map's ledger.
+/// A session on a map of threads. It must work for any name of the map's ledger.
 pub trait Session<R> {
     /// The outcome of the session.
     type Output;
 
-    /// The session's promise about its outcome.
+    /// What the session promises about its outcome.
     ghost promises: { Self → Self.Output → Type 0 };
 
-    /// Runs the session. `passes` has one pass for each caller, by rising numbers.
+    /// Runs the session. `passes` has one pass for each caller, in the order of their numbers.
     fn run<L: Ledger + Send + Sync>(
         self,
         rt: &R,
@@ -36,7 +36,7 @@ pub trait Session<R> {
         ensures { promises self result };
 }
 
-/// Makes a map of threads, picks its ledger's name, and runs a session on it.
+/// Makes a map of threads, chooses a name for its ledger, and runs a session on the map.
 ///
 /// # Errors
 ///
@@ -58,7 +58,7 @@ pub fn run_session<R, W: Session<R> + Drop>(
     run_under::<Brand, R, W>(rt, alloc, blank, limits, session)
 }
 
-/// Does what `run_session` does. The ledger is a type parameter.
+/// Does what `run_session` does, for a given ledger.
 fn run_under<L: Ledger + Send + Sync, R, W: Session<R> + Drop>(
     rt: &R,
     alloc: Global,
@@ -81,7 +81,7 @@ fn run_under<L: Ledger + Send + Sync, R, W: Session<R> + Drop>(
 ///
 /// # Errors
 ///
-/// `AllocError` if memory is refused: the passes are dropped then, and the map cannot be closed.
+/// `AllocError` if memory is refused. The passes are then dropped, and the map cannot be closed.
 /// Memory is needed only if there are passes.
 ///
 /// # Cost

@@ -1,4 +1,5 @@
-//! A caller's token with its map. Its calls begin a transaction, work in it and end it.
+//! A caller's token together with the map. The calls of a `Transaction` begin a transaction, work
+//! in the transaction and end it.
 //!
 //! A `Transaction` borrows the token, so no other call can be made with the token meanwhile. It
 //! adds no state: the token says whether a transaction is open.
@@ -32,10 +33,10 @@ impl OnRelease for Unheard {
     fn on_release(&self) {}
 }
 
-/// A caller on a map of threads, in a transaction or about to begin one. If a transaction is still
-/// open when this is dropped, and the token is not broken, the drop aborts the transaction. So a
-/// `?` or an early return takes all its changes back, and no stripe stays held. If no transaction
-/// is open, a drop leaves the token unchanged.
+/// A caller on a map of threads, in a transaction or about to begin one. If a transaction is open
+/// when this value is dropped, the drop aborts the transaction, unless the token is broken. So a
+/// `?` or an early return takes all changes of the transaction back, and no stripe remains held. If
+/// no transaction is open, a drop leaves the token unchanged.
 pub struct Transaction<'a, L: Ledger, R: Wait> {
     rt: &'a R,
     map: &'a SharedMap<L>,
@@ -43,7 +44,7 @@ pub struct Transaction<'a, L: Ledger, R: Wait> {
 }
 
 impl<'a, L: Ledger, R: Wait> Transaction<'a, L, R> {
-    /// Joins a caller with its map; no call is made yet. Constant time.
+    /// Joins a caller with the map. Makes no call on the map. Constant time.
     pub fn new(
         rt: &'a R,
         map: &'a SharedMap<L>,
@@ -55,11 +56,12 @@ impl<'a, L: Ledger, R: Wait> Transaction<'a, L, R> {
         Transaction { rt, map, me }
     }
 
-    /// Begins a transaction, and answers its number.
+    /// Begins a transaction, and returns its number.
     ///
     /// # Errors
     ///
-    /// Each `Refused` of the map's `begin`: no transaction was begun, and nothing was committed.
+    /// Each `Refused` of the map's `begin`. In that case no transaction was begun, and nothing was
+    /// committed.
     ///
     /// # Cost
     ///
@@ -78,8 +80,8 @@ impl<'a, L: Ledger, R: Wait> Transaction<'a, L, R> {
     ///
     /// # Errors
     ///
-    /// - `Busy` if another caller held the key's stripe. The transaction is then aborted, and every
-    ///   further call of it is refused as `NotOpen`.
+    /// - `Busy` if another caller held the key's stripe. The transaction is then aborted, and each
+    ///   further call in it is refused as `NotOpen`.
     /// - Each `Refused` of the map's `get`.
     ///
     /// # Cost
@@ -117,19 +119,20 @@ impl<'a, L: Ledger, R: Wait> Transaction<'a, L, R> {
         Ok(self.get(key)?.is_some())
     }
 
-    /// Puts a value at a key, and answers the value before. For a new key the table also grows by a
-    /// step, if one is due: it is doubled if it is full, and the key's bucket is initialised. If
-    /// memory or a stamp is refused for the growth, the table stays smaller and nothing else
-    /// changes.
+    /// Puts a value at a key, and returns the value that the key had. If the key is new, the table
+    /// also grows by a step if it needs to: it is doubled if it is full, and the key's bucket is
+    /// initialised. If memory or a stamp is refused for this, the table remains smaller, and
+    /// nothing else changes.
     ///
     /// # Errors
     ///
     /// `Busy` as for `get`, and each `Refused` of the map's `put`. Also `Refused` with `OutOfStep`
-    /// if the put was done, but the growth fell out of step. That breaks the token.
+    /// if the put was done, but growing the table was refused as `OutOfStep`. The token is then
+    /// broken.
     ///
     /// # Cost
     ///
-    /// That of the map's `put`, and for a new key of its `help`.
+    /// That of the map's `put`, and for a new key also that of the map's `help`.
     pub fn put(&mut self, key: u64, value: u64) -> Result<Reply, Stop>
         ensures keeps { Keeps self.old.me self.new.me }
         ensures ok { IfOk result (λ reply. self.new.me.now.seen ≡ self.old.me.now.seen
@@ -141,7 +144,7 @@ impl<'a, L: Ledger, R: Wait> Transaction<'a, L, R> {
         self.operate_growing(Op::Put(key, value))
     }
 
-    /// Takes a key out, and answers the value that it had, if it was there.
+    /// Removes a key, and returns the value that it had, if it was there.
     ///
     /// # Errors
     ///
@@ -161,18 +164,18 @@ impl<'a, L: Ledger, R: Wait> Transaction<'a, L, R> {
         self.operate(Op::Take(key))
     }
 
-    /// Puts a value at a key if the key has the expected value, or, if none is expected, if the key
-    /// is absent. Answers the value before. The new value was put exactly if the value before is
-    /// the expected one.
+    /// Puts a value at a key if the key has the expected value. If no value is expected, puts the
+    /// value if the key is absent. Returns the value that the key had before. The new value was put
+    /// exactly if the value before is the expected one.
     ///
     /// # Errors
     ///
     /// `Busy` as for `get`, and each `Refused` of the map's `put_if`. Also `Refused` with
-    /// `OutOfStep` if the growth fell out of step, as for `put`.
+    /// `OutOfStep` if growing the table was refused, as for `put`.
     ///
     /// # Cost
     ///
-    /// That of the map's `put_if`, and of its `help` if the key was absent.
+    /// That of the map's `put_if`. If the key was absent, also that of the map's `help`.
     pub fn put_if(&mut self, key: u64, expected: Option<u64>, value: u64) -> Result<Reply, Stop>
         ensures keeps { Keeps self.old.me self.new.me }
         ensures ok { IfOk result (λ reply. self.new.me.now.seen ≡ self.old.me.now.seen
@@ -184,9 +187,9 @@ impl<'a, L: Ledger, R: Wait> Transaction<'a, L, R> {
         self.operate_growing(Op::PutIf(key, expected, value))
     }
 
-    /// Puts a value at a key if the key has the expected value, or, if none is expected, if the key
-    /// is absent. Answers whether the value was put. `put_if` does the same, but answers the value
-    /// that the key had.
+    /// Puts a value at a key if the key has the expected value. If no value is expected, puts the
+    /// value if the key is absent. Returns whether the value was put. `put_if` does the same, but
+    /// returns the value that the key had.
     ///
     /// # Errors
     ///
@@ -209,11 +212,12 @@ impl<'a, L: Ledger, R: Wait> Transaction<'a, L, R> {
         Ok(Swapped(had == expected))
     }
 
-    /// Sets a savepoint, and answers its level, counted from 1.
+    /// Sets a savepoint, and returns its level. The levels are counted from 1.
     ///
     /// # Errors
     ///
-    /// Each `Refused` of the map's `save`. The transaction is then as described there.
+    /// Each `Refused` of the map's `save`. The map's `save` documents the state of the transaction
+    /// after each of them.
     ///
     /// # Cost
     ///
@@ -230,12 +234,13 @@ impl<'a, L: Ledger, R: Wait> Transaction<'a, L, R> {
         self.map.save(self.rt, self.me)
     }
 
-    /// Takes back every change since a savepoint, newest first, and keeps the savepoint. Level 0 is
-    /// the beginning of the transaction. Stripes stay held.
+    /// Takes back every change since a savepoint, the newest first, and keeps the savepoint. Level
+    /// 0 is the beginning of the transaction. Stripes remain held.
     ///
     /// # Errors
     ///
-    /// Each `Refused` of the map's `back`. The transaction is then as described there.
+    /// Each `Refused` of the map's `back`. The map's `back` documents the state of the transaction
+    /// after each of them.
     ///
     /// # Cost
     ///
@@ -252,16 +257,16 @@ impl<'a, L: Ledger, R: Wait> Transaction<'a, L, R> {
         self.map.back(self.rt, self.me, level)
     }
 
-    /// Commits, and answers the transaction's number and its commit number.
+    /// Commits, and returns the transaction's number and its commit number.
     ///
     /// # Errors
     ///
-    /// Each `Refused` of the map's `commit`: the transaction is then aborted, unless the token is
+    /// Each `Refused` of the map's `commit`. The transaction is then aborted, unless the token is
     /// broken.
     ///
     /// # Cost
     ///
-    /// That of the map's `commit`, and of an abort if the commit is refused.
+    /// That of the map's `commit`. If the commit is refused, also that of an abort.
     pub fn commit(self) -> Result<Receipt, Stop>
         ensures ok { IfOk result (λ receipt. IsCommitted receipt.txn receipt.place
             self.entry.me.now self.exit.1.1.0.now) }
@@ -319,8 +324,8 @@ impl<'a, L: Ledger, R: Wait> Transaction<'a, L, R> {
         Ok(reply)
     }
 
-    /// Doubles the table if it is full, and initialises the bucket of a key. If memory is refused
-    /// for that, or no stamp is left, the table stays smaller.
+    /// Doubles the table if it is full, and initialises the bucket of a key. If memory or a stamp
+    /// is refused for this, the table remains smaller.
     fn grow(&mut self, key: u64) -> Result<(), Stop>
         ensures keeps { Keeps self.old.me self.new.me }
         ensures same { OnOk result (self.new.me.now.seen ≡ self.old.me.now.seen) }
@@ -374,7 +379,7 @@ impl<L: Ledger, R: Wait> Drop for Transaction<'_, L, R> {
     }
 }
 
-/// Commits a caller's transaction; aborts it if the commit is refused.
+/// Commits a caller's transaction. If the commit is refused, aborts the transaction.
 fn end<L: Ledger, R: Wait>(
     rt: &R,
     map: &SharedMap<L>,

@@ -1,9 +1,9 @@
-//! Works that threads do on one map, each with its own caller. Whoever runs works need not name the
-//! map's ledger.
+//! Works that threads do on one map, each with its own caller. Code that runs works need not name
+//! the map's ledger.
 //!
 //! A closure cannot be generic over the ledger's name, so a thread's work is a trait with a generic
-//! method, which starts no threads. A free function starts them, because the toolchain proves a
-//! free function that starts threads, but not a trait's method that does.
+//! method, which starts no threads. A free function starts the threads, because the toolchain can
+//! prove a free function that starts threads, but not a trait's method that does.
 ghost use Rattle.std.specs.Prelude.{◌≡◌, ◌+◌, ◌≤◌, ◌<◌, [], ◌∷◌, true, IfOk, IfErr};
 ghost use Rattle.std.specs.Prelude.{All, length, map, Some, slice_get};
 ghost use Rattle.txn_trace.specs.Now.{now};
@@ -27,22 +27,22 @@ use std::thread::Threads;
 use txn_trace::{Limits, Refusal};
 use undo_log::Side;
 
-/// The work of one thread on a map of threads, for any name of the map's ledger.
+/// The work of one thread on a map of threads. It must work for any name of the map's ledger.
 pub trait Work<R> {
     /// The outcome of the work.
     type Output: Send + Drop;
 
-    /// The work's promise about its outcome and about its caller's token afterwards. A work that
-    /// leaves this out promises nothing.
+    /// What the work promises about its outcome, and about its caller's token afterwards. A work
+    /// that does not define this promises nothing.
     ghost promises: { Self → Self.Output → Token NoSide → Type 0 } = { λ work outcome me. Unit {0} };
 
-    /// Does the work, with a caller that has done nothing yet and does no other work.
+    /// Does the work with the caller `me`, which has done nothing yet and does no other work.
     fn run<L: Ledger>(self, rt: &R, map: &SharedMap<L>, me: &mut Caller<L, NoSide>) -> Self::Output
         requires { IsNew me.old }
         ensures { promises self result me.new };
 }
 
-/// The core and the outcomes of works that threads did on one map.
+/// The core of a map, and the outcomes of the works that threads did on it.
 #[derive(Drop)]
 pub struct Finished<T> {
     /// The core of the closed map.
@@ -66,7 +66,7 @@ struct Done<L: Ledger, T> {
     me: Caller<L, NoSide>,
 }
 
-/// Joins a work with the caller of a pass.
+/// Joins a work with a caller made from a pass.
 fn seat<L: Ledger, W>(alloc: Global, pass: Pass<L>, work: W) -> Seated<L, W>
     ensures { result.work ≡ work }
 {
@@ -76,8 +76,8 @@ fn seat<L: Ledger, W>(alloc: Global, pass: Pass<L>, work: W) -> Seated<L, W>
     }
 }
 
-/// Joins each work with the caller of a pass. Takes the passes from the end, and leaves those that
-/// are not needed.
+/// Joins each work with a caller made from a pass. Takes the passes from the end of the list, and
+/// leaves those that are not needed.
 ///
 /// # Errors
 ///
@@ -130,7 +130,7 @@ fn go_all<L: Ledger + Send + Sync, R: Threads + Wait + Sync, W: Work<R> + Send +
     thread::map_vec(rt, seated, &|s| go(rt, map, s))
 }
 
-/// Separates works that are done into their callers and their outcomes.
+/// Splits works that are done into a list of their callers and a list of their outcomes.
 ///
 /// # Errors
 ///
@@ -163,13 +163,13 @@ fn are_numbered<L: Ledger>(callers: &[Caller<L, NoSide>]) -> bool
     true
 }
 
-/// Closes a map with the callers that worked on it and with those that did nothing, if the number
-/// of each caller that worked is its index.
+/// Closes a map with the callers that worked on it and with those that did nothing. The number of
+/// each caller that worked must be its index.
 ///
 /// # Errors
 ///
-/// `NoMemory` if memory is refused, `OutOfStep` if a number is not the index or the map does not
-/// close.
+/// `NoMemory` if memory is refused. `OutOfStep` if a number is not the caller's index, or if the
+/// map does not close.
 fn close<L: Ledger>(
     map: SharedMap<L>,
     mut callers: Vec<Caller<L, NoSide>>,
@@ -190,24 +190,25 @@ fn close<L: Ledger>(
     }
 }
 
-/// Makes a map of threads, picks its ledger's name, does each work in its own thread, and closes
-/// the map. Work `i` has caller `i`; the other callers do nothing. If no thread can be started,
-/// works are done one after the other.
+/// Makes a map of threads, chooses a name for its ledger, does each work in its own thread, and
+/// closes the map. Work `i` has caller `i`; the other callers do nothing. If no thread can be
+/// started, works are done one after another.
 ///
-/// If it answers `Ok`, the promise of each work holds of a token that has exactly the entries of
-/// the work's caller in the core's history. The history has no entries but those of the works. It
-/// is legal by the rule that a Busy may name any other caller that has begun a transaction.
+/// If the result is `Ok`, each work has kept its promise about a token that has exactly the entries
+/// of the work's caller in the core's history. The history has no other entries than those of the
+/// works. It is legal under the rule that a `Busy` entry may name any other caller that has begun a
+/// transaction.
 ///
 /// # Errors
 ///
-/// - `CallersMissing` exactly if there are more works than callers. No work is done then.
+/// - `CallersMissing` exactly if there are more works than callers. In that case no work was done.
 /// - `NoMemory` if memory is refused for the map, for the threads or for the outcomes.
-/// - `OutOfStep` if the map does not close: a token is not the one that its work was given, or has
-///   not seen exactly its own entries in the history.
+/// - `OutOfStep` if the map does not close. In that case a token is not the one that its work was
+///   given, or has not seen exactly its own entries in the history.
 ///
 /// # Cost
 ///
-/// That of the works, of `SharedMap::new` and of `SharedMap::close`; a thread for each work.
+/// That of the works, of `SharedMap::new` and of `SharedMap::close`. Starts a thread for each work.
 pub fn run_works<R: Threads + Wait + Sync, W: Work<R> + Send + Drop>(
     rt: &R,
     alloc: Global,
@@ -225,18 +226,19 @@ pub fn run_works<R: Threads + Wait + Sync, W: Work<R> + Send + Drop>(
     run_under::<Brand, R, W>(rt, alloc, blank, limits, works)
 }
 
-/// Does an opening in this thread, and then the works as `run_works` does. The opening gives the
-/// map its first pairs, and its caller has the number `works.len()`. Answers the opening's outcome
-/// too.
+/// Does the work `opening` in this thread, and then the other works as `run_works` does. The
+/// opening gives the map its first pairs, and its caller has the number `works.len()`. Returns the
+/// opening's outcome too.
 ///
-/// If it answers `Ok`, the opening keeps its promise as the works do, and the history has only the
-/// entries of the opening and of the works. The opening's entries are the first, since no other
-/// thread is started before it ends. No clause says so, because no contract sees through the map's
-/// lock.
+/// If the result is `Ok`, the opening has kept its promise as the works have, and the history has
+/// only the entries of the opening and of the works. The opening's entries are the first of the
+/// history, since no other thread is started before the opening ends. No clause says this, because
+/// no contract sees through the map's lock.
 ///
 /// # Errors
 ///
-/// Those of `run_works`, but `CallersMissing` exactly if there are not more callers than works.
+/// Those of `run_works`, except that `CallersMissing` is returned exactly if the number of callers
+/// is at most the number of works.
 ///
 /// # Cost
 ///
@@ -261,21 +263,21 @@ pub fn run_works_after<R: Threads + Wait + Sync, O: Work<R> + Drop, W: Work<R> +
     open_under::<Brand, R, O, W>(rt, alloc, blank, limits, opening, works)
 }
 
-/// Puts the pairs of a closed map's core in a new map, in this thread and as `refill` does, and
-/// then does the works, as `run_works` does. The caller that puts the pairs has the number
-/// `works.len()`. The core is unchanged. The limits need not be the core's: each work needs a
-/// caller, and the pairs need one more.
+/// Puts the pairs of a closed map's core into a new map, as `refill` does, in this thread. Then
+/// does the works as `run_works` does. The caller that puts the pairs has the number `works.len()`.
+/// The core is unchanged. The limits need not be the core's, but they must allow a caller for each
+/// work, and one more for the pairs.
 ///
-/// If it answers `Ok`, that caller has exactly the entries of one committed transaction, which puts
-/// the pairs in the order of the core's list. That transaction is the first of the history, since
-/// no other thread is started before it ends. No clause says so, because no contract sees through
-/// the map's lock. The other entries of the history are those of the works.
+/// If the result is `Ok`, the caller that puts the pairs has exactly the entries of one committed
+/// transaction, which puts the pairs in the order of the core's list. That transaction is the first
+/// of the history, since no other thread is started before it ends. No clause says this, because no
+/// contract sees through the map's lock. All other entries of the history are those of the works.
 ///
 /// # Errors
 ///
-/// - `Refused` with `CallersMissing` exactly if there are not more callers than works. Nothing is
-///   done then.
-/// - Any error of `refill`: no work was started, and the new map is dropped.
+/// - `Refused` with `CallersMissing` exactly if the number of callers is at most the number of
+///   works. In that case nothing was done.
+/// - Any error of `refill`. In that case no work was started, and the new map is dropped.
 /// - Any other error of `run_works`, as `Refused`.
 ///
 /// # Cost
@@ -302,8 +304,7 @@ pub fn run_works_from<R: Threads + Wait + Sync, W: Work<R> + Send + Drop>(
     refill_under::<Brand, R, W>(rt, alloc, blank, limits, core, works)
 }
 
-/// Does what `run_works` does. The ledger is a type parameter. There must be no more works than
-/// callers.
+/// Does what `run_works` does, for a given ledger. There must be no more works than callers.
 fn run_under<L: Ledger + Send + Sync, R: Threads + Wait + Sync, W: Work<R> + Send + Drop>(
     rt: &R,
     alloc: Global,
@@ -324,8 +325,7 @@ fn run_under<L: Ledger + Send + Sync, R: Threads + Wait + Sync, W: Work<R> + Sen
     Ok(finished)
 }
 
-/// Does what `run_works_after` does. The ledger is a type parameter. There must be more callers
-/// than works.
+/// Does what `run_works_after` does, for a given ledger. There must be more callers than works.
 fn open_under<
     L: Ledger + Send + Sync,
     R: Threads + Wait + Sync,
@@ -357,8 +357,7 @@ fn open_under<
     Ok((outcome, finished))
 }
 
-/// Does what `run_works_from` does. The ledger is a type parameter. There must be more callers than
-/// works.
+/// Does what `run_works_from` does, for a given ledger. There must be more callers than works.
 fn refill_under<L: Ledger + Send + Sync, R: Threads + Wait + Sync, W: Work<R> + Send + Drop>(
     rt: &R,
     alloc: Global,
@@ -402,14 +401,14 @@ fn alone<L: Ledger>(
     Ok(callers)
 }
 
-/// Does each work in its own thread, with a caller made from a pass, beginning with the first pass.
-/// Then closes the map with these callers, with the callers in `used` and with the callers of all
-/// other passes. The numbers of the callers in `used` follow those of the works' callers. The
-/// callers of the other passes did nothing.
+/// Does each work in its own thread, with a caller made from a pass. The first work gets the first
+/// pass, and so on. Then closes the map with these callers, with the callers in `used`, and with
+/// callers made from the remaining passes. The numbers of the callers in `used` follow those of the
+/// works' callers. The callers made from the remaining passes have done nothing.
 ///
 /// # Errors
 ///
-/// `NoMemory` if memory is refused, `OutOfStep` if the map does not close.
+/// `NoMemory` if memory is refused. `OutOfStep` if the map does not close.
 fn go_and_close<L: Ledger + Send + Sync, R: Threads + Wait + Sync, W: Work<R> + Send + Drop>(
     rt: &R,
     alloc: Global,

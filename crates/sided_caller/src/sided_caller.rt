@@ -1,8 +1,8 @@
-//! A caller beside its side value. Each call on the map is made on the caller, and then the side
-//! value follows the answer. `save` makes room for a level of the side value before it calls the
-//! caller. So once the caller has answered, only the runs of the side value's jobs take memory.
-//! Invariant: in a transaction the side value has a level for the beginning and one for each
-//! savepoint; outside a transaction it has one level.
+//! A caller beside its side value. Each call on the map is made on the caller first, and the side
+//! value is then changed to match the result. `save` makes room for a level of the side value
+//! before it calls the caller. So after the caller's call, only the runs of the side value's jobs
+//! take memory. Invariant: in a transaction the side value has a level for the beginning and one
+//! for each savepoint. Outside a transaction it has one level.
 ghost use Rattle.std.specs.Prelude.{◌≡◌, ℕ, ◌+◌, ◌≤◌, ◌<◌, ◌%◌, ◌^◌, true, false, [], ◌∷◌, IfOk, IfErr, OnOk, OnErr, Some, None, length, if◌then◌else◌};
 ghost use mathlib.Core.List.{IsPrefix};
 ghost use Rattle.txn_words.specs.declared.entry.Entry.TheVariants.{Began, Asked, Did, Saved, Leave, Returned, Committed, Aborted};
@@ -19,11 +19,11 @@ use striped_map::{Caller, Stop};
 use txn_words::{Refusal, Reply};
 use undo_log::{Side, SideJob, SideValue};
 
-/// A caller of a striped map with a side value. It may cross threads, and runs one transaction at a
-/// time.
+/// A caller of a striped map with a side value. It may be sent to another thread, and runs one
+/// transaction at a time.
 ///
 /// If it is dropped in a transaction, the map's changes are taken back and the stripes given back,
-/// as for a `Caller`. The side value is dropped too, and no change of it is taken back.
+/// as for a `Caller`. The side value is dropped too, and none of its changes is taken back.
 #[derive(Drop)]
 pub struct SidedCaller<S: Side> {
     caller: Caller,
@@ -31,8 +31,8 @@ pub struct SidedCaller<S: Side> {
     ghost leveled: { length side.levels ≡ (if caller.is_open then levels caller else 0) + 1 },
 }
 
-/// Lets a side value follow an operation: back to the transaction's beginning if the operation was
-/// busy.
+/// Changes a side value to match the outcome of an operation: if the operation was busy, the value
+/// goes back to level 0, the beginning of the transaction.
 fn follow<S: Side>(side: &mut SideValue<S>, outcome: &Result<Reply, Stop>)
     requires { 0 < length side.old.levels }
     ensures ok { OnOk outcome.now (IsSameSide side.old side.new) }
@@ -44,11 +44,12 @@ fn follow<S: Side>(side: &mut SideValue<S>, outcome: &Result<Reply, Stop>)
 }
 
 impl<S: Side> SidedCaller<S> {
-    /// A caller with a side value, which has no change to take back.
+    /// A caller with this side value. The side value has no change to take back.
     ///
     /// # Errors
     ///
-    /// The caller and the value, as they were handed in, if the caller is in a transaction.
+    /// If the caller is in a transaction, the error holds the caller and the value that were passed
+    /// in.
     ///
     /// # Cost
     ///
@@ -73,14 +74,14 @@ impl<S: Side> SidedCaller<S> {
         self.side.words()
     }
 
-    /// Changes the side value, and keeps the job that takes the change back. A change that is made
-    /// in a transaction is taken back with the map's changes. A change that is made outside a
-    /// transaction stays.
+    /// Changes the side value, and keeps the job that takes the change back. If the change is made
+    /// in a transaction, it is taken back with the map's changes. If the change is made outside a
+    /// transaction, it is never taken back.
     ///
     /// # Errors
     ///
     /// `AllocFailed` if memory is refused. Then `change` was not called, nothing has changed, and
-    /// the error's `value` is the change and the job that were handed in.
+    /// the error's `value` holds the change and the job that were passed in.
     ///
     /// # Cost
     ///
@@ -105,8 +106,8 @@ impl<S: Side> SidedCaller<S> {
         self.side.change(change, job)
     }
 
-    /// Begins a transaction. Level 0 of the side value is its value now, so changes made before
-    /// `begin` are never taken back.
+    /// Begins a transaction. The present side value becomes level 0, so changes made before `begin`
+    /// are never taken back.
     ///
     /// # Errors
     ///
@@ -114,7 +115,7 @@ impl<S: Side> SidedCaller<S> {
     ///
     /// # Cost
     ///
-    /// That of `Caller::begin`, and a step for each change of the side value since the last
+    /// The cost of `Caller::begin`, and a step for each change of the side value since the last
     /// transaction.
     pub fn begin(&mut self) -> Result<(), Stop>
         ensures ok { OnOk result ((self.old.caller.is_open ≡ false)
@@ -131,16 +132,17 @@ impl<S: Side> SidedCaller<S> {
         Ok(())
     }
 
-    /// Answers the value of a key, if it is there, as `Caller::get` does.
+    /// Returns the value of a key, or `None` if the key is absent, as `Caller::get` does.
     ///
     /// # Errors
     ///
     /// Those of `Caller::get`. After `Busy` the side value has the words that it had when the
-    /// transaction began; after a refusal it is unchanged.
+    /// transaction began. After a refusal it is unchanged.
     ///
     /// # Cost
     ///
-    /// That of `Caller::get`; after `Busy` also the run of a job for each change of the side value.
+    /// The cost of `Caller::get`. After `Busy`, also the run of a job for each change of the side
+    /// value.
     pub fn get(&mut self, key: u64) -> Result<Reply, Stop>
         ensures open { OnOk result ((self.old.caller.is_open ≡ true)
             × (self.new.caller.is_open ≡ true)) }
@@ -156,8 +158,8 @@ impl<S: Side> SidedCaller<S> {
         outcome
     }
 
-    /// Puts a value at a key, and answers the value before, if there was one, as `Caller::put`
-    /// does.
+    /// Puts a value at a key. Returns the key's value before, or `None` if the key was absent, as
+    /// `Caller::put` does.
     ///
     /// # Errors
     ///
@@ -165,7 +167,8 @@ impl<S: Side> SidedCaller<S> {
     ///
     /// # Cost
     ///
-    /// That of `Caller::put`; after `Busy` also the run of a job for each change of the side value.
+    /// The cost of `Caller::put`. After `Busy`, also the run of a job for each change of the side
+    /// value.
     pub fn put(&mut self, key: u64, value: u64) -> Result<Reply, Stop>
         ensures open { OnOk result ((self.old.caller.is_open ≡ true)
             × (self.new.caller.is_open ≡ true)) }
@@ -181,7 +184,8 @@ impl<S: Side> SidedCaller<S> {
         outcome
     }
 
-    /// Takes a key out, and answers its value, if it was there, as `Caller::take` does.
+    /// Takes a key out. Returns the key's value, or `None` if the key was absent, as `Caller::take`
+    /// does.
     ///
     /// # Errors
     ///
@@ -189,7 +193,7 @@ impl<S: Side> SidedCaller<S> {
     ///
     /// # Cost
     ///
-    /// That of `Caller::take`; after `Busy` also the run of a job for each change of the side
+    /// The cost of `Caller::take`. After `Busy`, also the run of a job for each change of the side
     /// value.
     pub fn take(&mut self, key: u64) -> Result<Reply, Stop>
         ensures open { OnOk result ((self.old.caller.is_open ≡ true)
@@ -206,8 +210,9 @@ impl<S: Side> SidedCaller<S> {
         outcome
     }
 
-    /// Puts a value at a key if the key has the expected value, or, if none is expected, if the key
-    /// is absent. Answers the value before, as `Caller::put_if` does.
+    /// Puts a value at a key if the key has the expected value. If `expected` is `None`, puts the
+    /// value if the key is absent. Returns the key's value before, or `None` if the key was absent,
+    /// as `Caller::put_if` does.
     ///
     /// # Errors
     ///
@@ -215,8 +220,8 @@ impl<S: Side> SidedCaller<S> {
     ///
     /// # Cost
     ///
-    /// That of `Caller::put_if`; after `Busy` also the run of a job for each change of the side
-    /// value.
+    /// The cost of `Caller::put_if`. After `Busy`, also the run of a job for each change of the
+    /// side value.
     pub fn put_if(&mut self, key: u64, expected: Option<u64>, value: u64) -> Result<Reply, Stop>
         ensures open { OnOk result ((self.old.caller.is_open ≡ true)
             × (self.new.caller.is_open ≡ true)) }
@@ -233,17 +238,17 @@ impl<S: Side> SidedCaller<S> {
         outcome
     }
 
-    /// Sets a savepoint of the map's changes and of the side value, and answers its level: the
-    /// number of savepoints.
+    /// Sets a savepoint of the map's changes and of the side value. Returns its level, which is the
+    /// number of savepoints including this one.
     ///
     /// # Errors
     ///
-    /// Those of `Caller::save`; the side value is unchanged. `NoMemory` also if memory for the side
-    /// value's level is refused.
+    /// Those of `Caller::save`, and `NoMemory` if memory for the side value's level is refused. On
+    /// an error the side value is unchanged.
     ///
     /// # Cost
     ///
-    /// That of `Caller::save`, and amortized constant time; may take memory.
+    /// The cost of `Caller::save`, and amortized constant time; may take memory.
     pub fn save(&mut self) -> Result<u64, Stop>
         ensures open { OnOk result ((self.old.caller.is_open ≡ true)
             × (self.new.caller.is_open ≡ true)) }
@@ -267,9 +272,9 @@ impl<S: Side> SidedCaller<S> {
         Ok(level)
     }
 
-    /// Takes back the changes of the map and of the side value since the savepoint of a level, and
-    /// goes on from there; level 0 is the beginning of the transaction. Later savepoints are
-    /// dropped, and the stripes stay held.
+    /// Takes back the changes of the map and of the side value that were made after the savepoint
+    /// with this level. Level 0 is the beginning of the transaction. The transaction stays open,
+    /// later savepoints are dropped, and the stripes stay held.
     ///
     /// # Errors
     ///
@@ -277,8 +282,8 @@ impl<S: Side> SidedCaller<S> {
     ///
     /// # Cost
     ///
-    /// That of `Caller::back`, and the run of a job for each change of the side value that is taken
-    /// back. It takes no memory but what these runs take.
+    /// The cost of `Caller::back`, and the run of a job for each change of the side value that is
+    /// taken back. Takes no memory except what these runs take.
     pub fn back(&mut self, level: u64) -> Result<(), Stop>
         ensures open { OnOk result ((self.old.caller.is_open ≡ true)
             × (self.new.caller.is_open ≡ true)) }
@@ -300,8 +305,8 @@ impl<S: Side> SidedCaller<S> {
         Ok(())
     }
 
-    /// Commits the transaction, gives its stripes back, and answers its place among all commits,
-    /// counted from 1, modulo 2^64. The side value is unchanged.
+    /// Commits the transaction and gives its stripes back. Returns the transaction's place among
+    /// all commits, counted from 1, modulo 2^64. The side value is unchanged.
     ///
     /// # Errors
     ///
@@ -309,7 +314,7 @@ impl<S: Side> SidedCaller<S> {
     ///
     /// # Cost
     ///
-    /// That of `Caller::commit`, and a step for each change of the side value. Takes no memory.
+    /// The cost of `Caller::commit`, and a step for each change of the side value. Takes no memory.
     pub fn commit(&mut self) -> Result<u64, Stop>
         ensures closed { self.new.caller.is_open ≡ false }
         ensures ok { IfOk result (λ found. (self.old.caller.is_open ≡ true) × (place : ℕ)
@@ -327,7 +332,7 @@ impl<S: Side> SidedCaller<S> {
         Ok(place)
     }
 
-    /// Takes back all changes of the transaction, also those of the side value; then ends the
+    /// Takes back all changes of the transaction, also those of the side value. Then ends the
     /// transaction and gives its stripes back.
     ///
     /// # Errors
@@ -336,8 +341,8 @@ impl<S: Side> SidedCaller<S> {
     ///
     /// # Cost
     ///
-    /// That of `Caller::abort`, and the run of a job for each change of the side value. Takes no
-    /// memory but what these runs take.
+    /// The cost of `Caller::abort`, and the run of a job for each change of the side value. Takes
+    /// no memory except what these runs take.
     pub fn abort(&mut self) -> Result<(), Stop>
         ensures closed { self.new.caller.is_open ≡ false }
         ensures ok { OnOk result ((self.old.caller.is_open ≡ true)
@@ -354,12 +359,12 @@ impl<S: Side> SidedCaller<S> {
         Ok(())
     }
 
-    /// Lets this caller see all that another caller of the map has seen, as `Caller::catch_up`
-    /// does. Open transactions and both side values are unchanged.
+    /// Lets this caller see all that the other caller has seen, as `Caller::catch_up` does. Open
+    /// transactions and both side values are unchanged.
     ///
     /// # Cost
     ///
-    /// That of `Caller::catch_up`.
+    /// The cost of `Caller::catch_up`.
     pub fn catch_up<T: Side>(&mut self, other: &mut SidedCaller<T>)
         requires same_map { other.old.caller.map.value ≡ self.old.caller.map.value }
         ensures open { self.new.caller.is_open ≡ self.old.caller.is_open }
@@ -374,11 +379,11 @@ impl<S: Side> SidedCaller<S> {
         self.caller.catch_up(&mut other.caller);
     }
 
-    /// The caller without its side value, which is dropped.
+    /// Returns the caller and drops the side value.
     ///
     /// # Cost
     ///
-    /// Constant time, and the drop of the side value and of the jobs that it still has.
+    /// Constant time, and the time to drop the side value and the jobs that it still has.
     pub fn into_caller(self) -> Caller
         ensures { result ≡ self.caller }
     {

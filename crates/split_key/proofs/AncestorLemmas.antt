@@ -1,5 +1,6 @@
--- Parents and ancestors of buckets. An ancestor of a bucket consists of the bucket's lowest bits,
--- up to some position; so its dummy precedes the bucket's, unless they are the same bucket.
+-- Parents and ancestors of buckets. The number of a bucket's ancestor consists of the lowest bits
+-- of the bucket's number, up to some position. So the ancestor's dummy precedes the bucket's dummy,
+-- unless the ancestor is the bucket itself.
 use Prim.Native.Nat.{zero, suc}
 use Rattle.std.proofs.Common.{◌≡◌, ◌≢◌, ℕ, ◌+◌, ◌*◌, ◌-◌, ◌/◌, ◌%◌, ◌^◌, ◌<◌, ◌≤◌, refl, sym, ◌∙◌, ap, arith, pow-suc, div-add-mod', add-mul, inl, inr}
 use Rattle.std.proofs.lemmas.Bool.{cases_lt}
@@ -17,7 +18,8 @@ exponent_below bit width small =
       | inr more ↦ let large : 2 ^ width ≤ 2 ^ bit = pow-le-pow_right {n = 2} (omega arith) more in absurd (omega arith)
     ]
 
--- The lowest bits of a number's lowest bits are lowest bits of the number.
+-- If a number is cut to its lowest `j` bits and then to its lowest `k` bits, its lowest `bits` bits
+-- remain, for some `bits` that is at most `j`.
 mod_pow_twice : (number j k : ℕ) → (bits : ℕ) × (bits ≤ j) × (number % 2 ^ j % 2 ^ k ≡ number % 2 ^ bits)
 mod_pow_twice number j k =
     elim (cases_lt j k) [
@@ -32,7 +34,7 @@ mod_pow_twice number j k =
           (k, more, rw parts (mod_low (number / 2 ^ k % 2 ^ (j - k)) k (number % 2 ^ k) (mod_below number (2 ^ k) (pow_pos k))))
     ]
 
--- A number with its highest 1 bit cleared is the rest below that bit.
+-- If a number is `2 ^ bit + rest` and `rest` is below `2 ^ bit`, `highest_cleared` gives `rest`.
 pub highest_cleared_is : (width number bit rest : ℕ) → number ≡ 2 ^ bit + rest → rest < 2 ^ bit → bit < width → highest_cleared width number ≡ rest
 unfolding highest_cleared
 highest_cleared_is zero number bit rest is below small = absurd (omega arith)
@@ -52,7 +54,7 @@ highest_cleared_is (suc width) number bit rest is below small =
           ]
     ]
 
--- A number with its highest 1 bit cleared is the number's lowest bits.
+-- `highest_cleared` gives the number's lowest `bits` bits, for some `bits`.
 highest_cleared_lowest : (width number : ℕ) → number < 2 ^ width → (bits : ℕ) × (highest_cleared width number ≡ number % 2 ^ bits)
 unfolding highest_cleared
 highest_cleared_lowest zero number small = (0, omega arith)
@@ -65,7 +67,8 @@ highest_cleared_lowest (suc width) number small =
       | inr under ↦ let below = highest_cleared_lowest width number under.1 in (below.0, rw (under.0) below.1)
     ]
 
--- An ancestor is the lowest bits of the bucket.
+-- The number of a bucket's ancestor is the lowest `bits` bits of the bucket's number, for some
+-- `bits`.
 ancestor_of_lowest : (steps bucket : ℕ) → bucket < 2 ^ 32 → (bits : ℕ) × (bits ≤ 32) × (ancestor_of steps bucket ≡ bucket % 2 ^ bits)
 unfolding ancestor_of parent_of
 ancestor_of_lowest zero bucket small = (32, omega arith, omega arith)
@@ -86,7 +89,7 @@ pub IsAncestor-parent_of : (ancestor descendant : ℕ) → IsAncestor ancestor d
 unfolding ancestor_of
 IsAncestor-parent_of ancestor descendant is = record { steps = suc is.steps; reached = ap parent_of is.reached }
 
--- The dummy of an ancestor, other than the bucket itself, precedes the bucket's.
+-- The dummy of an ancestor, other than the bucket itself, precedes the bucket's dummy.
 pub ancestor_before : (ancestor bucket : ℕ) → bucket < 2 ^ 32 → IsAncestor ancestor bucket → ancestor ≢ bucket → reversed ancestor < reversed bucket
 ancestor_before ancestor bucket small is other =
     let lowest = ancestor_of_lowest is.steps bucket small in
@@ -96,7 +99,7 @@ ancestor_before ancestor bucket small is other =
       | inr longer ↦ rw low (lowest_before lowest.0 bucket (omega (arith, lowest.1)) (omega arith) longer)
     ]
 
--- The dummies of the key's bucket and of its ancestors precede the key.
+-- The dummies of a key's bucket and of that bucket's ancestors precede the key.
 pub ancestor_before_key : (ancestor key exponent : ℕ) → exponent ≤ 32 → IsAncestor ancestor (key % 2 ^ exponent) → reversed ancestor < split key
 ancestor_before_key ancestor key exponent small is =
     let within = mod_below key (2 ^ exponent) (pow_pos exponent) in
@@ -106,8 +109,8 @@ ancestor_before_key ancestor key exponent small is =
     let low : ancestor ≡ key % 2 ^ twice.0 = is.reached ∙ lowest.2 ∙ twice.2 in
     rw low (lowest_before_key twice.0 key (omega (arith, twice.1)))
 
--- If a bucket is the lowest bits of a word, the split keys of the dummies of the bucket and of its
--- ancestors are at most the reversal of the word.
+-- If a bucket's number is the lowest bits of a word, the split key of each ancestor's dummy is at
+-- most the word's reversal. The bucket is one of its own ancestors.
 pub ancestor_not_behind : (ancestor word exponent : ℕ) → exponent ≤ 32 → word < 2 ^ 64 → IsAncestor ancestor (word % 2 ^ exponent) → reversed ancestor ≤ reversed word
 ancestor_not_behind ancestor word exponent small fits is =
     let within = mod_below word (2 ^ exponent) (pow_pos exponent) in
@@ -130,8 +133,8 @@ whole_not_above a b unit rest part below =
       | inr within ↦ within
     ]
 
--- Among the numbers of `exponent` bits whose reversal is not above the word's reversal, the one
--- with the highest reversal is the word's lowest `exponent` bits.
+-- Take all numbers of `exponent` bits whose reversal is at most the word's reversal. Among them,
+-- the word's lowest `exponent` bits have the highest reversal.
 pub lowest_is_last : (other word exponent : ℕ) → exponent ≤ 64 → other < 2 ^ exponent → reversed other ≤ reversed word → reversed other ≤ reversed (word % 2 ^ exponent)
 unfolding reversed
 lowest_is_last other word exponent small short below =

@@ -1,4 +1,5 @@
--- A sort key by its fields: the bytes of its split key, and whether its key is in the upper half.
+-- Lemmas on the fields of a sort key: the bytes of its split key, and whether its key is in the
+-- upper half.
 use Prim.Native.Nat.{zero, suc}
 use Rattle.std.proofs.Common.{◌≡◌, ◌≢◌, ℕ, ◌+◌, ◌/◌, ◌%◌, ◌^◌, ◌<◌, inl, inr, Bool, true, false, refl, sym, ◌∙◌, ap, ap₂, arith, ◌==◌, ◌&&◌, not, nat_lt, nat_le, List, length, slice_index_or}
 use Rattle.std.proofs.Math.Bool.{beq}
@@ -34,7 +35,7 @@ bytes_are_small : (word place : ℕ) → slice_index_or (bytes_of word) place 0 
 unfolding bytes_of
 bytes_are_small word place = bytes_small 0 8 word place
 
--- The bytes of a word are packed if the word is odd whenever `is_upper` is true.
+-- If `is_upper` is true only for an odd word, the word's bytes and `is_upper` satisfy `IsPacked`.
 packed : (word : ℕ) (is_upper : Bool) → word < 2 ^ 64 → (is_upper ≡ true → word % 2 ≡ 1) → IsPacked (bytes_of word) is_upper
 packed word is_upper fits odd = record {
   width = bytes_width word;
@@ -92,9 +93,8 @@ halves_same false true is = absurd (true-false (sym is))
 halves_same true false is = absurd (true-false (sym is))
 halves_same true true is = refl
 
--- ---- a sort key by its fields
--- The bytes give the split key of the sort key, and with the half they give its key. The split key
--- is odd if the key is in the upper half.
+-- The bytes stand for the split key of the sort key `at`. This split key and `is_upper` give the
+-- key of `at`. If `is_upper` is true, the split key is odd.
 pub record HasParts (at : SortKey) (bytes : List ℕ) (is_upper : Bool) : Type 0 where
   pub split : word_of bytes ≡ at.split
   pub key : key_of_split at.split is_upper ≡ at.key
@@ -109,8 +109,8 @@ parts_of at bytes is_upper is packed =
       odd = λ upper. ap (λ split. split % 2) (sym split_is) ∙ packed.upper upper;
     }
 
--- If two keys have the same split key, the first is below the second exactly if only the second is
--- in the upper half.
+-- Of two keys with the same split key, the first is below the second exactly if only the second is
+-- 2^63 or more.
 upper_before : (at k l : ℕ) (is_upper others : Bool) → key_of_split at is_upper ≡ k → key_of_split at others ≡ l → (is_upper ≡ true → at % 2 ≡ 1) → (others ≡ true → at % 2 ≡ 1) → nat_lt k l ≡ (not is_upper && others)
 upper_before at k l false false k_is l_is odd others_odd = above_test k l (omega (arith, k_is, l_is))
 upper_before at k l false true k_is l_is odd others_odd =

@@ -1,6 +1,6 @@
 -- Sort keys are in a strict total order: no sort key is before itself, `is_before` is transitive,
--- and of two that differ one is before the other. The list layers do not unfold `is_before`: they
--- use these lemmas.
+-- and of two different sort keys one is before the other. The list layers use these lemmas and do
+-- not unfold `is_before`.
 use Rattle.std.proofs.Common.{◌≡◌, ◌≢◌, ℕ, ◌%◌, ◌^◌, ◌<◌, ◌≤◌, ◌⊎◌, inl, inr, Bool, true, false, refl, sym, ◌∙◌, ap, ap₂, subst, arith, ◌==◌, nat_lt}
 use Rattle.std.proofs.lemmas.Bool.{cases_order}
 use Rattle.std.proofs.lemmas.Bool.Decides.{eqb_tells, nat_tests}
@@ -30,7 +30,8 @@ apart_test a b differs = elim (eqb_tells a b) [
   | inr apart ↦ apart.0
 ]
 
--- The test of two sort keys, as a statement about their numbers.
+-- What `is_before` tests: the split key of `a` is lower, or the split keys are equal and the key of
+-- `a` is lower.
 abbrev pub IsLower : SortKey → SortKey → Type 0
 IsLower a b = (a.split < b.split) ⊎ ((a.split ≡ b.split) × (a.key < b.key))
 
@@ -98,7 +99,6 @@ before_total a b not_first not_second = elim (cases_sort a b) [
   ]
 ]
 
--- Of two sort keys, the first is before the second or it is not.
 pub cases_before : (a b : SortKey) → IsBefore a b ⊎ IsNotBefore a b
 cases_before a b = go (is_before a b) refl
   where
@@ -134,11 +134,11 @@ not_before_before a b c not_before before = elim (cases_before a b) [
   | inr not_ahead ↦ subst (λ k. IsBefore k c) (sym (before_total a b not_ahead not_before)) before
 ]
 
--- Sort keys with different split keys are ordered by these.
+-- If the split key of `a` is below that of `b`, then `a` is before `b`.
 pub before_by_split : (a b : SortKey) → a.split < b.split → IsBefore a b
 before_by_split a b less = before_from a b (inl less)
 
--- Sort keys with the same split key are ordered by their keys.
+-- If the split keys are equal and the key of `a` is below that of `b`, then `a` is before `b`.
 pub before_by_key : (a b : SortKey) → a.split ≡ b.split → a.key < b.key → IsBefore a b
 before_by_key a b same less = before_from a b (inr (same, less))
 
@@ -149,7 +149,7 @@ split_before a b before = elim (lower_from a b before) [
   | inr both ↦ omega (arith, both.0)
 ]
 
--- The test for equality is true of equal sort keys.
+-- If two sort keys are equal, `is_same` is true.
 pub is_same_from : (a b : SortKey) → a ≡ b → is_same a b ≡ true
 is_same_from a b same =
     rw (same_test a.split b.split (ap (λ (k : SortKey). k.split) same), same_test a.key b.key (ap (λ (k : SortKey). k.key) same)) refl
@@ -163,7 +163,7 @@ same_from_test a b is = elim (eqb_tells a.split b.split) [
   | inr differs ↦ absurd (true-false (sym (rw differs.0 at is)))
 ]
 
--- Two sort keys are equal or not, and the test tells which.
+-- `is_same` is true if two sort keys are equal, and false if they differ.
 pub cases_same : (a b : SortKey) → ((is_same a b ≡ true) × (a ≡ b)) ⊎ ((is_same a b ≡ false) × (a ≢ b))
 cases_same a b = go (is_same a b) refl
   where

@@ -33,7 +33,8 @@ unfolding reversed_low
 reversed_low_of_zero zero = refl
 reversed_low_of_zero (suc width) = omega (arith, reversed_low_of_zero width)
 
--- A word in two parts, reversed: the reversal of the low part is the high part of the result.
+-- Let a word be `high * 2 ^ j + low`. The high part of the word's reversal is the reversal of
+-- `low`, and the low part is the reversal of `high`.
 pub reversed_low_append : (j k high low word : ℕ) → low < 2 ^ j → word ≡ high * 2 ^ j + low → reversed_low (j + k) word ≡ reversed_low j low * 2 ^ k + reversed_low k high
 unfolding reversed_low
 reversed_low_append zero k high low word within is =

@@ -7,11 +7,12 @@ use Rattle.std.proofs.lemmas.Nat.Bits.{bit_at_and, bit_at_or, bit_at-lt, bit_at-
 use Rattle.std.specs.Int.{bit_at}
 use Rattle.split_key.specs.Swap.{swapped_place}
 
--- Two functions agree at each position of a word if the test of all positions says so.
+-- If `agree_below` finds `f` and `g` equal at all 64 positions of a word, they are equal at each
+-- one.
 pub same_at_places : (f g : ℕ → ℕ) → agree_below (λ place. nat_eq (f place) (g place)) (λ _. true) 64 ≡ true → (place : ℕ) → place < 64 → f place ≡ g place
 same_at_places f g e place within = eqb-true (f place) (g place) (agree_below_at (λ k. nat_eq (f k) (g k)) (λ _. true) 64 place e within)
 
--- A bit of a word that was shifted down.
+-- If a word is shifted down by `width` bits, its bit at `place` is the old bit at `place + width`.
 bit_at_shr : (word width place : ℕ) → bit_at (word / 2 ^ width) place ≡ bit_at word (place + width)
 bit_at_shr word width place = ap (λ n. n % 2) (shr-shr word width place) ∙ ap (λ k. bit_at word k) (omega arith)
 
@@ -62,7 +63,7 @@ bit_at-swapped word width low place some groups within =
           ]
     ]
 
--- Neighbouring groups of `width` bits are swapped.
+-- `new` is `word` with neighbouring groups of `width` bits swapped.
 abbrev pub IsSwap : ℕ → ℕ → ℕ → Type 0
 IsSwap width word new = (place : ℕ) → place < 64 → bit_at new place ≡ bit_at word (swapped_place width place)
 

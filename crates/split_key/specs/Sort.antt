@@ -3,15 +3,16 @@ use Rattle.std.specs.Prelude.{ℕ, ◌≡◌, Bool, true, false, ◌==◌, ◌&&
 use Rattle.split_key.specs.declared.sort.SortKey.{SortKey}
 use Rattle.split_key.specs.Split.{reversed, split}
 
--- Whether the first precedes the second: by split key, and by key where the split keys are equal.
+-- True if the first sort key precedes the second. They are ordered by split key, and by key where
+-- the split keys are equal.
 unfoldable pub is_before : SortKey → SortKey → Bool
 is_before a b = if a.split == b.split then nat_lt a.key b.key else nat_lt a.split b.split
 
--- The first precedes the second.
+-- The first sort key precedes the second.
 abbrev pub IsBefore : SortKey → SortKey → Type 0
 IsBefore a b = is_before a b ≡ true
 
--- The first does not precede the second: it is behind it, or they are equal.
+-- The first sort key does not precede the second: it comes after the second, or they are equal.
 abbrev pub IsNotBefore : SortKey → SortKey → Type 0
 IsNotBefore a b = is_before a b ≡ false
 

@@ -12,29 +12,29 @@ pub record SortAt : Type 0 where
   pub split : ℕ
   pub key : ℕ
 
--- The number of eight bytes, the lowest first.
+-- The number that eight bytes stand for, the lowest byte first.
 unfoldable pub word_of : List ℕ → ℕ
 word_of bytes = from_le_bytes w64 bytes
 
--- The eight bytes of a number, the lowest first.
+-- The eight bytes of a number, the lowest byte first.
 unfoldable pub bytes_of : ℕ → List ℕ
 bytes_of word = to_le_bytes w64 word
 
--- The key that has this split key, and is in the upper half of the keys exactly if `is_upper`; 0
--- for a dummy's split key.
+-- For a regular node's split key, the key that has it and is 2^63 or more exactly if `is_upper`.
+-- For a dummy's split key, 0.
 unfoldable pub key_of_split : ℕ → Bool → ℕ
 key_of_split split is_upper =
     if split % 2 == 0 then 0 else reversed split % 2 ^ 63 + (if is_upper then 2 ^ 63 else 0)
 
--- The sort key that has these bytes as its split key, and whose key is in the upper half exactly if
--- `is_upper`.
+-- The sort key whose split key is the number that these bytes stand for. Its key is what
+-- `key_of_split` gives for this split key and `is_upper`.
 abbrev pub sort_seen : List ℕ → Bool → SortAt
 sort_seen bytes is_upper = record {
   split = word_of bytes;
   key = key_of_split (word_of bytes) is_upper;
 }
 
--- The list has eight bytes, and `is_upper` is false if their number is a dummy's split key.
+-- The list consists of eight bytes. If they stand for a dummy's split key, `is_upper` is false.
 pub record IsPacked (bytes : List ℕ) (is_upper : Bool) : Type 0 where
   pub width : length bytes ≡ 8
   pub small : (place : ℕ) → slice_index_or bytes place 0 < 256
@@ -52,8 +52,8 @@ pub key_in_regular : (split : ℕ) (is_upper : Bool) → split % 2 ≡ 1
 unfolding key_of_split
 key_in_regular split is_upper odd = rw (ne_eqb (split % 2) 0 (λ even. omega arith)) refl
 
--- `key_of_split` is in the upper half of the keys exactly if `is_upper`, provided that `is_upper`
--- is true only for a regular node's split key.
+-- If `is_upper` is true only for split keys of regular nodes, `key_of_split` is 2^63 or more
+-- exactly if `is_upper`.
 pub upper_is : (split : ℕ) (is_upper : Bool) → (is_upper ≡ true → split % 2 ≡ 1)
     → nat_le (2 ^ 63) (key_of_split split is_upper) ≡ is_upper
 upper_is split true odd =

@@ -26,13 +26,14 @@ highest_cleared (suc width) number =
 unfoldable pub parent_of : ℕ → ℕ
 parent_of bucket = highest_cleared 32 bucket
 
--- The bucket is its parent with one more 1 bit, above all others.
+-- The bucket is its parent plus one more 1 bit, which is above all 1 bits of the parent.
 pub record IsParent (bucket parent : ℕ) : Type 0 where
   pub bit : ℕ
   pub splits : bucket ≡ 2 ^ bit + parent
   pub below : parent < 2 ^ bit
 
--- The bucket that is reached from a bucket by this many steps, each to the parent.
+-- The bucket that is reached from the given bucket by this many steps. Each step goes to the
+-- parent.
 unfoldable pub ancestor_of : ℕ → ℕ → ℕ
 ancestor_of zero bucket = bucket
 ancestor_of (suc steps) bucket = parent_of (ancestor_of steps bucket)

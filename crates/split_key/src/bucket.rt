@@ -1,6 +1,6 @@
 //! Buckets as numbers: the bucket of a key, the bucket of a position in the split order, and the
-//! parent of a bucket. `split` puts nodes in order; this module says to which bucket they belong,
-//! by their lowest bits. The sizes are powers of two, so no call divides.
+//! parent of a bucket. The `split` module orders the nodes; this module says to which bucket a key
+//! or a position belongs. Table sizes are powers of two, so no call divides.
 ghost use Rattle.std.specs.Prelude.{◌≡◌, ℕ, ◌%◌, ◌<◌, ◌≤◌};
 ghost use Rattle.split_key.specs.Split.{reversed, split, parent_of, IsParent};
 ghost use Rattle.split_key.specs.Split.{IsAncestor, IsPowerOfTwo};
@@ -34,9 +34,10 @@ pub fn bucket_of(key: Key, size: u32) -> u32
     (key.number() & u64::from(size - 1)) as u32
 }
 
-/// The bucket to which a position of the split order belongs, in a table of this size, a power of
-/// two. Of the table's dummies whose split keys are not above `split`, the dummy of this bucket has
-/// the greatest split key. The dummies of its ancestors are not above `split` either.
+/// The bucket to which the position `split` of the split order belongs, in a table of this size, a
+/// power of two. Among the table's dummies with a split key of at most `split`, the dummy of this
+/// bucket has the greatest split key. The split keys of its ancestors' dummies are at most `split`
+/// too.
 pub fn bucket_at(split: u64, size: u32) -> u32
     requires { IsPowerOfTwo size }
     ensures value { result ≡ reversed split % size }

@@ -1,6 +1,6 @@
-//! Keys, in a type apart from plain numbers, so that none is mistaken for a position, a bucket or a
-//! value. Half keys are those below 2^63: a map whose limits are from a file of version 1 takes no
-//! others. No two half keys share a split key.
+//! Keys have a type of their own, so a key is not mistaken for a position, a bucket or a value.
+//! Half keys are the keys below 2^63. A map whose limits come from a file of version 1 takes only
+//! half keys. No two half keys share a split key.
 ghost use Rattle.std.specs.Prelude.{◌≡◌, ℕ, ◌<◌, ◌≤◌, ◌^◌, MatchResult};
 ghost use Rattle.split_key.specs.Text.{bad_key_text};
 
@@ -8,7 +8,7 @@ use std::fmt;
 use std::fmt::Display;
 use std::marker::Model;
 
-/// Half keys are below this.
+/// The bound of half keys: each half key is below this number.
 pub(crate) const HALF: u64 = 1 << 63;
 
 /// A key of the table: any number of 64 bits. A contract sees it as that number.

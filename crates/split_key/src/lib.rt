@@ -3,13 +3,13 @@
 //! Extensible Hash Tables" (Journal of the ACM 53(3), 2006), section 2: bits in reverse, dummy
 //! nodes, and parents of buckets.
 //!
-//! A split key is a number of 64 bits in reverse order. The split key of a key is odd, since the
-//! key's top bit is set before the reversal. The split key of a bucket is the bucket's number in
-//! reverse, which is even. In the order of split keys, the keys of a bucket are together, right
-//! behind the bucket's dummy node, whatever power of two the table's size is: a split key begins
-//! with the lowest bits of its key, which give the bucket. The list of a table of size 4 with the
-//! keys 0 to 7 is as follows. A number is shown by its lowest four bits, and a split key by its
-//! first four and its last four:
+//! A split key is made from a number of 64 bits by reversing the order of its bits. The split key
+//! of a key is odd, since the key's top bit is set before the reversal. The split key of a bucket
+//! is the bucket's number with its bits reversed, which is even. A split key begins with the lowest
+//! bits of its key, and these bits give the bucket. So in the order of split keys, the keys of a
+//! bucket are together, right after the bucket's dummy node. This holds for each power of two as
+//! the table's size. The list of a table of size 4 with the keys 0 to 7 is as follows. A number is
+//! shown by its lowest four bits, and a split key by its first four and its last four:
 //!
 //! ```text
 //!  in the list    bits    split key         bucket at size 2   4   8
@@ -30,15 +30,15 @@
 //! A table that doubles moves no node. At size 8 the dummy of bucket 4, `0010 .. 0000`, is put
 //! right before key 4. The new dummy splits bucket 0: the keys 0, 8, 16 and so on stay before the
 //! dummy. The dummies of 6, 5 and 7 are put right before the keys 6, 5 and 7. The parent of a
-//! bucket other than 0 is the bucket without its highest 1 bit: the bucket that it was split off
-//! from.
+//! bucket other than 0 is the bucket without its highest 1 bit. It is the bucket from which this
+//! bucket was split off.
 //!
 //! A key may be any number of 64 bits. The top bit of a key is set before it is reversed, so two
 //! keys that differ only in that bit, such as 1 and 2^63 + 1, share a split key. The list is
 //! therefore ordered by sort keys: by split key, and by key where split keys are equal.
 //!
 //! A contract sees a key as its number; the definitions are in `specs/Split.antt` and
-//! `specs/Sort.antt`. Proved: each call answers what its definition says; two keys share a split
+//! `specs/Sort.antt`. Proved: each call returns what its definition says; two keys share a split
 //! key exactly if they agree below the top bit; different keys have different sort keys; different
 //! buckets have different split keys; a bucket's dummy precedes each of the bucket's keys; the
 //! dummy of each ancestor of a bucket, other than the bucket itself, precedes the bucket's dummy;

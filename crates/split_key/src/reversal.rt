@@ -1,6 +1,7 @@
-//! The bits of a word in reverse, by six swaps of neighbouring groups. This module knows neither
-//! keys nor buckets: `split` makes split keys with it. A second reversal restores the word, so
-//! `sort` and `bucket` also use it, to find the key and the bucket of a split key.
+//! Reverses the bits of a word, by six swaps of neighbouring groups of bits. This module knows
+//! neither keys nor buckets; the `split` module uses it to make split keys. A second reversal
+//! restores the word, so `sort` and `bucket` also use it, to find the key and the bucket of a split
+//! key.
 ghost use Rattle.std.specs.Prelude.{◌≡◌, ℕ, ◌-◌, ◌*◌, ◌/◌, ◌%◌, ◌<◌};
 ghost use Rattle.std.specs.Int.{bit_at};
 ghost use Rattle.split_key.specs.Split.{reversed};
@@ -19,8 +20,8 @@ fn swap_groups(word: u64, width: u32, low: u64) -> u64
 }
 
 /// The word with its 64 bits in reverse order: bit `i` of the result is bit `63 - i` of the word.
-/// Bits, pairs of bits, half bytes, bytes, pairs of bytes and halves are swapped, in thirty
-/// operations without a branch.
+/// The function swaps neighbouring bits, then pairs of bits, half bytes, bytes, pairs of bytes and
+/// halves. It takes thirty operations and no branch.
 pub fn reverse(word: u64) -> u64
     ensures value { result ≡ reversed word }
     ensures bits { (place : ℕ) → place < 64 → bit_at result place ≡ bit_at word (63 - place) }

@@ -16,8 +16,9 @@ use std::mem::size_of;
 /// The position of a node in the order of the list: by split key, and by key where split keys are
 /// equal. A dummy has key 0 here. No two nodes of a list have the same sort key.
 ///
-/// It takes 9 bytes, at any address. A split key tells all bits of its key but the top one, which
-/// is kept beside it: so a node need not store the key as well.
+/// A sort key takes 9 bytes and needs no alignment. It contains all bits of the node's key: the
+/// split key has all but the top one, and `is_upper` has the top one. So a node need not store its
+/// key as well.
 #[derive(Clone, Copy, Debug)]
 pub struct SortKey {
     split: [u8; 8],
@@ -65,14 +66,14 @@ impl Eq for SortKey {
     ghost laws = { Prim.search (comparing, rules) };
 }
 
-/// The number of these bytes, the lowest first.
+/// The number that eight bytes stand for, the lowest byte first.
 fn word(bytes: [u8; 8]) -> u64
     ensures { result ≡ word_of bytes }
 {
     u64::from_le_bytes(bytes)
 }
 
-/// The bytes of a number, the lowest first.
+/// The eight bytes of a number, the lowest byte first.
 fn bytes(word: u64) -> [u8; 8]
     ensures { result ≡ bytes_of word }
 {
@@ -80,7 +81,8 @@ fn bytes(word: u64) -> [u8; 8]
 }
 
 impl SortKey {
-    /// The sort key of a key's node. It is behind the dummy of bucket 0, and no other key has it.
+    /// The sort key of a key's node. It comes after the sort key of bucket 0's dummy. No other key
+    /// has the same sort key.
     pub fn regular(key: Key) -> SortKey
         ensures value { result ≡ regular_at key }
         ensures apart { (other : ℕ) → regular_at other ≡ result → other ≡ key }
@@ -92,7 +94,8 @@ impl SortKey {
         }
     }
 
-    /// The sort key of a bucket's dummy. It is behind that of bucket 0, unless the bucket is 0.
+    /// The sort key of a bucket's dummy. If the bucket is not 0, it comes after the sort key of
+    /// bucket 0's dummy.
     pub fn dummy(bucket: u32) -> SortKey
         ensures value { result ≡ dummy_at bucket }
         ensures behind_first { bucket ≢ 0 → IsBefore (dummy_at 0) result }
@@ -110,7 +113,7 @@ impl SortKey {
         word(self.split)
     }
 
-    /// The key of a regular node, found by reversing its split key; 0 for a dummy.
+    /// The key of a regular node, which is found by reversing its split key, or 0 for a dummy.
     pub fn key(self) -> u64
         ensures { result ≡ self.key }
     {
@@ -122,8 +125,8 @@ impl SortKey {
         if self.is_upper { low + HALF } else { low }
     }
 
-    /// Whether this precedes the other: its split key is lower, or the split keys are equal and its
-    /// key is lower.
+    /// Returns true if this sort key precedes `other`: if its split key is lower, or if the split
+    /// keys are equal and its key is lower.
     pub fn is_before(self, other: SortKey) -> bool
         ensures { result ≡ is_before self other }
     {

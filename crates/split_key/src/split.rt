@@ -1,6 +1,6 @@
 //! Split keys of keys and of dummies. The split key of a key ends in 1 and that of a dummy in 0, so
-//! a bucket's dummy precedes the keys of the bucket. The last 1 stands in for the key's top bit,
-//! which `sort` keeps beside the split key. Each call is one reversal.
+//! a bucket's dummy precedes the keys of the bucket. The final 1 takes the place of the key's top
+//! bit, which a sort key stores beside the split key. Each call makes one reversal.
 ghost use Rattle.std.specs.Prelude.{◌≡◌, ◌≢◌, ℕ, ◌%◌, ◌^◌, ◌<◌};
 ghost use Rattle.split_key.specs.Split.{reversed, split, IsAncestor};
 
@@ -10,9 +10,9 @@ use crate::reversal::reverse;
 /// The bit that is set in a key before it is reversed; it makes the split key odd.
 const TOP_BIT: u64 = 1 << 63;
 
-/// The split key of a key's node, a regular node: the key's 64 bits, the top one set, in reverse
-/// order. It is odd. Keys share a split key exactly if they agree below their top bit, so no two
-/// keys below 2^63 share one.
+/// The split key of a key's node, which is a regular node: the key's 64 bits, with the top bit set,
+/// in reverse order. It is odd. Two keys share a split key exactly if they agree in all bits below
+/// the top one, so no two keys below 2^63 share one.
 pub fn regular(key: Key) -> u64
     ensures value { result ≡ split key }
     ensures odd { result % 2 ≡ 1 }
@@ -22,8 +22,9 @@ pub fn regular(key: Key) -> u64
     reverse(key.number() | TOP_BIT)
 }
 
-/// The split key of a bucket's dummy node: the bucket's bits in reverse order. It is even, no other
-/// bucket has it, and it is above those of the bucket's ancestors other than the bucket itself.
+/// The split key of a bucket's dummy node: the bucket's bits in reverse order. It is even, and no
+/// other bucket has it. It is above the split key of each ancestor of the bucket, except the bucket
+/// itself.
 pub fn dummy(bucket: u32) -> u64
     ensures value { result ≡ reversed bucket }
     ensures even { result % 2 ≡ 0 }

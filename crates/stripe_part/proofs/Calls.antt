@@ -1,4 +1,4 @@
--- The state after each call of a part, from the changes of its map and its count.
+-- The part after each call, derived from what the call does to the part's map and count.
 use Rattle.std.proofs.Common.{◌≡◌, ℕ, false, true, cond, Option, None, sym, refl, ◌∙◌, ap}
 use Rattle.std.proofs.lemmas.Bool.{false≢true}
 use Rattle.txn_words.specs.declared.op.Op.{Op}
@@ -11,7 +11,7 @@ use Rattle.stripe_part.specs.Calls.{Does}
 use Rattle.stripe_part.specs.PartAt.{nothing}
 use Rattle.stripe_part.specs.Stored.{part_of}
 
--- An operation that is never a change only looks.
+-- An operation that is never a change leaves the part unchanged.
 pub looked : (m : Map) (owed : ℕ) (op : Op) (reply : Option ℕ) → may_change op ≡ false → reply ≡ get m (key_of op) → Does (part_of m owed) (part_of m owed) op reply
 looked m owed (Get key) reply looks is = record { reply_is = is; content_is = refl; owed_is = refl }
 looked m owed (Put key v) reply looks is = absurd (false≢true (sym looks))

@@ -22,8 +22,8 @@ below_is a b less = from (nat_cmp a b) refl less
     from Equal is less = absurd less
     from Greater is less = absurd less
 
--- Two lists with exactly the same pairs are equal if the keys of one rise and those of the other do
--- not fall.
+-- Two lists with exactly the same pairs are equal, if the keys of one list rise and the keys of the
+-- other list do not fall.
 abbrev occurs : Pair → Pair → ℕ
 occurs p x = cond (x.0 == p.0) (cond (x.1 == p.1) 1 0) 0
 
@@ -64,7 +64,7 @@ same_rows (x ∷ rows) (r ∷ found) rise up same = let parts = pair_parts (belo
     let more : r.0 ≤ x.0 = subst (λ (p : Pair). r.0 ≤ p.0) also.2 (up 0 (suc also.0) x (omega arith) (let within = also.1 in omega arith)) in
     absurd (omega arith)) (pair_cases r x)
 
--- In sorted pairs the keys do not fall.
+-- In a sorted list of pairs the keys do not fall.
 first_less : (a b : Ordering) → is_lt (ordering_then a b) ≡ false → is_lt a ≡ false
 first_less Less b is = is
 first_less Equal b is = refl
@@ -73,6 +73,6 @@ first_less Greater b is = refl
 up_sorted : (found : List Pair) → IsSorted (λ (a b : Pair). ordering_then (nat_cmp a.0 b.0) (nat_cmp a.1 b.1)) found → IsNonDecreasingBy (λ (p : Pair). p.0) found
 up_sorted found sorted = IsNonDecreasingBy-from_sort (λ (p : Pair). p.0) found (λ k d low lt. first_less _ _ (sorted k d low lt))
 
--- The pairs of a map, sorted, are the map's rows.
+-- If the pairs of a map are sorted, they are the map's rows.
 pub rows_sorted : (m : Map) (pairs found : List Pair) → IsPermutation m.rows pairs → IsPermutation pairs found → IsSorted (λ (a b : Pair). ordering_then (nat_cmp a.0 b.0) (nat_cmp a.1 b.1)) found → found ≡ m.rows
 rows_sorted m pairs found p q sorted = same_rows m.rows found m.rising (up_sorted found sorted) (λ x. sum_by-IsPermutation (occurs x) pairs found q ∙ sum_by-IsPermutation (occurs x) m.rows pairs p)

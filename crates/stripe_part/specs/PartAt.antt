@@ -9,11 +9,11 @@ pub record PartAt : Type 0 where
   pub content : Map
   pub owed : ℕ
 
--- No key and no change.
+-- A part with no key and no change to take back.
 abbrev pub nothing : PartAt
 nothing = record { content = empty; owed = 0 }
 
--- A part's view is stored as the pair of its fields.
+-- Encodes a `PartAt` as the pair of its fields.
 abbrev pub part_code : Coded PartAt
 part_code = code_by (Map × ℕ) (coded× content_code coded_ℕ) (λ p. (p.content, p.owed))
     (λ t. record { content = t.0; owed = t.1 }) (λ _. refl)

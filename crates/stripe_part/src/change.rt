@@ -1,6 +1,6 @@
-//! Changes of a map and of the number of changes that can be taken back. These are functions of the
-//! two fields, and not methods of `CountedMap`, since its invariant does not hold between their
-//! steps.
+//! Functions that change a map and the number of its changes that can be taken back. They get the
+//! two fields of a `CountedMap` and are not its methods, since the type's invariant does not hold
+//! in the middle of a change.
 ghost use Rattle.std.specs.Prelude.{◌≡◌, ℕ, ◌+◌, ◌<◌, ◌≤◌, OnErr, IfOk, IfErr};
 ghost use Rattle.txn_words.specs.Map.{after, reply_of, set_at};
 ghost use Rattle.stripe_part.specs.Calls.{Does, IsRefused, TakesBack};
@@ -9,7 +9,7 @@ ghost use Rattle.stripe_part.specs.Stored.{part_of};
 use probe_map::ProbeMap;
 use txn_words::{Op, Refusal, Reply};
 
-/// Gives a key this value, or no value.
+/// Gives the key this value or, if there is no value, removes the key.
 fn set(map: &mut ProbeMap, key: u64, value: Option<u64>)
     requires { 0 < map.old.spare }
     ensures content { map.new.content ≡ set_at map.old.content key value }
@@ -48,8 +48,9 @@ fn act(map: &mut ProbeMap, op: Op) -> Reply
     }
 }
 
-/// Does an operation, and counts it if it is a change. If the operation may be a change, the map
-/// first gets room: for one key for each change that will be owed, and for one new key.
+/// Does an operation, and adds 1 to `owed` if it was a change. If the operation may be a change,
+/// the map first gets room for `owed + 2` more keys: one for each change that can then be taken
+/// back, and one for a new key.
 #[inline(always)]
 #[tactic(auto, using(crate::proofs::Calls::looked))]
 pub(crate) fn apply(map: &mut ProbeMap, owed: &mut usize, op: Op) -> Result<Reply, Refusal>

@@ -44,9 +44,9 @@ impl CountedMap {
         }
     }
 
-    /// An empty map with no change to take back, and with room for one key more than `keys`. To put
-    /// a key, `apply` reserves room for at least two keys: one for the key, and one for taking the
-    /// change back.
+    /// An empty map with no change to take back, and with room for `keys + 1` keys. The extra key
+    /// is needed because `apply` reserves room for at least two keys when it puts a key: one for
+    /// the key, and one for taking the change back.
     pub(crate) fn with_capacity(alloc: Global, keys: usize) -> Result<CountedMap, AllocError>
         ensures { IfOk result (λ map. map ≡ nothing) }
     {
@@ -74,7 +74,7 @@ impl CountedMap {
         take_back(&mut self.map, &mut self.owed, key, before);
     }
 
-    /// Keeps all changes.
+    /// Keeps all changes: they can no longer be taken back.
     #[inline(always)]
     pub(crate) fn settle(&mut self)
         ensures content { self.new.content ≡ self.old.content }
@@ -97,7 +97,7 @@ impl CountedMap {
         self.map.len() as u64
     }
 
-    /// The keys with their values, by rising keys.
+    /// The keys with their values, in rising order of keys.
     pub(crate) fn pairs(&self, alloc: Global) -> Result<Vec<(u64, u64)>, AllocError>
         ensures { IfOk result (λ pairs. pairs.items ≡ self.now.content.rows) }
     {

@@ -1,13 +1,13 @@
 //! The map of one stripe of a striped map. It can take changes back.
 //!
-//! Only the holder of a stripe uses its `Part`, as plain memory. So, unlike a map whose callers act
-//! step by step, a part needs no cursors, no marked nodes and no buckets in split order. Inside is
-//! a `ProbeMap`.
+//! Only the holder of a stripe uses the stripe's `Part`, and uses it as plain memory. So, unlike a
+//! map whose callers act step by step, a part needs no cursors, no marked nodes and no buckets in
+//! split order. It contains a `ProbeMap`.
 //!
-//! A contract sees a part as a `PartAt`: its `content`, a finite map, and how many changes of the
-//! open transaction are `owed`, that is, can be taken back without memory. The user of the part
-//! keeps these changes, each with its key and the value before, in one log for all its parts: so an
-//! operation writes only the map.
+//! A contract sees a part as a `PartAt`. Its `content` is a finite map. `owed` is the number of
+//! changes of the open transaction that can be taken back without memory. The user of the part
+//! keeps these changes, each with its key and the key's old value, in one log for all its parts. So
+//! an operation writes only the map.
 //!
 //! - `apply` does an operation. The reply and the new content are those of the operation on a plain
 //!   finite map. If the operation is a change, one more change is owed. A refusal leaves the part
@@ -20,14 +20,13 @@
 //!
 //! A part is one word. The map and its count of changes are in a box that is made at the first
 //! change. So a part takes no memory before its first change, unless it is made with room
-//! (`with_capacity`). The invariant: for each change that is owed the map has room for one more
-//! key. So a key that was taken out can be put back without memory. Each change first reserves this
-//! room, and room for one new key.
+//! (`with_capacity`). Invariant: for each change that is owed the map has room for one more key. So
+//! a key that was taken out can be put back without memory. Each change first reserves this room,
+//! and room for one new key.
 //!
 //! A part grows by itself. `apply` and `take_back` take amortized constant time, except for keys
-//! whose hashes collide; `settle`, `len` and `changes` take constant time; `pairs` takes the time
-//! of a walk over the map's slots and of a sort of the keys. Only `with_capacity`, `apply` and
-//! `pairs` take memory.
+//! whose hashes collide. `settle`, `len` and `changes` take constant time. `pairs` goes over all
+//! slots of the map and sorts the keys. Only `with_capacity`, `apply` and `pairs` take memory.
 #![tactic(auto)]
 
 mod change;

@@ -1,7 +1,7 @@
-//! The public type: a box with the map and the number of its changes. The box is made at the first
-//! change, or at the start if the part is to have room. A part without a box is empty, and its
-//! calls answer as on the empty map. Only this module tests for the box; the content of the box and
-//! the invariant are in `counted_map.rt`.
+//! The public type `Part`: a box with the map and the number of its changes. The box is made at the
+//! first change, or at the start if the part is to have room. A part without a box is empty, and a
+//! call on it returns what it returns for an empty map. Only this module tests whether there is a
+//! box. The content of the box and the invariant are in `counted_map.rt`.
 ghost use Rattle.std.specs.Prelude.{◌≡◌, ℕ, ◌<◌, true, Option, IfOk, IfErr, OnErr};
 ghost use Rattle.txn_words.specs.Map.{count_of};
 ghost use Rattle.txn_words.specs.Shape.{changes};
@@ -13,15 +13,16 @@ use std::alloc::{AllocError, Global};
 use std::marker::Model;
 use txn_words::{Op, Refusal, Reply};
 
-/// The map of one stripe, which can take changes of the open transaction back.
+/// The map of one stripe. It can take changes of the open transaction back.
 ///
-/// A contract sees a `PartAt`: the content, a finite map, and how many changes are owed, that is,
-/// can be taken back without memory. The user of the part keeps the changes themselves.
+/// A contract sees a `PartAt`: the content, a finite map, and how many changes are owed, which
+/// means that they can be taken back without memory. The user of the part keeps the changes
+/// themselves.
 ///
 /// # Cost
 ///
-/// A part takes no memory before its first change, which takes a box and the map's array. A part
-/// that has room from the start (`with_capacity`) takes both at the start.
+/// A part takes no memory before its first change. The first change takes memory for a box and for
+/// the map's array. A part that has room from the start (`with_capacity`) takes both at the start.
 #[derive(Drop)]
 pub struct Part {
     inner: Option<Box<CountedMap>>,
@@ -38,7 +39,7 @@ impl Model for Part {
     ghost view = { λ p. unwrap_or (option_map (λ b. b.value) p.inner) nothing };
 }
 
-/// Does a change on a new map.
+/// Does an operation that is a change on a new, empty map.
 #[inline(never)]
 #[tactic(auto, using(crate::proofs::Calls::may_be))]
 fn begin(alloc: Global, op: Op) -> Result<(Box<CountedMap>, Reply), Refusal>
@@ -63,19 +64,20 @@ impl Part {
         Part { inner: None }
     }
 
-    /// An empty part, with no change to take back, that has room for this number of keys. Let `n`
-    /// be the number of keys that were put plus the number of changes that are owed. A key that was
-    /// taken out since still counts. As long as `n` is below `keys`, `apply` takes no memory. For
-    /// instance, if the part settles after each new key, the first `keys` new keys take no memory.
+    /// An empty part with no change to take back and with room for `keys` keys. Let `n` be the
+    /// number of keys that were put plus the number of changes that are owed. A key that was put
+    /// and later taken out still counts. As long as `n` is below `keys`, `apply` takes no memory.
+    /// For instance, if the part settles after each new key, the first `keys` new keys take no
+    /// memory.
     ///
     /// # Errors
     ///
-    /// `AllocError` if memory is refused, or if no memory can have room for the keys.
+    /// `AllocError` if memory is refused, or if this number of keys cannot fit in any memory.
     ///
     /// # Cost
     ///
-    /// Time and memory in proportion to the keys: a box, and the map's array. With 0 keys it is
-    /// `new`.
+    /// Time and memory in proportion to `keys`: a box, and the map's array. If `keys` is 0, the
+    /// call does the same as `new`.
     pub fn with_capacity(alloc: Global, keys: usize) -> Result<Part, AllocError>
         ensures { IfOk result (λ part. part ≡ nothing) }
     {
@@ -87,9 +89,9 @@ impl Part {
         Ok(Part { inner: Some(inner) })
     }
 
-    /// Does an operation: the reply and the content that it leaves are those of a plain map. If it
-    /// is a change, one more is owed; the part's user notes the key and the reply, which is the
-    /// value before.
+    /// Does an operation. The reply and the new content are those of the operation on a plain map.
+    /// If the operation is a change, one more change is owed. The part's user then notes the key
+    /// and the reply, which is the key's old value.
     ///
     /// # Errors
     ///
@@ -116,13 +118,14 @@ impl Part {
         Ok(reply)
     }
 
-    /// Takes a change back: its key gets the value that it had before, and all other keys keep
-    /// theirs. One change fewer is owed; `changes` must be above 0. If the changes of a transaction
-    /// are taken back newest first, the content is then what it was before them.
+    /// Takes a change back: the change's key gets the value that it had before, and all other keys
+    /// are unchanged. One change fewer is owed; `changes` must be above 0. If the changes of a
+    /// transaction are all taken back, newest first, the content is then the same as before the
+    /// transaction.
     ///
     /// # Cost
     ///
-    /// That of `apply`; takes no memory.
+    /// The time of `apply`. Takes no memory.
     pub fn take_back(&mut self, key: u64, before: Option<u64>)
         requires { 0 < self.old.owed }
         ensures { TakesBack self.old self.new key before }
@@ -167,7 +170,7 @@ impl Part {
         }
     }
 
-    /// The keys with their values, by rising keys.
+    /// The keys with their values, in rising order of keys.
     ///
     /// # Errors
     ///
@@ -175,8 +178,8 @@ impl Part {
     ///
     /// # Cost
     ///
-    /// Memory in proportion to the keys, and the time of a walk over the map's slots and of a sort
-    /// of the keys.
+    /// Goes over all slots of the map and sorts the keys. Takes memory in proportion to the number
+    /// of keys.
     pub fn pairs(&self, alloc: Global) -> Result<Vec<(u64, u64)>, AllocError>
         ensures { IfOk result (λ pairs. pairs.items ≡ self.now.content.rows) }
     {

@@ -59,7 +59,7 @@ cut_own c es e mine was running = cut_more c es e refl (was (ran_before (seat_af
 own-mine : (c : ℕ) (g : List Entry) (e : Entry) → caller_of e ≡ c → own c (g ++ e ∷ []) ≡ own c g ++ e ∷ []
 own-mine c g e mine = own-append c g (e ∷ []) ∙ ap (λ b. own c g ++ cond b (e ∷ []) []) (eq-eqb (caller_of e) c mine)
 
--- A caller in a transaction has begun that transaction, and has begun no other since.
+-- If a caller is in a transaction, its last Began entry is the beginning of this transaction.
 open_cut : (c : ℕ) (g : List Entry) → IsShaped g → is_running (seat_after (own c g)) ≡ true → Cut c (own c g)
 open_cut c g shape = by_entries (λ h. is_running (seat_after (own c h)) ≡ true → Cut c (own c h)) step (λ none. absurd (false≢true none)) g shape
   where
@@ -69,8 +69,8 @@ open_cut c g shape = by_entries (λ h. is_running (seat_after (own c h)) ≡ tru
       | inr other ↦ let same = own-other c g e (λ z. other (sym z)) in subst (Cut c) (sym same) (was (ap (λ es. is_running (seat_after es)) (sym same) ∙ running))
     ]
 
--- A caller commits its transaction. The transaction has the same replies as if it ran alone on the
--- map that the earlier commits leave.
+-- If a caller commits its transaction, the transaction has the same replies as if it ran alone on
+-- the map that the earlier commits leave.
 pub commits_alone : (n c place : ℕ) (seen log : List Entry) (seat : Seat) → IsLegal Begun n seen → seat_after (own c seen) ≡ Some seat → seat.phase ≡ Opened → Extends n c seen (Committed c place ∷ []) log → RunsAlone c place log
 commits_alone n c place seen log seat legal seat_is opened x =
     let cut = open_cut c seen legal.shape (ap is_running seat_is ∙ ap runs opened) in

@@ -32,7 +32,8 @@ moved_idle map a b w es left x is = record {
   goes = subst (Extends (stripes_of map) (known a.seat).number (known a.seat).seen es) (sym (ap (λ (v : View). v.seen) is)) x.goes;
 }
 
--- A step that added nothing and then one that added these entries are one step that added them.
+-- A step that adds nothing, followed by a step that adds these entries, is together one step that
+-- adds these entries.
 pub moved_then : (map : StripedMap) (a b c : Hand) (es : ℕ → List Entry) → MovesHand map a [] b → MovesHand map b (es (known b.seat).number) c → MovesHand map a (es (known a.seat).number) c
 moved_then map a b c es x y = record {
   number_is = y.number_is ∙ x.number_is;
@@ -65,8 +66,8 @@ moved_known map a b es x c same = record {
   goes = subst (λ (v : View). Extends (stripes_of map) (known a.seat).number (known a.seat).seen es v.seen) (sym same) x.goes;
 }
 
--- A hand that does not change makes a step that adds nothing, and two steps that add nothing are
--- one.
+-- If a hand does not change, this is a step that adds nothing. Two steps that add nothing are
+-- together one step that adds nothing.
 pub moved_still : (map : StripedMap) (a : Hand) → IsOf a.seat map → MovesHand map a [] a
 moved_still map a of = record { number_is = refl; retired_is = refl; made_is = refl; goes = extends_none (stripes_of map) (known a.seat).number (known a.seat).seen (subst (λ z. IsLegal Begun z.slots (known a.seat).seen) of a.sound.legal) }
 

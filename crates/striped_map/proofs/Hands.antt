@@ -58,7 +58,6 @@ set_place (x ∷ xs) zero (suc i) y a e = inr ((λ z. omega arith), e)
 set_place (x ∷ xs) (suc j) zero y a e = inr ((λ z. omega arith), e)
 set_place {A} (x ∷ xs) (suc j) (suc i) y a e = ⊎_elim (λ (t : (i ≡ j) × (y ≡ a)). inl (omega arith, t.1)) (λ (t : (i ≢ j) × (slice_get xs i ≡ Some a)). inr ((λ z. t.0 (omega arith)), t.1)) (set_place xs j i y a e)
 
--- The element read at a place.
 pub read_at : (xs : List ℕ) (k h : ℕ) → k < length xs → h ≡ get_or xs k h → slice_get xs k ≡ Some h
 read_at [] k h lt e = absurd (omega arith)
 read_at (x ∷ xs) zero h lt e = ap (λ (y : ℕ). Some y) (sym e)
@@ -110,7 +109,7 @@ with_set f g (x ∷ ks) (suc j) k at apart same = ap (λ (p : PartAt). (record {
 pub holds_at : (n : ℕ) (v : View) (held : List HeldPart) (m : Map) → AreHeld n v held m → (i k : ℕ) → slice_get (stripes_in held) i ≡ Some k → Holds v k
 holds_at n v held m s i k at = subst (λ (ks : List ℕ). 0 < times k ks) (sym s.kept) (let t : 0 < times k (stripes_in held) = times_at (stripes_in held) i k at in omega (arith, times_reverse k (stripes_in held)))
 
--- The seat holds no stripe other than those of the parts.
+-- The seat holds only the stripes of the parts in `held`.
 pub not_held : (n : ℕ) (v : View) (held : List HeldPart) (m : Map) → AreHeld n v held m → (k : ℕ) → ((i : ℕ) → slice_get (stripes_in held) i ≢ Some k) → Holds v k → ⊥
 not_held n v held m s k none hold = let h : 0 < times k (reverse (stripes_in held)) = subst (λ (ks : List ℕ). 0 < times k ks) s.kept hold in
     let at = at_times (stripes_in held) k (omega (arith, times_reverse k (stripes_in held))) in none at.0 at.1
@@ -123,7 +122,8 @@ parts_on n v w held m k s same have = record {
   fits = λ i h at q in_k. s.fits i h at q in_k ∙ sym (have q (subst (Holds v) (sym in_k) (holds_at n v held m s i h.stripe (stripe_at held i h at))));
 }
 
--- A stripe is taken, and its part is added to those that are held.
+-- If a stripe is taken and its part is added to the held parts, these are again the parts of all
+-- held stripes (`AreHeld`).
 pub parts_taken : (n k : ℕ) (v w : View) (held : List HeldPart) (part : PartAt) → AreHeld n v held (now v.seen) → ((i : ℕ) → slice_get (stripes_in held) i ≢ Some k) → GainsStripe n k v part w → AreHeld n w (held ++ (record { stripe = k; part = part }) ∷ []) (now w.seen)
 parts_taken n k v w held part s none t = let new : HeldPart = record { stripe = k; part = part } in let ks : List ℕ = stripes_in held in
     let is : stripes_in (held ++ new ∷ []) ≡ ks ++ k ∷ [] = stripes_push held new in
@@ -186,7 +186,8 @@ nil_cons a xs e = cc (e)
 spot_same : (a b : Option ℕ) (x y : Job) → a ≡ b → x ≡ y → ◌≡◌ {A = Spot} (a, x) (b, y)
 spot_same a b x y e f i = (e i, f i)
 
--- The newest change, with the place of its part, the sub-key and the value before.
+-- The newest change of `jobs`, and the same change as the hand keeps it, with the place of its part
+-- and its sub-key.
 pub record Newest (n : ℕ) (change : Change) (ks : List ℕ) (changes : List Change) (jobs : List Job) : Type 0 where
   pub job : Job
   pub older : List Job
@@ -231,8 +232,8 @@ logged_taken n k held order jobs part s none empty = let new : HeldPart = record
   ordered = ap (λ (l : List ℕ). map (at_place l) (reverse order)) (stripes_push held new) ∙ ordered_push n k ks (reverse order) jobs s.ordered;
 }
 
--- The part at the place `j` of the list `held` is replaced. The map changes only at keys of this
--- part's stripe.
+-- If the part at the place `j` of the list `held` is replaced, and the map changes only at keys of
+-- this part's stripe, the parts of the new list fit the new map.
 pub parts_changed : (n : ℕ) (v : View) (held : List HeldPart) (m k : Map) → AreHeld n v held m → (j : ℕ) (h new : HeldPart) → slice_get held j ≡ Some h → new.stripe ≡ h.stripe
     → IsPartOf n h.stripe new.part k → ((q : ℕ) → stripe_of n q ≢ h.stripe → get k q ≡ get m q) → AreHeld n v (set held j new) k
 parts_changed n v held m k s j h new at same fits still = let is = stripes_set held j h new at same in record {
@@ -325,19 +326,20 @@ logged_noted n v held m order jobs p s j h part op reply at in_k does = let b : 
     (λ k ne. owed_split b n k job jobs (λ e. ne (sym e ∙ sym in_k)))
     (order_grows b n j (stripes_in held) order job jobs (stripe_at held j h at ∙ ap (λ (x : ℕ). Some x) in_k) s.ordered)
 
--- The newest change of an order is the one at its end.
+-- The newest change of the list `order` is at its end.
 pub newest : (n : ℕ) (held : List HeldPart) (order : List Change) (change : Change) (jobs : List Job) → AreLogged n held (order ++ change ∷ []) jobs → Newest n change (stripes_in held) (reverse order) jobs
 newest n held order change jobs s = newest_of n change (stripes_in held) (reverse order) jobs (ap (map (at_place (stripes_in held))) (sym (reverse-append order (change ∷ []))) ∙ s.ordered)
 
--- The newest change was made in the part `h`. The number of changes that this part can take back is
--- one more than the number of older changes in its stripe.
+-- If the newest change was made in the part `h`, the number of changes that this part can take back
+-- is one more than the number of older changes in its stripe.
 pub newest_owed : (n : ℕ) (held : List HeldPart) (order : List Change) (change : Change) (jobs : List Job) (s : AreLogged n held (order ++ change ∷ []) jobs) (h : HeldPart) → slice_get held change.0 ≡ Some h
     → let new = newest n held order change jobs s in h.part.owed ≡ owed_on n h.stripe new.older + 1
 newest_owed n held order change jobs s h at = let new = newest n held order change jobs s in
     let in_k : stripe_of n new.job.0 ≡ h.stripe = same_Some _ _ (sym new.place_is ∙ stripe_at held change.0 h at) in
     s.owed change.0 h at ∙ ap (owed_on n h.stripe) new.jobs_are ∙ owed_mine n h.stripe new.job new.older in_k
 
--- A change is taken back in one of the parts that the seat holds.
+-- If a change is taken back in the part of a held stripe, and also in the map, the parts still fit
+-- the map.
 pub parts_back : (n : ℕ) (v : View) (held : List HeldPart) (m : Map) → AreHeld n v held m → (j : ℕ) (h : HeldPart) (part : PartAt) (job : Job) → slice_get held j ≡ Some h → h.stripe ≡ stripe_of n job.0
     → TakesBack h.part part (job.0 / n) job.1 → AreHeld n v (set held j (record { stripe = h.stripe; part = part })) (set_at m job.0 job.1)
 parts_back n v held m s j h part job at in_k back = parts_changed n v held m (set_at m job.0 job.1) s j h (record { stripe = h.stripe; part = part }) at refl
@@ -353,7 +355,8 @@ logged_back n v held m order jobs p change s h part at owed = let new = newest n
     logged_changed n v held m (order ++ change ∷ []) order jobs new.older p s change.0 h (record { stripe = h.stripe; part = part }) at refl owed
     (λ k ne. sym (ap (owed_on n k) new.jobs_are ∙ owed_other n k new.job new.older (λ e. ne (sym e ∙ in_k)))) new.ordered
 
--- The part `h` was taken last, so it is the last of the list. It is given back.
+-- Lemmas about giving back the stripe of the part `h`, which was taken last and is the last of the
+-- list.
 pub newest_stripe : (n : ℕ) (v : View) (held : List HeldPart) (m : Map) (h : HeldPart) → AreHeld n v (held ++ h ∷ []) m → Holds v h.stripe
 newest_stripe n v held m h s = holds_at n v (held ++ h ∷ []) m s (length held) h.stripe (stripe_at (held ++ h ∷ []) (length held) h (push_last held h))
 
@@ -375,7 +378,8 @@ parts_none n v m is = record { kept = is; apart = λ i j k a b. absurd (none-som
 pub logged_none : (n : ℕ) (held : List HeldPart) → ((i : ℕ) (h : HeldPart) → slice_get held i ≡ Some h → ⊥) → AreLogged n held [] []
 logged_none n held none = record { owed = λ i h at. absurd (none i h at); ordered = refl }
 
--- The caller's own entries after the history went on.
+-- If a history grows by the entries `es`, all of them the caller's, the caller's own entries grow
+-- by `es`.
 pub own_extends : (n c : ℕ) (seen es log : List Entry) → Extends n c seen es log → own c es ≡ es → own c log ≡ own c seen ++ es
 own_extends n c seen es log x whole =
     ap (own c) x.goes ∙ own-append c (seen ++ x.between) es ∙ ap (λ (l : List Entry). l ++ own c es) (own-append c seen x.between ∙ ap (λ (l : List Entry). own c seen ++ l) x.others ∙ append-nil (own c seen))
@@ -396,12 +400,10 @@ extends_then n c seen mid es log a b = record {
 pub extends_none : (n c : ℕ) (seen : List Entry) → IsLegal Begun n seen → Extends n c seen [] seen
 extends_none n c seen legal = record { between = []; goes = sym (append-nil (seen ++ []) ∙ append-nil seen); others = refl; legal = legal }
 
--- One change fewer remains to be taken back.
 pub back_step : (m : Map) (left less : ℕ) (jobs older : List Job) (job : Job) → left ≡ suc less → jobs ≡ job ∷ older
     → (rolled_back (set_at m job.0 job.1) (take less older) ≡ rolled_back m (take left jobs)) × (drop less older ≡ drop left jobs)
 back_step m left less jobs older job e f = subst (λ (l : ℕ). (rolled_back (set_at m job.0 job.1) (take less older) ≡ rolled_back m (take l jobs)) × (drop less older ≡ drop l jobs)) (sym e)
     (subst (λ (js : List Job). (rolled_back (set_at m job.0 job.1) (take less older) ≡ rolled_back m (take (suc less) js)) × (drop less older ≡ drop (suc less) js)) (sym f) (refl, refl))
 
--- No change is left to be taken back.
 pub back_done : (m : Map) (left : ℕ) (jobs : List Job) → left ≡ 0 → (rolled_back m (take left jobs) ≡ m) × (drop left jobs ≡ jobs)
 back_done m left jobs e = subst (λ (l : ℕ). (rolled_back m (take l jobs) ≡ m) × (drop l jobs ≡ jobs)) (sym e) (refl, refl)

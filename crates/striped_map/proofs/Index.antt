@@ -1,4 +1,5 @@
--- The index by stripe: which places it has once stripes are taken or given back.
+-- Lemmas about the index, which has the place of each held stripe. They say which places it has
+-- after stripes are taken or given back.
 use Rattle.std.proofs.Common.{◌≡◌, ◌≢◌, ℕ, zero, suc, ◌<◌, ◌≤◌, true, false, ◌||◌, List, [], ◌∷◌, ◌++◌, length, set, take, None, Some, slice_get, sym, refl, ◌∙◌, ap, ⊎_elim, arith, ne_eqb}
 use mathlib.Core.Logic.{dite}
 use native.Mathlib.Decide.{ℕ_discrete}

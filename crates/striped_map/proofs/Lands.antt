@@ -90,7 +90,7 @@ lands_one n P g e seat jobs serial current held next from still = record {
   have = λ q hold. ap (λ (m : Map). get m q) next.now_is;
 }
 
--- The state after two lists of entries, one after the other.
+-- `Lands` for two lists of entries, the second after the first.
 lands_both : (n c : ℕ) (P : ℕ → Type 0) (m k : ℕ) (g es fs : List Entry) (left : StateAfter) → Grows n c P m g es → Lands n c P k (g ++ es) fs left → Lands n c P (m + k) g (es ++ fs) left
 lands_both n c P m k g es fs left a b = let is : (g ++ es) ++ fs ≡ g ++ (es ++ fs) = append_assoc g es fs in record {
   grows = grows_both n c P m k g es fs a b.grows;
@@ -118,7 +118,7 @@ none_cond : (b : Bool) (o : Option ℕ) (d : ℕ) → cond b None o ≡ Some d �
 none_cond true o d is = absurd (let no : None ≡ Some d = is in none-some d no)
 none_cond false o d is = is
 
--- An Asked is legal if no other caller holds the stripe.
+-- If no other caller holds the stripe of an operation, a caller may ask for the operation.
 may_ask : (n : ℕ) (g : List Entry) → IsLegal Begun n g → (c : ℕ) (op : Op) → ((d : ℕ) → holder_of n (stripe_of n (key_of op)) g ≡ Some d → d ≡ c) → is_locked Begun n g (Asked c op) ≡ true
 may_ask n g legal c op only = is_locked-asked Begun n g c op legal.shape legal.locks ∙ at (holder_of n (stripe_of n (key_of op)) g) only
   where
@@ -126,7 +126,7 @@ may_ask n g legal c op only = is_locked-asked Begun n g c op legal.shape legal.l
     at None only = refl
     at (Some d) only = eq-eqb d c (only d refl)
 
--- An operation with its reply, on a stripe that is the caller's.
+-- `Lands` for an operation and its reply, if P names the operation's stripe.
 notes : (n : ℕ) (P : ℕ → Type 0) (g : List Entry) → IsLegal Begun n g → (c : ℕ) (op : Op) (reply : Option ℕ) (seat : Seat) → seat_after (own c g) ≡ Some seat → seat.phase ≡ Opened
     → is_locked Begun n g (Asked c op) ≡ true → P (stripe_of n (key_of op)) → reply ≡ reply_of (now g) op
     → Lands n c P 0 g (Asked c op ∷ Did c reply ∷ []) (record { seat = record seat { phase = Opened; standing = cond (changes op reply) (seat.standing + 1) seat.standing }; log = cond (changes op reply) ((key_of op, reply) ∷ log_of c g) (log_of c g); map = after (now g) op })
@@ -140,7 +140,7 @@ notes n P g legal c op reply seat seat_is opened free mine right =
     (lands_one n P (g ++ a ∷ []) e _ _ _ _ _ two (λ k d h. inl h) (λ q no. get-after_other (now (g ++ a ∷ [])) op q (λ same. no (subst (λ (x : ℕ). P (stripe_of n x)) (sym same) mine)))) in
     lands_as n c P 0 g (a ∷ e ∷ []) _ _ _ _ lands refl (ap (λ (l : List Job). cond (changes op reply) ((key_of op, reply) ∷ l) l) one.log_is) (λ q hold. ap (λ (m : Map). get (after m op) q) one.now_is)
 
--- A transaction that begins, and one that commits.
+-- `Lands` for the beginning of a transaction, and for its commit.
 pub begins : (n : ℕ) (P : ℕ → Type 0) (g : List Entry) → IsLegal Begun n g → (c : ℕ) (seat : Seat) → seat_after (own c g) ≡ Some seat → seat.phase ≡ Closed
     → Lands n c P 0 g (Began c (how_many is_began g + 1) ∷ []) (at_begin g)
 begins n P g legal c seat seat_is closed =
@@ -159,14 +159,14 @@ undone_same q [] a b same = same
 undone_same q (job ∷ jobs) a b same = undone_same q jobs (set_at a job.0 job.1) (set_at b job.0 job.1)
     (get-set_at a job.0 job.1 q ∙ ap (λ (o : Option ℕ). cond (q == job.0) job.1 o) same ∙ sym (get-set_at b job.0 job.1 q))
 
--- One change is taken back.
+-- `Grows` for one Undone entry, which takes one change back.
 undoes_one : (n : ℕ) (P : ℕ → Type 0) (c : ℕ) (job : Job) (g : List Entry) (seat : Seat) (jobs : List Job) (serial : Map) (held : ℕ → Option ℕ)
     → Next Begun n g (Undone c) seat jobs serial (set_at (now g) job.0 job.1) (λ s. holder_of n s g) → P (stripe_of n job.0) → Grows n c P 0 g (Undone c ∷ [])
 undoes_one n P c job g seat jobs serial held next mine =
     grows_one n P g (Undone c) _ _ _ _ _ next (λ k d h. inl h)
     (λ q no. get-set_at (now g) job.0 job.1 q ∙ ap (λ b. cond b job.1 (get (now g) q)) (ne_eqb q job.0 (λ same. no (subst (λ (x : ℕ). P (stripe_of n x)) (sym same) mine))))
 
--- All standing changes are taken back, and the transaction is aborted.
+-- `Lands` for the entries that take all standing changes back and abort the transaction.
 undoes_to_end : (n : ℕ) (P : ℕ → Type 0) (c : ℕ) (jobs : List Job) (g : List Entry) → IsLegal Begun n g → (seat : Seat) → seat_after (own c g) ≡ Some seat → seat.phase ≡ LeavingToEnd → log_of c g ≡ jobs
     → AllByRecursion (λ (job : Job). P (stripe_of n job.0)) jobs → Lands n c P 0 g (undoing c jobs (Aborted c)) (at_end (rolled_back (now g) jobs))
 undoes_to_end n P c [] g legal seat seat_is leaving log_is mine =
@@ -180,7 +180,8 @@ undoes_to_end n P c (job ∷ jobs) g legal seat seat_is leaving log_is mine =
     lands_as n c P 0 g (undoing c (job ∷ jobs) (Aborted c)) _ _ _ _
     (lands_both n c P 0 0 g (Undone c ∷ []) (undoing c jobs (Aborted c)) _ (undoes_one n P c job g _ _ _ (λ s. holder_of n s g) next mine.0) more) refl refl (λ q hold. ap (λ (m : Map). get (rolled_back m jobs) q) next.now_is)
 
--- The changes above a level are taken back, and the caller is back at the level.
+-- `Lands` for the entries that take the changes above a level back and return the caller to the
+-- level.
 undoes_to_level : (n : ℕ) (P : ℕ → Type 0) (c level : ℕ) (jobs kept : List Job) (g : List Entry) → IsLegal Begun n g → (seat : Seat) → seat_after (own c g) ≡ Some seat → seat.phase ≡ LeavingTo level → log_of c g ≡ jobs ++ kept
     → slice_index seat.kept level ≡ length kept → AllByRecursion (λ (job : Job). P (stripe_of n job.0)) jobs
     → Lands n c P 0 g (undoing c jobs (Returned c level)) (record { seat = record { phase = Opened; standing = length kept; kept = take (level + 1) seat.kept }; log = kept; map = rolled_back (now g) jobs })
@@ -215,7 +216,7 @@ own_seen n log v h acting = ap (own v.number) h.goes ∙ own-append v.number v.s
 pub begun_on : (c : ℕ) (log es : List Entry) → has_begun c log ≡ true → has_begun c (log ++ es) ≡ true
 begun_on c log es is = list_any-append (λ e. is_began e && caller_of e == c) log es ∙ or_left (has_begun c log) (has_begun c es) is
 
--- A caller in a transaction has begun one.
+-- If a caller is in a transaction, it has begun a transaction.
 pub open_begun : (n c : ℕ) (g : List Entry) → IsLegal Begun n g → (seat : Seat) → seat_after (own c g) ≡ Some seat → seat.phase ≡ Opened → has_begun c g ≡ true
 open_begun n c g legal seat seat_is opened =
     txn_begun c g legal.shape (ap is_some (in_txn n g legal (Saved c) seat (record seat { kept = seat.kept ++ seat.standing ∷ [] }) seat_is (ap (λ q. row seat q (Saved c)) opened) refl (ap runs opened)))
@@ -245,7 +246,8 @@ module _ (n : ℕ) (v : View) (acting : v.acts ≡ true) (seat : Seat) (seat_is 
       let next = saved n log on.legal v.number seat (seat_on log on) opened in
       lands_as n v.number (Holds v) 0 log _ _ _ _ _ (lands_one n (Holds v) log (Saved v.number) _ _ _ _ _ next (λ k d h. inl h) (λ q no. refl)) refl (log_on log on) on.seen.still
 
-  -- After the first entry, by which the caller leaves, all its changes are taken back.
+  -- The caller may add an entry `first` that starts the end of its transaction, and then the
+  -- entries that take all its changes back.
   leaves : 0 < n → (first : Entry) → caller_of first ≡ v.number → is_commit first ≡ false
       → ((log : List Entry) → GoesOnFrom n v log → Next Begun n log first (record seat { phase = LeavingToEnd }) (log_of v.number log) (serial log) (now log) (λ s. holder_of n s log))
       → MayAdd n v (first ∷ undoing v.number (log_of v.number v.seen) (Aborted v.number)) (at_end (rolled_back (now v.seen) (log_of v.number v.seen)))

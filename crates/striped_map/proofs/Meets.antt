@@ -1,4 +1,4 @@
--- A seat that hears what another seat has seen keeps the rule.
+-- If a seat meets what another seat has seen, the rule still holds.
 use Rattle.std.proofs.Common.{◌≡◌, ◌≢◌, ℕ, ◌⊎◌, List, [], ◌∷◌, ◌++◌, length, set, Some, slice_get, sym, refl, ◌∙◌, ap, subst, inl, inr, ⊎_elim, arith, true}
 use mathlib.Core.List.{IsPrefix}
 use mathlib.Core.Logic.{dite}
@@ -16,7 +16,7 @@ use Rattle.striped_map.specs.Steps.{SeesIn, witness, blank, heard}
 use Rattle.striped_map.proofs.Keeps.{St, board, viewed}
 use Rattle.striped_map.proofs.Moves.{nothing_at}
 
--- The view is a witness: no caller acts by it, and it has seen a beginning of the history.
+-- The view is a witness: no caller uses it, and it has seen a beginning of the history.
 abbrev IsWitness : List Entry → View → Type 0
 IsWitness log u = (seen : List Entry) × IsPrefix seen log × (witness seen ≡ u)
 
@@ -39,13 +39,13 @@ has_seen n log u w = subst (HasSeen n log) w.2 (record {
   met = (log, refl);
 })
 
--- No acting seat has this number, and no seat that was taken in had it.
+-- No acting seat and no merged seat has this number.
 abbrev IsAway : List View → ℕ → Type 0
 IsAway views c = (i : ℕ) (v : View) → get_elem? views i ≡ some v
     → (v.acts ≡ true → v.number ≢ c)
     × ((j : ℕ) (r : ℕ × List Entry) → slice_get v.retired j ≡ Some r → r.0 ≢ c)
 
--- The rule still holds when witnesses are added or spent.
+-- The rule still holds if witnesses are added, or if they are replaced by blank ones.
 module _ (n : ℕ) (s : St) (kept : IsKeptAt n s) (vs : List View)
     (first : get_elem? vs 0 ≡ some kept.1.first)
     (place : (i : ℕ) (u : View) → get_elem? vs i ≡ some u → (get_elem? s.views i ≡ some u) ⊎ IsWitness kept.0 u)
@@ -82,7 +82,7 @@ module _ (n : ℕ) (s : St) (kept : IsKeptAt n s) (vs : List View)
     },
   )
 
--- A seat may split off a witness that has seen what the seat has seen.
+-- The rule still holds if a seat splits off a witness that has seen what the seat has seen.
 pub witnesses : (id : ℕ) (v : View) → Splits IsKept id v v (witness v.seen)
 witnesses id v s kept me =
     let w = witness v.seen in let h = kept.3.seen id v me in
@@ -92,7 +92,7 @@ witnesses id v s kept me =
     (λ c none i u at. none i u (at_longer s.views (w ∷ []) i u at)) in
     subst (λ (vs : List View). IsKept (board s.words s.homes (vs ++ w ∷ []))) (sym (set_again s.views id v me)) more
 
--- A witness is spent.
+-- If a witness is replaced by a blank one, the rule still holds.
 forgotten : (n : ℕ) (s : St) (kept : IsKeptAt n s) (other : ℕ) (seen : List Entry)
     → IsPrefix seen kept.0 → get_elem? s.views other ≡ some (witness seen) → IsKeptAt n (board s.words s.homes (set s.views other blank))
 forgotten n s kept other seen front at =
@@ -109,7 +109,8 @@ forgotten n s kept other seen front at =
     (λ a. absurd (idles log u w a), λ j r has. absurd (retired_none log u w j r has)))
     (λ ne. none i u (set_else s.views other i blank ne ∙ there)))
 
--- A seat takes in a witness, and has then met what the witness has seen.
+-- The rule still holds if a witness is merged into a seat. The seat has then met what the witness
+-- has seen.
 pub hears : (id other : ℕ) (v : View) (seen : List Entry) → v.acts ≡ true → Joins IsKept id v other (witness seen) (heard v (witness seen)) blank
 hears id other v seen acting s kept me ne at =
     let n = length s.homes in let w = heard v (witness seen) in
@@ -121,7 +122,8 @@ hears id other v seen acting s kept me ne at =
     let heard_of : IsPrefix seen met.0 = (met.3.seen id w (set_here s.views id w (within s.views id v me))).met in
     forgotten n (board s.words s.homes (set s.views id w)) met other seen heard_of at
 
--- `SeesIn` holds of a view whatever the view had met before.
+-- If `SeesIn` holds for a view, it also holds for the view that differs only in what it had met
+-- before.
 pub sees_met : (n : ℕ) (v u w : View) (front : List Entry) → u ≡ record v { met = front } → SeesIn n u w → SeesIn n v w
 sees_met n v u w front is sees =
     let x : SeesIn n (record v { met = front }) w = subst (λ (y : View). SeesIn n y w) is sees in

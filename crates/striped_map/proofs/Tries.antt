@@ -23,17 +23,17 @@ since_failed work me a b stop since opened fails = by_cases a.is_open
     (λ is. subst (IsSince me) (sym (opened is).1) since)
     (λ is. since_then me a b since (fails is).since)
 
--- An attempt that fails with a cause fails with every equal cause.
 pub fails_as : {T : Type 0} {work : Caller → Result T Stop → Caller → Type 0} (a b : Caller) (stop other : Stop)
     → stop ≡ other → Fails work a b stop → Fails work a b other
 fails_as {T} {work} a b stop other same fails = subst (Fails work a b) same fails
 
--- One more attempt that was busy.
+-- If one more attempt is busy after `n` busy attempts, there are `n + 1` busy attempts in a row.
 pub one_more : {T : Type 0} {work : Caller → Result T Stop → Caller → Type 0} (n m : ℕ) (me a b : Caller) (holder : ℕ)
     → suc n ≡ m → FailsBusy work n me a → Fails work a b (Busy holder) → FailsBusy work m me b
 one_more {T} {work} n m me a b holder once before fails = subst (λ (k : ℕ). FailsBusy work k me b) once (a, holder, before, fails)
 
--- An attempt that failed: its transaction was taken back.
+-- If an attempt fails for one of the reasons of `IsWhy`, and its transaction is taken back, `Fails`
+-- holds.
 pub failed_by : {T : Type 0} {work : Caller → Result T Stop → Caller → Type 0} (old begun left new : Caller) (txn : ℕ) (answer : Result T Stop) (stop : Stop)
     → IsStep old (Began (number old) txn ∷ []) begun → work begun answer left → IsWithin begun left → IsWhy answer left stop → IsTakenBack left new → Fails work old new stop
 failed_by old begun left new txn answer stop began worked within why back = record {

@@ -27,7 +27,8 @@ use Rattle.striped_map.proofs.Hands.{holds_at, stripe_at}
 abbrev Pair : Type 0
 Pair = ℕ × ℕ
 
--- Whether the key of a pair is in the stripe k; and the pair with its sub-key in place of its key.
+-- `is_in` is true if the key of a pair is in the stripe k. `sub` is the pair with its sub-key in
+-- place of its key. `sub_rows` applies `sub` to the pairs in the stripe k.
 abbrev pub is_in : ℕ → ℕ → Pair → Bool
 is_in n k pair = stripe_of n pair.0 == k
 
@@ -37,7 +38,6 @@ sub n pair = (pair.0 / n, pair.1)
 abbrev pub sub_rows : ℕ → ℕ → List Pair → List Pair
 sub_rows n k rows = map (sub n) (filter (is_in n k) rows)
 
--- `nat_cmp` says that the smaller number is less.
 is_below : (a b : ℕ) → a < b → T (is_lt (nat_cmp a b))
 is_below a b less = subst (λ o. T (is_lt o)) (nat_cmp_is a b Less less) tt
 
@@ -52,8 +52,8 @@ sub_less n a b same less = lt_of_not-le (λ (le : b / n ≤ a / n).
 sub_same : (n a b : ℕ) → stripe_of n a ≡ stripe_of n b → a / n ≡ b / n → a ≡ b
 sub_same n a b same is = sym (div-add-mod' a n) ∙ ap (λ (x : ℕ). x * n + a % n) is ∙ ap (λ (x : ℕ). b / n * n + x) same ∙ div-add-mod' b n
 
--- The rows of a stripe are sorted if the map's rows are. A sub-key has the same value in the rows
--- of its stripe as its key has in the map's rows.
+-- If the map's rows are sorted, the rows of a stripe (`sub_rows`) are sorted. In the rows of its
+-- stripe, a key's sub-key has the value that the key has in the map's rows.
 below_sub : (n k key : ℕ) → stripe_of n key ≡ k → (rows : List Pair) → T (below_all nat_cmp key rows) → T (below_all nat_cmp (key / n) (sub_rows n k rows))
 below_sub n k key in_k [] below = tt
 below_sub n k key in_k (row ∷ rows) below =
@@ -91,7 +91,7 @@ find_sub n k key in_k (row ∷ rows) =
     (λ out. ap (λ b. find nat_cmp (key / n) (map (sub n) (cond b (row ∷ F) F))) (ne_eqb (stripe_of n row.0) k out)
     ∙ more ∙ sym (ap (λ b. cond b (Some row.1) (find nat_cmp key rows)) (unsigned_tied key row.0 ∙ ne_eqb key row.0 ne))))
 
--- A part that fits has the rows of its stripe.
+-- If a part fits the map, its rows are the rows of its stripe (`sub_rows`).
 pub part_rows : (n k : ℕ) → k < n → (c m : Map) → ((key : ℕ) → stripe_of n key ≡ k → get c (key / n) ≡ get m key) → c.rows ≡ sub_rows n k m.rows
 part_rows n k lt c m fits = same_entries nat_cmp nat_cmp_total nat_cmp-IsAntisymmetric c.rows (sub_rows n k m.rows) c.rising (sorted_sub n k m.rows m.rising) (λ q.
     let key : ℕ = q * n + k in
@@ -142,7 +142,7 @@ all_stripes n ks once some [] = subst (IsPermutation []) (sym (no_rows n ks)) (I
 all_stripes n ks once some (row ∷ rows) = IsPermutation-trans _ _ _ (IsPermutation-cons row _ _ (all_stripes n ks once some rows))
     (one_more n row rows ks (once (stripe_of n row.0) (mod-lt row.0 some)))
 
--- The pairs of parts that fit are the rows of their stripes.
+-- If parts fit the map, their pairs are the map's rows in their stripes.
 part_pairs : (n : ℕ) (h : HeldPart) (m : Map) → h.stripe < n → IsPartOf n h.stripe h.part m
     → pairs_at n h ≡ filter (is_in n h.stripe) m.rows
 part_pairs n h m lt fits = ap (map (whole n h.stripe)) (part_rows n h.stripe lt h.part.content m fits) ∙ whole_sub n h.stripe m.rows
@@ -167,7 +167,7 @@ times_once k (x ∷ ks) apart = dite (ℕ_discrete x k)
     no_other e zero is = is
     no_other e (suc c) is = let at = at_times ks k (omega arith) in let same : 0 ≡ suc at.0 = apart 0 (suc at.0) k (ap (λ (y : ℕ). Some y) e) at.1 in absurd (omega arith)
 
--- Whoever holds every stripe has the map's pairs.
+-- If a seat holds every stripe, the pairs of its parts are the map's pairs, in some order.
 pub all_pairs : (n : ℕ) (v : View) (held : List HeldPart) (m : Map) → 0 < n → AreHeld n v held m → ((k : ℕ) → k < n → Holds v k) → ((k : ℕ) → Holds v k → k < n) → IsPermutation m.rows (pairs_in n held)
 all_pairs n v held m some s all inside = subst (IsPermutation m.rows)
     (sym (parts_pairs n m held (λ i h at. (inside h.stripe (holds_at n v held m s i h.stripe (stripe_at held i h at)), s.fits i h at))))

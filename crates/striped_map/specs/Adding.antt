@@ -13,9 +13,9 @@ use Rattle.striped_map.specs.declared.view.View.{View}
 use Rattle.striped_map.specs.Rule.{Holds, HasSeen}
 use Rattle.striped_map.specs.Steps.{StateAfter}
 
--- A history goes on with entries of caller c only, and is legal with them. `commits_more` of them
--- are commits. Only a stripe that P names may get c as its new holder, and only the keys of such a
--- stripe may change.
+-- The history `log` continues with the entries `es`, all of them entries of caller c, and is legal
+-- with them. `commits_more` of these entries are commits. By these entries c becomes the holder
+-- only of stripes that P names, and only keys of such stripes change.
 pub record Grows (stripes c : ℕ) (P : ℕ → Type 0) (commits_more : ℕ) (log es : List Entry) : Type 0
   where
     pub legal : IsLegal Begun stripes (log ++ es)
@@ -26,9 +26,9 @@ pub record Grows (stripes c : ℕ) (P : ℕ → Type 0) (commits_more : ℕ) (lo
     pub still : (key : ℕ) → (P (stripe_of stripes key) → ⊥)
         → get (now (log ++ es)) key ≡ get (now log) key
 
--- The history goes on from what the seat has seen. If a stripe is in the view's list `held`, no
--- other seat holds it by the history. If the seat holds a stripe by the history, the stripe is in
--- this list.
+-- The history is legal, and continues what the seat has seen. If a stripe is in the view's list
+-- `held`, no other seat holds it by the history. If the seat holds a stripe by the history, the
+-- stripe is in this list.
 pub record GoesOnFrom (stripes : ℕ) (v : View) (log : List Entry) : Type 0 where
   pub legal : IsLegal Begun stripes log
   pub seen : HasSeen stripes log v
@@ -37,8 +37,8 @@ pub record GoesOnFrom (stripes : ℕ) (v : View) (log : List Entry) : Type 0 whe
   pub mine : (stripe : ℕ) → stripe < stripes → holder_of stripes stripe log ≡ Some v.number
       → Holds v stripe
 
--- The history grows by these entries as `Grows` says, and they leave caller c and the stripes that
--- P names in the state `left`.
+-- The history `log` grows by the entries `es` as `Grows` says. After them, caller c and the stripes
+-- that P names are in the state `left`.
 pub record Lands (stripes c : ℕ) (P : ℕ → Type 0) (commits_more : ℕ) (log es : List Entry)
     (left : StateAfter) : Type 0 where
   pub grows : Grows stripes c P commits_more log es
@@ -46,8 +46,8 @@ pub record Lands (stripes c : ℕ) (P : ℕ → Type 0) (commits_more : ℕ) (lo
   pub log_is : log_of c (log ++ es) ≡ left.log
   pub have : (key : ℕ) → P (stripe_of stripes key) → get (now (log ++ es)) key ≡ get left.map key
 
--- The entries may be added to any history that goes on from what the seat has seen (`GoesOnFrom`),
--- and leave the state `left`.
+-- The entries may be added to any history that continues what the seat has seen (`GoesOnFrom`).
+-- After them, the seat is in the state `left`.
 abbrev pub MayAdd : ℕ → View → List Entry → StateAfter → Type 0
 MayAdd stripes v es left = (log : List Entry) → GoesOnFrom stripes v log
     → Lands stripes v.number (Holds v) 0 log es left

@@ -9,7 +9,7 @@ use Rattle.striped_map.specs.declared.addition.Addition.{Addition}
 use Rattle.striped_map.specs.declared.addition.Addition.TheVariants.{Note, Save, Back, Abort, Yield}
 use Rattle.striped_map.specs.Steps.{StateAfter, StepEffect, added, at_end, noting, saving, returning, seat_of, rolled_back, undoing}
 
--- The changes that the caller of a view has to take back.
+-- The changes that the caller with this view can take back, the newest first.
 abbrev pub due : View → List (ℕ × Option ℕ)
 due v = log_of v.number v.seen
 

@@ -1,5 +1,5 @@
--- A work that is tried several times, each time in a transaction that is begun for it. `work`
--- relates the caller before the work, the work's answer, and the caller after the work.
+-- A work that is tried several times, each time in a new transaction. `work` relates the caller
+-- before the work, the result of the work, and the caller after the work.
 use Rattle.std.specs.Prelude.{◌≡◌, ℕ, zero, suc, [], ◌∷◌, Result, Ok, Err, false}
 use Rattle.txn_words.specs.declared.entry.Entry.TheVariants.{Began}
 use Rattle.txn_words.specs.declared.refusal.Refusal.TheVariants.{NotOpen}
@@ -8,14 +8,15 @@ use Rattle.map_answers.specs.declared.stop.Stop.{Stop}
 use Rattle.map_answers.specs.declared.stop.Stop.TheVariants.{Busy, Refused}
 use Rattle.striped_map.specs.Callers.{number, IsStep, IsSince}
 
--- A relation of values that hold a caller, turned into a relation of the callers that they hold.
+-- Turns a relation between values that hold a caller into a relation between the callers that they
+-- hold.
 abbrev pub on_callers : {H A : Type 0} → (H → Caller) → (H → A → H → Type 0)
     → Caller → A → Caller → Type 0
 on_callers caller_of relation a answer b =
     (h : _) × (k : _) × relation h answer k × (caller_of h ≡ a) × (caller_of k ≡ b)
 
--- Why an attempt failed: the work failed; or it succeeded after a call that was busy, and there was
--- no transaction to commit.
+-- Why an attempt failed. Either the work failed. Or the work succeeded although one of its calls
+-- was busy, so that there was no transaction to commit.
 abbrev pub IsWhy : {T : Type 0} → Result T Stop → Caller → Stop → Type 0
 IsWhy (Err found) left stop = stop ≡ found
 IsWhy (Ok value) left stop = (stop ≡ Refused NotOpen) × (left.is_open ≡ false)

@@ -35,7 +35,8 @@ stripes_held c = (known c.hand.seat).held
 abbrev pub levels : Caller → ℕ
 levels c = length (seat_of (known c.hand.seat)).kept - 1
 
--- The changes of the caller's transaction, newest first, and its changes since a level's savepoint.
+-- The changes of the caller's transaction, the newest first (`changes_made`), and those of them
+-- that were made since a level's savepoint (`changes_above`).
 abbrev pub changes_made : Caller → List (ℕ × Option ℕ)
 changes_made c = due (known c.hand.seat)
 
@@ -49,9 +50,11 @@ pub record IsStep (a : Caller) (es : List Entry) (b : Caller) : Type 0 where
   pub number_is : number b ≡ number a
   pub goes : Extends (stripes_in a) (number a) (seen a) es (seen b)
 
--- An operation was not done. Busy: another caller, which has begun a transaction before, held the
--- stripe, and the transaction is aborted. NotOpen: there is no transaction. NoMemory: memory was
--- refused, and the transaction is unchanged, but may hold more stripes.
+-- The caller did not do the operation, for one of these reasons.
+-- - `Busy`: another caller, which has begun a transaction before, held the stripe. The transaction
+--   is aborted.
+-- - `NotOpen`: there is no transaction. Nothing changes.
+-- - `NoMemory`: memory was refused. The transaction is unchanged, but may hold more stripes.
 abbrev pub IsStopped : Caller → Op → Caller → Stop → Type 0
 IsStopped a op b (Busy holder) = (a.is_open ≡ true) × (b.is_open ≡ false)
     × IsStep a (BusyEntry (number a) op holder
@@ -60,12 +63,13 @@ IsStopped a op b (Refused NotOpen) = (a.is_open ≡ false) × (b ≡ a)
 IsStopped a op b (Refused refusal) = (refusal ≡ NoMemory) × (a.is_open ≡ true)
     × (b.is_open ≡ true) × IsStep a [] b
 
--- A call that takes every stripe was not done. Its outcome is the outcome of a failed get of some
--- key (`IsStopped`).
+-- The caller did not do a call that takes every stripe. The outcome is the same as if a get of some
+-- key had failed (`IsStopped`).
 abbrev pub IsCut : Caller → Caller → Stop → Type 0
 IsCut a b stop = (key : ℕ) × IsStopped a (Get key) b stop
 
--- The caller has seen more since, and has committed nothing.
+-- Caller `b` is caller `a` later: it may have seen more of the history, and it has committed
+-- nothing in between.
 pub record IsSince (a b : Caller) : Type 0 where
   pub map_is : b.map ≡ a.map
   pub number_is : number b ≡ number a
@@ -73,14 +77,15 @@ pub record IsSince (a b : Caller) : Type 0 where
   pub commits : how_many is_commit (own (number a) (seen b))
       ≡ how_many is_commit (own (number a) (seen a))
 
--- The caller has seen more since, and has committed and begun nothing.
+-- Caller `b` is caller `a` later: it may have seen more of the history, and it has begun and
+-- committed nothing in between.
 pub record IsWithin (a b : Caller) : Type 0 where
   pub since : IsSince a b
   pub begins : how_many is_began (own (number a) (seen b))
       ≡ how_many is_began (own (number a) (seen a))
 
--- A transaction was taken back: the caller has none and holds no stripe. If a busy call had ended
--- it before, nothing changes.
+-- A transaction was taken back: the caller is in no transaction and holds no stripe. If a busy call
+-- had ended the transaction before, nothing changes.
 pub record IsTakenBack (a b : Caller) : Type 0 where
   pub closed : b.is_open ≡ false
   pub given : stripes_held b ≡ []
@@ -89,8 +94,8 @@ pub record IsTakenBack (a b : Caller) : Type 0 where
       (Leave (number a) None ∷ undoing (number a) (changes_made a) (Aborted (number a))) b
   pub over : a.is_open ≡ false → b ≡ a
 
--- One transaction that committed: the caller is b before it begins, t when the work begins, u when
--- the work ends, and l after the commit.
+-- One transaction that committed. The caller is `b` before the transaction, `t` when the work
+-- begins, `u` when the work ends, and `l` after the commit.
 pub record IsRun (b t u l : Caller) (found : ℕ) : Type 0 where
   pub txn : ℕ
   pub began : IsStep b (Began (number b) txn ∷ []) t

@@ -15,6 +15,6 @@ whole stripes stripe pair = (pair.0 * stripes + stripe, pair.1)
 abbrev pub pairs_at : ℕ → HeldPart → List (ℕ × ℕ)
 pairs_at stripes h = map (whole stripes h.stripe) h.part.content.rows
 
--- The pairs of parts, one after the other.
+-- The pairs of several parts, with their whole keys, one part after the other.
 abbrev pub pairs_in : ℕ → List HeldPart → List (ℕ × ℕ)
 pairs_in stripes held = flat_map (pairs_at stripes) held

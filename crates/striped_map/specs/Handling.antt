@@ -22,14 +22,14 @@ under (PutIf k expected value) key = PutIf key expected value
 abbrev pub idle : View → View
 idle v = record v { held = [] }
 
--- Why a stripe was not taken: another caller, which has begun a transaction, had it, or memory was
--- refused.
+-- Why a stripe was not taken. Either another caller, which has begun a transaction, held it
+-- (`Busy`), or memory was refused.
 abbrev pub IsMiss : View → Stop → Type 0
 IsMiss v (Busy holder) = (has_begun holder v.seen ≡ true) × (holder ≢ v.number)
 IsMiss v (Refused refusal) = refusal ≡ NoMemory
 
--- An end of a transaction that takes all changes back: an abort, or the end after a busy stripe.
--- The latter names another caller, which has begun a transaction.
+-- An end of a transaction that takes all changes back: an abort, or the end after a busy stripe
+-- (`Yield`). A `Yield` names another caller, which has begun a transaction.
 abbrev pub IsEnd : View → Addition → Type 0
 IsEnd v Abort = Unit {0}
 IsEnd v (Yield op holder) = (has_begun holder v.seen ≡ true) × (holder ≢ v.number)

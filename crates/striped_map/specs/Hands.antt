@@ -23,9 +23,10 @@ pub record MovesHand (map : StripedMap) (a : Hand) (es : List Entry) (b : Hand) 
   pub goes : Extends (stripes_of map) (known a.seat).number (known a.seat).seen es
       (known b.seat).seen
 
--- An operation was not done. Busy: another caller, which has begun a transaction before, held the
--- stripe, and the transaction is aborted. Refused: memory was refused, and the transaction is
--- unchanged, but may hold more stripes.
+-- The hand did not do the operation, for one of these reasons.
+-- - `Busy`: another caller, which has begun a transaction before, held the stripe. The transaction
+--   is aborted.
+-- - `Refused`: memory was refused. The transaction is unchanged, but may hold more stripes.
 abbrev pub IsStopped : StripedMap → Hand → Op → Hand → Stop → Type 0
 IsStopped map a op b (Busy holder) = IsAt Closed (known b.seat) × ((known b.seat).held ≡ [])
     × MovesHand map a (BusyEntry (known a.seat).number op holder
@@ -33,16 +34,16 @@ IsStopped map a op b (Busy holder) = IsAt Closed (known b.seat) × ((known b.sea
 IsStopped map a op b (Refused refusal) =
     (refusal ≡ NoMemory) × IsAt Opened (known b.seat) × MovesHand map a [] b
 
--- A call that takes every stripe was not done. Its outcome is the outcome of a failed get of some
--- key (`IsStopped`).
+-- The hand did not do a call that takes every stripe. The outcome is the same as if a get of some
+-- key had failed (`IsStopped`).
 abbrev pub IsCut : StripedMap → Hand → Hand → Stop → Type 0
 IsCut map a b stop = (key : ℕ) × IsStopped map a (Get key) b stop
 
--- A transaction was begun to read the pairs. `left` is the hand after the entry Began and before
--- the hand's next entry. The hand had then seen a legal history. In this history each caller that
--- was taken in has exactly the entries that its calls added, and only seats that were made have
--- entries. The pairs are those of this history's map. What the hand `c` has seen begins with this
--- history.
+-- The hand `a` began a transaction to read the pairs, and became the hand `c`. `left` is the hand
+-- after the entry Began and before the hand's next entry. It has seen a legal history. In this
+-- history each merged caller has exactly the entries that its calls added, and only seats that were
+-- made have entries. The pairs are those of this history's map. The history that `c` has seen
+-- begins with this history.
 pub record ReadsPairs (map : StripedMap) (a c : Hand) (pairs : List (ℕ × ℕ)) : Type 0 where
   pub txn : ℕ
   pub during : Hand
@@ -54,8 +55,9 @@ pub record ReadsPairs (map : StripedMap) (a c : Hand) (pairs : List (ℕ × ℕ)
   pub pairs_are : pairs ≡ (now (known left.seat).seen).rows
   pub seen : (later : List Entry) × ((known c.seat).seen ≡ (known left.seat).seen ++ later)
 
--- The pairs were not read. Busy: a transaction was begun to read them, and another caller held a
--- stripe (`IsCut`). Refused: memory was refused.
+-- The pairs were not read, for one of these reasons.
+-- - `Busy`: a transaction was begun to read them, and another caller held a stripe (`IsCut`).
+-- - `Refused`: memory was refused.
 abbrev pub IsUnread : StripedMap → Hand → Hand → Stop → Type 0
 IsUnread map a c (Busy holder) = (txn : ℕ) × (b : Hand)
     × MovesHand map a (Began (known a.seat).number txn ∷ []) b × IsCut map b c (Busy holder)

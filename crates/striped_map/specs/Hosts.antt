@@ -9,11 +9,12 @@ use Rattle.striped_map.specs.declared.host.Host.{Host}
 use Rattle.striped_map.specs.Callers.{IsNew}
 use Rattle.striped_map.specs.Seats.{known}
 
--- The callers that the host has taken in, the newest first: the number and all entries of each.
+-- The callers that were merged into the host, the newest first, each with its number and all its
+-- entries.
 abbrev pub taken : Host → List (ℕ × List Entry)
 taken host = (known host.hand.seat).retired
 
--- How many numbers were given out: the host's own, 0, and one to each caller.
+-- How many numbers were given out. The host has the number 0, and each caller got one number.
 abbrev pub numbers : Host → ℕ
 numbers host = (known host.hand.seat).made
 

@@ -1,7 +1,7 @@
-//! The call `Caller::transact`: it runs a work in a transaction, and begins again if another caller
-//! holds a stripe. It is not in `caller`, since it builds on `Transaction`: each try runs the work
-//! in a `Transaction`, so a work that fails leaves no transaction open. Between two tries the
-//! caller holds no stripe.
+//! `Caller::transact`, which runs a work in a transaction, and begins again if another caller holds
+//! a stripe. The method is not in the module `caller`, since it builds on `Transaction`. Each try
+//! runs the work in a `Transaction`, so a work that fails leaves no transaction open. Between two
+//! tries the caller holds no stripe.
 ghost use Rattle.std.specs.Prelude.{◌≡◌, ℕ, ◌≤◌, true, false, Ok, IfOk, IfErr, OnOk, OnErr};
 ghost use Rattle.txn_words.specs.declared.refusal.Refusal.TheVariants.{AlreadyOpen};
 ghost use Rattle.striped_map.specs.Attempts.{on_callers, Fails, FailsBusy};
@@ -38,20 +38,20 @@ impl Caller {
         Ok((value, place))
     }
 
-    /// Runs the work in a transaction and commits; answers the work's value, and the commit's place
-    /// modulo 2^64. If the work fails with `Busy`, gives way and begins again, at most `tries`
-    /// times. Whenever the work fails, all its changes are taken back.
+    /// Runs the work in a transaction and commits. Returns the work's value and the place of the
+    /// commit, modulo 2^64. If the work fails with `Busy`, the caller yields the thread and begins
+    /// again, at most `tries` times. Whenever the work fails, all its changes are taken back.
     ///
     /// # Errors
     ///
-    /// `AlreadyOpen` if the caller is in a transaction, which is unchanged; the error of the last
-    /// try, which is `Busy` only once all tries are used up; `NotOpen` if the work went on after a
-    /// call was busy.
+    /// - `AlreadyOpen` if the caller is in a transaction. This transaction is unchanged.
+    /// - Otherwise the error of the last try. The error is `Busy` only if all tries are used up. It
+    ///   is `NotOpen` if the work continued after one of its calls was busy.
     ///
     /// # Cost
     ///
-    /// For each try the cost of `begin`, of the work, and of `commit`, or of `abort` if the try
-    /// fails.
+    /// For each try, the costs of `begin` and of the work, and then the cost of `commit`, or of
+    /// `abort` if the try fails.
     pub fn transact<T: Drop, F: Fn(&mut Transaction<'_>) -> Result<T, Stop>>(
         &mut self,
         tries: u64,

@@ -1,5 +1,5 @@
-//! The parts of the stripes that a seat holds, taken together: how many pairs they have, and the
-//! pairs under their whole keys.
+//! Reads the parts of all stripes that a seat holds: how many pairs these parts have, and the pairs
+//! with their whole keys.
 //!
 //! A part has the pairs of its stripe under sub-keys. The two functions read parts and change
 //! nothing. `count_of` takes constant time for each part. `pairs_of` takes the time and memory of
@@ -14,7 +14,7 @@ use crate::map::StripedMap;
 use crate::seat::MapSeat;
 use std::alloc::{AllocError, Global};
 
-/// How many pairs the parts have, if 64 bits can count them.
+/// How many pairs the parts of the held stripes have, or `None` if 64 bits cannot count them.
 pub(crate) fn count_of(map: &StripedMap, seat: &mut MapSeat, held: &Vec<usize>) -> Option<u64>
     requires seat { IsOf seat.old map.now }
     requires held { HoldsAll (known seat.old) held.now.items }
@@ -38,7 +38,7 @@ fn whole_key(stripes: u64, stripe: usize, sub_key: u64) -> Option<u64>
     sub_key.checked_mul(stripes)?.checked_add(stripe as u64)
 }
 
-/// Adds the pairs of a part, under their whole keys.
+/// Adds the pairs of a stripe's part to `pairs`, with their whole keys.
 fn add_pairs(
     alloc: Global,
     map: &StripedMap,
@@ -66,7 +66,7 @@ fn add_pairs(
     Ok(())
 }
 
-/// The pairs that the parts have, under their whole keys, part by part.
+/// The pairs of the held stripes' parts, with their whole keys, one part after the other.
 pub(crate) fn pairs_of(
     alloc: Global,
     map: &StripedMap,

@@ -28,11 +28,12 @@ use map_answers::Stop;
 use std::alloc::{AllocError, Global};
 use txn_trace::{Op, Refusal, Reply};
 
-/// A change that can be taken back: the place of its stripe, its sub-key, and the value before.
+/// A change that can be taken back: the place of its stripe in the list of held stripes, its
+/// sub-key, and the value before the change.
 type Change = (usize, u64, Option<u64>);
 
-/// A seat with the stripes that it holds, and the changes to take back. It may be dropped only if
-/// it holds no stripe.
+/// A seat, the stripes that it holds, and the changes that can be taken back. A hand may be dropped
+/// only if it holds no stripe.
 pub(crate) struct Hand {
     pub(crate) seat: MapSeat,
     held: Vec<usize>,
@@ -44,8 +45,9 @@ pub(crate) struct Hand {
     ghost indexed: { IsIndexed held.items index.items },
 }
 
-/// The place of a stripe in the list of held stripes, if it is held. For a stripe that is not held
-/// the index may have any place, so this also tests which stripe the list has at that place.
+/// The place of a stripe in the list of held stripes, if the stripe is held. The index may have any
+/// place for a stripe that is not held, so the function also tests that the list has the stripe at
+/// this place.
 #[inline(always)]
 fn place_of(held: &Vec<usize>, index: &Vec<u16>, stripe: usize) -> Option<usize>
     requires { IsIndexed held.now.items index.now.items }
@@ -62,7 +64,7 @@ fn place_of(held: &Vec<usize>, index: &Vec<u16>, stripe: usize) -> Option<usize>
     }
 }
 
-/// Makes the index long enough for all stripes. It takes memory the first time.
+/// Makes the index long enough for all stripes. Takes memory only if the index is too short.
 #[tactic(auto, using(crate::proofs::Index::resized_at))]
 fn widen(index: &mut Vec<u16>, stripes: usize) -> Result<(), AllocError>
     ensures long { OnOk result (stripes ≤ vec_len index.new) }
@@ -76,7 +78,8 @@ fn widen(index: &mut Vec<u16>, stripes: usize) -> Result<(), AllocError>
     Ok(())
 }
 
-/// How many changes stood when the savepoint of a level was set; 0 for level 0.
+/// How many changes the transaction had when the savepoint of this level was set. For level 0 this
+/// is 0.
 fn mark_of(levels: &Vec<usize>, level: usize) -> usize
     requires { level ≤ vec_len levels.now }
     ensures { result ≡ slice_index (0 ∷ levels.now.items) level }
@@ -97,7 +100,8 @@ fn under(op: Op, key: u64) -> Op
     }
 }
 
-/// Takes changes back in the parts, the newest first, until `mark` are left. It takes no memory.
+/// Takes changes back in the parts of the held stripes, the newest change first, until `mark`
+/// changes remain. Takes no memory.
 fn take_back(
     map: &StripedMap,
     seat: &mut MapSeat,
@@ -128,7 +132,7 @@ fn take_back(
     }
 }
 
-/// Gives all stripes back, once the transaction is over.
+/// Gives all stripes back. The transaction must be over.
 fn give_all(map: &StripedMap, seat: &mut MapSeat, held: &mut Vec<usize>)
     requires map { IsOf seat.old map.now }
     requires over { IsAt Closed (known seat.old) }
@@ -146,7 +150,7 @@ fn give_all(map: &StripedMap, seat: &mut MapSeat, held: &mut Vec<usize>)
 impl Hand {
     ghost use Rattle.striped_map.specs.Hands.{ReadsPairs, IsCut, IsStopped, IsUnread, MovesHand};
 
-    /// A hand that holds nothing, of a seat that has seen nothing.
+    /// A hand that holds no stripe. Its seat has seen no entries.
     pub(crate) fn new(alloc: Global, seat: MapSeat) -> Hand
         requires seen { (known seat).seen ≡ [] }
         requires held { (known seat).held ≡ [] }
@@ -177,7 +181,8 @@ impl Hand {
         map.begin(&mut self.seat);
     }
 
-    /// Takes a stripe, unless the hand holds it already, and answers its place among those held.
+    /// Takes a stripe, unless the hand holds it already. Returns the place of the stripe in the
+    /// list of held stripes.
     #[tactic(auto, using(crate::proofs::Ends::holds_taken, crate::proofs::Ends::holds_found))]
     fn hold(&mut self, map: &StripedMap, stripe: usize) -> Result<usize, Stop>
         requires map { IsOf self.old.seat map.now }
@@ -206,7 +211,7 @@ impl Hand {
             Taken::Granted => {
                 let place = self.held.len();
                 self.held.push_reserved(stripe);
-                // A place is below 4,096, the most stripes that there are.
+                // A map has at most 4,096 stripes, so a place is below 4,096.
                 self.index[stripe] = place as u16;
                 Ok(place)
             }
@@ -214,8 +219,8 @@ impl Hand {
         }
     }
 
-    /// Takes all stripes that the hand does not hold yet. A busy stripe ends the transaction. The
-    /// history then has a Busy entry for a get of a key of this stripe.
+    /// Takes all stripes that the hand does not hold yet. If a stripe is busy, the transaction is
+    /// aborted, and the history gets a Busy entry for a get of a key of this stripe.
     #[tactic(auto, using(crate::proofs::Ends::moved_still, crate::proofs::Ends::moved_on, crate::proofs::Ends::moved_busy))]
     fn hold_all(&mut self, map: &StripedMap) -> Result<(), Stop>
         requires map { IsOf self.old.seat map.now }
@@ -241,7 +246,7 @@ impl Hand {
         Ok(())
     }
 
-    /// Takes all stripes, and answers how many pairs the map has.
+    /// Takes all stripes, and returns how many pairs the map has.
     pub(crate) fn len(&mut self, map: &StripedMap) -> Result<u64, Stop>
         requires map { IsOf self.old.seat map.now }
         requires open { IsAt Opened (known self.old.seat) }
@@ -259,7 +264,7 @@ impl Hand {
         Ok(count)
     }
 
-    /// Takes all stripes, and answers the pairs of the map, rising by key.
+    /// Takes all stripes, and returns the pairs of the map by rising keys.
     pub(crate) fn pairs(&mut self, map: &StripedMap, alloc: Global) -> Result<Vec<(u64, u64)>, Stop>
         requires map { IsOf self.old.seat map.now }
         requires open { IsAt Opened (known self.old.seat) }
@@ -282,7 +287,8 @@ impl Hand {
         Ok(pairs)
     }
 
-    /// Looks at the history, which has all entries of the seats that were taken in.
+    /// Looks at the history. It has all entries of the seats that were merged into this hand's
+    /// seat.
     pub(crate) fn gather(&mut self, map: &StripedMap)
         requires map { IsOf self.old.seat map.now }
         ensures map { IsOf self.new.seat map.now }
@@ -294,7 +300,8 @@ impl Hand {
         map.gather(&mut self.seat);
     }
 
-    /// Looks at the history, which goes on from what another hand has seen.
+    /// Looks at the history. The history that this hand has seen then begins with the history that
+    /// the other hand has seen.
     pub(crate) fn catch_up(&mut self, map: &StripedMap, other: &mut Hand)
         requires map { IsOf self.old.seat map.now }
         requires other { IsOf other.old.seat map.now }
@@ -307,7 +314,8 @@ impl Hand {
         map.catch_up(&mut self.seat, &mut other.seat);
     }
 
-    /// Takes in another seat, which holds nothing. The other seat then acts no more.
+    /// Merges another seat, which holds no stripe, into this hand's seat. The other seat then acts
+    /// no more.
     pub(crate) fn take_in(&mut self, map: &StripedMap, other: MapSeat)
         requires map { IsOf self.old.seat map.now }
         requires other { IsOf other map.now }
@@ -320,7 +328,8 @@ impl Hand {
         map.take_in(&mut self.seat, other);
     }
 
-    /// Answers the pairs of the map, in a separate transaction that it takes back.
+    /// Returns the pairs of the map. The hand reads them in a separate transaction, which it then
+    /// aborts.
     pub(crate) fn read(&mut self, map: &StripedMap, alloc: Global) -> Result<Vec<(u64, u64)>, Stop>
         requires map { IsOf self.old.seat map.now }
         requires closed { IsAt Closed (known self.old.seat) }
@@ -350,8 +359,9 @@ impl Hand {
         }
     }
 
-    /// Does an operation on the part of the stripe at this place, under the sub-key of the
-    /// operation's key, and notes it.
+    /// Does an operation on the part of the stripe at this place, with the sub-key in place of the
+    /// operation's key. Adds the operation and its reply to the history. If the operation changes
+    /// the part, notes the change, so that it can be taken back.
     #[inline(always)]
     fn apply(
         &mut self,
@@ -418,7 +428,7 @@ impl Hand {
         }
     }
 
-    /// Sets a savepoint, and answers its level.
+    /// Sets a savepoint, and returns its level.
     pub(crate) fn save(&mut self, map: &StripedMap) -> Result<u64, Refusal>
         requires map { IsOf self.old.seat map.now }
         requires open { IsAt Opened (known self.old.seat) }
@@ -443,7 +453,8 @@ impl Hand {
         self.levels.len() as u64
     }
 
-    /// Takes back the changes since a level's savepoint; level 0 is the transaction's beginning.
+    /// Takes back the changes since a level's savepoint. Level 0 is the beginning of the
+    /// transaction.
     pub(crate) fn back(&mut self, map: &StripedMap, level: usize)
         requires map { IsOf self.old.seat map.now }
         requires open { IsAt Opened (known self.old.seat) }
@@ -467,7 +478,7 @@ impl Hand {
         self.levels.truncate(level);
     }
 
-    /// Commits the transaction, gives the stripes back, and answers the commit's place, modulo
+    /// Commits the transaction and gives the stripes back. Returns the place of the commit, modulo
     /// 2^64.
     pub(crate) fn commit(&mut self, map: &StripedMap) -> u64
         requires map { IsOf self.old.seat map.now }
@@ -486,7 +497,8 @@ impl Hand {
         place
     }
 
-    /// Takes all changes of the transaction back, ends it, and gives the stripes back.
+    /// Takes all changes of the transaction back, adds `what` to the history, which ends the
+    /// transaction, and gives the stripes back.
     pub(crate) fn leave(&mut self, map: &StripedMap, what: Addition)
         requires map { IsOf self.old.seat map.now }
         requires open { IsAt Opened (known self.old.seat) }

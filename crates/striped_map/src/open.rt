@@ -1,6 +1,7 @@
-//! The functions that open a striped map. They use `map`, `host` and `caller`, so they belong to
-//! none of these. Each caller gets a seat that is split off the first seat, which the host keeps.
-//! Only this module makes callers, so a map gets no more of them once it is open.
+//! The functions that open a striped map. They use `map`, `host` and `caller`, so they do not
+//! belong to any of these modules. Each caller gets a seat that is split off the first seat, which
+//! the host keeps. Only this module makes callers, so a map gets no more callers after it is
+//! opened.
 ghost use Rattle.std.specs.Prelude.{◌≡◌, IfOk, IfErr};
 ghost use Rattle.striped_map.specs.Hosts.{IsNotOpened, IsOpened, may_open};
 
@@ -11,7 +12,7 @@ use std::alloc::Global;
 use std::sync::Arc;
 use txn_trace::Refusal;
 
-/// The largest number of stripes, and of callers.
+/// The largest number of stripes that a map may have, and also the largest number of callers.
 pub const MOST: usize = 4096;
 
 /// Whether a map may have this many stripes and callers.
@@ -21,17 +22,17 @@ fn may_open(stripes: usize, callers: usize) -> bool
     1 <= stripes && stripes <= MOST && callers <= MOST
 }
 
-/// Opens a map with no keys: its host, and its callers, numbered from 1.
+/// Opens a map with no keys. Returns its host, and its callers, numbered from 1.
 ///
 /// # Errors
 ///
-/// `Limit` if there are no stripes, or more than 4,096 stripes or callers; `NoMemory` if
-/// memory is refused.
+/// - `Limit` if there are no stripes, more than 4,096 stripes, or more than 4,096 callers.
+/// - `NoMemory` if memory is refused.
 ///
 /// # Cost
 ///
-/// Time and memory in proportion to the stripes and the callers. A part takes memory with its first
-/// change.
+/// Time and memory in proportion to the stripes and the callers. The part of a stripe takes memory
+/// with its first change.
 pub fn open_map(
     alloc: Global,
     stripes: usize,
@@ -44,18 +45,18 @@ pub fn open_map(
 }
 
 /// Opens a map as `open_map` does, and gives each stripe room for its share of `keys` keys, rounded
-/// up. So the stripes take no memory for the first `keys` keys, on two conditions: the keys are
-/// spread evenly over the stripes, as keys that rise by one are; and each transaction does at most
-/// one operation in a stripe, not counting gets.
+/// up. So the stripes take no memory for the first `keys` keys, on two conditions. The keys must be
+/// spread evenly over the stripes, as consecutive keys are. And each transaction must do at most
+/// one operation in each stripe, not counting gets.
 ///
 /// # Errors
 ///
-/// `Limit` if there are no stripes, or more than 4,096 stripes or callers; `NoMemory` if
-/// memory is refused, or if no memory can have room for the keys.
+/// - `Limit` if there are no stripes, more than 4,096 stripes, or more than 4,096 callers.
+/// - `NoMemory` if memory is refused, or if no memory can have room for the keys.
 ///
 /// # Cost
 ///
-/// Time and memory in proportion to the stripes, the callers and the keys, taken at once.
+/// Time and memory in proportion to the stripes, the callers and the keys, all taken by this call.
 pub fn open_map_with_capacity(
     alloc: Global,
     stripes: usize,

@@ -3,8 +3,8 @@ use Rattle.std.proofs.Common.{◌≡◌, ℕ, List, [], refl, sym, ◌∙◌, in
 use Rattle.thread_runs.proofs.Vocabulary.{Adds, Ended, HasRoomAt, HasRoomFor, IsSameCaller, Token}
 use Rattle.script_worker.proofs.Vocabulary.{Answer, Call, End, Entry, IsMade, OutOfStep, Refusal}
 
--- A call adds no entry if its token refused it, or if it was not made because there was no memory
--- for its reply.
+-- If a call's token refused the call, it adds no entry. The same holds if the call was not made
+-- because there was no memory for its reply.
 pub adds_same : (c : ℕ) (call : Call) (refusal : Refusal) (seen seen' : List Entry) → seen' ≡ seen
     → Adds c call (End.Refused refusal) seen seen'
 adds_same c call OutOfStep seen seen' is = record { added = []; entries = is ∙ sym (append-nil seen); made = tt; quiet = λ whole. refl }
@@ -21,7 +21,7 @@ adds_of words k call (End.Refused refusal) l (inr (free, none)) =
     (adds_same k.number call refusal k.seen l.seen none.seen, none.whose)
 adds_of words k call outcome l ran = (record { added = ran.added; entries = ran.entries; made = ran.made; quiet = λ whole. tt }, ran.whose)
 
--- If there is room for the reply of a call, there is room for the reply of its end: only an
+-- If there is room for a call's reply, there is room for the reply in the call's end, since only an
 -- operation has a reply.
 pub room_at : (c : ℕ) (call : Call) (outcome : End) (added : List Entry) (room : ℕ) → IsMade c call outcome added → HasRoomFor call room → HasRoomAt outcome room
 room_at c (Call.Op op) (End.Answered (Answer.Done reply)) added room made has = has

@@ -1,4 +1,5 @@
--- A script's course through its calls: the caller's phase, and the outcomes that are possible.
+-- The calls of a script: the caller's phase after each call, and the possible outcomes of the
+-- script.
 use Rattle.std.proofs.Common.{◌≡◌, ◌∙◌, ℕ, ◌⊎◌, ◌+◌, nat_lt, Bool, true, false, zero, suc, List, [], ◌∷◌, length, Option, Some, None}
 use Rattle.std.proofs.Common.{is_some, refl, sym, ap, inl, inr, if◌then◌else◌, slice_get, nat_le, IsTrue}
 use Rattle.thread_runs.proofs.Vocabulary.{Acting, Beginning, Failed, Finish, get_empty, has_bad_key, HasEnded, HasPhase, is_abort, is_back}
@@ -18,7 +19,7 @@ any_at test (first ∷ script) zero action is passes =
     rw (same, passes)
 any_at test (first ∷ script) (suc i) action is passes = or_right (test first) (list_any test script) (any_at test script i action is passes)
 
--- If a script is leaving because of a refusal, it may have this refusal.
+-- If the stage is `Leaving` with a refusal, the script may have this refusal.
 abbrev pub MayLeave : Bool → List Action → Stage → Type 0
 MayLeave half script (Leaving refusal) = MayBeRefused half script refusal
 MayLeave half script stage = Unit {0}
@@ -29,14 +30,14 @@ MayBeOver half script Finish.Aborted = IsTrue (list_any is_abort script)
 MayBeOver half script (Finish.Refused refusal) = MayBeRefused half script refusal
 MayBeOver half script over = Unit {0}
 
--- After a call with this progress, the caller is in the phase that the progress needs (`IsIn`), and
--- the script allows the refusal or the end that the progress names.
+-- What holds after a call with this progress: the caller is in the phase that the progress needs
+-- (`IsIn`). If the progress names a refusal or an end, the script allows it.
 abbrev pub Stands : Bool → List Action → Bool → List Entry → Progress → Type 0
 Stands half script broken seen (Next attempt) = IsIn (phase_at attempt.stage) broken seen × MayLeave half script attempt.stage
 Stands half script broken seen (Over over) = IsIn Closed broken seen × MayBeOver half script over
 
--- The script may have this refusal of this action. An abort has no refusal, and neither has the
--- commit, for which the action is `None`.
+-- The script may have this refusal at this action. An abort has no refusal. The action `None`
+-- stands for the commit, which has no refusal either.
 abbrev pub IsGood : Bool → List Action → Refusal → Option Action → Type 0
 IsGood half script refusal None = ⊥
 IsGood half script refusal (Some Action.Abort) = ⊥
@@ -48,7 +49,7 @@ IsGoodAt half script refusal (Acting i) = IsGood half script refusal (slice_get 
 IsGoodAt half script refusal (Leaving why) = ⊥
 
 module _ (half : Bool) (script : List Action) (tries again : ℕ) (broken : Bool) (seen : List Entry) where
-  -- A call that did what it was asked to do, and one that found a stripe held.
+  -- Lemmas on a call that did what it was asked to do, and on a call that found a stripe held.
   done_stands : (stage : Stage) → HasPhase (phase_after (phase_at stage) (call_at script stage)) (seat_after seen)
       → MayLeave half script stage → Stands half script broken seen (done_at script again stage)
   done_stands Beginning at may = (inr at, tt)
@@ -65,7 +66,7 @@ module _ (half : Bool) (script : List Action) (tries again : ℕ) (broken : Bool
       let after : Bool → Progress = λ b. if b then Next (attempt_at (again + 1) Beginning) else Over Finish.Busy in
       elim (nat_lt again tries) as (λ b. Stands half script broken seen (after b)) [ true ↦ (inr at, tt) | false ↦ (inr at, tt) ]
 
-  -- A call that was refused, and has added nothing.
+  -- Lemmas on a call that was refused and has added nothing.
   leaves : (refusal : Refusal) (stage : Stage) → IsIn (phase_at stage) broken seen → IsGoodAt half script refusal stage → Stands half script broken seen (refused_in script again stage refusal)
   leaves refusal Beginning at good = (at, good)
   leaves refusal (Acting i) at good = by (slice_get script i) good
@@ -81,8 +82,8 @@ module _ (half : Bool) (script : List Action) (tries again : ℕ) (broken : Bool
   refused_stands OutOfStep stage plain at good = absurd (false≢true (sym plain))
   refused_stands refusal stage plain at good = leaves refusal stage at good
 
--- The refusals of a token that is not broken. A refusal is given only if its condition holds
--- (`if_bad`, `or_bad`).
+-- Lemmas on the refusals of a token that is not broken. A refusal is given only if its condition
+-- holds (`if_bad`, `or_bad`).
 pub if_bad : (b : Bool) (why refusal : Refusal) → (if b then Some why else None) ≡ Some refusal → (b ≡ true) × (why ≡ refusal)
 if_bad true why refusal is = (refl, cc is)
 if_bad false why refusal is = absurd (cc is)
@@ -110,8 +111,8 @@ seat_refused half script (Acting i) s refusal is = by (slice_get script i) refl 
     by o at is = absurd (cc is)
 seat_refused half script stage s refusal is = absurd (cc is)
 
--- A script may have each refusal that one of its calls may have after the token let the call pass
--- (`may_refuse`).
+-- A call that its token does not refuse may still have a refusal (`may_refuse`). The script may
+-- have each such refusal of one of its calls.
 want_good : (half : Bool) (script : List Action) (stage : Stage) (refusal : Refusal) → may_refuse (call_at script stage) refusal ≡ true → IsGoodAt half script refusal stage
 want_good half script Beginning NoMemory may = tt
 want_good half script (Acting i) refusal may = by (slice_get script i) refl refusal may
@@ -124,7 +125,7 @@ want_good half script (Acting i) refusal may = by (slice_get script i) refl refu
     by o at r may = absurd (false≢true may)
 want_good half script stage refusal may = absurd (false≢true may)
 
--- A token that lets a call pass is not broken, so its seat has the phase.
+-- If a token does not refuse a call, it is not broken, so its seat has the phase.
 sound_in : (half b : Bool) (seen : List Entry) (call : Call) (phase : Phase) → refused_token half b (seat_after seen) call ≡ None → IsIn phase b seen → HasPhase phase (seat_after seen)
 sound_in half b seen call phase free (inr at) = at
 sound_in half b seen call phase free (inl broken) = absurd (cc (ap (λ (x : Bool). refused_token half x (seat_after seen) call) broken, free))

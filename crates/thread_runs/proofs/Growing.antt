@@ -1,5 +1,5 @@
--- The loop over the calls of a script; and a call for help between two of them, which adds no entry
--- unless it falls out of step.
+-- The loop over the calls of a script. A call for help may come between two of these calls. It adds
+-- no entry unless it ends with `OutOfStep`.
 use Rattle.std.proofs.Common.{◌≡◌, ℕ, List, ◌++◌, append_assoc, ap, ◌∙◌, Bool, true, false, not, [], Option, Some, None, is_some, refl, sym}
 use Rattle.std.proofs.Common.{inl, inr, append-nil}
 use Rattle.thread_runs.proofs.Vocabulary.{Adds, after_call, chunk_begun, Ended, Finish, goes_quiet, IsAfterHelp, HasEnded, HasRunTo, is_out, IsIn}
@@ -10,11 +10,12 @@ use Rattle.script_worker.proofs.Vocabulary.{OutOfStep, progress_of, Seat, seat_a
 use Rattle.locked_map.proofs.Calling.{sound_if_free}
 use Rattle.thread_runs.proofs.{Adding.adds_of, Ending.MayLeave, Ending.Stands, Ending.stands_at, Ending.if_bad}
 
--- The loop over the calls of a script; the entries `base` were seen before it.
+-- The state of the loop over a script's calls: the caller saw the entries `base` before the loop,
+-- and the script has added the entries `chunk` since.
 abbrev pub IsRunning : ℕ → List Action → Heard → List Entry → List Entry → Type 0
 IsRunning c script heard base seen = (chunk : List Entry) × (seen ≡ base ++ chunk) × IsChunk c script heard chunk
 
--- After a call the loop goes on, or the script has its outcome.
+-- After a call the loop continues, or the script has its outcome.
 abbrev pub RunsOn : ℕ → ℕ → List Action → Heard → End → List Entry → List Entry → Progress → Type 0
 RunsOn c tries script heard end base seen (Next next) = IsRunning c script (heard_then heard end next) base seen
 RunsOn c tries script heard end base seen (Over finish) = HasRunTo c tries script (outcome_by finish end heard) base seen
@@ -30,8 +31,8 @@ run_call c tries script heard base seen seen' end (Over finish) adds is (chunk, 
     let account = after_call c tries script heard chunk adds.added end (Over finish) adds.made in
     (chunk ++ adds.added, grown, λ whole. account (adds.quiet whole) so_far is)
 
--- Help that did not fall out of step changes neither the entries that the token has seen nor
--- whether the token is broken.
+-- If a help does not end with `OutOfStep`, the entries that the token has seen are unchanged, and
+-- the token is broken exactly if it was before.
 pub grown_by : {S : Type 0} (words : S → List ℕ) (k : Token S) (last : End) (key : ℕ) (outcome : End) (l : Token S)
     → last ≡ End.Answered (Answer.Done None) → Ended words k (Call.Help key) outcome l → IsAfterHelp k last (not (is_out outcome)) l
 grown_by words k last key (End.Refused OutOfStep) l done ended = (done, key, words, ended)
@@ -51,8 +52,8 @@ pub before_first : (c : ℕ) (half : Bool) (script : List Action) (base : List E
     → IsIn Closed broken base → IsBefore c half script base heard broken base
 before_first c half script base heard broken is at = rw is (([], sym (append-nil base), chunk_begun c script), (at, tt))
 
--- The invariant still holds after a call and the help that may follow it, unless this help falls
--- out of step.
+-- The invariant still holds after a call and the help that may follow it, unless this help ends
+-- with `OutOfStep`.
 pub called : {S : Type 0} (c : ℕ) (half : Bool) (tries : ℕ) (script : List Action) (base : List Entry) (heard heard' : Heard) (j k l : Token S) (call : Call) (end : End) (p : Progress)
     → j.number ≡ c → j.limits.half ≡ half → call ≡ call_at script heard.attempt.stage → heard' ≡ heard → p ≡ progress_of script tries heard'.attempt end
     → Adds j.number call end j.seen k.seen → HasEnded j call end k → (k.broken ≡ false → is_some (seat_after k.seen) ≡ true) → IsAfterHelp k end true l
@@ -69,7 +70,7 @@ out_if_refused half true seat key rows is = refl
 out_if_refused half false None key rows is = absurd (false≢true (rows refl))
 out_if_refused half false (Some s) key rows is = absurd (cc (if_bad (is_bad_key half key) BadKey OutOfStep is).1)
 
--- If help fell out of step, the token is broken.
+-- If a help ends with `OutOfStep`, the token is broken.
 broken_by : {S : Type 0} (words : S → List ℕ) (k : Token S) (key : ℕ) (l : Token S)
     → (k.broken ≡ false → is_some (seat_after k.seen) ≡ true) → Ended words k (Call.Help key) (End.Refused OutOfStep) l → l.broken ≡ true
 broken_by words k key l rows (inl (refused, same)) =
@@ -81,7 +82,7 @@ done_quiet : (c : ℕ) (call : Call) (reply : Option ℕ) (added : List Entry) �
 done_quiet c (Call.Op op) reply added made = rw made
 done_quiet c call reply added made = absurd made
 
--- A script whose caller fell out of step by a call for help after a put.
+-- If the help after a put ends with `OutOfStep`, the script's outcome is the refusal `OutOfStep`.
 pub fell_out : {S : Type 0} (c c' tries : ℕ) (script : List Action) (heard : Heard) (base seen : List Entry) (call : Call) (last : End)
     (k l : Token S) → Adds c' call last seen k.seen → (k.broken ≡ false → is_some (seat_after k.seen) ≡ true) → IsAfterHelp k last false l
     → IsRunning c script heard base seen → HasRunTo c tries script (Outcome.Refused OutOfStep) base l.seen × IsIn Closed l.broken l.seen

@@ -1,5 +1,5 @@
--- Rows, each with its last element first, are merged into one list, which takes one element from
--- each row in turn.
+-- Rows are merged into one list, which takes one element from each row in turn. Each row is in
+-- reverse: its last element comes first.
 use Rattle.std.proofs.Common.{◌≡◌, ℕ, ◌+◌, ◌*◌, ◌/◌, ◌%◌, ◌<◌, List, [], ◌∷◌, ◌++◌, append_assoc, length, length-append, reverse, set, Some, refl, sym, ap, ◌∙◌, inl, inr, arith, slice_get, slice_index_or, append-nil, length-set}
 use Rattle.thread_runs.proofs.Vocabulary.{Each, every-fewer, every-hit, every-length, every-miss, get_within, number_at, one_remainder}
 use Rattle.script_worker.proofs.Vocabulary.{cases_eq, every, length-reverse, nil_from_length, reverse-append, slice_get_read}
@@ -7,8 +7,8 @@ use Rattle.script_worker.proofs.Vocabulary.{slice_get_within}
 use Rattle.boost_core.proofs.Refused.{set_here}
 use Rattle.thread_runs.proofs.Lists.{get_set_other}
 
--- The rest of a row. An element is *out* once it is in the merged list `out`; the rest of the row
--- has the others.
+-- The rest of a row. An element of the row is *out* once it is in the merged list `out`. The rest
+-- of the row has the elements that are not out.
 abbrev pub HasLeft : {R X : Type 0} → (R → List X) → ℕ → List R → List X → ℕ → R → Type 0
 HasLeft {R} items n left out i was = (row : R) × (slice_get left i ≡ Some row) ×
     (reverse (items was) ≡ every n i out ++ reverse (items row))
@@ -22,7 +22,7 @@ pub record IsLeft {R X : Type 0} (items : R → List X) (n : ℕ) (rows left : L
 abbrev pub AreWholeRows : {R X Y : Type 0} → (R → List X) → ℕ → List R → List Y → Type 0
 AreWholeRows items n rows ys = Each (λ c row. length (items row) ≡ length (every n c ys)) rows
 
--- One more element is out, taken from the next row.
+-- If one more element is taken from the next row and appended to `out`, `IsLeft` still holds.
 pub left_more : {R X : Type 0} (items : R → List X) (n : ℕ) (rows left : List R) (out : List X) (c : ℕ) (row row' : R) (x : X) → 0 < n → length rows ≡ n → c ≡ length out % n → slice_get left c ≡ Some row → items row ≡ items row' ++ x ∷ []
     → IsLeft items n rows left out → IsLeft items n rows (set left c row') (out ++ x ∷ [])
 left_more items n rows left out c row row' x some as_many turn is popped so_far =
@@ -47,7 +47,7 @@ left_more items n rows left out c row row' x some as_many turn is popped so_far 
           )
         ]
 
--- While some element is not out yet, the next row has an element left.
+-- If `out` is shorter than `ys`, the next row has an element that is not out.
 left_some : {R X Y : Type 0} (items : R → List X) (n : ℕ) (rows left : List R) (out : List X) (ys : List Y) (c : ℕ) (row : R) → 0 < n
     → length rows ≡ n → c ≡ length out % n → length out < length ys → AreWholeRows items n rows ys
     → slice_get left c ≡ Some row → IsLeft items n rows left out → 0 < length (items row)
@@ -69,7 +69,7 @@ row_at items rows left out ys number workers k row turn some as_many at fewer wh
     let there = slice_get_read left (length left) k row refl (omega (arith, turn, some, as_many, so_far.as_many)) is in
     (next, there, left_some items (length rows) rows left out ys k row some refl next (rw at fewer) whole there so_far)
 
--- When all are out, each row has given all of its elements.
+-- If `out` is as long as `ys`, all elements of each row are out.
 pub left_all : {R X Y : Type 0} (items : R → List X) (n : ℕ) (rows left : List R) (out : List X) (ys : List Y) → length out ≡ length ys → AreWholeRows items n rows ys → IsLeft items n rows left out
     → Each (λ c row. every n c out ≡ reverse (items row)) rows
 left_all items n rows left out ys same whole so_far c was is =

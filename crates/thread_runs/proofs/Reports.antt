@@ -11,7 +11,7 @@ use Rattle.script_worker.proofs.Vocabulary.{tolds_of}
 use Rattle.thread_runs.proofs.Lists.{all_at, get_map, map_get}
 use Rattle.thread_runs.specs.declared.outcome.Outcome as codes
 
--- A statement that holds of each script with its outcome holds of the script and the outcome at
+-- If a statement holds of each script with its outcome, it holds of the script and the outcome at
 -- any position.
 told_within : (P : Told → Type 0) (scripts : List (List Action)) (outcomes : List Outcome) (k : ℕ) (script : List Action) (outcome : Outcome) → slice_get scripts k ≡ Some script → slice_get outcomes k ≡ Some outcome
     → AllByRecursion P (tolds_of scripts outcomes) → P (record { script = script; outcome = outcome })
@@ -42,15 +42,16 @@ module _ {L W : Type 0} (items : W → List codes.Outcome) (half : Bool) (worker
       ap length (sym row_is) ∙ length-reverse r.outcomes.items ∙ sym (length-map r.outcomes.items outcome_told) ∙ ran.all ∙ ap (λ (n : ℕ). length (every n c scripts)) (sym as_many_rows)
 
   module _ (outcomes : List codes.Outcome) (order : Each (λ c row. every (length rows) c outcomes ≡ reverse (items row)) rows) where
-    -- Among all outcomes, those of a worker's scripts are the outcomes that the worker has
-    -- reported.
+    -- Take from all outcomes those of a worker's scripts. They are the outcomes that this worker
+    -- has reported.
     own_outcomes : (c : ℕ) (r : WorkerReport L) → slice_get reports c ≡ Some r → every workers c (map outcome_told outcomes) ≡ map outcome_told r.outcomes.items
     own_outcomes c r at =
         let (row, in_rows, row_is) = get_map items rows c (reverse r.outcomes.items) (map_get (λ q. reverse q.outcomes.items) reports _ rows_are c r at) in
         every-map outcome_told workers outcomes c
         ∙ ap (map outcome_told) (ap (λ (n : ℕ). every n c outcomes) (sym as_many_rows) ∙ order c row in_rows ∙ ap reverse row_is ∙ reverse-reverse r.outcomes.items)
 
-    -- If each worker has seen its own entries of the history, the outcomes are true of the history.
+    -- If each worker has seen exactly its own entries of the history, the outcomes are true of the
+    -- history.
     pub reports_true : (h : List Entry) → IsShaped h → RepliesHold h → ((c : ℕ) (r : WorkerReport L) → slice_get reports c ≡ Some r → own r.caller.number h ≡ r.caller.seen) → AreAllTrue workers tries scripts (map outcome_told outcomes) h
     reports_true h shape replies owns c below =
         let (r, at) = get_within reports c (rw as_many below) in
@@ -92,7 +93,8 @@ run_true items limits sizes workers tries scripts reports callers rows outcomes 
       allowed = reports_may items limits.half workers tries scripts reports rows as_many each rows_are outcomes order some;
     }
 
--- If the elements of a list show `f` of 0, 1, 2 and so on, the element at position `k` shows `f k`.
+-- If `show` maps the elements of a list to `f 0`, `f 1`, `f 2` and so on, it maps the element at
+-- position `k` to `f k`.
 pub shown_at : {X T : Type 0} (show : X → T) (f : ℕ → T) (n : ℕ) (xs : List X) (k : ℕ) (x : X) → map show xs ≡ map f (range_with_len 0 n) → (k < length xs) × (x ≡ get_or xs k x) → show x ≡ f k
 shown_at show f n xs k x are at =
     let as_many : length xs ≡ n = sym (length-map xs show) ∙ ap length are ∙ length-map-range_with_len f 0 n in

@@ -5,7 +5,8 @@ use Rattle.thread_runs.proofs.Vocabulary.{no_account, seat_front, tolds_of-none,
 use Rattle.script_worker.proofs.Vocabulary.{Action, ByRecursion-append, Entry, every, length_push, Outcome, slice_get_within, Told}
 use Rattle.script_worker.proofs.Vocabulary.{tolds_of}
 
--- The loop so far: each script that was run has an outcome, and the next script is at `number`.
+-- The state of the loop: each script that was run has an outcome, and the next script has the
+-- number `number`.
 pub record IsSoFar (half : Bool) (workers tries c : ℕ) (scripts : List (List Action)) (number : ℕ) (outcomes : List Outcome) (seen : List Entry) : Type 0 where
   pub at : number ≡ c + length outcomes * workers
   pub told : AreToldIn c tries (every workers c scripts) outcomes seen

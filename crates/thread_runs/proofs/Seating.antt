@@ -43,7 +43,7 @@ is_refusal (End.Refused refusal) = true
 is_refusal outcome = false
 
 -- `phase_after` is the phase after a call that did what it was asked to do. `phase_by` is the phase
--- after a call that did so or found a stripe held.
+-- after such a call, or after a call that found a stripe held.
 abbrev pub phase_after : Phase → Call → Phase
 phase_after phase Call.Commit = Closed
 phase_after phase Call.Abort = Closed

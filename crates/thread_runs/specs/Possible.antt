@@ -29,7 +29,7 @@ is_abort actions.Abort = true
 is_abort action = false
 
 -- The refusals that a script may have. `BadKey`, `NoSuchLevel` and `StaleWord` need an action that
--- can be refused so. `NoMemory`, `StampsUsedUp` and `OutOfStep` are always possible.
+-- can have this refusal. `NoMemory`, `StampsUsedUp` and `OutOfStep` are always possible.
 abbrev pub MayBeRefused : Bool → List Action → Refusal → Type 0
 MayBeRefused half script BadKey = IsTrue (list_any (has_bad_key half) script)
 MayBeRefused half script NoSuchLevel = IsTrue (list_any is_back script)
@@ -39,7 +39,8 @@ MayBeRefused half script StampsUsedUp = Unit {0}
 MayBeRefused half script OutOfStep = Unit {0}
 MayBeRefused half script refusal = ⊥
 
--- The outcomes that a script may have: it is aborted only if it has an abort.
+-- The outcomes that a script may have. It is `Aborted` only if it has an abort, and `Refused` only
+-- with a refusal that it may have.
 abbrev pub MayCome : Bool → List Action → Outcome → Type 0
 MayCome half script Aborted = IsTrue (list_any is_abort script)
 MayCome half script (Refused refusal) = MayBeRefused half script refusal

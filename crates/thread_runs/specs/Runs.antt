@@ -47,31 +47,31 @@ HasPhase phase seat = (s : Seat) × (seat ≡ Some s) × (s.phase ≡ phase)
 abbrev pub IsIn : Phase → Bool → List Entry → Type 0
 IsIn phase broken seen = (broken ≡ true) ⊎ HasPhase phase (seat_after seen)
 
--- A call has this end; or it was not made, since memory was refused for its reply.
+-- A call has this end, or it was not made. In the second case memory was refused for its reply.
 abbrev pub HasEnded : {S : Type 0} → Token S → Call → End → Token S → Type 0
 HasEnded {S} k call outcome l =
     ((words : S → List ℕ) × Ended words k call outcome l)
     ⊎ ((outcome ≡ ends.Refused NoMemory) × (may_refuse call NoMemory ≡ true) × (l ≡ k))
 
--- A call has added the entries of its end. If it ended out of step it has committed nothing,
--- provided that all entries that were seen have rows.
+-- A call has added the entries of its end. If the end is `OutOfStep`, and all entries that were
+-- seen have rows in the table, the call has committed nothing.
 pub record Adds (c : ℕ) (call : Call) (outcome : End) (seen seen' : List Entry) : Type 0 where
   pub added : List Entry
   pub entries : seen' ≡ seen ++ added
   pub made : IsMade c call outcome added
   pub quiet : is_some (seat_after seen') ≡ true → IsQuiet outcome added
 
--- The caller after a call with this end, and after the help that may have followed. If the caller
--- is still in step, its entries are unchanged. If not, the reply of the call was none, and the help
--- that followed fell out of step.
+-- The caller after a call with this end, and after the help that may have followed. If the flag is
+-- true, the caller's entries are unchanged, and its token is broken exactly if it was before. If
+-- the flag is false, the call's reply was None, and the help that followed ended with `OutOfStep`.
 abbrev pub IsAfterHelp : {S : Type 0} → Token S → End → Bool → Token S → Type 0
 IsAfterHelp k outcome true l = (l.seen ≡ k.seen) × (l.broken ≡ k.broken)
 IsAfterHelp {S} k outcome false l =
     (outcome ≡ ends.Answered (answers.Done None)) × (key : ℕ) × (words : S → List ℕ)
     × Ended words k (calls.Help key) (ends.Refused OutOfStep) l
 
--- There is room for the reply of a call (`HasRoomFor`), or for an end's reply (`HasRoomAt`), if it
--- has one.
+-- `HasRoomFor`: if a call has a reply, there is room for it. `HasRoomAt`: if the end of a call has
+-- a reply, there is room for it.
 abbrev pub HasRoomFor : Call → ℕ → Type 0
 HasRoomFor (calls.Op op) room = 0 < room
 HasRoomFor call room = Unit {0}
@@ -91,14 +91,15 @@ outcome_told outcomes.Aborted = accounts.Aborted
 outcome_told outcomes.Busy = accounts.Busy
 outcome_told (outcomes.Refused refusal) = accounts.Refused refusal
 
--- A script was run to an outcome, and the added entries are its account, provided that the entries
--- that were seen have rows.
+-- A script was run to an outcome. If all entries that were seen have rows in the table, the entries
+-- that the script added are the account of this outcome.
 abbrev pub HasRunTo : ℕ → ℕ → List Action → Outcome → List Entry → List Entry → Type 0
 HasRunTo c tries script outcome base seen =
     (chunk : List Entry) × (seen ≡ base ++ chunk)
     × (is_some (seat_after seen) ≡ true → IsAccount c tries script outcome chunk)
 
--- The entries that a caller has seen, if they have rows, are the accounts of its scripts so far.
+-- If all entries that a caller has seen have rows in the table, they are the accounts of its
+-- scripts so far.
 abbrev pub AreToldIn : ℕ → ℕ → List (List Action) → List Outcome → List Entry → Type 0
 AreToldIn c tries scripts outcomes seen =
     is_some (seat_after seen) ≡ true → AreAccounts c tries (tolds_of scripts outcomes) seen
@@ -123,10 +124,9 @@ pub record HasReported {L : Type 0} (half : Bool) (workers tries : ℕ)
       HasRunAll half workers tries c scripts
       (map outcome_told report.outcomes.items) report.caller.seen
 
--- A run of scripts on a map with these limits: its history is legal and has only entries of these
--- workers; there is one outcome for each script; the outcomes are true of the history, so that each
--- worker's committed transactions play its scripts, with rising numbers; and each outcome is one
--- that its script allows.
+-- A run of scripts on a map with these limits. Its history is legal and has only entries of these
+-- workers. There is one outcome for each script, and the script allows it. The outcomes are true of
+-- the history. Each worker's committed transactions play its scripts, with rising numbers.
 pub record HasRunScripts (limits : Sizes) (workers tries : ℕ) (scripts : List (List Action))
     (outcomes : List Outcome) (trace : List Entry) : Type 0 where
   pub legal : IsLegal Begun limits.stripes trace
@@ -143,8 +143,8 @@ abbrev pub IsRunOf : Sizes → ℕ → ℕ → List (List Action) → Ran → Ty
 IsRunOf limits workers tries scripts ran =
     HasRunScripts limits workers tries scripts (map outcome_told ran.outcomes.items) ran.trace.items
 
--- The reason why a run has no result: no memory, no thread, or a history that is not what the
--- workers saw.
+-- The reason why a run has no result: memory was refused, a thread was not started, or the history
+-- is not what the workers saw.
 abbrev pub IsRunRefusal : Refusal → Type 0
 IsRunRefusal NoMemory = Unit {0}
 IsRunRefusal NoThread = Unit {0}

@@ -1,7 +1,7 @@
-//! The growth of the table while scripts run: at times a worker helps by itself, for the key of a
-//! put or a put-if. This module is apart from the course of a script, since a help adds no entry
-//! and the history tells nothing of it. A worker counts only its own new keys, and helps at most
-//! once for every seven of them.
+//! The growth of the table while scripts run. After some puts or put-ifs of new keys, a worker
+//! helps the table to grow without being asked. The growth is a module of its own, apart from the
+//! running of a script, since a help adds no entry to the history. A worker counts only its own new
+//! keys, and helps at most once for every seven of them.
 ghost use Rattle.std.specs.Prelude.{◌≡◌, IfSome, None};
 ghost use Rattle.txn_words.specs.declared.answer.Answer.{Answer};
 ghost use Rattle.txn_drive.specs.declared.«end».End.{End};
@@ -16,10 +16,10 @@ use std::sync::ledger::Ledger;
 use txn_trace::{Answer, Op, Refusal};
 
 /// The number of new keys after which a worker helps the table to grow. In a large table a help
-/// takes some ten holds, one to double and one for each ancestor of the key's bucket, and an
-/// operation takes three; so a help for each new key would keep the other workers waiting. The
-/// number is odd, and the number of buckets is a power of two. So each bucket has its turn if the
-/// keys are numbers in a row.
+/// takes about ten holds: one to double the table, and one for each ancestor of the key's bucket.
+/// An operation takes three holds. So a help for each new key would make the other workers wait.
+/// The number is odd, and the number of buckets is a power of two. So if the keys are consecutive
+/// numbers, each bucket has its turn.
 const EVERY: u8 = 7;
 
 /// The number of new keys that a worker has put since its last help.
@@ -29,12 +29,13 @@ pub(crate) struct Growth {
 }
 
 impl Growth {
-    /// No new keys.
+    /// The count before a worker's first new key.
     pub(crate) fn new() -> Growth {
         Growth { new_keys: 0 }
     }
 
-    /// Notes a call and its end, and answers the key for which the worker is to help now.
+    /// Counts the new key of a call with this end, if it has one. If the worker has to help now,
+    /// returns the key to help for. A call for help sets the count back to 0.
     fn key_due(&mut self, call: Call, end: End) -> Option<u64>
         ensures { IfSome result (λ key. end ≡ End.Answered (Answer.Done None)) }
     {
@@ -51,9 +52,9 @@ impl Growth {
         Some(key)
     }
 
-    /// Lets the table grow by a step, if a call has put a new key and it is time: doubles the
-    /// table, if it is full, and initialises the key's bucket. If memory is refused for that, or no
-    /// stamp is left, the table stays smaller. Answers whether the caller is still in step.
+    /// If a call has put a new key and a help is due, helps the table to grow: doubles the table if
+    /// it is full, and initialises the key's bucket. If memory for this is refused or no stamp is
+    /// left, the table stays smaller. Returns false exactly if the help ends with `OutOfStep`.
     pub(crate) fn grow<L: Ledger, H: OnRelease, R: Wait>(
         &mut self,
         rt: &R,
@@ -74,15 +75,15 @@ impl Growth {
     }
 }
 
-/// Whether a call fell out of step.
+/// Whether a call ended with the refusal `OutOfStep`.
 fn is_out(end: End) -> bool
     ensures { result ≡ is_out end }
 {
     matches!(end, End::Refused(Refusal::OutOfStep))
 }
 
-/// The key of a put or a put-if that found no value at the key. The key of a put-if that expected a
-/// value counts too, although the put-if has put nothing.
+/// The key of a put or a put-if that found no value at the key. This includes a put-if that
+/// expected a value, although it has put nothing.
 fn new_key(call: Call, end: End) -> Option<u64>
     ensures { IfSome result (λ key. end ≡ End.Answered (Answer.Done None)) }
 {

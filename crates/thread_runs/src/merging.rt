@@ -1,7 +1,7 @@
 //! The outcomes of all workers, merged into the scripts' order. The merge works on lists and knows
-//! neither map nor threads; its contract is only about lengths and order. Each row has its last
-//! outcome first, so the next one is taken from the row's end, in constant time, and no outcome is
-//! copied.
+//! neither map nor threads; its contract is only about lengths and order. Each row is in reverse,
+//! with its last outcome first. So the merge takes the next outcome from the row's end, in constant
+//! time and without a copy.
 ghost use Rattle.std.specs.Prelude.{◌≡◌, ◌<◌, IfOk, length, reverse};
 ghost use Rattle.script_worker.specs.Accounts.{every};
 ghost use Rattle.thread_runs.specs.Each.{Each};
@@ -10,8 +10,8 @@ use crate::outcome::Outcome;
 use std::alloc::{AllocError, Global};
 use txn_trace::Script;
 
-/// The outcomes in the scripts' order. Each worker has a row, with its last outcome first, and
-/// script `i` belongs to worker `i` modulo the number of rows.
+/// The outcomes in the scripts' order. Each worker has a row of outcomes, in reverse: the last one
+/// comes first. Script `i` belongs to worker `i` modulo the number of rows.
 pub(crate) fn in_order(
     alloc: Global,
     rows: Vec<Vec<Outcome>>,

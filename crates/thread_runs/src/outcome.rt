@@ -1,7 +1,7 @@
 //! The outcomes of scripts. Both the account of a worker and the contract of a run use them, so
-//! they belong to neither. Only an outcome of a commit takes memory, for the replies. The list to
-//! which the script's calls added them is moved into the outcome, and the outcome is moved from the
-//! worker to the run's result.
+//! they have a module of their own. Only the outcome of a commit takes memory, for the replies. The
+//! list in which the script's calls collected the replies is moved into the outcome, and the
+//! outcome is moved from the worker to the run's result.
 use txn_trace::{Refusal, Reply};
 
 /// The outcome of a script.
@@ -18,9 +18,9 @@ pub enum Outcome {
     },
     /// The script has aborted its transaction itself.
     Aborted,
-    /// Each attempt found a stripe held by another, and is aborted.
+    /// Each attempt at the script found a stripe held by another caller, and is aborted.
     Busy,
-    /// A call was refused with this. Its transaction is aborted, or did not begin, unless the
-    /// refusal is `OutOfStep`.
+    /// A call was refused for this reason. Unless the reason is `OutOfStep`, the call's transaction
+    /// is aborted or did not begin.
     Refused(Refusal),
 }

@@ -1,7 +1,7 @@
-//! The course of one script to its outcome: call after call on the shared map, by the rules of
-//! `Attempt` (`script_worker`). The invariant of the loop is about the entries that the caller has
-//! added since the script began. At the end they are the account of the outcome (`IsAccount` of
-//! `script_worker`).
+//! Runs one script to its outcome: call after call on the shared map, by the rules of `Attempt`
+//! (`script_worker`). The invariant of the loop is about the entries that the caller has added
+//! since the script began. When the script ends, these entries are the account of its outcome
+//! (`IsAccount` of `script_worker`).
 ghost use Rattle.std.specs.Prelude.{◌≡◌, ◌-◌, true, false, is_some, vec_len, vec_capacity};
 ghost use Rattle.txn_words.specs.declared.refusal.Refusal.{Refusal};
 ghost use Rattle.txn_words.specs.declared.seat.Phase.{Phase};
@@ -25,7 +25,7 @@ use std::sync::ledger::Ledger;
 use std::thread::yield_now;
 use txn_trace::{Answer, PackedAction, Refusal, Reply};
 
-/// Tells the gate of each release of the lock.
+/// Calls the gate after each release of the lock.
 #[derive(Drop)]
 struct Freed<'a, G: Gate> {
     gate: &'a G,
@@ -38,7 +38,7 @@ impl<G: Gate> OnRelease for Freed<'_, G> {
     }
 }
 
-/// An attempt at a script with what its caller has been told: the number of its transaction, and
+/// An attempt at a script, with the results of its calls so far: the number of its transaction, and
 /// the replies of its operations.
 #[derive(Drop)]
 pub(crate) struct Heard {
@@ -48,8 +48,8 @@ pub(crate) struct Heard {
 }
 
 impl Heard {
-    /// The first attempt at a script of this many actions, before its first call. Room for all
-    /// replies is made at once; if that is refused, each call makes its own.
+    /// The first attempt at a script of this many actions, before its first call. This makes room
+    /// for all replies at once. If that room is refused, each call makes room for its own reply.
     fn new(alloc: Global, actions: usize) -> Heard
         ensures { heard_of result ≡ first_heard }
     {
@@ -62,7 +62,8 @@ impl Heard {
         }
     }
 
-    /// Makes room for the reply of a call, if it has one, and says whether there is room.
+    /// Makes room for the reply of a call, if the call has one. Returns false if there is no room
+    /// for it.
     fn has_room(&mut self, call: Call) -> bool
         ensures heard { heard_of self.new ≡ heard_of self.old }
         ensures is_op { result ≡ false → may_refuse call Refusal.NoMemory ≡ true }
@@ -75,8 +76,9 @@ impl Heard {
         }
     }
 
-    /// Moves on to `next`, the next attempt or the next stage of this one, and notes what the end
-    /// of the call says. There is room for the call's reply, if it has one.
+    /// Replaces the attempt by `next`, which is the next attempt or the next stage of this attempt.
+    /// Stores what the end of the call gives: the number of a new transaction, or a reply. If the
+    /// call has a reply, there is room for it.
     fn go_on(&mut self, next: Attempt, end: End)
         requires { HasRoomAt end (vec_capacity self.old.replies - vec_len self.old.replies) }
         ensures { heard_of self.new ≡ heard_then (heard_of self.old) end next }
@@ -112,7 +114,8 @@ impl Heard {
         }
     }
 
-    /// Makes a call, if there is room for its reply.
+    /// Makes a call if there is room for its reply. Otherwise the call's end is the refusal
+    /// `NoMemory`.
     #[tactic(auto, using(crate::proofs::Adding::adds_of, crate::proofs::Adding::room_at))]
     fn hear<L: Ledger, H: OnRelease, R: Wait>(
         &mut self,
@@ -135,22 +138,24 @@ impl Heard {
             return End::Refused(Refusal::NoMemory);
         }
         let end = map.run(rt, me, call, hears);
-        // By the contract of `seen` the entries of a token that is not broken have rows.
+        // By the contract of `seen`, if the token is not broken, its entries have rows in the
+        // table.
         let _seen = me.seen();
         end
     }
 }
 
-/// Lets other threads run if a stripe was held, so that its holder can end before this script asks
-/// for the stripe again.
+/// If a call found its stripe held, lets other threads run. So the holder's transaction can end
+/// before this script asks for the stripe again.
 fn give_way(end: End) {
     if let End::Busy(_) = end {
         yield_now();
     }
 }
 
-/// Runs a script to its outcome, by at most `tries` attempts after the first. If all entries that
-/// the caller has seen have rows, those that the script added are the account of that outcome.
+/// Runs a script to its outcome, with at most `tries` attempts after the first. If all entries that
+/// the caller has seen have rows in the table, the entries that the script added are the account of
+/// that outcome.
 pub(crate) fn run_script<L: Ledger, G: Gate, R: Wait>(
     rt: &R,
     alloc: Global,

@@ -1,9 +1,10 @@
-//! A run of scripts, from a new map to the outcomes in the scripts' order; its parts are in the
-//! other modules. It chooses the types of its ledger and its terms, so its callers name neither.
-//! Before a thread starts, the map takes room for what the scripts add, so that history, table,
-//! logs and seats need not grow under its lock. If many attempts are repeated, the history needs
-//! more room; with several workers the map makes it outside the lock (`growth.rt` of `locked_map`).
-//! If memory is refused for any of this room, the parts without room grow as they are used.
+//! A run of scripts, from a new map to the outcomes in the scripts' order. The parts of a run are
+//! in the other modules. A run chooses the types of its ledger and of its terms, so callers of
+//! `run_scripts` name neither. Before a thread starts, the map takes room for what the scripts add,
+//! so that history, table, logs and seats need not grow under its lock. If many attempts are
+//! repeated, the history needs more room; with several workers the map makes that room outside the
+//! lock (`growth.rt` of `locked_map`). If memory for some of this room is refused, the parts
+//! without room grow as they are used.
 ghost use Rattle.std.specs.Prelude.{◌≡◌, ◌<◌, ◌≤◌, IfOk, IfErr, map, reverse};
 ghost use Rattle.thread_runs.specs.Runs.{IsRunOf, IsRunRefusal};
 
@@ -23,32 +24,33 @@ use std::thread::Threads;
 use txn_trace::{Action, Limits, Op, PackedAction, Refusal, Script};
 
 /// A run with several workers has room for one and a half times the entries that its scripts add,
-/// and for this many more, so that the history of a small run does not grow.
+/// and for this many more entries. So the history of a small run does not grow.
 const MORE: usize = 256;
 
-/// At least the number of entries that a worker may owe or make room for, besides one for each
+/// A bound on the entries that a worker may owe or make room for, apart from one entry for each
 /// change of its transaction.
 const OWED: usize = 8;
 
 /// Runs each script in the thread of its worker, on a new map. There are as many workers as the
-/// limits have callers: script `i` belongs to worker `i` modulo the workers, and worker `w` is
-/// caller `w`. A script that found a stripe held is tried again at most `tries` times, after other
-/// threads had a chance to run. After seven puts or put-ifs at absent keys, without a help between
-/// them, a worker helps the table to grow, though its script does not ask for it; this adds no
-/// entry.
+/// limits have callers. Script `i` belongs to worker `i` modulo the number of workers, and worker
+/// `w` is caller `w`. A script that found a stripe held is tried again at most `tries` times, after
+/// other threads had a chance to run. After seven puts or put-ifs at absent keys without a help
+/// between them, a worker helps the table to grow, even if its script does not ask for it. This
+/// adds no entry.
 ///
-/// With `Ok` the history is legal by the rule that a Busy may name any other worker that has begun
-/// a transaction; each of its entries is of one of these workers; and each script has one outcome,
-/// which is true of the history, so that each worker's committed transactions play its scripts:
+/// If the result is `Ok`, the history is legal by the rule that a Busy may name any other worker
+/// that has begun a transaction. Each entry of the history belongs to one of these workers. Each
+/// script has one outcome, and the outcomes are true of the history, so each worker's committed
+/// transactions play its scripts:
 ///
-/// - `Committed` stands for a transaction of the script's worker. The transaction plays the script,
-///   is committed with that number and has exactly those replies. Each Committed entry of the
-///   history belongs to exactly one outcome.
+/// - `Committed` stands for the transaction `txn` of the script's worker. This transaction plays
+///   the script, is number `place` in the commit order, and has exactly these `replies`. Each
+///   Committed entry of the history belongs to exactly one outcome.
 /// - A worker with `b` outcomes `Busy` has at least `b * (tries + 1)` Busy entries.
 /// - Only a script with an abort is `Aborted`.
 /// - A script is `Refused` with `BadKey` only if it has a bad key, with `NoSuchLevel` only if it
-///   goes back, and with `StaleWord` only if it has an operation. The other possible refusals are
-///   `NoMemory`, `StampsUsedUp` and `OutOfStep`.
+///   goes back to a level, and with `StaleWord` only if it has an operation. The other possible
+///   refusals are `NoMemory`, `StampsUsedUp` and `OutOfStep`.
 ///
 /// # Errors
 ///
@@ -58,9 +60,9 @@ const OWED: usize = 8;
 ///
 /// # Cost
 ///
-/// That of `SharedMap::new` and of the calls, and a thread for each worker. In addition, time in
-/// proportion to the scripts and, for each worker, to the history, and memory in proportion to
-/// scripts and history.
+/// The cost of `SharedMap::new` and of the calls, and a thread for each worker. In addition, time
+/// in proportion to the scripts, time for each worker in proportion to the history, and memory in
+/// proportion to the scripts and the history.
 pub fn run_scripts<G: Gate, R: Threads + Wait + Sync>(
     rt: &R,
     alloc: Global,
@@ -125,7 +127,7 @@ fn run_under<L: Ledger + Send + Sync, T: Terms + Send + Sync, G: Gate, R: Thread
 }
 
 /// The number of entries for which each worker makes room before its first script. This is the
-/// worker's part of the room for the history, and the most entries that it may owe besides.
+/// worker's part of the room for the history, plus the largest number of entries that it may owe.
 fn entries_each(room: Room<'_>, workers: usize) -> usize
     requires { 0 < workers }
 {
@@ -182,15 +184,17 @@ fn larger(one: CallerRoom, other: CallerRoom) -> CallerRoom {
 /// Room for what scripts add if no change is taken back. `needs` has for each worker the largest
 /// numbers of changes and of savepoints that one of its scripts may make.
 ///
-/// - Entries: two for each action but a help, and a begin and an end for each script. With several
-///   workers there is room for half as many more, and for `MORE`, since attempts are repeated. If
-///   that room runs out, the history grows; with several workers it does so outside the lock.
-/// - Nodes: one for each put or put-if, however often an attempt is repeated, since no two linked
-///   nodes have the same key. As many again for the dummies of buckets, but at least two and at
-///   most the largest number of buckets. For each worker, a spare for each change in `needs`.
+/// - Entries: two for each action that is not a help, and a begin and an end for each script. With
+///   several workers there is room for half as many again, and for `MORE` further entries, since
+///   attempts are repeated. If that room runs out, the history grows; with several workers it grows
+///   outside the lock.
+/// - Nodes: one for each put or put-if. This is enough however often an attempt is repeated, since
+///   no two linked nodes have the same key. There are as many again for the dummies of buckets, but
+///   at least two and at most the largest number of buckets. For each worker, there is a spare for
+///   each change in `needs`.
 /// - Logs and seats: what `needs` has for the worker.
 ///
-/// With several workers the room is written before they start.
+/// With several workers, the room is written before they start.
 fn room_for<'a>(scripts: &[Script], limits: Limits, needs: &'a [CallerRoom]) -> Room<'a> {
     let mut room = Room {
         entries: 0,
@@ -215,7 +219,8 @@ fn room_for<'a>(scripts: &[Script], limits: Limits, needs: &'a [CallerRoom]) -> 
     room
 }
 
-/// Room for the entries of one attempt at a script, if none of its changes is taken back.
+/// The number of entries that one attempt at a script adds at most, if none of its changes is taken
+/// back.
 fn entries_of(actions: &[PackedAction]) -> usize {
     let calls = actions
         .iter()
@@ -232,7 +237,8 @@ fn puts_in(actions: &[PackedAction]) -> usize {
         .count()
 }
 
-/// The callers of the reports, and each caller's outcomes, the last one first.
+/// The callers of the reports, and for each caller a row of its outcomes in reverse: the last one
+/// comes first.
 fn unzip<L: Ledger>(
     alloc: Global,
     reports: Vec<WorkerReport<L>>,

@@ -1,6 +1,7 @@
-//! Starts the workers' threads, each with its pass, and joins them in the order of their numbers.
-//! Only this module starts and joins threads; `worker.rt` says what a thread does. If one cannot be
-//! started, those that were started finish before the run answers. Each has a stack of 256 KiB.
+//! Starts the workers' threads, each with its pass, and joins them in the order of the workers.
+//! Only this module starts and joins threads; `worker.rt` says what a thread does. If a thread
+//! cannot be started, the threads that were started finish before the run returns. Each thread has
+//! a stack of 256 KiB.
 ghost use Rattle.std.specs.Prelude.{◌≡◌, IfOk, IfErr, length, map};
 ghost use Rattle.core_tokens.specs.Tokens.{AreTickets};
 ghost use Rattle.thread_runs.specs.Each.{Each};
@@ -20,13 +21,13 @@ use std::thread;
 use std::thread::{Promise, PromisedHandle, Threads};
 use txn_trace::{Limits, Refusal};
 
-/// The size of a worker's stack in bytes. No function of a worker calls itself, and all frames take
-/// a few thousand bytes. A limited address space has no room for many stacks of the system's
-/// default size, often 8 MiB.
+/// The size of a worker's stack in bytes. No function of a worker calls itself, and all its frames
+/// together take a few thousand bytes. A limited address space has no room for many stacks of the
+/// system's default size, often 8 MiB.
 const STACK: usize = 256 * 1024;
 
-/// The promise of a thread that gets a pass: unless memory is refused, the thread returns the
-/// caller of the pass, which has run its scripts.
+/// The promise of a thread that gets a pass. Unless memory is refused, the thread returns the
+/// caller that the pass is for, and this caller has run its scripts.
 #[derive(Drop)]
 struct Runs<L: Ledger, T: Terms> {
     pass: Snapshot<Pass<L>>,
@@ -38,7 +39,8 @@ impl<L: Ledger, T: Terms> Promise<Result<WorkerReport<L>, AllocError>> for Runs<
         T.scripts p.pass.value.number) };
 }
 
-/// Runs each worker in its own thread, and answers what each returns, in the order of the workers.
+/// Runs each worker in its own thread, and returns the workers' reports in the order of the
+/// workers.
 pub(crate) fn in_threads<
     L: Ledger + Send + Sync,
     T: Terms + Send + Sync,
@@ -94,7 +96,8 @@ pub(crate) fn in_threads<
     )
 }
 
-/// Waits for the thread of each worker, and answers what each returns.
+/// Waits for the thread of each worker, and returns the workers' reports in the order of the
+/// threads.
 fn join_all<L: Ledger, T: Terms, R: Threads>(
     rt: &R,
     alloc: Global,

@@ -1,7 +1,7 @@
-//! The course of one worker through its scripts, which is all that its thread does. A worker knows
-//! no other worker: it takes its scripts by their numbers, and shares only the map and the gate
-//! with the others. Room for an outcome is made before its script runs, so no script runs whose
-//! outcome could not be kept.
+//! What the thread of one worker does: it runs the worker's scripts, and nothing else. A worker
+//! knows no other worker: it takes its scripts by their numbers, and shares only the map and the
+//! gate with the others. Room for an outcome is made before its script runs, so each script that
+//! runs can keep its outcome.
 ghost use Rattle.std.specs.Prelude.{◌≡◌, ◌<◌, ◌^◌, [], IfOk, map};
 ghost use Rattle.core_tokens.specs.Tokens.{IsSameCaller};
 ghost use Rattle.thread_runs.specs.Runs.{HasReported, HasRunAll, outcome_told};
@@ -21,9 +21,9 @@ use txn_trace::Script;
 /// The result of a worker.
 #[derive(Drop)]
 pub(crate) struct WorkerReport<L: Ledger> {
-    /// Its caller.
+    /// The worker's caller.
     pub(crate) caller: Caller<L, NoSide>,
-    /// The outcomes of its scripts, in order.
+    /// The outcomes of the worker's scripts, in order.
     pub(crate) outcomes: Vec<Outcome>,
 }
 
@@ -52,8 +52,8 @@ pub(crate) struct Orders<'a, L: Ledger, G: Gate, T: Terms> {
 }
 
 impl<L: Ledger, G: Gate, T: Terms> Orders<'_, L, G, T> {
-    /// Runs the scripts of the worker of a pass. If memory is refused for one more outcome, the
-    /// answer is `AllocError`, without the earlier outcomes.
+    /// Runs the scripts of the worker that the pass is for. If memory is refused for one more
+    /// outcome, returns `AllocError`, and the earlier outcomes are lost.
     pub(crate) fn work<R: Wait>(
         &self,
         rt: &R,
@@ -64,13 +64,14 @@ impl<L: Ledger, G: Gate, T: Terms> Orders<'_, L, G, T> {
             pass.number) }
     {
         let mut caller = pass.caller(alloc, NoSide);
-        // If room for all entries is refused, each call makes its own.
+        // If room for all entries is refused, each call makes room for its own entries.
         let _room = caller.reserve(self.entries, self.workers > 1);
         let outcomes = self.outcomes(rt, alloc, &mut caller)?;
         Ok(WorkerReport { caller, outcomes })
     }
 
-    /// Runs the scripts of a worker: each script whose number, modulo the workers, is the worker's.
+    /// Runs the scripts of a worker. These are the scripts whose number, modulo the number of
+    /// workers, is the worker's number.
     fn outcomes<R: Wait>(
         &self,
         rt: &R,

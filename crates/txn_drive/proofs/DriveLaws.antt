@@ -42,7 +42,7 @@ goes_on_in c call phase step is = absurd (cc is)
 pub goes_on : (drive : Drive) (step : Step) → step_of drive ≡ Some step → end_of drive ≡ None
 goes_on drive step is = goes_on_in drive.caller drive.call drive.phase step is
 
--- The entries of an ended drive are those of its end.
+-- An ended drive has added the entries that belong to its end.
 made_by_turn : (drive : Drive) (turn : Turn) → HasMade drive turn → IfSome (ended_by turn) (λ outcome. IsMade drive.caller drive.call outcome (made drive))
 made_by_turn drive (Ended outcome) has = has
 made_by_turn drive (One step) has = tt
@@ -54,13 +54,13 @@ made_if_ended drive = made_by_turn drive (turn_of drive) (ended-turn_of drive (t
 pub made_at_end : (drive : Drive) (outcome : End) → end_of drive ≡ Some outcome → IsMade drive.caller drive.call outcome (made drive)
 made_at_end drive outcome is = subst (λ (o : Option End). IfSome o (λ e. IsMade drive.caller drive.call e (made drive))) is (made_if_ended drive)
 
--- If a turn tells that the call has ended by `outcome`, the turn is `Ended outcome`.
+-- If `ended_by` of a turn is `Some outcome`, the turn is `Ended outcome`.
 pub turn_of_end : (turn : Turn) (outcome : End) → ended_by turn ≡ Some outcome → Ended outcome ≡ turn
 turn_of_end (Ended other) outcome is = let same : other ≡ outcome = cc is in ap Ended (sym same)
 turn_of_end (One step) outcome is = absurd (cc is)
 turn_of_end (Two step next) outcome is = absurd (cc is)
 
--- The table's size does not change the entries of a drive.
+-- If a drive is given the table's size, the entries that it has added are the same.
 pub made-sized : (size c : ℕ) (call : Call) (phase : Phase) → made_in c call (sized_in size phase) ≡ made_in c call phase
 made-sized size c call (Doubling seen) = refl
 made-sized size c call phase = refl
@@ -70,7 +70,7 @@ pub made-new : (half : Bool) (c : ℕ) (call : Call) → made (new_drive half c 
 made-new half c (calls.Help key) = elim (is_bad_key half key) as (λ b. made_in c (calls.Help key) (if b then Refused BadKey else Doubling 0) ≡ []) [ true ↦ refl | false ↦ refl ]
 made-new half c call = refl
 
--- The step of a drive adds only entries of its caller.
+-- A step of a drive adds only entries of the drive's caller.
 abbrev IsBy : ℕ → Step → Type 0
 IsBy c (Begin d) = d ≡ c
 IsBy c (Ask d op) = d ≡ c
@@ -116,8 +116,8 @@ entries_by c step answer by = tt
 pub entries_callers : (drive : Drive) (step : Step) (answer : Answer) → step_of drive ≡ Some step → AllByRecursion (λ e. caller_of e ≡ drive.caller) (entries_of step answer)
 entries_callers drive step answer is = entries_by drive.caller step answer (subst (IsByIfAny drive.caller) is (by_caller drive.caller drive.call drive.phase))
 
--- If all entries of a list are of one caller, they are this caller's own entries, and another
--- caller has no own entry among them.
+-- If all entries of a list belong to one caller, the list is this caller's own entries, and the
+-- list has no own entry of another caller.
 pub own_all : (c : ℕ) (es : List Entry) → AllByRecursion (λ e. caller_of e ≡ c) es → own c es ≡ es
 own_all c [] all = refl
 own_all c (e ∷ es) all = rw (eq-eqb (caller_of e) c all.0, own_all c es all.1)

@@ -45,7 +45,7 @@ made-told_seek c call Operation again (answers.Refused r) = refl
 made-told_seek c call work again (answers.Refused NothingToSeek) = refl
 made-told_seek c call work again a = refl
 
--- Taking back one more change adds its entry.
+-- Taking back one more change adds one `Undone` entry.
 made-counted : (c : ℕ) (call : Call) (undone : ℕ) (more work : Work) → made_by c call more ≡ made_by c call work ++ entries.Undone c ∷ []
     → made_in c call (counted undone more work) ≡ made_by c call work ++ entries.Undone c ∷ []
 made-counted c call undone more work is =
@@ -71,7 +71,7 @@ made-undone_more c call (Leaving k) = made-counted c call k (Leaving (k + 1)) (L
     more_leaving c calls.Abort k = one_undone_more c (entries.Leave c None ∷ []) k
     more_leaving c call k = one_undone_more c [] k
 
--- An act adds its entry.
+-- An act adds the entries of the step `Act` with its answer.
 made-told_act : (c : ℕ) (call : Call) (work : Work) (again : ℕ) (a : Answer) → made_in c call (told_act work again a) ≡ made_by c call work ++ entries_of (Act c) a
 made-told_act c call work again answers.Again = sym (append-nil (made_by c call work))
 made-told_act c call work again answers.Undone = made-undone_more c call work
@@ -143,7 +143,7 @@ made-told_by c call (Linking way again) step a is = made-told_link c call way ag
 made-told_by c call (Storing way) step a is = made-told_store c call way a
 made-told_by c call phase step a is = absurd (cc is)
 
--- An answer to the step of a phase adds the entries of the step.
+-- The answer to the step of a phase adds the entries of this step with this answer.
 made-told_in : (c : ℕ) (call : Call) (phase : Phase) (step : Step) (a : Answer) → step_in c call phase ≡ Some step
     → made_in c call (told_in call phase a) ≡ made_in c call phase ++ entries_of step a
 made-told_in c call phase step a is =
@@ -152,7 +152,7 @@ made-told_in c call phase step a is =
 pub made-told_of : (d : Drive) (step : Step) (a : Answer) → step_of d ≡ Some step → made (told_of d a) ≡ made d ++ entries_of step a
 made-told_of d step a is = made-told_in d.caller d.call d.phase step a is
 
--- The entries of an ended drive are those that belong to its end.
+-- An ended drive has added the entries that belong to its end.
 ended-refused : (r : Refusal) → MakesNone r []
 ended-refused OutOfStep = tt
 ended-refused r = refl

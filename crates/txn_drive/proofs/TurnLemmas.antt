@@ -21,34 +21,34 @@ module _ {X Y : Type 0} (R : X → Step → Answer → X → Type 0) (S : Y → 
       ((a, p z, mapped.0, then.0), then.1)
   steps_map x (Ended outcome) y i same = (ap p same, subst I (sym same) i)
 
--- `p` maps a state to a part of it, and `I` is a fact that this mapping needs. If each step that is
--- taken maps to a step of the part, and keeps the fact, then each turn that is taken maps to a turn
--- of the part, and keeps the fact.
+-- `p` maps a state to a part of the state, and `I` is a fact about states that this mapping needs.
+-- If each step keeps `I` and is also a step of the part, then each turn keeps `I` and is also a
+-- turn of the part.
 pub turn_maps : {X Y : Type 0} (R : X → Step → Answer → X → Type 0) (S : Y → Step → Answer → Y → Type 0) (I : X → Type 0) (p : X → Y) (x : X) (t : Turn) (y : X) → I x → HasTaken R x t y
     → ((x : X) (s : Step) (a : Answer) (y : X) → I x → R x s a y → S (p x) s a (p y) × I y) → TakesTurn S (p x) t (p y) × I y
 turn_maps R S I p x t y i taken each = steps_map R S I p each x t y i taken.steps
 
--- How many steps are left of a turn, given its next step and the step that may follow it.
+-- How many steps of a turn remain, given the next step and the step that may follow it.
 abbrev pub left_of : Option Step → Option Step → ℕ
 left_of None second = 0
 left_of (Some step) None = 1
 left_of (Some step) (Some then) = 2
 
 module _ {X : Type 0} (may : X → Step → Type 0) (takes : X → Step → Answer → X → Type 0) where
-  -- The rest of a turn may be taken.
+  -- The remaining steps of a turn may be taken.
   abbrev MayLeft : X → Option Step → Option Step → Type 0
   MayLeft x None second = Unit {0}
   MayLeft x (Some step) None = MayTake may takes x (One step)
   MayLeft x (Some step) (Some then) = MayTake may takes x (Two step then)
 
-  -- The rest of a turn is taken.
+  -- The remaining steps of a turn are taken.
   abbrev TakesLeft : X → Option Step → Option Step → X → Type 0
   TakesLeft x None second z = z ≡ x
   TakesLeft x (Some step) None z = TakesTurn takes x (One step) z
   TakesLeft x (Some step) (Some then) z = TakesTurn takes x (Two step then) z
 
-  -- Some steps of a turn are taken. The steps that are left may be taken. After them the turn is
-  -- over.
+  -- Some steps of a turn have been taken. The remaining steps may be taken, and with them the turn
+  -- is complete.
   pub record Rest (start : X) (turn : Turn) (now : X) (next second : Option Step) : Type 0 where
     pub may_take : MayLeft now next second
     pub ends : (last : X) → TakesLeft now next second last → TakesTurn takes start turn last
@@ -70,7 +70,7 @@ module _ {X : Type 0} (may : X → Step → Type 0) (takes : X → Step → Answ
     ends = λ last left. rest.ends last (second_taken x y step second last taken left);
   }
 
-  -- If a step was answered `placed`, what is left of the turn is its second step, if it has one.
+  -- If the answer to a step was `placed`, only the turn's second step remains, if there is one.
   pub after_placed : (start : X) (turn : Turn) (x y : X) (next second now other : Option Step) (step : Step) (answer : Answer)
       → next ≡ Some step → now ≡ second → other ≡ None → answer ≡ Placed → takes x step answer y
       → Rest start turn x next second → Rest start turn y now other
@@ -89,7 +89,7 @@ module _ {X : Type 0} (may : X → Step → Type 0) (takes : X → Step → Answ
   none_taken x y step answer None not taken = (answer, taken)
   none_taken x y step answer (Some then) not taken = (answer, y, taken, none_second y then answer not)
 
-  -- If the answer to a step was not `placed`, no step of the turn is left.
+  -- If the answer to a step was not `placed`, no step of the turn remains.
   pub after_other : (start : X) (turn : Turn) (x y : X) (next second other : Option Step) (step : Step) (answer : Answer)
       → next ≡ Some step → (answer ≡ Placed → ⊥) → takes x step answer y
       → Rest start turn x next second → Rest start turn y None other

@@ -1,4 +1,4 @@
--- The way from bucket 0 to a bucket, step by step.
+-- A helper's path from bucket 0 to a bucket, step by step.
 use Prim.Native.Nat.{zero, suc}
 use Rattle.std.proofs.Common.{◌≡◌, ◌≢◌, ℕ, ◌+◌, ◌-◌, ◌^◌, ◌<◌, ◌≤◌, ◌==◌, if◌then◌else◌, refl, ap, sym, ◌∙◌, arith, eq-eqb, pow-suc, inl, inr}
 use Rattle.std.proofs.lemmas.Bool.{cases_lt, ne_eqb}
@@ -13,7 +13,7 @@ pub parent_of-zero : parent_of 0 ≡ 0
 unfolding parent_of highest_cleared
 parent_of-zero = refl
 
--- One round of the search for the next bucket on the way, after `taken` of the 32 rounds.
+-- One round of the search for the next bucket on the path, after `taken` of the 32 rounds.
 pub child_within-step : (taken last bucket : ℕ) → taken < 32
     → child_within (32 - taken) last bucket ≡ (if parent_of bucket == last then bucket else child_within (32 - (taken + 1)) last (parent_of bucket))
 unfolding child_within
@@ -37,7 +37,8 @@ pub child_within-missed : (taken last bucket : ℕ) → taken < 32 → (parent_o
 child_within-missed taken last bucket less differs =
     child_within-step taken last bucket less ∙ ap (λ b. if b then bucket else child_within (32 - (taken + 1)) last (parent_of bucket)) (ne_eqb (parent_of bucket) last differs)
 
--- A number without its highest 1 bit is no larger than the number, and fits in one bit less.
+-- If the highest 1 bit of a number is cleared, the result is at most the number, and fits in one
+-- bit less.
 highest_cleared-le : (width number : ℕ) → highest_cleared width number ≤ number
 unfolding highest_cleared
 highest_cleared-le zero number = omega arith
@@ -68,7 +69,7 @@ parent_of-below : (bit bucket : ℕ) → bucket < 2 ^ 32 → bucket < 2 ^ suc bi
 unfolding parent_of
 parent_of-below bit bucket small below = highest_cleared-below 32 bit bucket small below
 
--- The ancestor of a bucket after `steps + 1` steps is its parent's ancestor after `steps` steps.
+-- The ancestor `steps + 1` steps above a bucket is the ancestor `steps` steps above its parent.
 ancestor_of-parent_of : (steps bucket : ℕ) → ancestor_of (suc steps) bucket ≡ ancestor_of steps (parent_of bucket)
 unfolding ancestor_of
 ancestor_of-parent_of zero bucket = refl

@@ -1,4 +1,4 @@
--- The phases of a drive: the step of each, the turn that it takes, and the phase after an answer.
+-- The phases of a drive: for each phase, its step, its turn, and the next phase after an answer.
 use Rattle.std.specs.Prelude.{◌≡◌, ℕ, ◌+◌, ◌-◌, ◌^◌, ◌%◌, ◌==◌, Bool, nat_lt, ◌&&◌, if◌then◌else◌, Option, Some, None}
 use Rattle.txn_words.specs.declared.step.Step.{Step}
 use Rattle.txn_words.specs.declared.step.Step.TheVariants as steps
@@ -21,8 +21,9 @@ use Rattle.txn_drive.specs.declared.turn.Turn.TheVariants.{One, Two, Ended}
 use Rattle.txn_drive.specs.declared.way.Way.{Way}
 use Rattle.txn_drive.specs.Ways.{child_towards}
 
--- A call for help begins by doubling the table, or is refused if only half keys are taken and its
--- key is no half key. Any other call is fresh.
+-- The first phase of a drive for this call. A `Help` begins with the step that doubles the table.
+-- But if only half keys are allowed and its key is 2^63 or more, it is refused. Any other call
+-- begins in `Fresh`.
 abbrev pub first_phase : Bool → Call → Phase
 first_phase half (calls.Help key) = if is_bad_key half key then Refused BadKey else Doubling 0
 first_phase half call = Fresh
@@ -30,7 +31,7 @@ first_phase half call = Fresh
 abbrev pub new_drive : Bool → ℕ → Call → Drive
 new_drive half c call = record { caller = c; call = call; phase = first_phase half call }
 
--- The phase once the table's size is known.
+-- The phase after the table's present size is stored. Only the phase `Doubling` stores the size.
 abbrev pub sized_in : ℕ → Phase → Phase
 sized_in size (Doubling seen) = Doubling size
 sized_in size phase = phase
@@ -38,8 +39,8 @@ sized_in size phase = phase
 abbrev pub sized_of : ℕ → Drive → Drive
 sized_of size drive = record drive { phase = sized_in size drive.phase }
 
--- The step of a drive in the phase `Fresh`. The drive of a call `Help` begins in another phase
--- (`first_phase`).
+-- The step that a drive for this call takes in the phase `Fresh`. The drive for a call `Help`
+-- begins in another phase (`first_phase`).
 abbrev pub first_step : ℕ → Call → Step
 first_step c calls.Begin = steps.Begin c
 first_step c (calls.Op op) = steps.Ask c op
@@ -49,8 +50,8 @@ first_step c calls.Commit = steps.Commit c
 first_step c calls.Abort = steps.Abort c
 first_step c (calls.Help key) = steps.Double 0
 
--- The step of a phase, or None if the drive has ended. The drive is told the answer to this step
--- next.
+-- The step that a drive takes in this phase, or None if the drive has ended. The drive's next
+-- answer is the answer to this step.
 abbrev pub step_in : ℕ → Call → Phase → Option Step
 step_in c call Fresh = Some (first_step c call)
 step_in c call (Seeking work again) = Some (steps.Seek c)
@@ -72,13 +73,13 @@ end_first calls.Save (answers.Saved n) = ends.Answered (answers.Saved n)
 end_first calls.Commit (answers.Committed p) = ends.Answered (answers.Committed p)
 end_first call answer = ends.Refused OutOfStep
 
--- The end of a return to the level `level`, if the answer was that the caller has returned to the
+-- The end of a call that goes back to `level`, if the answer says that the caller is back at the
 -- level `reached`.
 abbrev pub end_returned : ℕ → ℕ → End
 end_returned level reached =
     if reached == level then ends.Answered (answers.Returned reached) else ends.Refused OutOfStep
 
--- The end of a call that ended with an act.
+-- The end of a call whose last step was an act.
 abbrev pub end_last : Call → Work → Answer → End
 end_last (calls.Op op) Operation (answers.Done reply) = ends.Answered (answers.Done reply)
 end_last (calls.Op op) (Busy holder undone) answers.Aborted = ends.Busy holder
@@ -86,17 +87,17 @@ end_last (calls.Back level) (Leaving undone) (answers.Returned reached) = end_re
 end_last calls.Abort (Leaving undone) answers.Aborted = ends.Answered answers.Aborted
 end_last call work answer = ends.Refused OutOfStep
 
--- The end of a help when all buckets on the way are initialised.
+-- The end of a help after all buckets on the helper's path are initialised.
 abbrev pub end_helped : Call → End
 end_helped (calls.Help key) = ends.Helped
 end_helped call = ends.Refused OutOfStep
 
--- The turn for a step that seeks, given the step that acts at the position found: both steps after
--- eight `again` in a row, else the seek alone.
+-- The turn for a seek and for the step that acts at the position found. After eight answers `again`
+-- in a row, the turn has both steps. Otherwise it has only the seek.
 abbrev pub paired : ℕ → Step → Step → Turn
 paired again seeking acting = if nat_lt again 8 then One seeking else Two seeking acting
 
--- The turn of a phase.
+-- The turn that a drive takes in this phase.
 abbrev pub turn_in : ℕ → Call → Phase → Turn
 turn_in c call Fresh = One (first_step c call)
 turn_in c call (Seeking work again) = paired again (steps.Seek c) (steps.Act c)
@@ -115,7 +116,7 @@ turn_in c call (Refused refusal) = Ended (ends.Refused refusal)
 abbrev pub turn_of : Drive → Turn
 turn_of drive = turn_in drive.caller drive.call drive.phase
 
--- One more `again` in a row; at most eight are counted.
+-- The count after one more answer `again` in a row. It stops at eight.
 abbrev pub one_more_again : ℕ → ℕ
 one_more_again again = if nat_lt again 8 then again + 1 else again
 
@@ -128,8 +129,9 @@ told_first (calls.Back level) answers.Leaving = Seeking (Leaving 0) 0
 told_first calls.Abort answers.Leaving = Seeking (Leaving 0) 0
 told_first call answer = First answer
 
--- The phase after a seek. If the position is found, or no change is left to take back, the next
--- step is an act. In the second case the act ends the call. Any other answer ends the call at once.
+-- The phase after a seek. If the position was found, or no change remains to be taken back, the
+-- next step is an act. If no change remains, this act ends the call. Any other answer ends the call
+-- at once.
 abbrev pub told_seek : Work → ℕ → Answer → Phase
 told_seek work again answers.Placed = Acting work again
 told_seek (Busy holder undone) again (answers.Refused NothingToSeek) =
@@ -137,48 +139,48 @@ told_seek (Busy holder undone) again (answers.Refused NothingToSeek) =
 told_seek (Leaving undone) again (answers.Refused NothingToSeek) = Acting (Leaving undone) again
 told_seek work again answer = Lost work
 
--- The phase after `undone + 1` changes are taken back: the next change is sought, with the work
--- `more`. If `undone + 1` does not fit in 64 bits, the call ends.
+-- The phase after `undone + 1` changes were taken back. The next step seeks the position of the
+-- next change, for the work `more`. But if `undone + 1` does not fit in 64 bits, the call ends.
 abbrev pub counted : ℕ → Work → Work → Phase
 counted undone more work =
     if nat_lt undone (2 ^ 64 - 1) then Seeking more 0 else Last work answers.Undone
 
--- The phase after one more change was taken back: the next one is sought, as `counted` says; but if
--- the work is an operation, the call ends.
+-- The phase after one more change was taken back. If the work is an operation, the call ends.
+-- Otherwise `counted` gives the phase.
 abbrev pub undone_more : Work → Phase
 undone_more Operation = Last Operation answers.Undone
 undone_more (Busy holder undone) = counted undone (Busy holder (undone + 1)) (Busy holder undone)
 undone_more (Leaving undone) = counted undone (Leaving (undone + 1)) (Leaving undone)
 
--- The phase after an act: the position did not fit and is sought again; or one more change is taken
--- back; or the call has ended.
+-- The phase after an act. After `Again`, the position is sought again. After `Undone`, one more
+-- change has been taken back. Any other answer ends the call.
 abbrev pub told_act : Work → ℕ → Answer → Phase
 told_act work again answers.Again = Seeking work (one_more_again again)
 told_act work again answers.Undone = undone_more work
 told_act work again answer = Last work answer
 
--- The phase once the bucket `last`, on the way to `bucket`, is initialised. It begins the next
--- bucket on the way, or ends the help.
+-- The phase after the bucket `last`, on the path to `bucket`, is initialised. Either the next
+-- bucket on the path is begun, or the help ends.
 abbrev pub towards : ℕ → ℕ → Phase
 towards last bucket =
     if last == bucket then Helped
     else Initialising (record { bucket = child_towards last bucket; target = bucket }) 0
 
--- The phase that begins the way to a key's bucket in a table of this size. A table's size is above
--- 0 and below 2 ^ 32.
+-- The phase in which a helper starts on its path to a key's bucket, in a table of this size. A
+-- table's size is above 0 and below 2 ^ 32, so any other size ends the help.
 abbrev pub heading : ℕ → ℕ → Phase
 heading key size =
     if nat_lt 0 size && nat_lt size (2 ^ 32) then towards 0 (key % size) else Refused OutOfStep
 
--- The phase after a helper's step was refused: for lack of memory or of a stamp, or by a refusal
--- that no rule foresees.
+-- The phase after a helper's step was refused. The rules foresee refusals for lack of memory or of
+-- a stamp, and no others.
 abbrev pub refused_help : Refusal → Phase
 refused_help NoMemory = Refused NoMemory
 refused_help StampsUsedUp = Refused StampsUsedUp
 refused_help refusal = Refused OutOfStep
 
--- The phase after the step that doubles the table: the way to the key's bucket begins, for the size
--- that the table now has. `seen` is the size that the step named.
+-- The phase after the step that doubles the table. The helper starts on its path to the bucket that
+-- the key has at the table's present size. `seen` is the size that the step named.
 abbrev pub told_help : ℕ → ℕ → Answer → Phase
 told_help key seen (answers.Moved size) = heading key size
 told_help key seen (answers.Doubled size) = heading key size
@@ -198,7 +200,7 @@ told_init_seek way again answers.Placed = Linking way again
 told_init_seek way again (answers.Refused refusal) = refused_help refusal
 told_init_seek way again answer = Refused OutOfStep
 
--- The phase after the answer to linking a bucket's dummy.
+-- The phase after the step that links a bucket's dummy.
 abbrev pub told_link : Way → ℕ → Answer → Phase
 told_link way again answers.Again = Initialising way (one_more_again again)
 told_link way again answers.Present = Storing way
@@ -206,13 +208,13 @@ told_link way again answers.Linked = Storing way
 told_link way again (answers.Refused refusal) = refused_help refusal
 told_link way again answer = Refused OutOfStep
 
--- The phase after the answer to storing a bucket's dummy.
+-- The phase after the step that stores a bucket's dummy.
 abbrev pub told_store : Way → Answer → Phase
 told_store way answers.Stored = towards way.bucket way.target
 told_store way (answers.Refused refusal) = refused_help refusal
 told_store way answer = Refused OutOfStep
 
--- The next phase after a phase, given the answer to the phase's step.
+-- The next phase, given the present phase and the answer to its step.
 abbrev pub told_in : Call → Phase → Answer → Phase
 told_in call Fresh answer = told_first call answer
 told_in call (Seeking work again) answer = told_seek work again answer
@@ -226,15 +228,15 @@ told_in call phase answer = Refused OutOfStep
 abbrev pub told_of : Drive → Answer → Drive
 told_of drive answer = record drive { phase = told_in drive.call drive.phase answer }
 
--- The turn's first step is the step of its drive. A second step is the drive's step after the
--- answer `placed`. If the turn tells an end, the drive has no step.
+-- The turn's first step is the step of the drive. A second step is the step that the drive has
+-- after the answer `placed`. If the turn is an end, the drive has no step.
 abbrev pub IsTurnOf : Drive → Turn → Type 0
 IsTurnOf drive (One step) = step_of drive ≡ Some step
 IsTurnOf drive (Two step next) =
     (step_of drive ≡ Some step) × (step_of (told_of drive answers.Placed) ≡ Some next)
 IsTurnOf drive (Ended outcome) = step_of drive ≡ None
 
--- The end that a turn tells, if it tells that the call has ended.
+-- The end of the call if the turn is an end, else None.
 abbrev pub ended_by : Turn → Option End
 ended_by (Ended outcome) = Some outcome
 ended_by turn = None

@@ -31,7 +31,7 @@ undone_in (Leaving undone) = undone
 abbrev pub undone_by : ℕ → ℕ → List Entry
 undone_by c undone = replicate undone (entries.Undone c)
 
--- The entry of a call's first step, if the call goes on with this work after that step.
+-- The entry that the first step of a call has added, if the call then had this work to do.
 abbrev pub opened_by : ℕ → Call → Work → List Entry
 opened_by c (calls.Op op) Operation = entries.Asked c op ∷ []
 opened_by c (calls.Op op) (Busy holder undone) = entries.Busy c op holder ∷ []
@@ -39,18 +39,18 @@ opened_by c (calls.Back level) (Leaving undone) = entries.Leave c (Some level) �
 opened_by c calls.Abort (Leaving undone) = entries.Leave c None ∷ []
 opened_by c call work = []
 
--- The entry of a call's first step, if this answer has ended the call.
+-- The entry that the first step of a call has added, if this answer to the step has ended the call.
 abbrev pub entered_by : ℕ → Call → Answer → List Entry
 entered_by c calls.Begin (answers.Began t) = entries.Began c t ∷ []
 entered_by c calls.Save (answers.Saved n) = entries.Saved c ∷ []
 entered_by c calls.Commit (answers.Committed p) = entries.Committed c p ∷ []
 entered_by c call answer = []
 
--- The entries of a call whose work goes on.
+-- The entries that a call has added up to now, while it does this work.
 abbrev pub made_by : ℕ → Call → Work → List Entry
 made_by c call work = opened_by c call work ++ undone_by c (undone_in work)
 
--- The entries of a call that is in a phase.
+-- The entries that a call has added once it is in this phase.
 abbrev pub made_in : ℕ → Call → Phase → List Entry
 made_in c call (Seeking work again) = made_by c call work
 made_in c call (Acting work again) = made_by c call work
@@ -63,8 +63,8 @@ made_in c call phase = []
 abbrev pub made : Drive → List Entry
 made drive = made_in drive.caller drive.call drive.phase
 
--- A refused call has no entries. The refusal `OutOfStep` is an exception: nothing is said of a call
--- that got an answer that no rule foresees.
+-- A refused call has added no entries. But nothing is claimed about a call refused with
+-- `OutOfStep`, since a step of that call may have got an answer that no rule foresees.
 abbrev pub MakesNone : Refusal → List Entry → Type 0
 MakesNone OutOfStep h = Unit {0}
 MakesNone refusal h = h ≡ []
@@ -91,16 +91,16 @@ IsMade c calls.Abort (ends.Answered answers.Aborted) h =
 IsMade c (calls.Help key) ends.Helped h = h ≡ []
 IsMade c call outcome h = ⊥
 
--- If a turn tells that its drive has ended, the drive's entries are those of the end.
+-- If the turn is an end, the drive has added the entries that belong to this end.
 abbrev pub HasMade : Drive → Turn → Type 0
 HasMade drive (Ended outcome) = IsMade drive.caller drive.call outcome (made drive)
 HasMade drive turn = Unit {0}
 
--- None of the entries commits.
+-- No entry of the list is a `Committed`.
 abbrev pub CommitNothing : List Entry → Type 0
 CommitNothing es = filter is_commit es ≡ []
 
--- A call that ends out of step has committed nothing.
+-- A call that ends with `OutOfStep` has committed nothing.
 abbrev pub IsQuiet : End → List Entry → Type 0
 IsQuiet (ends.Refused OutOfStep) added = CommitNothing added
 IsQuiet outcome added = Unit {0}

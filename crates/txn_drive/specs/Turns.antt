@@ -1,4 +1,4 @@
--- Turns in terms of any state that takes their steps.
+-- What it means to take a turn, for any type of state on which steps are taken.
 use Rattle.std.specs.Prelude.{◌≡◌}
 use Rattle.txn_words.specs.declared.answer.Answer.{Answer}
 use Rattle.txn_words.specs.declared.answer.Answer.TheVariants.{Placed}
@@ -6,13 +6,14 @@ use Rattle.txn_words.specs.declared.step.Step.{Step}
 use Rattle.txn_drive.specs.declared.turn.Turn.{Turn}
 use Rattle.txn_drive.specs.declared.turn.Turn.TheVariants.{One, Two, Ended}
 
--- After the first of two steps, the second is taken if the answer was `placed`.
+-- If the answer to the first of two steps was `placed`, the second step is taken. Otherwise the
+-- state is unchanged.
 abbrev pub TakesSecond : {X : Type 0} → (X → Step → Answer → X → Type 0) → X → Step → Answer → X
     → Type 0
 TakesSecond takes old second Placed new = (answer : Answer) × takes old second answer new
 TakesSecond takes old second answer new = new ≡ old
 
--- The turn is taken: its steps and no other.
+-- The steps of the turn are taken, and no others.
 abbrev pub TakesTurn : {X : Type 0} → (X → Step → Answer → X → Type 0) → X → Turn → X → Type 0
 TakesTurn takes old (One step) new = (answer : Answer) × takes old step answer new
 TakesTurn {X} takes old (Two first second) new =
@@ -20,13 +21,14 @@ TakesTurn {X} takes old (Two first second) new =
     × TakesSecond takes between second answer new
 TakesTurn takes old (Ended outcome) new = new ≡ old
 
--- The turn is taken. This is a record, so that a proof finds the states and the relation in its
--- type.
+-- The turn is taken (`TakesTurn`). This is a record, so that a proof finds the states and the
+-- relation in the record's type.
 pub record HasTaken {X : Type 0} (takes : X → Step → Answer → X → Type 0) (old : X) (turn : Turn)
     (new : X) : Type 0 where
   pub steps : TakesTurn takes old turn new
 
--- The first step of a turn may be taken, and its second step after the answer `placed`.
+-- The first step of the turn may be taken. If the answer to it is `placed`, the second step may be
+-- taken too.
 abbrev pub MayTake : {X : Type 0} → (X → Step → Type 0) → (X → Step → Answer → X → Type 0) → X
     → Turn → Type 0
 MayTake may takes old (One step) = may old step

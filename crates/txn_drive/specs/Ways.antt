@@ -1,16 +1,16 @@
--- The way from bucket 0 to a bucket, over its ancestors.
+-- A helper's path from bucket 0 to a bucket, over the bucket's ancestors.
 use Rattle.std.specs.Prelude.{ℕ, ◌==◌, if◌then◌else◌}
 use Prim.Native.Nat.{zero, suc}
 use Rattle.split_key.specs.Split.{parent_of}
 
--- Among a bucket and its ancestors, the nearest whose parent is `last`. The first argument says how
--- many of them are looked at; if none of these fits, the result is the next ancestor.
+-- Among a bucket and its ancestors, the nearest whose parent is `last`. The first argument is the
+-- number of these buckets to test. If all tests fail, the result is the next ancestor.
 unfoldable pub child_within : ℕ → ℕ → ℕ → ℕ
 child_within zero last bucket = bucket
 child_within (suc steps) last bucket =
     if parent_of bucket == last then bucket else child_within steps last (parent_of bucket)
 
--- The bucket that follows `last` on the way to a bucket. A bucket below 2 ^ 32 has at most 32
+-- The bucket that follows `last` on the path to a bucket. A bucket below 2 ^ 32 has at most 32
 -- ancestors other than itself.
 unfoldable pub child_towards : ℕ → ℕ → ℕ
 child_towards last bucket = child_within 32 last bucket

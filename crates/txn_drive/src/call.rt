@@ -1,8 +1,8 @@
 //! Calls on the map: an operation, begin, save, back, commit, abort or help. A call names no caller
-//! and has no state: the drive that turns it into steps adds both. The call and the limits fix the
-//! first phase. The first step of a help names the table's size. Any other first step is fixed by
-//! the call and the caller. If the limits refuse the key of a help, the help ends without a step.
-//! All other calls take at least one step.
+//! and has no state. The drive that turns the call into steps adds both. The call and the limits
+//! determine the drive's first phase. A help ends without a step if the limits refuse its key. All
+//! other calls take at least one step. The first step of a help names the table's size. Every other
+//! first step depends only on the call and the caller.
 ghost use Rattle.std.specs.Prelude.{◌≡◌};
 ghost use Rattle.txn_drive.specs.Drives.{first_phase, first_step};
 
@@ -29,7 +29,7 @@ pub enum Call {
 }
 
 impl Call {
-    /// The phase in which a drive of this call begins.
+    /// The first phase of a drive for this call.
     pub(crate) fn first_phase(self, limits: Limits) -> Phase
         ensures { result ≡ first_phase limits.half self }
     {
@@ -40,8 +40,8 @@ impl Call {
         }
     }
 
-    /// The step of a drive in the phase `Fresh`. The drive of a call `Help` begins in another phase
-    /// (`first_phase`).
+    /// The step that a drive for this call takes in the phase `Fresh`. The drive for a call `Help`
+    /// begins in another phase (`first_phase`).
     pub(crate) fn first_step(self, caller: u64) -> Step
         ensures { result ≡ first_step caller self }
     {

@@ -1,6 +1,6 @@
-//! A call in progress: its phase, its next turn, and its phase after an answer. It is separate from
-//! whatever takes the steps, so that a core, a lock and a test all drive calls by the same machine.
-//! A drive tells which entries its steps have added to the history (`specs/Made.antt`).
+//! A call in progress: its phase, its next turn, and its phase after an answer. A drive does not
+//! take steps itself, so a core, a lock and a test can all use the same drive. The state of a drive
+//! determines which entries its steps have added to the history (`specs/Made.antt`).
 ghost use Rattle.std.specs.Prelude.{◌≡◌, [], ◌++◌, Some, IfSome};
 ghost use Rattle.txn_words.specs.declared.step.Step.{Step};
 ghost use Rattle.txn_drive.specs.Drives.{new_drive, sized_of, turn_of, told_of, step_of, IsTurnOf, end_of, end_first, end_last, end_helped};
@@ -13,13 +13,13 @@ use crate::phase::{Phase, Work};
 use crate::turn::{Turn, one_or_two};
 use txn_words::{Answer, Limits, Refusal, Step};
 
-/// A caller's call in progress: its next step, and what it has been told so far.
+/// A caller's call in progress: how far the call has come, and its next step.
 ///
-/// Begin with `new`; take turns by `turn`, and after each step pass its answer to `told`, until a
-/// turn is `Ended`.
+/// Make a drive with `new`. Then get each turn by `turn`, take the steps of the turn, and pass the
+/// answer to each step to `told`, until a turn is `Ended`.
 #[derive(Clone, Copy, Debug, PartialEq, Eq)]
 pub struct Drive {
-    /// The caller's number, which is also its helper's.
+    /// The caller's number. The caller's helper has the same number.
     pub caller: u64,
     /// The call itself.
     pub call: Call,
@@ -28,10 +28,10 @@ pub struct Drive {
 }
 
 impl Drive {
-    /// The drive of a caller's call on a map of these limits, before its first step.
+    /// A drive for this caller's call on a map with these limits, before its first step.
     ///
-    /// If the limits take only half keys, a call `Help` for a key of 2^63 or more has already ended
-    /// with `Refusal::BadKey`, without any step.
+    /// If the limits allow only half keys, a call `Help` for a key of 2^63 or more has already
+    /// ended with `Refusal::BadKey`, without any step.
     pub fn new(caller: u64, call: Call, limits: Limits) -> Drive
         ensures drive { result ≡ new_drive limits.half caller call }
         ensures made { made result ≡ [] }
@@ -43,10 +43,10 @@ impl Drive {
         }
     }
 
-    /// The next turn, for a table that has this size in buckets now.
+    /// The next turn. `size` is the table's present size in buckets.
     ///
-    /// Only a helper that is about to double the table notes the size. A drive whose turn is
-    /// `Ended` gives this turn again each time, unless it is told a further answer.
+    /// Only a helper that is about to double the table stores the size. If the turn is `Ended`,
+    /// every later turn is the same, unless a further answer is passed to `told`.
     #[inline(always)]
     pub fn turn(&mut self, size: u32) -> Turn
         ensures drive { self.new ≡ sized_of size self.old }
@@ -85,7 +85,7 @@ impl Drive {
         }
     }
 
-    /// The turn of the phase.
+    /// The turn that a drive in this phase takes.
     #[inline(always)]
     fn show(self) -> Turn
         ensures { result ≡ turn_of self }
@@ -109,15 +109,15 @@ impl Drive {
         }
     }
 
-    /// Tells the drive the answer to the step that its turn named. In a turn of two steps, tell it
-    /// the answer to each step that is taken.
+    /// Passes the drive the answer to the step that its turn named. For a turn of two steps, call
+    /// this after each step that is taken.
     ///
-    /// An answer that no rule foresees ends the call with `Refusal::OutOfStep`, and so does any
-    /// answer that is told after the end.
+    /// The call ends with `Refusal::OutOfStep` if no rule foresees the answer, or if the call has
+    /// already ended.
     ///
     /// # Cost
     ///
-    /// Constant time: the search of a helper's next bucket takes up to 32 rounds.
+    /// Constant time. The search for a helper's next bucket takes up to 32 rounds.
     #[inline(always)]
     pub fn told(&mut self, answer: Answer)
         ensures drive { self.new ≡ told_of self.old answer }
@@ -150,7 +150,7 @@ fn end_first(call: Call, answer: Answer) -> End
     }
 }
 
-/// The end of a call that ended with an act.
+/// The end of a call whose last step was an act.
 fn end_last(call: Call, work: Work, answer: Answer) -> End
     ensures { result ≡ end_last call work answer }
 {
@@ -185,7 +185,7 @@ fn end_last(call: Call, work: Work, answer: Answer) -> End
     }
 }
 
-/// The end of a help when all buckets on the way are initialised.
+/// The end of a help after all buckets on the helper's path are initialised.
 fn end_helped(call: Call) -> End
     ensures { result ≡ end_helped call }
 {

@@ -1,7 +1,7 @@
-//! The ends of calls: answered, busy, helped or refused. Callers, workers and the map of threads
-//! use the end of a call, but none of its phases. So an end has a type of its own. Unless the end
-//! is `OutOfStep`, the call and the end determine which entries the call has added, except how
-//! many changes it has taken back (`IsMade`).
+//! How calls end: answered, busy, helped or refused. Callers, workers and the shared map use the
+//! end of a call but none of the call's phases, so an end has a type of its own. If a call does not
+//! end with `OutOfStep`, the call and the end determine which entries the call has added, except
+//! how many changes it has taken back (`IsMade`).
 use txn_words::{Answer, Refusal};
 
 /// The end of a call.
@@ -11,12 +11,12 @@ pub enum End {
     /// an operation, `Saved` for a save, `Returned` for a return to a level, `Committed` for a
     /// commit, `Aborted` for an abort.
     Answered(Answer),
-    /// The table had its turn to grow, and the bucket is initialised.
+    /// The step that may double the table was taken, and the bucket is initialised.
     Helped,
-    /// The key's stripe was found held by the caller of this number; the transaction is aborted.
+    /// The caller with this number was found to hold the key's stripe. The transaction is aborted.
     Busy(u64),
     /// The call was refused. `OutOfStep` means that a step got an answer that no rule foresees, or
-    /// that an answer was told after the end; after any other refusal the call has added no entry
+    /// that `told` got an answer after the end. After any other refusal the call has added no entry
     /// to the history.
     Refused(Refusal),
 }

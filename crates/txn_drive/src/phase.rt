@@ -1,6 +1,6 @@
-//! The progress of a call, and the next phase after an answer, by one function for each phase
-//! (`specs/Drives.antt`). A phase holds all that a call remembers between two steps: its work, its
-//! helper's way, and the number of `again` in a row.
+//! The phases of a call. One function for each phase gives the next phase after an answer
+//! (`specs/Drives.antt`). A phase holds all that a call remembers between two steps: its work, how
+//! far its helper has come, and how many answers `again` it got in a row.
 ghost use Rattle.std.specs.Prelude.{◌≡◌};
 ghost use Rattle.txn_drive.specs.Drives.{one_more_again, towards, heading, told_first, told_seek, told_act, told_double, told_init_seek, told_link, told_store, refused_help, undone_more, told_in};
 
@@ -14,31 +14,33 @@ use txn_words::{Answer, Refusal};
 pub enum Work {
     /// The operation that was asked for.
     Operation,
-    /// Changes to take back after a busy stripe: the stripe's holder, and how many changes have
-    /// been taken back.
+    /// Taking changes back after a busy stripe. The fields are the stripe's holder and how many
+    /// changes have been taken back.
     Busy(u64, u64),
-    /// Changes to take back on the way to a level or to the transaction's end: how many have been
-    /// taken back.
+    /// Taking changes back, to return to a level or to abort. The field is how many changes have
+    /// been taken back.
     Leaving(u64),
 }
 
-/// The progress of a call. A number beside a work or a way counts the `again` in a row, up to 8.
+/// The progress of a call. In a variant with a `Work` or a `Way`, the number counts the answers
+/// `again` in a row, up to 8.
 #[derive(Clone, Copy, Debug, PartialEq, Eq)]
 pub enum Phase {
     /// No step has been answered yet.
     Fresh,
-    /// The next step seeks the position of a work.
+    /// The next step seeks the position for this work.
     Seeking(Work, u8),
-    /// The next step acts: the position of a work was found, or no change is left to take back.
+    /// The next step acts: the position for this work was found, or no change remains to be taken
+    /// back.
     Acting(Work, u8),
-    /// The next step doubles the table. The number is the size at the last turn, or 0 before the
-    /// first turn.
+    /// The next step doubles the table. The number is the table's size at the last turn, or 0
+    /// before the first turn.
     Doubling(u32),
     /// The next step seeks the position of a bucket's dummy.
     Initialising(Way, u8),
-    /// The position of a bucket's dummy was found.
+    /// The position of a bucket's dummy was found. The next step links the dummy.
     Linking(Way, u8),
-    /// A bucket's dummy is linked.
+    /// A bucket's dummy is linked. The next step stores the dummy.
     Storing(Way),
     /// The answer to the first step has ended the call.
     First(Answer),
@@ -46,16 +48,16 @@ pub enum Phase {
     Last(Work, Answer),
     /// A seek got an answer that no rule foresees. This answer has ended the call.
     Lost(Work),
-    /// All buckets on the way are initialised.
+    /// All buckets on the helper's path are initialised.
     Helped,
-    /// A helper's step, or the call itself, was refused. `OutOfStep` means that an answer that no
-    /// rule foresees has ended a help, or that an answer was told after the end.
+    /// A helper's step, or the call itself, was refused. `OutOfStep` means that a help got an
+    /// answer that no rule foresees, or that `told` got an answer after the end.
     Refused(Refusal),
 }
 
 impl Phase {
-    /// Goes on to the next phase, given the answer to this phase's step. Each arm writes its own
-    /// kind of phase, so that only the parts that this kind has are written.
+    /// Replaces this phase by the next one, given the answer to this phase's step. Each arm assigns
+    /// to `*self` itself, so that only the fields of the arm's kind of phase are written.
     #[inline(always)]
     pub(crate) fn told(&mut self, call: Call, answer: Answer)
         ensures { self.new ≡ told_in call self.old answer }
@@ -73,15 +75,15 @@ impl Phase {
     }
 }
 
-/// One more `again` in a row; at most eight are counted.
+/// The count after one more answer `again` in a row. It stops at eight.
 fn one_more(again: u8) -> u8
     ensures { result ≡ one_more_again again }
 {
     if again < PATIENCE { again + 1 } else { again }
 }
 
-/// After the first step: the position of an operation is sought, or changes are taken back, or the
-/// call has ended.
+/// The phase after the first step. The next step seeks the position of an operation or of a change
+/// to take back, or the call has ended.
 #[inline(always)]
 fn told_first(call: Call, answer: Answer) -> Phase
     ensures { result ≡ told_first call answer }
@@ -100,8 +102,8 @@ fn told_first(call: Call, answer: Answer) -> Phase
     }
 }
 
-/// After a seek: an act is next if the position is found, or if no change is left to take back. Any
-/// other answer ends the call.
+/// The phase after a seek. If the position was found, or no change remains to be taken back, the
+/// next step is an act. Any other answer ends the call.
 #[inline(always)]
 fn told_seek(work: Work, again: u8, answer: Answer) -> Phase
     ensures { result ≡ told_seek work again answer }
@@ -116,8 +118,8 @@ fn told_seek(work: Work, again: u8, answer: Answer) -> Phase
     }
 }
 
-/// After an act: the position did not fit and is sought again, or one more change is taken back, or
-/// the call has ended.
+/// The phase after an act. After `Again`, the position is sought again. After `Undone`, one more
+/// change has been taken back. Any other answer ends the call.
 #[inline(always)]
 fn told_act(work: Work, again: u8, answer: Answer) -> Phase
     ensures { result ≡ told_act work again answer }
@@ -129,8 +131,8 @@ fn told_act(work: Work, again: u8, answer: Answer) -> Phase
     }
 }
 
-/// After one more change was taken back: the next step seeks the position of the next one. The call
-/// ends if its work is an operation, or if the count does not fit in 64 bits.
+/// The phase after one more change was taken back. The next step seeks the position of the next
+/// change. But if the work is an operation, or if the count does not fit in 64 bits, the call ends.
 fn undone_more(work: Work) -> Phase
     ensures { result ≡ undone_more work }
 {
@@ -145,8 +147,8 @@ fn undone_more(work: Work) -> Phase
     }
 }
 
-/// After the step that doubles the table: the way to the key's bucket begins, for the size that the
-/// table now has. `seen` is the size that the step named.
+/// The phase after the step that doubles the table. The helper starts on its path to the bucket
+/// that the key has at the table's present size. `seen` is the size that the step named.
 fn told_double(call: Call, seen: u32, answer: Answer) -> Phase
     ensures { result ≡ told_double call seen answer }
 {
@@ -161,8 +163,8 @@ fn told_double(call: Call, seen: u32, answer: Answer) -> Phase
     }
 }
 
-/// The phase that begins the way to a key's bucket in a table of this size. A table's size is above
-/// 0 and below 2^32.
+/// The phase in which a helper starts on its path to a key's bucket, in a table of this size. A
+/// table's size is above 0 and below 2^32, so any other size ends the help.
 fn heading(key: u64, size: u64) -> Phase
     ensures { result ≡ heading key size }
 {
@@ -173,7 +175,7 @@ fn heading(key: u64, size: u64) -> Phase
     }
 }
 
-/// The phase once the bucket `last`, on the way to `target`, is initialised.
+/// The phase after the bucket `last`, on the path to `target`, is initialised.
 fn towards(last: u32, target: u32) -> Phase
     ensures { result ≡ towards last target }
 {
@@ -185,7 +187,7 @@ fn towards(last: u32, target: u32) -> Phase
     }
 }
 
-/// After a seek of a bucket's dummy.
+/// The phase after the position of a bucket's dummy was sought.
 fn told_init_seek(way: Way, again: u8, answer: Answer) -> Phase
     ensures { result ≡ told_init_seek way again answer }
 {
@@ -197,7 +199,7 @@ fn told_init_seek(way: Way, again: u8, answer: Answer) -> Phase
     }
 }
 
-/// After the answer to linking a bucket's dummy.
+/// The phase after the step that links a bucket's dummy.
 fn told_link(way: Way, again: u8, answer: Answer) -> Phase
     ensures { result ≡ told_link way again answer }
 {
@@ -209,7 +211,7 @@ fn told_link(way: Way, again: u8, answer: Answer) -> Phase
     }
 }
 
-/// After the answer to storing a bucket's dummy.
+/// The phase after the step that stores a bucket's dummy.
 fn told_store(way: Way, answer: Answer) -> Phase
     ensures { result ≡ told_store way answer }
 {
@@ -220,7 +222,8 @@ fn told_store(way: Way, answer: Answer) -> Phase
     }
 }
 
-/// A helper's step may be refused for lack of memory or of a stamp; no other refusal is foreseen.
+/// The phase after a helper's step was refused. The rules foresee refusals for lack of memory or of
+/// a stamp, and no others.
 fn refused_help(refusal: Refusal) -> Phase
     ensures { result ≡ refused_help refusal }
 {

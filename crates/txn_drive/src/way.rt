@@ -1,14 +1,14 @@
-//! The buckets that a helper initialises on its way to a key's bucket, each after its parent. A way
-//! keeps only its current bucket and its target, and no list of ancestors: the next bucket is found
-//! from the target in up to 32 rounds, each from a bucket to its parent.
+//! The path of a helper: the buckets that it initialises up to a key's bucket, each after its
+//! parent. A `Way` keeps only the current bucket and the target, and no list of ancestors. The next
+//! bucket is found by going up from the target, from parent to parent, at most 32 times.
 ghost use Rattle.std.specs.Prelude.{◌≡◌};
 ghost use Rattle.split_key.specs.Split.{parent_of};
 ghost use Rattle.txn_drive.specs.Ways.{child_towards};
 
 use split_key::parent;
 
-/// The position of a helper on its way from bucket 0 to a bucket, over all the bucket's ancestors,
-/// each after its parent.
+/// The position of a helper on its path from bucket 0 to a target bucket. On the path are the
+/// target and all its ancestors, each after its parent.
 #[derive(Clone, Copy, Debug, PartialEq, Eq)]
 pub struct Way {
     /// The bucket that is being initialised.
@@ -24,9 +24,9 @@ fn parent_or_root(bucket: u32) -> u32
     if bucket == 0 { 0 } else { parent(bucket) }
 }
 
-/// The bucket that follows `last` on the way to `target`: among the target and its ancestors, the
-/// bucket whose parent is `last`. Takes time in proportion to the ancestors between `last` and
-/// `target`, at most 32.
+/// The bucket that follows `last` on the path to `target`. Of the target and its ancestors, it is
+/// the bucket whose parent is `last`. Takes time in proportion to the number of ancestors between
+/// `last` and `target`, which is at most 32.
 pub(crate) fn next_towards(last: u32, target: u32) -> u32
     ensures { result ≡ child_towards last target }
 {

@@ -26,8 +26,8 @@ within (Returned c level) h = omega (arith, leb-true c 63 h)
 within (Committed c place) h = omega (arith, leb-true c 63 h)
 within (Aborted c) h = omega (arith, leb-true c 63 h)
 
--- The answer is Ok with `x` if `x` passes the test `P`, and otherwise it is a fault. So if the
--- answer is Ok with `y`, then `y` passes `P`.
+-- If `x` passes the test `P`, the result is Ok with `x`, and otherwise the result is a fault. So if
+-- the result is Ok with `y`, then `y` passes `P`.
 let_through : {A : Type 0} (P : A → Bool) (x y : A) (test : Bool) → test ≡ P x → ◌≡◌ {A = Result A FileFault} (if test then Ok x else Err Limit) (Ok y) → P y ≡ true
 let_through P x y true is e = let same : x ≡ y = cc e in subst (λ z. P z ≡ true) same (sym is)
 let_through P x y false is e = absurd (cc e)

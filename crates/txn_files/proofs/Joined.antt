@@ -1,4 +1,4 @@
--- Texts with a byte between each two, and the line of a history.
+-- Lemmas about texts that are joined by a byte, and about the line of a history.
 use Rattle.std.proofs.Common.{◌≡◌, ℕ, List, [], ◌∷◌, ◌++◌, false, map, refl, sym, ap, append_assoc}
 use Rattle.std.specs.Prelude.{codes, decimal}
 use Rattle.std.proofs.lemmas.List.{append-nil}

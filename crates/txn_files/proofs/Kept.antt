@@ -205,12 +205,14 @@ then_entries : (r : Result Read FileFault) → ((r >>= kept_read) >>= λ file. e
 then_entries (Err e) = refl
 then_entries (Ok file) = same_entries file.0 file.1 file.2
 
--- Reading the entries that are kept gives the same history file as reading the entries themselves.
+-- `kept_history_of` equals `history_of`: replacing the entries that cannot be packed does not
+-- change what is read from a file.
 pub same_history : (bytes : List ℕ) → kept_history_of bytes ≡ history_of bytes
 same_history bytes =
     ap (λ r. r >>= λ file. entries_from file.0 file.1 file.2) (json_kept (json_of bytes))
     ∙ then_entries (contents history_file bytes)
 
--- An array with elements that are not plain is not an entry, so nothing is kept of it.
+-- If an array has more than 7 elements, or an element that is not plain, it is not an entry, so no
+-- entry is kept for it.
 pub none_kept : (ds : List Data) → are_plain 7 ds ≡ false → kept_of ds ≡ None
 none_kept ds e = same_new ds ∙ ap (option_map kept) (no_entry ds e)

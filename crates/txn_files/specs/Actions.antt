@@ -12,7 +12,7 @@ use Rattle.piece_files.specs.declared.part.Part.TheVariants as parts
 use Rattle.piece_files.specs.Pieces.{pieces_from}
 
 -- The action with these elements. The first element is the action's name. Any name other than
--- "save", "back", "help" and "abort" has to be that of an operation.
+-- "save", "back", "help" and "abort" must be the name of an operation.
 unfoldable pub action_of : List Data → Option Action
 action_of ds = do
   name ← leading_text ds

@@ -7,15 +7,16 @@ use Rattle.txn_words.specs.declared.entry.Entry.TheVariants.{Began, Asked, Did, 
 use Rattle.piece_files.specs.Elements.{◌>>=◌, number_at, leading_text, one_of, ends_here, optional_of}
 use Rattle.txn_files.specs.Operations.{is_old_op, op_at, op_of}
 
--- A caller's Busy: the operation that found its stripe held, and the holder of the stripe.
+-- A Busy entry of caller `c`. The elements are an operation and the caller that held the
+-- operation's stripe.
 unfoldable pub busy_of : ℕ → List Data → Option Entry
 busy_of c ds = do
   op ← op_at ds
   x ← one_of op.1
   Some (Busy c op.0 x)
 
--- The entry of this name and caller with these further elements, if it is about the course of a
--- transaction.
+-- The entry that has this name, this caller and these further elements, if the name is one of
+-- "began", "saved", "leave", "returned", "committed" and "aborted".
 unfoldable pub transaction_entry : List ℕ → ℕ → List Data → Option Entry
 transaction_entry name c ds =
     if bytes_eq name (codes "began") then (one_of ds >>= λ t. Some (Began c t))
@@ -26,7 +27,7 @@ transaction_entry name c ds =
     else if bytes_eq name (codes "aborted") then (ends_here ds >>= λ none. Some (Aborted c))
     else None
 
--- The entry, of any kind, of this name and caller with these further elements.
+-- The entry, of any kind, that has this name, this caller and these further elements.
 unfoldable pub entry_named : List ℕ → ℕ → List Data → Option Entry
 entry_named name c ds =
     if bytes_eq name (codes "asked") then (op_of ds >>= λ op. Some (Asked c op))

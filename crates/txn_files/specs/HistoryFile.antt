@@ -36,7 +36,8 @@ history_file = record {
   most = max_entries;
 }
 
--- Whether the caller of an entry is in range, and for a Busy also the holder that it names.
+-- True if the caller of an entry is in range. For a Busy entry the holder that it names must be in
+-- range too.
 abbrev pub is_in_range : Entry → Bool
 is_in_range (Busy c op x) = nat_le c max_caller && nat_le x max_caller
 is_in_range e = nat_le (caller_of e) max_caller
@@ -46,7 +47,8 @@ abbrev pub is_history : ℕ → List Entry → Bool
 is_history stripes entries =
     nat_le 1 stripes && nat_le stripes max_stripes && list_all is_in_range entries
 
--- The stripes, the entries and the version, from a file's version, its one number and its entries.
+-- Makes the content of a history file from its version, its numbers and its entries. The content is
+-- the number of stripes (the only number), the entries and the version.
 unfoldable pub entries_from : ℕ → List ℕ → List Entry → Result (ℕ × List Entry × ℕ) FileFault
 entries_from version (stripes ∷ []) entries =
     if is_history stripes entries then Ok (stripes, entries, version) else Err Limit
@@ -56,14 +58,14 @@ entries_from version other entries = Err Member
 abbrev pub history_of : List ℕ → Result (ℕ × List Entry × ℕ) FileFault
 history_of bytes = contents history_file bytes >>= λ file. entries_from file.0 file.1 file.2
 
--- The rule for the caller that a Busy names in a history file of this version: in versions 1 and 2
--- the caller holds the stripe, and in later versions it has begun a transaction.
+-- The rule for the caller that a Busy entry names in a history file of this version. In versions 1
+-- and 2 this caller holds the stripe. In later versions it has begun a transaction.
 abbrev pub holder_rule : ℕ → Holder
 holder_rule version = if nat_le version 2 then Now else Begun
 
--- The entry that is kept for an entry while a file is read. An entry that is small enough to be
--- packed is kept itself. Any other entry is out of range, and a substitute is kept in its place.
--- The substitute is out of range too, and is allowed in version 1 exactly if the replaced entry is.
+-- The entry that a reader keeps for the entry `e`. If `e` is small enough to be packed, this is `e`
+-- itself. Otherwise `e` is out of range, and a substitute is kept in its place. The substitute is
+-- out of range too. Version 1 allows the substitute exactly if it allows `e`.
 abbrev pub kept : Entry → Entry
 kept e =
     if is_small e then e
@@ -74,7 +76,7 @@ kept e =
 unfoldable pub kept_of : List Data → Option Entry
 kept_of ds = option_map kept (entry_of ds)
 
--- History files with the entries that are kept.
+-- History files as `history_file` describes them, but with `kept` applied to each entry.
 abbrev pub kept_file : FileKind Entry
 kept_file = record {
   numbers = codes "stripes" ∷ [];

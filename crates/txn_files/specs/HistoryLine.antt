@@ -8,9 +8,10 @@ use Rattle.txn_files.specs.HistoryText.{comma, entry_text}
 abbrev pub further_text : List Entry → List ℕ
 further_text entries = flat_map (λ e. comma ∷ entry_text e) entries
 
--- The part of the line that is left, up to the last entry. If the line was not begun, the part has
--- the start of the line and these entries. If the line was begun, an entry was handed out already,
--- and these entries follow it.
+-- The part of the line that was not handed out yet, up to the last entry. `entries` are the entries
+-- of this part. If the line is not begun (`false`), the part also has the start of the line. If the
+-- line is begun (`true`), an entry was handed out before, so a comma precedes each of these
+-- entries.
 abbrev pub entries_text : Bool → List Entry → List ℕ
 entries_text false entries = codes "{\"entries\":[" ++ join_with_byte comma (map entry_text entries)
 entries_text true entries = further_text entries
@@ -21,8 +22,8 @@ end_text version stripes =
     codes "],\"stripes\":" ++ (decimal stripes
     ++ (codes ",\"version\":" ++ (decimal version ++ codes "}\n")))
 
--- The part of the line that is left, given whether the line was begun, whether it was handed out as
--- a whole, and the entries that are left.
+-- The part of the line that was not handed out yet. The first flag says whether the line is begun,
+-- the second whether all of it was handed out. `entries` are the entries of this part.
 abbrev pub rest_of : Bool → Bool → ℕ → ℕ → List Entry → List ℕ
 rest_of is_begun true version stripes entries = []
 rest_of is_begun false version stripes entries =

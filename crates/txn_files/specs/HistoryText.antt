@@ -9,7 +9,7 @@ use Rattle.txn_files.specs.Operations.{elements_of_op}
 abbrev pub comma : ℕ
 comma = 44
 
--- An array of elements, given by their texts.
+-- The text of an array, given the texts of its elements.
 abbrev pub array_text : List (List ℕ) → List ℕ
 array_text elements = codes "[" ++ (join_with_byte comma elements ++ codes "]")
 
@@ -40,7 +40,7 @@ elements_of_entry (Aborted c) = quoted (codes "aborted") ∷ decimal c ∷ []
 abbrev pub entry_text : Entry → List ℕ
 entry_text e = array_text (elements_of_entry e)
 
--- The object of the entries, the stripes and the version, in this order.
+-- The text of an object that has the entries, the number of stripes and the version, in this order.
 abbrev pub text_of_history : ℕ → ℕ → List Entry → List ℕ
 text_of_history version stripes entries =
     codes "{\"entries\":" ++ (array_text (map entry_text entries)

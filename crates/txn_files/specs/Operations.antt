@@ -6,16 +6,17 @@ use Rattle.txn_words.specs.declared.op.Op.{Op}
 use Rattle.txn_words.specs.declared.op.Op.TheVariants.{Put, Take, Get, PutIf}
 use Rattle.piece_files.specs.Elements.{◌>>=◌, number_at, optional_at, leading_text}
 
--- The first two elements are the expected value (null or a number) and the new value of a "put_if"
--- of this key. The result is this "put_if", and the elements after the two.
+-- Reads the first two elements as the expected value (null or a number) and the new value of a
+-- "put_if" of this key. The result is this "put_if", and the elements after the first two.
 unfoldable pub put_if_at : ℕ → List Data → Option (Op × List Data)
 put_if_at k ds = do
   expected ← optional_at ds
   v ← number_at expected.1
   Some (PutIf k expected.0 v.0, v.1)
 
--- The operation that elements begin with, and the elements after it: "put", a key and a value;
--- "take" or "get" and a key; "put_if", a key, the expected value (null or a number) and a value.
+-- Reads the operation at the start of the elements. The result is the operation, and the elements
+-- after it. An operation is "put", a key and a value; "take" or "get", and a key; or "put_if", a
+-- key, the expected value (null or a number) and a value.
 unfoldable pub op_at : List Data → Option (Op × List Data)
 op_at ds = do
   name ← leading_text ds

@@ -34,15 +34,16 @@ script_file = record {
   most = max_scripts;
 }
 
--- Whether a script has at most as many actions as a script may have.
+-- True if a script has no more actions than a script may have.
 abbrev pub is_short : List Action → Bool
 is_short script = nat_le (length script) max_actions
 
--- Whether the tries and the scripts are in range.
+-- True if the number of tries and the lengths of the scripts are in range.
 abbrev pub are_scripts : ℕ → List (List Action) → Bool
 are_scripts tries scripts = nat_le tries max_tries && list_all is_short scripts
 
--- The work, from a file's version, its four numbers and its scripts; the workers are the callers.
+-- Makes the work of a script file from its version, its four numbers and its scripts. The number of
+-- workers is the number of callers in the limits.
 unfoldable pub work_from : ℕ → List ℕ → List (List Action) → Result Work FileFault
 work_from version (workers ∷ stripes ∷ buckets ∷ tries ∷ []) scripts = do
   sizes ← sizes_at version workers stripes buckets

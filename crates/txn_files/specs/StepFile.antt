@@ -30,7 +30,8 @@ abbrev in_limits : Result Sizes Refusal → Result Sizes FileFault
 in_limits (Ok sizes) = Ok sizes
 in_limits (Err refusal) = Err Limit
 
--- These limits, in a file of this version: in version 1 they take only half keys.
+-- These limits, as they apply to a file of this version. In version 1 they allow only half keys,
+-- which are the keys below 2^63.
 abbrev pub with_keys_of : ℕ → Sizes → Sizes
 with_keys_of version sizes = in_version version (record sizes { half = true }) sizes
 
@@ -38,14 +39,16 @@ with_keys_of version sizes = in_version version (record sizes { half = true }) s
 abbrev pub max_run_version : ℕ
 max_run_version = 2
 
--- The numbers of a step file or script file as limits, if the numbers and the version are in range.
+-- Makes limits of the numbers of a step file or script file. If the version or a number is out of
+-- range, the result is the fault `Limit`.
 abbrev pub sizes_at : ℕ → ℕ → ℕ → ℕ → Result Sizes FileFault
 sizes_at version callers stripes buckets =
     if nat_le version max_run_version then
     (in_limits (limits_of callers stripes buckets) >>= λ sizes. Ok (with_keys_of version sizes))
     else Err Limit
 
--- The limits and the steps, from a file's version, its three numbers and its steps.
+-- Makes the content of a step file, which is its limits and its steps, from its version, its three
+-- numbers and its steps.
 unfoldable pub steps_from : ℕ → List ℕ → List Step → Result (Sizes × List Step) FileFault
 steps_from version (callers ∷ stripes ∷ buckets ∷ []) steps =
     sizes_at version callers stripes buckets >>= λ sizes. Ok (sizes, steps)

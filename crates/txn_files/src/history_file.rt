@@ -1,8 +1,7 @@
-//! History files: entries as pieces, which are kept packed, and the numbers around them. The loops
-//! over tokens are those of `piece_files`; this module says which shapes and ranges entries have.
-//! An entry with too large a caller cannot be packed. It is out of range, and a substitute is kept
-//! in its place. The substitute can be packed, and is out of range too. So the substitute does not
-//! change the fault of the file.
+//! History files. This module says which shapes and ranges entries have; `piece_files` has the
+//! loops over tokens. Entries are kept packed. An entry with too large a caller cannot be packed
+//! and is out of range, so a substitute is kept in its place. The substitute can be packed and is
+//! out of range too, so the file has the same fault with it.
 ghost use Rattle.std.specs.Prelude.{◌≡◌, map, true, false, IfOk};
 ghost use Rattle.std.specs.List.{list_all};
 ghost use Rattle.piece_files.specs.Plain.{data_of};
@@ -29,7 +28,8 @@ const TOO_LARGE: u64 = 65_535;
 /// The most entries that a file may have.
 const MAX_ENTRIES: usize = 1_000_000;
 
-/// The last version of history files in which a Busy names a caller that holds the stripe.
+/// The last version of history files in which the caller that a Busy entry names must hold the
+/// stripe.
 const LAST_OF_NOW: u64 = 2;
 
 /// The number of elements of the longest entry: `["busy",0,"put_if",1,10,12,2]`.
@@ -44,8 +44,8 @@ fn busy_in(caller: u64, values: &[Plain<'_>]) -> Option<Entry>
     Some(Entry::Busy(caller, op, holder))
 }
 
-/// The entry of this name and caller with these further elements, if it is about the course of a
-/// transaction: began, saved, leave, returned, committed or aborted.
+/// The entry that has this name, this caller and these further elements, if the name is one of
+/// `began`, `saved`, `leave`, `returned`, `committed` and `aborted`.
 #[tactic(auto, unfolding(crate::specs::Entries::transaction_entry))]
 fn transaction_entry_in(name: &str, caller: u64, values: &[Plain<'_>]) -> Option<Entry>
     ensures { result ≡ transaction_entry name.now caller (map data_of values.now) }
@@ -107,8 +107,8 @@ fn is_old_entry(entry: Entry) -> bool
     }
 }
 
-/// The entry, packed. An entry with too large a caller cannot be packed, and is out of range. For
-/// such an entry the answer is a substitute that is out of range too.
+/// Packs an entry. If the entry's caller or holder is too large to be packed, the entry is out of
+/// range. The function then returns a substitute that is out of range too.
 fn kept(entry: Entry) -> SmallEntry
     ensures { result ≡ kept entry }
 {
@@ -126,7 +126,7 @@ fn kept(entry: Entry) -> SmallEntry
     small
 }
 
-/// The entry that is kept for these elements.
+/// The packed entry that is kept for an array with these elements.
 #[tactic(auto, unfolding(crate::specs::HistoryFile::kept_of))]
 fn kept_entry_in(values: &[Plain<'_>]) -> Option<SmallEntry>
     ensures { result ≡ kept_of (map data_of values.now) }
@@ -134,7 +134,7 @@ fn kept_entry_in(values: &[Plain<'_>]) -> Option<SmallEntry>
     Some(kept(entry_in(values)?))
 }
 
-/// Entries, as pieces of a history file. They are kept packed.
+/// The kind of pieces that are entries of a history file. They are kept packed.
 struct EntryKind;
 
 impl PieceKind for EntryKind {
@@ -244,28 +244,29 @@ fn entries_in(
     }
 }
 
-/// The number of stripes, the entries and the version of a history file:
-/// `{"version":V,"stripes":S,"entries":[..]}`. Each entry is an array, such as
+/// Reads a history file, and returns its number of stripes, its entries and its version. The file
+/// has the form `{"version":V,"stripes":S,"entries":[..]}`. Each entry is an array, such as
 /// `["asked",0,"put",1,10]` or `["did",0,null]`. Version 1 has no `put_if`.
 ///
 /// Other members of the object are skipped. If several members have the same name, the last one
 /// counts. A number is written without a sign, a fraction or an exponent, and is below 2^64.
 ///
-/// It is not tested whether the history is legal.
+/// The function does not test whether the history is legal.
 ///
 /// # Errors
 ///
 /// The first of these, in this order:
 ///
 /// - `Limit` if there are more than 16,777,216 bytes.
-/// - `NotJson` if they are not JSON that `piece_files::read_file` takes.
-/// - `Member` if the value is no object, or if one of the three members is missing or of the wrong
-///   kind; the members are tested in the order above.
-/// - `Piece`, with the index of the first piece that is no entry or, in version 1, has a `put_if`.
-/// - `Limit` if the version is not 1 to 3, the stripes are not 1 to 4,096, a caller or the
+/// - `NotJson` if the bytes are not JSON that `piece_files::read_file` takes.
+/// - `Member` if the value is not an object, or if one of the three members is missing or of the
+///   wrong kind. The members are tested in the order above.
+/// - `Piece`, with the index of the first wrong piece. A piece is wrong if it is not an entry. In
+///   version 1 it is also wrong if it has a `put_if`.
+/// - `Limit` if the version is not 1 to 3, the number of stripes is not 1 to 4,096, a caller or the
 ///   holder that an entry names is above 63, or there are more than 1,000,000 entries.
 ///
-/// `NoMemory` if memory is refused; it may be answered in place of any other.
+/// If memory is refused, the function may return `NoMemory` in place of any of these.
 ///
 /// # Cost
 ///
@@ -279,7 +280,7 @@ pub fn read_history(alloc: Global, bytes: &[u8]) -> Result<(u32, Vec<Entry>, u64
     Ok((stripes, entries, version))
 }
 
-/// The entries that were packed.
+/// Unpacks the entries.
 ///
 /// # Errors
 ///
@@ -294,8 +295,8 @@ fn unpacked(alloc: Global, packed: &[SmallEntry]) -> Result<Vec<Entry>, AllocErr
     Ok(entries)
 }
 
-/// The number of stripes, the packed entries and the version of a history file, as `read_history`
-/// reads it. Packed entries take half of the memory that unpacked entries take.
+/// Reads a history file as `read_history` does, and returns its number of stripes, its packed
+/// entries and its version. Packed entries take half of the memory that unpacked entries take.
 ///
 /// # Errors
 ///
@@ -313,9 +314,9 @@ pub fn read_packed_history(
     kept_history(alloc, bytes)
 }
 
-/// The number of stripes, the packed entries and the version of a history file, as
-/// `read_packed_history` reads it. The bytes are dropped, so that their memory is free before the
-/// entries are used.
+/// Reads a history file as `read_packed_history` does, and returns its number of stripes, its
+/// packed entries and its version. The function drops the bytes, so their memory is free before the
+/// caller uses the entries.
 ///
 /// # Errors
 ///
@@ -348,8 +349,8 @@ fn kept_history(alloc: Global, bytes: &[u8]) -> Result<(u32, Vec<SmallEntry>, u6
     entries_in(version, numbers, entries)
 }
 
-/// The caller that a Busy may name in a history file of this version: in versions 1 and 2 a caller
-/// that holds the stripe, and in later versions a caller that has begun a transaction.
+/// The rule for the caller that a Busy entry names in a history file of this version. In versions 1
+/// and 2 this caller holds the stripe. In later versions it has begun a transaction.
 pub fn holder_in(version: u64) -> Holder
     ensures { result ≡ holder_rule version }
 {

@@ -6,18 +6,20 @@
 //! bytes are as JSON, and has the loop over the pieces of a file. This crate says what a step, an
 //! entry, an action and a script are, and which members each kind of file has.
 //!
-//! There are two versions of each kind of file, and a third version of history files, which has the
-//! shapes of version 2. Version 1 has no `put_if`, and the limits of its step and script files take
-//! only half keys, which are those below 2^63. A file of any other version is tested for the shapes
-//! of version 2, and is then refused.
+//! Each kind of file has versions 1 and 2. History files also have a version 3, which has the
+//! shapes of version 2. Version 1 has no `put_if`, and the limits of its step and script files
+//! allow only half keys, which are the keys below 2^63. A file of any other version is tested for
+//! the shapes of version 2, and is then refused.
 //!
 //! Proved: `read_steps`, `read_scripts`, `read_history` and the packed readers compute these
 //! functions, or say that memory was refused. `history_text` makes the text of a history, as
-//! `text_of_history` says, and `HistoryPieces` hands it out, with a line feed, piece by piece.
+//! `text_of_history` defines it. `HistoryPieces` hands out the same text and a line feed, piece by
+//! piece.
 //!
 //! Cost: time and memory in proportion to the length of the file or text. A file in plain form is
-//! read once, any other at most twice. A reader keeps at most as many steps, entries or scripts as
-//! a file may have; but it keeps all actions of a script, even more than a script may have.
+//! read once, any other file at most twice. A reader keeps at most as many steps, entries or
+//! scripts as a file may have. But it keeps all actions of a script, even if they are more than a
+//! script may have.
 #![tactic(auto)]
 
 mod history_file;

@@ -1,13 +1,13 @@
-//! A piece of text on the stack, which is written from its end to its start: each put writes before
-//! the text that is there. The last digit of a number is found first, so no digit has to be moved.
-//! The puts do not test for room, since their contracts require it.
+//! A piece of text on the stack, which is written from its end to its start: each `put` writes in
+//! front of the existing text. The last digit of a number is computed first, so no digit has to be
+//! moved. The `put` functions do not test for room, since their contracts require it.
 ghost use Rattle.std.specs.Prelude.{◌≡◌, ◌+◌, ◌≤◌, [], ◌++◌, length, decimal};
 
 use itoa::write_digits;
 use std::marker::Model;
 use std::str::from_utf8_unchecked;
 
-/// A text of at most 160 bytes. A contract sees it as its bytes.
+/// A text of at most 160 bytes. In contracts its value is the list of its bytes.
 #[derive(Drop)]
 pub(crate) struct Line {
     bytes: [u8; 160],
@@ -44,7 +44,7 @@ impl Line {
         self.start = 160;
     }
 
-    /// Puts a word before the text.
+    /// Puts a word in front of the text.
     #[inline(always)]
     pub(crate) fn put(&mut self, word: &str)
         requires { length word.now + length self.old ≤ 160 }
@@ -56,7 +56,7 @@ impl Line {
         self.start = start;
     }
 
-    /// Puts the decimal digits of a number before the text: at most twenty.
+    /// Puts the decimal digits of a number in front of the text. There are at most twenty digits.
     #[inline(always)]
     pub(crate) fn put_number(&mut self, number: u64)
         requires { 20 + length self.old ≤ 160 }

@@ -1,6 +1,6 @@
-//! An operation as elements in JSON: how it is read, and how it is written. Step files, script
-//! files and history files share it, so an operation has one form in all. Reading takes constant
-//! time and no memory; what is written takes at most 80 bytes of a line.
+//! Reads and writes an operation as elements of an array in JSON. Step files, script files and
+//! history files share this module, so an operation has the same form in all of them. Reading takes
+//! constant time and no memory. The written elements take at most 80 bytes of a line.
 
 ghost use Rattle.std.specs.Prelude.{◌≡◌, ◌+◌, ◌≤◌, ◌++◌, length, map, option_map};
 ghost use Rattle.std.specs.List.{join_with_byte};
@@ -12,8 +12,8 @@ use crate::line::Line;
 use piece_files::{Plain, leading_optional_in, number_in, word_in};
 use txn_words::Op;
 
-/// The first two elements are the expected value and the new value of a `put_if` of this key.
-/// Answers this `put_if`, and the elements after the two.
+/// Reads the first two elements as the expected value and the new value of a `put_if` of this key.
+/// Returns this `put_if`, and the elements after the first two.
 #[tactic(auto, unfolding(crate::specs::Operations::put_if_at))]
 fn leading_put_if_in<'v, 'a>(key: u64, values: &'v [Plain<'a>]) -> Option<(Op, &'v [Plain<'a>])>
     ensures { option_map (λ x. (x.0, map data_of x.1.now)) result
@@ -24,7 +24,8 @@ fn leading_put_if_in<'v, 'a>(key: u64, values: &'v [Plain<'a>]) -> Option<(Op, &
     Some((Op::PutIf(key, expected, value), rest))
 }
 
-/// The operation that the elements begin with, and the elements after it.
+/// Reads the operation at the start of the elements. Returns the operation, and the elements after
+/// it.
 ///
 /// # Cost
 ///
@@ -75,7 +76,7 @@ pub fn is_old_op(op: Op) -> bool
     !matches!(op, Op::PutIf(..))
 }
 
-/// Puts the elements of an operation before a line's text, with a comma between each two.
+/// Puts the elements of an operation in front of the text of a line. Commas separate the elements.
 #[inline(always)]
 pub(crate) fn put_op(line: &mut Line, op: Op)
     requires { 80 + length line.old ≤ 160 }

@@ -1,6 +1,6 @@
-//! A buffer for a part of a text. Its memory is taken once, when it is made, so no put takes
+//! A buffer for a part of a text. Its memory is allocated once, when it is made, so no `put` takes
 //! memory. A `HistoryPieces` fills the same buffer again and again, so a text of any length needs
-//! no further memory. A buffer holds 65,536 bytes, and one comparison tells whether a line of 160
+//! no further memory. A buffer holds 65,536 bytes, and one comparison shows whether a line of 160
 //! bytes surely fits.
 ghost use Rattle.std.specs.Prelude.{◌≡◌, ◌↔◌, ◌+◌, ◌<◌, ◌≤◌, [], ◌++◌, IfOk, IsTrue, length};
 
@@ -20,7 +20,7 @@ fn zeros(alloc: Global) -> Result<Vec<u8>, AllocError>
     vec![in alloc; 0u8; SIZE]
 }
 
-/// A part of a text, of at most 65,536 bytes. A contract sees it as its bytes.
+/// A part of a text, of at most 65,536 bytes. In contracts its value is the list of its bytes.
 #[derive(Drop)]
 pub struct Piece {
     bytes: Vec<u8>,
@@ -70,7 +70,7 @@ impl Piece {
         self.count <= FULL
     }
 
-    /// Puts a word behind the text.
+    /// Puts a word at the end of the text.
     #[inline(always)]
     pub(crate) fn put(&mut self, word: &str)
         requires { length self.old + length word.now ≤ SIZE }

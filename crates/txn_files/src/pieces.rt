@@ -1,6 +1,6 @@
-//! The line of a history in pieces, so that a long line need not be in memory as a whole. `text`
-//! makes the text as a whole; both modules write entries by `set_entry`. Invariant: the text put so
-//! far, followed by the text that is left, is the whole line. This module takes no memory.
+//! Hands out the line of a history in pieces, so that a long line need not be in memory as a whole.
+//! `text` makes the text as a whole. Both modules write entries by `set_entry`. Invariant: the text
+//! put so far, followed by the rest of the text, is the whole line. This module takes no memory.
 ghost use Rattle.std.specs.Prelude.{◌≡◌, ◌⊎◌, ◌↔◌, ◌+◌, ◌<◌, ◌≤◌, [], ◌∷◌, ◌++◌, false, IsTrue, length};
 ghost use Rattle.txn_files.specs.HistoryText.{text_of_history};
 ghost use Rattle.txn_files.specs.HistoryLine.{end_text, entries_text, further_text};
@@ -11,7 +11,8 @@ use crate::text::set_entry;
 use std::marker::Model;
 use txn_words::SmallEntry;
 
-/// Puts each entry after a comma, until all are put or there is no room, and answers the rest.
+/// Puts a comma and an entry, one entry after the other, until all are put or there is no room.
+/// Returns the entries that were not put.
 fn put_further<'a>(piece: &mut Piece, entries: &'a [SmallEntry]) -> &'a [SmallEntry]
     ensures whole { piece.new ++ further_text result.now ≡ piece.old ++ further_text entries.now }
     ensures full { (result.now ≡ []) ⊎ (FULL < length piece.new) }
@@ -30,7 +31,7 @@ fn put_further<'a>(piece: &mut Piece, entries: &'a [SmallEntry]) -> &'a [SmallEn
     rest
 }
 
-/// Puts the start of the line and the first entry into an empty piece, and answers the rest.
+/// Puts the start of the line and the first entry into an empty piece. Returns the other entries.
 fn put_start<'a>(piece: &mut Piece, entries: &'a [SmallEntry]) -> &'a [SmallEntry]
     requires { piece.old ≡ [] }
     ensures { piece.new ++ further_text result.now ≡ entries_text false entries.now }
@@ -46,7 +47,7 @@ fn put_start<'a>(piece: &mut Piece, entries: &'a [SmallEntry]) -> &'a [SmallEntr
 }
 
 /// Puts the rest of the line, up to the last entry, into an empty piece. Stops when there is no
-/// room, and answers the entries that are left.
+/// room, and returns the entries that were not put.
 fn put_entries<'a>(piece: &mut Piece, is_begun: bool, entries: &'a [SmallEntry]) -> &'a [SmallEntry]
     requires { piece.old ≡ [] }
     ensures whole { piece.new ++ further_text result.now ≡ entries_text is_begun entries.now }
@@ -73,8 +74,9 @@ fn put_end(piece: &mut Piece, version: u64, stripes: u32)
     piece.put(line.text());
 }
 
-/// The line of a history that is handed out piece by piece: the text of `history_text` and a line
-/// feed. A contract sees it as the text that is left.
+/// Hands out the line of a history piece by piece. The line is the text of `history_text` and a
+/// line feed. In contracts the value of a `HistoryPieces` is the text that it has not handed out
+/// yet.
 #[derive(Drop)]
 pub struct HistoryPieces<'a> {
     version: u64,
@@ -94,7 +96,7 @@ impl<'a> Model for HistoryPieces<'a> {
 }
 
 impl<'a> HistoryPieces<'a> {
-    /// The whole line of a history.
+    /// A `HistoryPieces` that has the whole line of a history still to hand out.
     ///
     /// # Cost
     ///
@@ -111,8 +113,9 @@ impl<'a> HistoryPieces<'a> {
         }
     }
 
-    /// Empties a piece, and fills it with the next part of the text. Answers whether there was a
-    /// part left; if not, the piece stays empty. Each part but the last has more than 65,376 bytes.
+    /// Empties a piece, and fills it with the next part of the text. Returns true if there was a
+    /// next part. If there was none, the function returns false and the piece is empty. Each part
+    /// but the last has more than 65,376 bytes.
     ///
     /// # Cost
     ///

@@ -1,6 +1,6 @@
-//! Script files: actions and scripts as pieces, and the numbers around them. The loops over tokens
-//! are those of `piece_files`; this module says which shapes and ranges actions and scripts have.
-//! All actions of a script are kept, packed, before their number is tested.
+//! Script files. This module says which shapes and ranges actions and scripts have; `piece_files`
+//! has the loops over tokens. All actions of a script are kept, packed, before the module tests how
+//! many there are.
 ghost use Rattle.std.specs.Prelude.{◌≡◌, ◌<◌, ◌^◌, List, Result, map, true, false};
 ghost use Rattle.std.specs.List.{list_all};
 ghost use Rattle.std.specs.Result.{result_ok};
@@ -75,7 +75,7 @@ fn is_old_action(action: &PackedAction) -> bool
     }
 }
 
-/// Actions, as pieces of a script. All are kept, packed.
+/// The kind of pieces that are actions of a script. All actions are kept, packed.
 struct ActionKind;
 
 impl PieceKind for ActionKind {
@@ -134,8 +134,8 @@ impl PieceKind for ActionKind {
     }
 }
 
-/// The script that an array holds, given the actions at the start of the array. Answers `None`
-/// unless all elements of the array are actions.
+/// The script that an array holds, given the actions at the start of the array. If an element of
+/// the array is not an action, the function returns `None`.
 fn script_in(found: Pieces<PackedAction>) -> Option<Script>
     requires { found.count < 2 ^ 64 }
     ensures { (old all : Result (List Action) FileFault)
@@ -149,7 +149,7 @@ fn script_in(found: Pieces<PackedAction>) -> Option<Script>
     Some(Script::new(actions))
 }
 
-/// Scripts, as pieces of a script file.
+/// The kind of pieces that are scripts of a script file.
 struct ScriptKind;
 
 impl PieceKind for ScriptKind {
@@ -199,7 +199,7 @@ impl PieceKind for ScriptKind {
     }
 }
 
-/// Whether each script has at most as many actions as a script may have.
+/// Returns true if no script has more actions than a script may have.
 fn are_short(scripts: &[Script]) -> bool
     ensures { result ≡ list_all is_short scripts.now }
 {
@@ -208,14 +208,14 @@ fn are_short(scripts: &[Script]) -> bool
         .all(|script| script.actions().len() <= MAX_ACTIONS)
 }
 
-/// Whether the tries and the scripts are in range.
+/// Returns true if the number of tries and the lengths of the scripts are in range.
 fn are_scripts(tries: u64, scripts: &[Script]) -> bool
     ensures { result ≡ are_scripts tries scripts.now }
 {
     tries <= MAX_TRIES && are_short(scripts)
 }
 
-/// The work, from a file's version, numbers and scripts.
+/// Makes the work of a script file from the file's version, numbers and scripts.
 #[tactic(auto, unfolding(crate::specs::ScriptFile::work_from))]
 fn work_in(version: u64, numbers: [u64; 4], scripts: Vec<Script>) -> Result<Scripts, FileFault>
     ensures { Gives (λ work. work) result (work_from version numbers scripts.items) }
@@ -229,10 +229,10 @@ fn work_in(version: u64, numbers: [u64; 4], scripts: Vec<Script>) -> Result<Scri
     }
 }
 
-/// The work for the workers in a script file:
+/// Reads a script file, and returns the work that it has for the workers. The file has the form
 /// `{"version":V,"workers":W,"stripes":S,"buckets":B,"tries":T,"scripts":[[..],..]}`. Each script
-/// is an array of actions, and each action an array, such as `["put",1,10]` or `["save"]`. Version
-/// 1 has no `put_if`, and its limits take only half keys.
+/// is an array of actions. Each action is an array, such as `["put",1,10]` or `["save"]`. Version 1
+/// has no `put_if`, and its limits allow only half keys, which are the keys below 2^63.
 ///
 /// Other members of the object are skipped. If several members have the same name, the last one
 /// counts. A number is written without a sign, a fraction or an exponent, and is below 2^64.
@@ -242,15 +242,16 @@ fn work_in(version: u64, numbers: [u64; 4], scripts: Vec<Script>) -> Result<Scri
 /// The first of these, in this order:
 ///
 /// - `Limit` if there are more than 16,777,216 bytes.
-/// - `NotJson` if they are not JSON that `piece_files::read_file` takes.
-/// - `Member` if the value is no object, or if one of the six members is missing or of the wrong
-///   kind; the members are tested in the order above.
-/// - `Piece`, with the index of the first piece that is no script or, in version 1, has a `put_if`.
-/// - `Limit` if the version is not 1 or 2, `Limits::new` refuses the numbers with the workers as
-///   callers, the tries are above 1,000, there are more than 10,000 scripts, or one of them has
-///   more than 10,000 actions.
+/// - `NotJson` if the bytes are not JSON that `piece_files::read_file` takes.
+/// - `Member` if the value is not an object, or if one of the six members is missing or of the
+///   wrong kind. The members are tested in the order above.
+/// - `Piece`, with the index of the first wrong piece. A piece is wrong if it is not a script. In
+///   version 1 it is also wrong if it has a `put_if`.
+/// - `Limit` if the version is not 1 or 2, `Limits::new` refuses the numbers (with the workers as
+///   callers), the tries are above 1,000, there are more than 10,000 scripts, or one of the scripts
+///   has more than 10,000 actions.
 ///
-/// `NoMemory` if memory is refused; it may be answered in place of any other.
+/// If memory is refused, the function may return `NoMemory` in place of any of these.
 ///
 /// # Cost
 ///

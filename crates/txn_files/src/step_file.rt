@@ -1,7 +1,7 @@
-//! Step files: the thirteen steps as pieces, and the limits around them, which script files share.
-//! `piece_files` has the loops over tokens; this module says which shapes and ranges steps have.
-//! Steps are kept packed, which takes five sevenths of the memory that they take unpacked; only
-//! `read_steps` answers them unpacked.
+//! Step files. This module says which shapes and ranges the thirteen kinds of steps have, and has
+//! the limits that script files share; `piece_files` has the loops over tokens. Steps are kept
+//! packed, which takes five sevenths of the memory that unpacked steps take. Only `read_steps`
+//! returns them unpacked.
 ghost use Rattle.std.specs.Prelude.{◌≡◌, IfOk, map, true, false};
 ghost use Rattle.piece_files.specs.Plain.{data_of};
 ghost use Rattle.piece_files.specs.Faults.{Gives};
@@ -92,7 +92,7 @@ fn packed_step_in(values: &[Plain<'_>]) -> Option<PackedStep>
     Some(PackedStep::new(step_in(values)?))
 }
 
-/// Steps, as pieces of a step file. They are kept packed.
+/// The kind of pieces that are steps of a step file. They are kept packed.
 struct StepKind;
 
 impl PieceKind for StepKind {
@@ -157,12 +157,12 @@ impl PieceKind for StepKind {
 /// The last version of step files and script files.
 const MAX_RUN_VERSION: u64 = 2;
 
-/// These numbers as the limits of a step file or script file of this version. In version 1 the
-/// limits take only half keys.
+/// Makes limits of these numbers, for a step file or script file of this version. In version 1 the
+/// limits allow only half keys, which are the keys below 2^63.
 ///
 /// # Errors
 ///
-/// `Limit` if the version is above 2, or `Limits::new` refuses the numbers.
+/// `Limit` if the version is above 2, or if `Limits::new` refuses the numbers.
 ///
 /// # Cost
 ///
@@ -188,7 +188,8 @@ pub fn limits_in(
     }
 }
 
-/// The limits and the steps, from a file's version, numbers and steps.
+/// Makes the limits of a step file from the file's version and numbers, and returns them with the
+/// steps.
 #[tactic(auto, unfolding(crate::specs::StepFile::steps_from))]
 fn steps_in(
     version: u64,
@@ -203,9 +204,10 @@ fn steps_in(
     Ok((limits, steps))
 }
 
-/// The limits and the steps of a step file:
+/// Reads a step file, and returns its limits and its steps. The file has the form
 /// `{"version":V,"callers":C,"stripes":S,"buckets":B,"steps":[..]}`. Each step is an array, such as
-/// `["ask",0,"put",1,10]`. Version 1 has no `put_if`, and its limits take only half keys.
+/// `["ask",0,"put",1,10]`. Version 1 has no `put_if`, and its limits allow only half keys, which
+/// are the keys below 2^63.
 ///
 /// Other members of the object are skipped. If several members have the same name, the last one
 /// counts. A number is written without a sign, a fraction or an exponent, and is below 2^64.
@@ -215,14 +217,15 @@ fn steps_in(
 /// The first of these, in this order:
 ///
 /// - `Limit` if there are more than 16,777,216 bytes.
-/// - `NotJson` if they are not JSON that `piece_files::read_file` takes.
-/// - `Member` if the value is no object, or if one of the five members is missing or of the wrong
-///   kind; the members are tested in the order above.
-/// - `Piece`, with the index of the first piece that is no step or, in version 1, has a `put_if`.
+/// - `NotJson` if the bytes are not JSON that `piece_files::read_file` takes.
+/// - `Member` if the value is not an object, or if one of the five members is missing or of the
+///   wrong kind. The members are tested in the order above.
+/// - `Piece`, with the index of the first wrong piece. A piece is wrong if it is not a step. In
+///   version 1 it is also wrong if it has a `put_if`.
 /// - `Limit` if the version is not 1 or 2, `Limits::new` refuses the numbers, or there are more
 ///   than 1,000,000 steps.
 ///
-/// `NoMemory` if memory is refused; it may be answered in place of any other.
+/// If memory is refused, the function may return `NoMemory` in place of any of these.
 ///
 /// # Cost
 ///
@@ -235,7 +238,7 @@ pub fn read_steps(alloc: Global, bytes: &[u8]) -> Result<(Limits, Vec<Step>), Fi
     Ok((limits, steps))
 }
 
-/// The packed steps, unpacked.
+/// Unpacks the steps.
 ///
 /// # Errors
 ///
@@ -250,8 +253,8 @@ fn unpacked(alloc: Global, packed: &[PackedStep]) -> Result<Vec<Step>, AllocErro
     Ok(steps)
 }
 
-/// The limits and the packed steps of a step file, as `read_steps` reads it. Packed steps take five
-/// sevenths of the memory that unpacked steps take.
+/// Reads a step file as `read_steps` does, and returns its limits and its packed steps. Packed
+/// steps take five sevenths of the memory that unpacked steps take.
 ///
 /// # Errors
 ///

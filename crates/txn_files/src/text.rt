@@ -1,9 +1,9 @@
-//! Histories as compact JSON: each entry as an array, and the object around them. The text is a
-//! function of the version, the stripes and the entries, `text_of_history`. Making the text takes
-//! time and memory in proportion to its length.
+//! Writes histories as compact JSON: each entry as an array, and the object around the arrays.
+//! `text_of_history` defines the text from the version, the number of stripes and the entries.
+//! Making the text takes time and memory in proportion to its length.
 //!
-//! An entry is written into a `Line`, from its end to its start, and then added to the text as a
-//! whole, so each entry needs one test for room.
+//! An entry is written into a `Line`, from its end to its start. The line is then added to the text
+//! as a whole, so each entry needs one test for room.
 ghost use Rattle.std.specs.Prelude.{◌≡◌, ◌≤◌, ◌∷◌, ◌++◌, codes, decimal, length, map};
 ghost use Rattle.std.specs.Prelude.{OnOk, IfOk, string_bytes};
 ghost use Rattle.std.specs.List.{join_with_byte};
@@ -17,7 +17,8 @@ use crate::operation::put_op;
 use std::alloc::{AllocError, Global};
 use txn_words::{Entry, Op};
 
-/// Sets a line to the array of a name and a caller. The head is the array up to the caller.
+/// Sets a line to an array that has a name and a caller. `head` is the text of the array up to the
+/// caller.
 #[inline(always)]
 fn set_short(line: &mut Line, head: &str, caller: u64)
     requires { length head.now ≤ 30 }
@@ -30,7 +31,8 @@ fn set_short(line: &mut Line, head: &str, caller: u64)
     line.put(head);
 }
 
-/// Sets a line to the array of a name, a caller and a number.
+/// Sets a line to an array that has a name, a caller and a number. `head` is the text of the array
+/// up to the caller.
 #[inline(always)]
 fn set_numbered(line: &mut Line, head: &str, caller: u64, number: u64)
     requires { length head.now ≤ 30 }
@@ -46,7 +48,8 @@ fn set_numbered(line: &mut Line, head: &str, caller: u64, number: u64)
     line.put(head);
 }
 
-/// Sets a line to the array of a name, a caller, and a number or null.
+/// Sets a line to an array that has a name, a caller, and a number or null. `head` is the text of
+/// the array up to the caller.
 #[inline(always)]
 fn set_optional(line: &mut Line, head: &str, caller: u64, number: Option<u64>)
     requires { length head.now ≤ 30 }
@@ -65,7 +68,7 @@ fn set_optional(line: &mut Line, head: &str, caller: u64, number: Option<u64>)
     }
 }
 
-/// Sets a line to an Asked entry: the operation that a caller asked for.
+/// Sets a line to an Asked entry, which names a caller and the operation that the caller asks for.
 #[inline(always)]
 fn set_asked(line: &mut Line, caller: u64, op: Op)
     ensures text { line.new ≡ entry_text (entries.Asked caller op) }
@@ -79,8 +82,8 @@ fn set_asked(line: &mut Line, caller: u64, op: Op)
     line.put("[\"asked\",");
 }
 
-/// Sets a line to a Busy entry: the operation that a caller asked for, and the holder of its
-/// stripe.
+/// Sets a line to a Busy entry, which names a caller, the operation that the caller asked for, and
+/// the holder of the operation's stripe.
 #[inline(always)]
 fn set_busy(line: &mut Line, caller: u64, op: Op, holder: u64)
     ensures text { line.new ≡ entry_text (entries.Busy caller op holder) }
@@ -116,7 +119,7 @@ pub(crate) fn set_entry(line: &mut Line, entry: Entry)
     }
 }
 
-/// Adds each entry, after a comma.
+/// Adds each entry to the text, with a comma in front of it.
 fn put_further_entries(
     text: &mut String,
     line: &mut Line,
@@ -133,7 +136,7 @@ fn put_further_entries(
     Ok(())
 }
 
-/// Adds the entries, with a comma between each two.
+/// Adds the entries to the text. Commas separate them.
 fn put_entries(text: &mut String, entries: &[Entry]) -> Result<(), AllocError>
     ensures { OnOk result (string_bytes text.new ≡ string_bytes text.old
         ++ join_with_byte comma (map entry_text entries.now)) }
@@ -147,11 +150,12 @@ fn put_entries(text: &mut String, entries: &[Entry]) -> Result<(), AllocError>
     put_further_entries(text, &mut line, rest)
 }
 
-/// A history as compact JSON: an object with its entries, its stripes and the version of the file,
-/// in this order, such as `{"entries":[["began",0,1]],"stripes":8,"version":1}`, without a line
-/// feed. `read_history` can read the text back if the text has at most 16,777,216 bytes, is in
-/// range and, in version 1, has no `put_if`. `HistoryPieces` hands out the same text, and a line
-/// feed, piece by piece.
+/// Writes a history as compact JSON: an object with the entries, the number of stripes and the
+/// version of the file, in this order, such as
+/// `{"entries":[["began",0,1]],"stripes":8,"version":1}`. The text has no line feed. `read_history`
+/// can read the text back if the text has at most 16,777,216 bytes, all its numbers are in range,
+/// and it has no `put_if` in version 1. `HistoryPieces` hands out the same text and a line feed,
+/// piece by piece.
 ///
 /// # Errors
 ///

@@ -1,5 +1,5 @@
--- Did: after a legal history, a reply is right exactly if it is the reply of the map `now`. The
--- operation then changes the map `now`.
+-- Lemmas on Did. After a legal history, a reply is right exactly if it is the one that the map
+-- `now` gives. The Did then applies the operation to the map `now`.
 use Rattle.std.proofs.Common.{◌≡◌, ℕ, true, false, cond, List, [], ◌∷◌, ◌++◌, refl, ap, sym, subst, ◌∙◌, Some, None, Option, is_some}
 use Rattle.std.specs.Option.{option_and_then}
 use Rattle.std.proofs.lemmas.Bool.{false≢true}
@@ -44,7 +44,7 @@ waits_in stripes es m r op run waits =
     let alike' : RunsAlike (keys_in stripes es) m m (Some r) (Some r) = subst (λ o. RunsAlike (keys_in stripes es) m m o o) run alike in
     subst (WaitsFor (keys_in stripes es)) waits alike'.waits
 
--- A caller that waits gets the reply of the map now.
+-- Lemmas on a caller that waits and receives the reply that the map `now` gives to its operation.
 module _ {holder : Holder} (stripes : ℕ) (g : List Entry) (legal : IsLegal holder stripes g) (c t : ℕ) (op : Op) (x : Option ℕ) (seat : Seat)
     (in_t : txn_in g c ≡ Some t) (going : ended t g ≡ false) (seat_is : seat_after (own c g) ≡ Some seat) (waiting : seat.phase ≡ Waiting op)
     (right : x ≡ reply_of (now g) op) (shaped : is_shaped g (Did c x) ≡ true) where

@@ -1,4 +1,4 @@
--- The beginning and the end of a transaction: neither changes the map now.
+-- The beginning and the end of a transaction do not change the map `now`.
 use Rattle.std.proofs.Common.{slice_get, take, ◌≡◌, ℕ, ◌+◌, ◌≢◌, true, false, cond, List, [], ◌∷◌, ◌++◌, length, refl, ap, sym, subst, ◌∙◌, Some, None, Option}
 use Rattle.std.specs.Option.{option_eq, option_and_then}
 use Rattle.std.specs.Prelude.{nat_eq}
@@ -60,7 +60,8 @@ fold_starts m [] o is = is
 fold_starts m (e ∷ es) None is = fold_starts m es None tt
 fold_starts m (e ∷ es) (Some r) is = fold_starts m es (act r e) (act_starts m r e is)
 
--- A run starts at the map that it is given. If no change stands, it is still at that map.
+-- The first map of a run is the map that it starts with. If no change remains, this map is also the
+-- last.
 pub alone_starts : (m : Map) (es : List Entry) → StartsAt m (alone m es)
 alone_starts m es = fold_starts m es (Some (start m)) refl
 
@@ -69,7 +70,7 @@ unchanged_run m es r run none =
     let is : StartsAt m (Some r) = subst (StartsAt m) run (alone_starts m es) in
     subst (λ ms. first_map r.last ms ≡ m) none is
 
--- A transaction begins.
+-- Lemmas on a transaction that begins.
 module _ {holder : Holder} (stripes : ℕ) (g : List Entry) (legal : IsLegal holder stripes g) (c t : ℕ) (shaped : is_shaped g (Began c t) ≡ true) (at : txn_at g (Began c t) ≡ Some t) where
   callers : Callers g
   callers = callers_of g legal.shape
@@ -89,7 +90,7 @@ module _ {holder : Holder} (stripes : ℕ) (g : List Entry) (legal : IsLegal hol
       at_key k (inr free) = now_at-push_mine holder stripes g (Began c t) t legal.shape legal.locks (shape_push g (Began c t) legal.shape shaped) (locks_push holder stripes g (Began c t) legal.locks refl) shaped refl at k refl (λ u going away. free u going)
           ∙ ap (λ m. get m k) last_is ∙ sym (now_at-free stripes g k free)
 
--- A transaction aborts, with no change left.
+-- Lemmas on a transaction that aborts after all its changes are taken back.
 module _ {holder : Holder} (stripes : ℕ) (g : List Entry) (legal : IsLegal holder stripes g) (c t : ℕ) (shaped : is_shaped g (Aborted c) ≡ true) (at : txn_at g (Aborted c) ≡ Some t) (empty_run : map_after (serial g) (of t g) ≡ serial g) where
   gone : (u : ℕ) → ended u (g ++ Aborted c ∷ []) ≡ false → u ≢ t
   gone u goes same = false≢true (sym goes ∙ ap (λ x. ended x (g ++ Aborted c ∷ [])) same ∙ ended_in g (Aborted c) (callers_of g legal.shape) shaped t at)

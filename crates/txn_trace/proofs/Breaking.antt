@@ -42,8 +42,8 @@ row_active s Closed (Began c t) b h = absurd (false≢true (sym b))
 row_active s Closed _ b h = absurd (false≢true h)
 row_active s _ e b h = refl
 
--- Whether an entry has the right reply. The reply of a Did must be the one that the map now gives
--- to the waiting operation. Every entry of another kind passes.
+-- Whether an entry has the right reply. The reply of a Did must be the one that the map `now` gives
+-- to the waiting operation. An entry of another kind always has the right reply.
 abbrev pub is_right_in : List Entry → Phase → Option ℕ → Bool
 is_right_in g (Waiting op) x = option_eq nat_eq x (reply_of (now g) op)
 is_right_in g _ x = true
@@ -52,8 +52,8 @@ abbrev pub is_right : List Entry → Entry → Bool
 is_right g (Did c x) = elim (seat_after (own c g)) [ None ↦ true | Some s ↦ is_right_in g s.phase x ]
 is_right g _ = true
 
--- What the right shape of an entry tells: the caller's seats before and after the entry, and that
--- the entry's number is right.
+-- What is known of an entry of the right shape: the caller's seats before and after the entry, and
+-- that the entry's number is right.
 record Shaped (g : List Entry) (e : Entry) : Type 0 where
   before : Seat
   is : seat_after (own (caller_of e) g) ≡ Some before
@@ -148,7 +148,7 @@ waits_for : (s : Seat) (q : Phase) (c : ℕ) (x : Option ℕ) → is_some (row s
 waits_for s (Waiting op) c x h = (op, refl)
 waits_for s _ c x h = absurd (false≢true h)
 
--- A caller that waits may get the reply of the map now, and no other.
+-- A caller that waits may receive only the reply that the map `now` gives to its operation.
 did_holds : {holder : Holder} (stripes : ℕ) (g : List Entry) (legal : IsLegal holder stripes g) (c : ℕ) (x : Option ℕ) (shaped : is_shaped g (Did c x) ≡ true) (op : Op)
     → (shaped_by g (Did c x) legal.shape shaped).before.phase ≡ Waiting op → replies_hold (g ++ Did c x ∷ []) ≡ option_eq nat_eq x (reply_of (now g) op)
 did_holds {holder} stripes g legal c x shaped op waits = elim (cases_Bool (option_eq nat_eq x (reply_of (now g) op))) [
@@ -213,8 +213,8 @@ replies_hold-push stripes g legal (Committed c p) shaped = replies_hold_from (g 
 replies_hold-push stripes g legal (Busy c op x) shaped = replies_hold_from (g ++ Busy c op x ∷ []) (holds_after stripes g legal (Busy c op x) shaped refl)
 replies_hold-push stripes g legal (Aborted c) shaped = replies_hold_from (g ++ Aborted c ∷ []) (holds_after stripes g legal (Aborted c) shaped refl)
 
--- The rule that an entry breaks after a legal history follows from its shape, the map now and the
--- holders of stripes.
+-- The rule that an entry breaks after a legal history follows from the entry's shape, the map `now`
+-- and the holders of the stripes.
 pub broken_is : {holder : Holder} (stripes : ℕ) (g : List Entry) → IsLegal holder stripes g → (e : Entry)
     → broken holder stripes g e ≡ cond {A = Option ℕ} (not (is_shaped g e)) (Some 3) (cond {A = Option ℕ} (not (is_right g e)) (Some 1) (cond {A = Option ℕ} (not (is_locked holder stripes g e)) (Some 2) None))
 broken_is {holder} stripes g legal e = elim (cases_Bool (is_shaped g e)) [

@@ -1,5 +1,5 @@
--- The callers of a history of the right shape: each is in at most one transaction, and runs exactly
--- while this transaction is open.
+-- Callers in a history of the right shape. Each caller is in at most one transaction, and it runs
+-- exactly while this transaction is open.
 use Rattle.std.proofs.Common.{[], ◌≡◌, ℕ, ◌-◌, take, slice_index, ◌+◌, ◌≤◌, Bool, true, false, cond, not, ◌&&◌, ◌||◌, ◌==◌, List, ◌∷◌, ◌++◌, length, refl, ap, sym, subst, ◌∙◌, Some, None, Option, is_some, arith}
 use Rattle.std.specs.Option.{option_and_then}
 use Rattle.std.specs.Prelude.{nat_lt}
@@ -65,8 +65,8 @@ pub at_is : (g : List Entry) (e : Entry) (t : ℕ) → txn_at g e ≡ Some t →
 at_is g (Began c u) t is = some_same u t (subst (λ b. cond b (Some u) (txn_in g c) ≡ Some t) (eq-eqb c c refl) is)
 at_is g _ t is = is
 
--- If a caller is in transaction t after the entry, either the entry is the caller's and belongs to
--- t, or the entry is another caller's and the caller was in t before.
+-- If caller `x` is in transaction `t` after an entry, there are two cases. Either the entry is by
+-- `x` and belongs to `t`, or it is by another caller and `x` was in `t` before.
 pub after_is : (g : List Entry) (e : Entry) (x t : ℕ) → txn_after (txn_in g) e x ≡ Some t → ((x ≡ caller_of e) × (txn_at g e ≡ Some t)) ⊎ ((x ≡ caller_of e → ⊥) × (txn_in g x ≡ Some t))
 after_is g e x t is = elim (cases_eq x (caller_of e)) [
   | inl same ↦ inl (same, subst (λ y. txn_after (txn_in g) e y ≡ Some t) same is)
@@ -137,7 +137,7 @@ pub end_not_began : (e : Entry) → is_end e ≡ true → is_began e ≡ false
 end_not_began (Began c t) h = absurd (false≢true h)
 end_not_began _ h = refl
 
--- An end closes the caller, and no other entry does.
+-- A Committed or an Aborted closes its caller. No other entry does.
 pub end_closes : (e : Entry) (o : Option Seat) → is_end e ≡ true → is_some (option_and_then (λ s. row s s.phase e) o) ≡ true → option_and_then (λ s. row s s.phase e) o ≡ Some closed_seat
 end_closes e None c h = absurd (false≢true h)
 end_closes e (Some s) c h = at e s.phase c h
@@ -177,7 +177,7 @@ other_runs e (Some s) c h = at e s.phase refl c h
     at (Undone x) LeavingToEnd is c h = runs_if (nat_lt 0 s.standing) (record s { standing = s.standing - 1 }) (runs_still s.phase LeavingToEnd is refl) h
     at _ q is c h = absurd (false≢true h)
 
--- Only a closed caller may begin.
+-- Only a closed caller may begin a transaction.
 pub began_was_closed : (e : Entry) (o : Option Seat) → is_began e ≡ true → is_some (option_and_then (λ s. row s s.phase e) o) ≡ true → is_running o ≡ false
 began_was_closed e None b h = refl
 began_was_closed e (Some s) b h = at e s.phase b h

@@ -40,7 +40,7 @@ abort_takes_back_now = refl
 abort_takes_back_erased : erase abort_takes_back ≡ []
 abort_takes_back_erased = refl
 
--- A caller finds the stripe of its key held by another, and aborts.
+-- A caller finds the stripe of its key held by another caller, and aborts.
 abbrev busy_aborts : List Entry
 busy_aborts = Began 0 1 ∷ Asked 0 (Put 1 10) ∷ Did 0 None ∷ Began 1 2 ∷ Busy 1 (Get 9) 0 ∷ Aborted 1 ∷ []
 
@@ -80,7 +80,8 @@ savepoints_now = refl
 savepoints_serial : (serial savepoints).rows ≡ []
 savepoints_serial = refl
 
--- A take that no other caller sees is taken back.
+-- A transaction takes a key and aborts, so the key gets its value back. No other caller sees the
+-- take.
 abbrev aborted_take_restores : List Entry
 aborted_take_restores = Began 0 1 ∷ Asked 0 (Put 3 30) ∷ Did 0 None ∷ Committed 0 1 ∷ Began 0 2 ∷ Asked 0 (Take 3) ∷ Did 0 (Some 30) ∷ Began 1 3 ∷ Busy 1 (Get 3) 0 ∷ Aborted 1
     ∷ Leave 0 None ∷ Undone 0 ∷ Aborted 0 ∷ Began 1 4 ∷ Asked 1 (Get 3) ∷ Did 1 (Some 30) ∷ Committed 1 2 ∷ []
@@ -103,8 +104,8 @@ aborted_take_restores_now = refl
 aborted_take_restores_erased : erase aborted_take_restores ≡ Began 0 1 ∷ Asked 0 (Put 3 30) ∷ Did 0 None ∷ Committed 0 1 ∷ Began 1 4 ∷ Asked 1 (Get 3) ∷ Did 1 (Some 30) ∷ Committed 1 2 ∷ []
 aborted_take_restores_erased = refl
 
--- The number of entries that the callers owe together, at two moments: while the take waits for its
--- reply, and after caller 1 has found the stripe held.
+-- The number of entries that all callers together still owe, at two moments: while the take waits
+-- for its reply, and after caller 1 has found that caller 0 holds the stripe.
 aborted_take_restores_owed : owed 2 (take 6 aborted_take_restores) ≡ 4
 aborted_take_restores_owed = refl
 
@@ -121,7 +122,8 @@ withdrawn_put_verdict = refl
 withdrawn_put_now : (now (take 3 withdrawn_put)).rows ≡ []
 withdrawn_put_now = refl
 
--- Three callers each change their own keys, and take all changes back in rounds.
+-- Three callers each change their own keys, and then take all changes back. In each round, each
+-- caller adds one entry.
 abbrev round : (ℕ → Entry) → List Entry
 round entry = entry 0 ∷ entry 1 ∷ entry 2 ∷ []
 
@@ -186,7 +188,7 @@ handed_on_verdict = refl
 handed_on_serial : (serial handed_on).rows ≡ (1, 11) ∷ []
 handed_on_serial = refl
 
--- A later transaction reads a value of an aborted one.
+-- A later transaction reads a value that an aborted transaction has put.
 abbrev checker_replies_front : List Entry
 checker_replies_front = Began 0 1 ∷ Asked 0 (Put 1 10) ∷ Did 0 None ∷ Committed 0 1 ∷ Began 1 2 ∷ Asked 1 (Put 1 99) ∷ Did 1 (Some 10) ∷ Leave 1 None ∷ []
 
@@ -224,8 +226,8 @@ fed_entry_by_entry_13 = refl
 fed_entry_by_entry_14 : verdict Now 8 (take 14 checker_replies) ≡ Illegal 12 1
 fed_entry_by_entry_14 = refl
 
--- Entries that break the rule of locks: an Asked for a stripe of another caller, a Busy that names
--- a caller without stripes, and a Busy that names its own caller.
+-- Entries that break the rule of locks: an Asked for a key whose stripe another caller holds, a
+-- Busy that names a caller without stripes, and a Busy that names its own caller.
 checker_locks_asked : verdict Now 8 (Began 0 1 ∷ Asked 0 (Put 1 10) ∷ Did 0 None ∷ Began 1 2 ∷ Asked 1 (Get 9) ∷ []) ≡ Illegal 4 2
 checker_locks_asked = refl
 
@@ -264,7 +266,8 @@ forged_stripes_verdict = refl
 forged_stripes_more_stripes_verdict : verdict Now 16 forged_stripes ≡ Legal 0 2
 forged_stripes_more_stripes_verdict = refl
 
--- Split keys, and the pairs of maps in the order of their split keys.
+-- The split keys of some keys and dummies, and the rows of some maps in the order of their split
+-- keys.
 split_keys : map split (0 ∷ 4 ∷ 2 ∷ 10 ∷ 6 ∷ 1 ∷ 5 ∷ 3 ∷ 7 ∷ (2 ^ 63 - 1) ∷ []) ≡ 0x0000000000000001 ∷ 0x2000000000000001 ∷ 0x4000000000000001 ∷ 0x5000000000000001 ∷ 0x6000000000000001
     ∷ 0x8000000000000001 ∷ 0xa000000000000001 ∷ 0xc000000000000001 ∷ 0xe000000000000001 ∷ 0xffffffffffffffff ∷ []
 unfolding split reversed reversed_low
@@ -290,7 +293,7 @@ ordered_last : ordered (insert (insert empty (2 ^ 63 - 1) 7) 3 30) ≡ (3, 30) �
 unfolding split reversed reversed_low
 ordered_last = refl
 
--- The definition of legal histories admits some histories and excludes others.
+-- Some histories are legal by the definition, and others are not.
 aborted_take_restores_legal : IsLegal Now 8 aborted_take_restores
 aborted_take_restores_legal = (legal_iff 8 aborted_take_restores).1 refl
 

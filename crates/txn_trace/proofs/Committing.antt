@@ -19,9 +19,9 @@ use Rattle.txn_trace.proofs.Shaped.{callers_of, callers_push, first_of_rest, end
 use Rattle.txn_trace.proofs.Seated.{none_before, are_seated}
 use Rattle.txn_trace.proofs.Now.{open_going}
 
--- Transaction `txn` committed at this place of the commit order. Its entries are this part. If the
--- part runs alone on the map of the transactions that committed before `txn`, all its replies are
--- right.
+-- Transaction `txn` of caller `c` has committed, with the number `place` in the commit order. Its
+-- entries are `part`. If they run alone on the map of the transactions that committed before `txn`,
+-- all their replies are right.
 pub record HasCommitted (c txn place : ℕ) (part h : List Entry) : Type 0 where
   pub whole : of txn h ≡ part
   pub before : List Entry
@@ -29,13 +29,13 @@ pub record HasCommitted (c txn place : ℕ) (part h : List Entry) : Type 0 where
   pub number : place ≡ how_many is_commit before + 1
   pub replied : IsSome (alone (serial before) part)
 
--- The list is cut at an element: the elements before it that pass the test are xs, and the elements
--- after it that pass the test are ys.
+-- The list `h` is cut at its element `x`. The elements before `x` that pass the test are `xs`, and
+-- the elements after `x` that pass the test are `ys`.
 abbrev IsCut : {X : Type 0} → (X → Bool) → List X → List X → X → List X → Type 0
 IsCut {X} p h xs x ys = (g : List X) × (rest : List X) × (h ≡ g ++ x ∷ rest) × (filter p g ≡ xs) × (filter p rest ≡ ys)
 
--- If the list of the elements that pass a test is cut at one of them, the whole list can be cut
--- there too.
+-- If the elements of `h` that pass a test are cut at one of them, `h` can be cut at the same
+-- element.
 cut : {X : Type 0} (p : X → Bool) (h xs : List X) (x : X) (ys : List X) → filter p h ≡ xs ++ x ∷ ys → IsCut p h xs x ys
 cut p [] [] x ys is = absurd (cc is)
 cut p [] (z ∷ xs) x ys is = absurd (cc is)
@@ -57,8 +57,6 @@ cut p (y ∷ h) xs x ys is =
         let (g, rest, h_is, front, back) = shorter xs (cc here) in
         (y ∷ g, rest, ap (λ zs. y ∷ zs) h_is, ap (λ b. cond b (y ∷ filter p g) (filter p g)) passes ∙ (λ i. first i ∷ front i), back)
 
--- If no entry of a list begins a transaction, the first entry does not, and no entry of the rest
--- does.
 begins_not : (e : Entry) (es : List Entry) → filter is_began (e ∷ es) ≡ [] → (is_began e ≡ false) × (filter is_began es ≡ [])
 begins_not e es =
     elim (is_began e) as (λ b. cond b (e ∷ filter is_began es) (filter is_began es) ≡ [] → (b ≡ false) × (filter is_began es ≡ [])) [
@@ -96,8 +94,8 @@ pub commits_so : (c p : ℕ) (o : Option AloneRun) → is_some o ≡ true → is
 commits_so c p None some = some
 commits_so c p (Some r) some = refl
 
--- If a caller's own entries have a part from a Began to a Committed, with no other Began in it, a
--- transaction that has exactly the entries of this part has committed.
+-- If a part of a caller's own entries goes from a Began to a Committed with no other Began in it, a
+-- transaction with exactly these entries has committed.
 pub has_committed : (c txn place : ℕ) (h front inner later : List Entry) → IsShaped h → RepliesHold h
     → own c h ≡ front ++ ((Began c txn ∷ inner ++ Committed c place ∷ []) ++ later) → filter is_began inner ≡ [] → HasCommitted c txn place (Began c txn ∷ inner ++ Committed c place ∷ []) h
 has_committed c txn place h front inner later shape replies own_is quiet =

@@ -1,5 +1,5 @@
--- The counts of a verdict: in right shape there are as many commits as Committed entries, and as
--- many open transactions as callers that are not closed.
+-- The counts of a verdict. In a history of the right shape there are as many commits as Committed
+-- entries, and as many open transactions as callers that are not closed.
 use Rattle.std.proofs.Common.{◌≡◌, ◌≢◌, ℕ, zero, suc, ◌+◌, ◌<◌, ◌≤◌, ◌==◌, Bool, true, false, cond, not, List, [], ◌∷◌, ◌++◌, length, max, refl, ap, sym, subst, ◌∙◌, Some, None, Option, is_some, arith, length-append}
 use Rattle.std.specs.Option.{option_and_then}
 use Rattle.std.specs.List.{cons_option, list_any, sum_by, range_with_len}
@@ -22,7 +22,7 @@ use Rattle.txn_trace.proofs.Sums.{sum_same, sum_at, length-filter}
 use Rattle.txn_trace.proofs.Holders.{ended-push}
 use Rattle.txn_trace.proofs.Breaking.{row_active}
 
--- There are as many commits as Committed entries.
+-- There are as many committed transactions as Committed entries.
 pub length-commits : (h : List Entry) → IsShaped h → length (commits h) ≡ how_many is_commit h
 length-commits h shape = ap length (commits_are h shape) ∙ by_entries (λ g. length (txns_of is_commit g) ≡ how_many is_commit g) step refl h shape
   where
@@ -50,7 +50,7 @@ any_range t a (suc n) there = elim (or_cases (a == t) _ there) [
   | inr later ↦ let rest = any_range t (a + 1) n later in let low = rest.0 in let high = rest.1 in (omega arith, omega arith)
 ]
 
--- The transactions that began are numbered from 1.
+-- Transactions are numbered from 1, in the order of their Began entries.
 pub began_txns : (h : List Entry) → IsShaped h → txns_of is_began h ≡ range_with_len 1 (how_many is_began h)
 began_txns h shape = by_entries (λ g. txns_of is_began g ≡ range_with_len 1 (how_many is_began g)) step refl h shape
   where

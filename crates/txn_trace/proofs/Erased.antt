@@ -1,4 +1,5 @@
--- Without its aborted transactions a legal history has the same map now and the same committed map.
+-- If the aborted transactions of a legal history are left out, its map `now` and its committed map
+-- stay the same.
 use Rattle.std.proofs.Common.{◌≡◌, ℕ, Bool, true, false, cond, not, ◌||◌, List, [], ◌∷◌, map, refl, ap, sym, subst, ◌∙◌, Some, None, Option, IsTrue, IsSome}
 use Rattle.std.specs.List.{filter, fold}
 use Rattle.std.proofs.lemmas.Bool.{cases_Bool}
@@ -49,14 +50,15 @@ serial-erase h = serial-kept (lasts h) h (lasts_in h)
 pub now-erase : (h : List Entry) → now (erase h) ≡ now h
 now-erase h = now-kept (lasts h) h (lasts_in h)
 
--- A transaction that is committed in a prefix is not aborted.
+-- If a transaction is committed in a prefix of a history, it is not aborted in the history.
 still : (h g : List Entry) (t : ℕ) → IsShaped h → IsPrefix g h → is_committed t g ≡ true → is_aborted t h ≡ false
 still h g t shape p done =
     let callers = callers_of g (shape_front h g shape p) in
     let whole : of t h ≡ of t g = ap (of t) (sym p.1) ∙ ended_whole t g p.0 callers (subst IsShaped (sym p.1) shape) (committed_ended t g done) in
     ap (ends_in is_abort) whole ∙ committed_not_aborted t g done
 
--- The committed map of a prefix is the same without the transactions that abort in the end.
+-- If the transactions that the whole history aborts are left out of a prefix, the committed map of
+-- the prefix stays the same.
 serial_there : (h g : List Entry) → IsShaped h → IsPrefix g h → serial (kept_of (lasts h) g) ≡ serial g
 serial_there h g shape p =
     let keep = lasts h in

@@ -54,7 +54,7 @@ lines_from-kept keep before there same (e ∷ h) =
       | false ↦ λ is. lines_from-kept keep now there (agree_left keep before there e same is) h
     ] refl
 
--- Either all lines of a transaction are kept or none is.
+-- Either all lines of a transaction are kept, or none of them.
 pub filter_of_kept : (keep : Option ℕ → Bool) (t : ℕ) (lines : List Line) → filter (is_of t) (filter (λ line. keep line.txn) lines) ≡ cond (keep (Some t)) (filter (is_of t) lines) []
 filter_of_kept keep t lines =
     elim (keep (Some t)) as (λ b. keep (Some t) ≡ b → filter (is_of t) (filter (λ line. keep line.txn) lines) ≡ cond b (filter (is_of t) lines) []) [
@@ -99,7 +99,7 @@ of-kept_in keep t h is = of-kept keep t h ∙ ap (λ b. cond b (of t h) []) is
 pub of-kept_out : (keep : Option ℕ → Bool) (t : ℕ) (h : List Entry) → keep (Some t) ≡ false → of t (kept_of keep h) ≡ []
 of-kept_out keep t h is = of-kept keep t h ∙ ap (λ b. cond b (of t h) []) is
 
--- The transactions of the entries that pass a test. The kept history has those transactions of the
+-- The transactions of the entries that pass a test. In the kept history, they are those of the
 -- whole history that are kept.
 abbrev picked : (Entry → Bool) → List Line → List ℕ
 picked test ls = filter_map (λ l. cond (test l.entry) l.txn None) ls

@@ -1,5 +1,5 @@
--- In right shape a caller's seat agrees with the run of its transaction. An entry can then fail
--- only by its reply.
+-- In a history of the right shape, a caller's seat agrees with the run of its transaction. So the
+-- run rejects an entry of the right shape only if the entry's reply is wrong.
 use Rattle.std.proofs.Common.{◌≡◌, ℕ, zero, suc, ◌+◌, ◌-◌, ◌<◌, ◌==◌, Bool, true, false, cond, ◌&&◌, List, [], ◌∷◌, ◌++◌, map, length, take, slice_get, slice_index, refl, ap, sym, subst, ◌∙◌, Some, None, Option, is_some, arith}
 use Rattle.std.specs.Prelude.{nat_lt}
 use Rattle.std.proofs.lemmas.Bool.{false≢true, eqb-true, ltb-true, and_parts}
@@ -86,8 +86,8 @@ when : {A : Type 0} (b : Bool) (x : A) → is_some (cond b (Some x) None) ≡ tr
 when true x h = refl
 when false x h = absurd (false≢true h)
 
--- If an entry has a row in the table and its reply is right, the run goes on and still agrees with
--- the seat.
+-- If an entry has a row in the table and its reply is right, the run allows the entry. The run and
+-- the seat agree after it.
 pub fits_act : (s : Seat) (r : AloneRun) (e : Entry) (q : Phase) → s.phase ≡ q → is_began e ≡ false → is_end e ≡ false → Fits s r → IsReply r e → is_some (row s q e) ≡ true → FitsAfter (row s q e) (act r e)
 fits_act s r (Began c t) q at b n fits right h = absurd (false≢true (sym b))
 fits_act s r (Committed c p) q at b n fits right h = absurd (false≢true (sym n))

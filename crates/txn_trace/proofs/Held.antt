@@ -1,5 +1,5 @@
--- The stripes that a caller in a transaction holds, among them those of its standing changes and of
--- the operation that waits.
+-- The stripes that a caller in a transaction holds. Among them are the stripes of its standing
+-- changes and of the operation that waits.
 use Rattle.std.proofs.Common.{None, Option, ◌++◌, append_assoc, ◌≡◌, ◌≢◌, ℕ, ◌==◌, Bool, true, false, cond, ◌&&◌, List, [], ◌∷◌, map, slice_get, refl, ap, sym, subst, ◌∙◌, Some}
 use Rattle.std.specs.Option.{option_eq}
 use Rattle.std.specs.Prelude.{nat_eq}
@@ -105,7 +105,7 @@ waiting_held stripes g legal c op seat seat_is waits =
 pub log_held : {holder : Holder} (stripes : ℕ) (g : List Entry) → IsLegal holder stripes g → (c : ℕ) → is_running (seat_after (own c g)) ≡ true → AllHeldBy stripes g c (log_of c g)
 log_held stripes g legal c active = running_log_held stripes g legal c active
 
--- Two keys are different if their stripes have different holders.
+-- If the stripes of two keys have different holders, the keys are different.
 pub held_apart : (stripes : ℕ) (g : List Entry) (c d k j : ℕ) → holder_of stripes (stripe_of stripes k) g ≡ Some c → holder_of stripes (stripe_of stripes j) g ≡ Some d → c ≢ d → k ≢ j
 held_apart stripes g c d k j of_c of_d apart same = apart (some_same c d (sym of_c ∙ ap (λ x. holder_of stripes (stripe_of stripes x) g) same ∙ of_d))
   where
@@ -157,11 +157,11 @@ module _ (stripes s : ℕ) (g : List Entry) (c : ℕ) where
             held = subst (λ ks. list_any (asks_in stripes s) (map (λ (k : Line). k.entry) (filter (is_of w) ks)) ≡ true) whole (asks_among stripes s w ls l front some asks);
           }
 
--- The holder of a stripe has an open transaction that has asked for a key of it.
+-- The holder of a stripe has an open transaction that has asked for a key of the stripe.
 pub holder_txn : (stripes : ℕ) (g : List Entry) → IsShaped g → (s c : ℕ) → holder_of stripes s g ≡ Some c → HeldTxn stripes s g c
 holder_txn stripes g shape s c held = first_line stripes s g c (lines_of g) [] refl (callers_of g shape).owned held
 
--- The holder of a stripe is in a transaction: a closed caller holds none.
+-- The holder of a stripe is in a transaction. So a closed caller holds no stripe.
 pub holder_running : (stripes : ℕ) (g : List Entry) → IsShaped g → (s c : ℕ) → holder_of stripes s g ≡ Some c → is_running (seat_after (own c g)) ≡ true
 holder_running stripes g shape s c held = let there = holder_txn stripes g shape s c held in (callers_of g shape).running c there.txn there.in_it there.going
 
@@ -195,7 +195,7 @@ get-now_held {holder} stripes g e legal after k d held other = get-now (g ++ e �
       | inl commits ↦ now_at-push_commit holder stripes g e mine.0 legal.shape legal.locks after.shape shaped commits mine.1 not_ended k
     ]
 
--- At each key at most one open transaction's last map differs from the committed map.
+-- At each key, at most one open transaction has a last map that differs from the committed map.
 pub one_differs : {holder : Holder} (stripes : ℕ) (g : List Entry) → IsLegal holder stripes g → (k t u : ℕ) → is_open t g ≡ true → is_open u g ≡ true
     → get (map_after (serial g) (of t g)) k ≢ get (serial g) k → get (map_after (serial g) (of u g)) k ≢ get (serial g) k → t ≡ u
 one_differs {holder} stripes g legal k t u open_t open_u differs_t differs_u =

@@ -1,5 +1,5 @@
--- Worked histories, checked by computation: the callers that a Busy may name by each of the two
--- rules.
+-- Worked histories, checked by computation: which callers a Busy may name by the rule `Now` and by
+-- the rule `Begun`.
 use Rattle.std.proofs.Common.{◌≡◌, List, [], ◌∷◌, refl, None}
 use Rattle.txn_words.specs.declared.op.Op.TheVariants.{Put, Get}
 use Rattle.txn_words.specs.declared.entry.Entry.{Entry}
@@ -7,7 +7,7 @@ use Rattle.txn_words.specs.declared.entry.Entry.TheVariants.{Began, Asked, Did, 
 use Rattle.txn_words.specs.declared.holder.Holder.TheVariants.{Now, Begun}
 use Rattle.txn_trace.specs.Legal.{verdict, Legal, Illegal}
 
--- The caller that a Busy names has begun a transaction, which has ended.
+-- A Busy names a caller that has begun a transaction. The transaction has ended.
 abbrev holder_has_begun : List Entry
 holder_has_begun = Began 0 1 ∷ Asked 0 (Put 1 10) ∷ Did 0 None ∷ Committed 0 1 ∷ Began 1 2 ∷ Busy 1 (Get 9) 0 ∷ []
 

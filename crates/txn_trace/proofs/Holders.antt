@@ -1,4 +1,5 @@
--- The holders of a stripe: how one more entry changes them, and that a stripe has at most one.
+-- The holders of a stripe. One more entry changes them in a known way, and a stripe has at most one
+-- holder.
 use Rattle.std.proofs.Common.{◌≡◌, ◌≢◌, ℕ, ◌==◌, Bool, true, false, cond, not, ◌&&◌, List, [], ◌∷◌, ◌++◌, map, slice_get, refl, ap, sym, subst, ◌∙◌, Some, None, Option}
 use Rattle.std.specs.Option.{option_eq}
 use Rattle.std.specs.Prelude.{nat_eq}
@@ -36,9 +37,9 @@ filter_same p q xs same i = filter (λ x. same x i) xs
 
 module _ (stripes s : ℕ) (g : List Entry) (e : Entry) where
   -- By `holds_it`, a line holds the stripe if it asks for a key of the stripe and its transaction
-  -- is open. One more entry is added. The holders are then the callers of those earlier lines that
-  -- still hold the stripe. If the line of the new entry holds the stripe, its caller is added at
-  -- the end.
+  -- is open. After one more entry, the holders are the callers of the earlier lines that still hold
+  -- the stripe. If the line of the new entry holds the stripe, this line's caller is added at the
+  -- end.
   holders-split : holders stripes s (g ++ e ∷ []) ≡ map caller_on (filter (holds_it stripes s (g ++ e ∷ [])) (lines_of g)) ++ cond (holds_it stripes s (g ++ e ∷ []) (record { txn = txn_at g e; entry = e })) (caller_of e ∷ []) []
   holders-split =
       let line : Line = record { txn = txn_at g e; entry = e } in
@@ -166,7 +167,7 @@ pub first_any : (xs : List ℕ) (d : ℕ) → slice_get xs 0 ≡ Some d → list
 first_any [] d is = absurd (cc (is))
 first_any (x ∷ xs) d is = or_left _ _ (eq-eqb x d (some_same x d is))
 
--- In right shape, with the rule of locks, a stripe has at most one holder.
+-- If a history has the right shape and the rule of locks holds, each stripe has at most one holder.
 pub one_holder : (holder : Holder) (stripes : ℕ) (g : List Entry) → IsShaped g → LocksHold holder stripes g → (s : ℕ) → AreSame (holders stripes s g)
 one_holder holder stripes g shape locks s = by_locked_entries holder stripes (λ h. AreSame (holders stripes s h)) step (λ c d there also. absurd (false≢true there)) g shape locks
   where
@@ -213,8 +214,8 @@ all_from_same c xs same there [] within = refl
 all_from_same c xs same there (y ∷ ys) within =
     and_from (y == c) _ (eq-eqb y c (same y c (within y (or_left _ _ (eq-eqb y y refl))) there)) (all_from_same c xs same there ys (λ z is. within z (or_right (y == z) _ is)))
 
--- The rule of locks allows an Asked exactly if no caller holds the stripe, or the Asked's own
--- caller does.
+-- The rule of locks allows an Asked exactly if its own caller holds the stripe or no caller holds
+-- it.
 pub is_locked-asked : (holder : Holder) (stripes : ℕ) (g : List Entry) (c : ℕ) (op : Op) → IsShaped g → LocksHold holder stripes g
     → is_locked holder stripes g (Asked c op) ≡ elim (holder_of stripes (stripe_of stripes (key_of op)) g) [ None ↦ true | Some d ↦ d == c ]
 is_locked-asked holder stripes g c op shape locks = at (holders stripes (stripe_of stripes (key_of op)) g) (one_holder holder stripes g shape locks (stripe_of stripes (key_of op)))
@@ -226,8 +227,9 @@ is_locked-asked holder stripes g c op shape locks = at (holders stripes (stripe_
       | inr other ↦ ap (λ b. b && list_all (λ x. x == c) xs) (ne_eqb x c other) ∙ sym (ne_eqb x c other)
     ]
 
--- The rule of locks allows a Busy exactly if it names another caller that it may name. By `Now`
--- that caller must hold the stripe. By `Begun` it must have begun a transaction.
+-- The rule of locks allows a Busy exactly if the named caller is not the Busy's own and meets a
+-- condition. By `Now` the named caller must hold the stripe. By `Begun` it must have begun a
+-- transaction.
 pub is_locked-busy : (holder : Holder) (stripes : ℕ) (g : List Entry) (c : ℕ) (op : Op) (x : ℕ) → IsShaped g → LocksHold holder stripes g
     → is_locked holder stripes g (Busy c op x) ≡ (not (x == c) && elim holder [ Now ↦ option_eq nat_eq (holder_of stripes (stripe_of stripes (key_of op)) g) (Some x) | Begun ↦ has_begun x g ])
 is_locked-busy Begun stripes g c op x shape locks = refl
@@ -246,7 +248,7 @@ module _ (holder : Holder) (stripes : ℕ) (g : List Entry) (e : Entry) (callers
   pub holder_of-other : (s : ℕ) → is_end e ≡ false → asks_in stripes s e ≡ false → holder_of stripes s (g ++ e ∷ []) ≡ holder_of stripes s g
   holder_of-other s goes asks = ap (λ xs. slice_get xs 0) (holders-other stripes g e callers shaped s goes asks)
 
-  -- A transaction's end gives its caller's stripes back.
+  -- The end of a transaction frees all stripes of its caller.
   pub holder_of-end : (s t : ℕ) → is_end e ≡ true → txn_at g e ≡ Some t → holder_of stripes s (g ++ e ∷ []) ≡ cond (option_eq nat_eq (holder_of stripes s g) (Some (caller_of e))) None (holder_of stripes s g)
   holder_of-end s t ends at = ap (λ xs. slice_get xs 0) (holders-end stripes g e callers shaped s t ends at) ∙ from (holders stripes s g) (one_holder holder stripes g shape locks s)
     where

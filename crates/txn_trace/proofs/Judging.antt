@@ -22,7 +22,7 @@ use Rattle.txn_trace.proofs.Shaped.{callers_of}
 use Rattle.txn_trace.proofs.Steps.{are_listed}
 use Rattle.txn_trace.proofs.Now.{any-filter, going_open}
 
--- A prefix of `h` with one more entry is a prefix of `h`, or it is `h` with this entry.
+-- If `g` is a prefix of `h ++ e ∷ []`, it is a prefix of `h`, or it is the whole list.
 pub prefix_push : {A : Type 0} (g h : List A) (e : A) → IsPrefix g (h ++ e ∷ []) → IsPrefix g h ⊎ (g ≡ h ++ e ∷ [])
 prefix_push [] h e p = inl (h, refl)
 prefix_push (x ∷ []) [] e p = inr (cc (p.1))
@@ -45,7 +45,7 @@ last_same (z ∷ g) (w ∷ h) x y is =
     let rest = last_same g h x y (cc (is)) in
     (cc (heads, rest.0), rest.1)
 
--- One more entry is legal if it breaks no rule.
+-- If one more entry after a legal history breaks no rule, the history with this entry is legal.
 pub legal_push : {holder : Holder} (stripes : ℕ) (h : List Entry) (e : Entry) → IsLegal holder stripes h → is_shaped h e ≡ true → is_locked holder stripes h e ≡ true → RepliesHoldAt (h ++ e ∷ []) → IsLegal holder stripes (h ++ e ∷ [])
 legal_push {holder} stripes h e legal shaped locked hold = record {
   replies = λ g p. elim (prefix_push g h e p) [ inl q ↦ legal.replies g q | inr q ↦ subst RepliesHoldAt (sym q) hold ];
@@ -87,7 +87,7 @@ filter_passes p q (x ∷ xs) to =
       | false ↦ λ is. filter_passes p q xs to
     ]) refl
 
--- The test of replies agrees with the rule.
+-- In a history of the right shape, `replies_hold` is true exactly if `RepliesHoldAt` holds.
 pub replies_hold_from : (g : List Entry) → RepliesHoldAt g → replies_hold g ≡ true
 replies_hold_from g hold = filter_passes (λ t. is_open t g) (λ t. is_some (alone (serial g) (of t g))) (txns_of is_began g) hold
 
@@ -100,7 +100,7 @@ RepliesHoldAt-from g shape holds t is_open_there =
           (any-filter (λ u. is_open u g) t is_open_there (txns_of is_began g) (are_listed g w.0 t w.1))
     ]
 
--- An entry that breaks no rule keeps all three.
+-- If `broken` gives None, the entry satisfies the rules of shape, replies and locks.
 not_broken : (holder : Holder) (stripes : ℕ) (g : List Entry) (e : Entry) → broken holder stripes g e ≡ None → (is_shaped g e ≡ true) × (replies_hold (g ++ e ∷ []) ≡ true) × (is_locked holder stripes g e ≡ true)
 not_broken holder stripes g e is = at (is_shaped g e) (replies_hold (g ++ e ∷ [])) (is_locked holder stripes g e) is
   where

@@ -156,7 +156,7 @@ module _ (keys : ℕ → Bool) (m n : Map) where
   fold_alike (e ∷ es) (Some r) None asks alike = absurd alike
   fold_alike (e ∷ es) (Some r) (Some s) asks alike = fold_alike es (act r e) (act s e) asks.1 (act_alike e r s asks.0 alike)
 
-  -- The entries run alike on two maps that agree at the keys that they ask for.
+  -- If two maps agree at the keys that the entries ask for, the entries run alike on both maps.
   pub alone_alike : (es : List Entry) → AllAskFor keys es → ((k : ℕ) → keys k ≡ true → get m k ≡ get n k) → RunsAlike keys m n (alone m es) (alone n es)
   alone_alike es asks same = fold_alike es (Some (start m)) (Some (start n)) asks
       (record { last = record { inside = same; left = λ k out. refl; right = λ k out. refl }; earlier = tt; pending = refl; waits = tt; notes = refl })

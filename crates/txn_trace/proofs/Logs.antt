@@ -29,7 +29,7 @@ use Rattle.txn_trace.proofs.Seated.{none_before, AreSeated, seated_push, alone_b
 use Rattle.txn_trace.proofs.Undoing.{IsLogged, logged_add}
 use Rattle.txn_trace.proofs.Inductions.{by_entries}
 
--- The log after one more entry of the caller, and after one of another caller.
+-- The log after one more entry of the caller, and after an entry of another caller.
 pub log_after-push : (es : List Entry) (e : Entry) → log_after (es ++ e ∷ []) ≡ log_step (log_after es) e
 log_after-push es e = fold-append log_step no_log es (e ∷ [])
 
@@ -107,7 +107,7 @@ pub record Logs (keys : ℕ → Bool) (log : Log) (r : AloneRun) : Type 0 where
   pub waits : WaitsFor keys r.pending
   pub standing : IsLogged keys log.standing r.last r.earlier
 
--- A log that fits a test of keys fits a wider test.
+-- If the keys of a log pass a test, they pass each wider test.
 wider_waits : (keys wide : ℕ → Bool) → ((k : ℕ) → keys k ≡ true → wide k ≡ true) → (p : Option Op) → WaitsFor keys p → WaitsFor wide p
 wider_waits keys wide to None is = tt
 wider_waits keys wide to (Some op) is = to (key_of op) is
@@ -121,8 +121,7 @@ wider_jobs keys wide to (job ∷ jobs) last [] is = is
 wider : (keys wide : ℕ → Bool) → ((k : ℕ) → keys k ≡ true → wide k ≡ true) → (log : Log) (r : AloneRun) → Logs keys log r → Logs wide log r
 wider keys wide to log r is = record { pending = is.pending; waits = wider_waits keys wide to r.pending is.waits; standing = wider_jobs keys wide to log.standing r.last r.earlier is.standing }
 
--- After one more entry of the transaction the log still agrees with the run, if the run is still
--- defined.
+-- If the run allows one more entry of the transaction, the log and the run still agree after it.
 did_logs : (keys : ℕ → Bool) (log : Log) (r r' : AloneRun) (x : Option ℕ) (p : Option Op) → log.pending ≡ p → WaitsFor keys p → IsLogged keys log.standing r.last r.earlier → act_did r p x ≡ Some r' → Logs keys (log_did log p x) r'
 did_logs keys log r r' x None at waits is goes = absurd (cc (goes))
 did_logs keys log r r' x (Some op) at waits is goes =
@@ -240,7 +239,8 @@ module _ (stripes : ℕ) (g : List Entry) (e : Entry) (callers : Callers g) (sha
     ]
   ]
 
--- In right shape the log of each caller agrees with the run of its open transaction.
+-- In a history of the right shape, the log of each caller agrees with the run of its open
+-- transaction.
 pub are_logged : (stripes : ℕ) (g : List Entry) → IsShaped g → AreLogged stripes g
 are_logged stripes g shape = (by_entries (λ h. AreSeated h × AreLogged stripes h) push ((λ c t is going. absurd (cc (is))), λ c t is going. absurd (cc (is))) g shape).1
   where

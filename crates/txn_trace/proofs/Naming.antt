@@ -75,7 +75,7 @@ is_locked-begun stripes g (Busy c op x) shape locks locked =
 is_locked-begun stripes g (Asked c op) shape locks locked = locked
 is_locked-begun stripes g _ shape locks locked = refl
 
--- A prefix of a history keeps the rule of locks.
+-- If the rule of locks holds for a history, it holds for each prefix of the history.
 locks_front : (holder : Holder) (stripes : ℕ) (h g : List Entry) → LocksHold holder stripes h → IsPrefix g h → LocksHold holder stripes g
 locks_front holder stripes h g locks p f e q = locks f e (q.0 ++ p.0, sym (append_assoc (f ++ e ∷ []) q.0 p.0) ∙ ap (λ w. w ++ p.0) q.1 ∙ p.1)
 

@@ -30,9 +30,10 @@ use Rattle.txn_trace.proofs.Seated.{are_seated, the_some}
 use Rattle.txn_trace.proofs.Logs.{Logs, are_logged, log_after-own, log_after-other}
 use Rattle.txn_trace.proofs.Holders.{holder_of-other}
 
--- The state after one more entry. The history is legal. The entry's caller has this seat and this
--- log, and the seats and logs of all other callers are unchanged. The committed map, the map now
--- and the holders of the stripes are these.
+-- The state after the entry `e` is added to the history `g`. The history is legal. The entry's
+-- caller has the seat `seat` and the log `log`. The seats and logs of all other callers are
+-- unchanged. The committed map is `committed`, the map `now` is `current`, and `held` gives the
+-- holder of each stripe.
 pub record Next (holder : Holder) (stripes : ℕ) (g : List Entry) (e : Entry) (seat : Seat) (log : List (ℕ × Option ℕ)) (committed current : Map) (held : ℕ → Option ℕ) : Type 0 where
   pub legal : IsLegal holder stripes (g ++ e ∷ [])
   pub seat_is : seat_after (own (caller_of e) (g ++ e ∷ [])) ≡ Some seat
@@ -43,7 +44,7 @@ pub record Next (holder : Holder) (stripes : ℕ) (g : List Entry) (e : Entry) (
   pub now_is : now (g ++ e ∷ []) ≡ current
   pub holder_is : (s : ℕ) → holder_of stripes s (g ++ e ∷ []) ≡ held s
 
--- An entry of another caller leaves a caller's own entries, its seat and its log unchanged.
+-- The own entries, the seat and the log of a caller are unchanged by an entry of another caller.
 pub own-other : (d : ℕ) (g : List Entry) (e : Entry) → d ≢ caller_of e → own d (g ++ e ∷ []) ≡ own d g
 own-other d g e other = own-push_out d g e (not_equal d (caller_of e) other)
 
@@ -53,8 +54,8 @@ seat-other d g e other = ap seat_after (own-other d g e other)
 pub log_of-other : (d : ℕ) (g : List Entry) (e : Entry) → d ≢ caller_of e → log_of d (g ++ e ∷ []) ≡ log_of d g
 log_of-other d g e other = ap (λ (l : Log). l.standing) (log_after-other d g e other)
 
--- After an entry of the caller itself, its seat is the one in the entry's row of the table, and its
--- log is the one after `log_step`.
+-- After an entry, its caller has the seat that the entry's row in the table gives, and the log that
+-- `log_step` gives.
 pub seat-own : (g : List Entry) (e : Entry) → seat_after (own (caller_of e) (g ++ e ∷ [])) ≡ option_and_then (λ s. row s s.phase e) (seat_after (own (caller_of e) g))
 seat-own g e = ap seat_after (own-push_in (caller_of e) g e refl) ∙ seat_after-push (own (caller_of e) g) e
 
@@ -65,7 +66,7 @@ txn_at-not_began : (g : List Entry) (e : Entry) → is_began e ≡ false → txn
 txn_at-not_began g (Began c t) b = absurd (false≢true (sym b))
 txn_at-not_began g _ b = refl
 
--- Entries that change no map of the run, and neither begin nor end a transaction.
+-- Whether an entry changes no map of the run, and neither begins nor ends a transaction.
 abbrev pub is_quiet : Entry → Bool
 is_quiet (Asked c op) = true
 is_quiet (Saved c) = true
@@ -174,18 +175,18 @@ module _ {holder : Holder} (stripes : ℕ) (g : List Entry) (legal : IsLegal hol
     pub last_is : map_after (serial g) (of txn g) ≡ run.last
     last_is = ap (last_map (serial g)) run_is
 
-    -- An entry that neither begins nor commits a transaction is legal if the run is defined after
-    -- it.
+    -- If an entry neither begins nor commits a transaction, and both the run and the rule of locks
+    -- allow it, then the history with this entry is legal.
     pub legal_next : (r : AloneRun) → act run e ≡ Some r → is_began e ≡ false → is_commit e ≡ false → is_locked holder stripes g e ≡ true → IsLegal holder stripes (g ++ e ∷ [])
     legal_next r acts began commit locked = legal_push stripes g e legal shaped_by_row locked
         (replies-push_other g e txn legal.shape shape_next shaped_by_row commit (at_txn began)
         (legal.replies g ([], append-nil g)) (ap is_some (run_next r acts)))
 
-    -- Such an entry leaves the committed map unchanged.
+    -- If an entry neither begins nor commits a transaction, it leaves the committed map unchanged.
     pub serial_next : is_began e ≡ false → is_commit e ≡ false → is_locked holder stripes g e ≡ true → serial (g ++ e ∷ []) ≡ serial g
     serial_next began commit locked = serial_is g e txn legal.shape shape_next shaped_by_row commit (at_txn began)
 
-    -- A quiet entry leaves both maps and the log unchanged.
+    -- A quiet entry leaves the committed map, the map `now` and the log unchanged.
     pub quiet_next : (held : ℕ → Option ℕ) → is_quiet e ≡ true → is_locked holder stripes g e ≡ true → ((s : ℕ) → holder_of stripes s (g ++ e ∷ []) ≡ held s)
         → Next holder stripes g e next (log_of (caller_of e) g) (serial g) (now g) held
     quiet_next held quiet locked holds =
@@ -205,12 +206,12 @@ module _ {holder : Holder} (stripes : ℕ) (g : List Entry) (legal : IsLegal hol
           holder_is = holds;
         }
 
-    -- A quiet entry that asks for nothing leaves each holder unchanged too.
+    -- A quiet entry that asks for no key also leaves the holders of all stripes unchanged.
     pub still_next : is_quiet e ≡ true → is_locked holder stripes g e ≡ true → ((s : ℕ) → asks_in stripes s e ≡ false) → Next holder stripes g e next (log_of (caller_of e) g) (serial g) (now g) (λ s. holder_of stripes s g)
     still_next quiet locked asks = quiet_next (λ s. holder_of stripes s g) quiet locked (λ s. holder_of-other holder stripes g e callers shaped_by_row legal.shape legal.locks s (quiet_goes e quiet).1 (asks s))
 
--- An entry that commits nothing leaves the runs of other transactions unchanged. It acts on the run
--- of its own transaction.
+-- If an entry commits nothing, it leaves the runs of other transactions unchanged. The run of its
+-- own transaction changes as `act` says.
 pub run-other : {holder : Holder} (stripes : ℕ) (g : List Entry) → IsLegal holder stripes g → (e : Entry) (t u : ℕ) → is_shaped g e ≡ true → is_commit e ≡ false → txn_at g e ≡ Some t → u ≢ t
     → alone (serial (g ++ e ∷ [])) (of u (g ++ e ∷ [])) ≡ alone (serial g) (of u g)
 run-other stripes g legal e t u shaped commit at away =

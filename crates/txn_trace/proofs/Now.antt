@@ -1,4 +1,4 @@
--- The map now: its value at a key, and the effect of a commit on it.
+-- The map `now`: its value at a key, and the effect of a commit on it.
 use Rattle.std.proofs.Common.{◌≡◌, ℕ, ◌==◌, ◌≢◌, Bool, true, false, cond, not, ◌||◌, List, [], ◌∷◌, ◌++◌, map, refl, ap, sym, subst, ◌∙◌, Some, None, Option, IsSome}
 use Rattle.std.specs.Option.{option_eq}
 use Rattle.std.specs.Prelude.{nat_eq}
@@ -97,20 +97,21 @@ pub running_of : (g : List Entry) (c t : ℕ) → txn_in g c ≡ Some t → ende
 running_of g c t is going = record { began = are_listed g c t is; going = going }
 
 module _ (stripes : ℕ) (g : List Entry) (k : ℕ) where
-  -- If t is running, and no other running transaction holds the stripe of a key, the value now at
-  -- the key is that of the last map of t.
+  -- Let `t` be running, and let no other running transaction hold the stripe of a key. Then the map
+  -- `now` and the last map of `t` have the same value at the key.
   pub now_at-mine : (t : ℕ) → IsRunning g t → ((u : ℕ) → ended u g ≡ false → u ≢ t → keys_in stripes (of u g) k ≡ false) → now_at g k ≡ get (map_after (serial g) (of t g)) k
   now_at-mine t running none = first_one (serial g) (λ u. map_after (serial g) (of u g)) k t (open_txns g)
       (any-filter (λ u. is_open u g) t (open_going t g running.going) (txns_of is_began g) running.began)
       (all_pass (λ u. is_open u g) _ (λ u is other. untouched stripes (of u g) (serial g) (serial g) k (none u (going_open u g is) other)) (txns_of is_began g))
 
-  -- If no running transaction holds the stripe of a key, the value now is the committed one.
+  -- If no running transaction holds the stripe of a key, the map `now` and the committed map have
+  -- the same value at the key.
   pub now_at-free : ((u : ℕ) → ended u g ≡ false → keys_in stripes (of u g) k ≡ false) → now_at g k ≡ get (serial g) k
   now_at-free none = first_base (serial g) (λ u. map_after (serial g) (of u g)) k (open_txns g)
       (all_pass (λ u. is_open u g) _ (λ u is. untouched stripes (of u g) (serial g) (serial g) k (none u (going_open u g is))) (txns_of is_began g))
 
-  -- If a running transaction holds the stripe of a key, the value now at the key is that of the
-  -- transaction's last map.
+  -- If a running transaction holds the stripe of a key, the map `now` and the transaction's last
+  -- map have the same value at the key.
   pub now_at-holder : Apart stripes g → (t : ℕ) → IsRunning g t → keys_in stripes (of t g) k ≡ true → now_at g k ≡ get (map_after (serial g) (of t g)) k
   now_at-holder apart t running held = now_at-mine t running (λ u going other. false_from_ne_true _ (λ is. other (apart u t (stripe_of stripes k) going running.going is held)))
 
@@ -122,8 +123,8 @@ owner_in stripes s u g going (l ∷ ls) owned asks =
       | false ↦ λ of_u h. owner_in stripes s u g going ls owned.1 h
     ]) refl asks
 
--- A running transaction that holds the stripe of a key. `holder_or_none` finds one, or shows that
--- there is none.
+-- A running transaction that holds the stripe of a key. `holder_or_none` finds such a transaction,
+-- or shows that no running transaction holds this stripe.
 pub record KeyHolder (stripes : ℕ) (g : List Entry) (k : ℕ) : Type 0 where
   pub txn : ℕ
   pub running : IsRunning g txn
@@ -161,7 +162,7 @@ holder_or_none stripes g k callers = elim (found_in stripes g k (open_txns g)) [
       false≢true (sym (none u there) ∙ is)))
 ]
 
--- One more entry, which commits t.
+-- Lemmas for one more entry that commits the transaction `t`.
 module _ (holder : Holder) (stripes : ℕ) (g : List Entry) (e : Entry) (t : ℕ) (shape : IsShaped g) (locks : LocksHold holder stripes g) (shape_after : IsShaped (g ++ e ∷ [])) (shaped : is_shaped g e ≡ true) (commit : is_commit e ≡ true) (at : txn_at g e ≡ Some t) (going : ended t g ≡ false) where
   callers : Callers g
   callers = callers_of g shape
@@ -184,12 +185,13 @@ module _ (holder : Holder) (stripes : ℕ) (g : List Entry) (e : Entry) (t : ℕ
   goes_on : (u : ℕ) → ended u g ≡ false → u ≢ t → ended u (g ++ e ∷ []) ≡ false
   goes_on u goes other = ap (ends_in is_end) (entries_stay u other) ∙ goes
 
-  -- The committed value of a key is unchanged if another running transaction holds its stripe.
+  -- If another running transaction holds the stripe of a key, the key's committed value is
+  -- unchanged.
   same_there : (u : ℕ) → ended u g ≡ false → u ≢ t → (k : ℕ) → keys_in stripes (of u g) k ≡ true → get (serial g) k ≡ get (serial (g ++ e ∷ [])) k
   same_there u goes other k held =
       sym (ap (λ m. get m k) serial-commit ∙ untouched stripes (of t g) (serial g) (serial g) k (false_from_ne_true _ (λ is. other (apart u t (stripe_of stripes k) goes going held is))))
 
-  -- The replies of the other transactions still hold.
+  -- After the commit, the replies of the open transactions still hold.
   pub replies-push_commit : RepliesHoldAt g → RepliesHoldAt (g ++ e ∷ [])
   replies-push_commit hold u is_open_after =
       let goes_after = going_open u (g ++ e ∷ []) is_open_after in
@@ -198,7 +200,7 @@ module _ (holder : Holder) (stripes : ℕ) (g : List Entry) (e : Entry) (t : ℕ
       subst (λ es. IsSome (alone (serial (g ++ e ∷ [])) es)) (sym (entries_stay u other))
       (runs_there stripes (of u g) (serial g) (serial (g ++ e ∷ [])) (same_there u goes other) (hold u (open_going u g goes)))
 
-  -- The map now is unchanged.
+  -- The commit leaves the map `now` unchanged.
   pub now_at-push_commit : (k : ℕ) → now_at (g ++ e ∷ []) k ≡ now_at g k
   now_at-push_commit k = elim (holder_or_none stripes g k callers) [
     | inl w ↦ elim (cases_eq w.txn t) [

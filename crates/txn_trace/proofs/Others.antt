@@ -1,4 +1,4 @@
--- The effect of an entry that commits nothing on the map now and on the replies.
+-- The map `now` and the replies after an entry that commits no transaction.
 use Rattle.std.proofs.Common.{◌≡◌, ℕ, ◌==◌, ◌≢◌, true, false, List, [], ◌∷◌, ◌++◌, ap, sym, subst, ◌∙◌, Some, IsSome}
 use Rattle.std.specs.List.{list_any}
 use Rattle.std.proofs.lemmas.Bool.{false_from_ne_true, cases_eq}
@@ -28,7 +28,7 @@ module _ (g : List Entry) (e : Entry) (t : ℕ) (shape : IsShaped g) (shape_afte
   callers : Callers g
   callers = callers_of g shape
 
-  -- The committed map is unchanged.
+  -- An entry that commits no transaction leaves the committed map unchanged.
   pub serial_is : serial (g ++ e ∷ []) ≡ serial g
   serial_is = serial-push_other g e callers shape shaped shape_after other
 
@@ -58,7 +58,8 @@ module _ (holder : Holder) (stripes : ℕ) (g : List Entry) (e : Entry) (t : ℕ
   here_callers : Callers g
   here_callers = callers_of g shape
 
-  -- The value of a key whose stripe another transaction holds is unchanged.
+  -- If another transaction holds the stripe of a key, the value of the map `now` at the key is
+  -- unchanged.
   pub now_at-push_else : (k w : ℕ) → IsRunning g w → w ≢ t → keys_in stripes (of w g) k ≡ true → now_at (g ++ e ∷ []) k ≡ now_at g k
   now_at-push_else k w running away held =
       now_at-holder stripes (g ++ e ∷ []) k (are_apart holder stripes (g ++ e ∷ []) shape_after locks_after) w
@@ -68,7 +69,8 @@ module _ (holder : Holder) (stripes : ℕ) (g : List Entry) (e : Entry) (t : ℕ
       ∙ ap (λ es. get (map_after (serial g) es) k) (stay w away)
       ∙ sym (now_at-holder stripes g k (are_apart holder stripes g shape locks) w running held)
 
-  -- Any other key has the value of the transaction's last map.
+  -- If no other transaction holds the stripe of a key, the map `now` and the last map of the
+  -- entry's transaction have the same value at the key.
   pub now_at-push_mine : (k : ℕ) → is_end e ≡ false → ((u : ℕ) → ended u g ≡ false → u ≢ t → keys_in stripes (of u g) k ≡ false) → now_at (g ++ e ∷ []) k ≡ get (map_after (serial g) (of t g ++ e ∷ [])) k
   now_at-push_mine k goes none =
       now_at-mine stripes (g ++ e ∷ []) k t
@@ -77,7 +79,7 @@ module _ (holder : Holder) (stripes : ℕ) (g : List Entry) (e : Entry) (t : ℕ
       ∙ ap (λ m. get (map_after m (of t (g ++ e ∷ []))) k) same_committed
       ∙ ap (λ es. get (map_after (serial g) es) k) (of-push_in t g e at)
 
-  -- The map `now` changes exactly as the last map of the transaction does.
+  -- The map `now` changes exactly as the last map of the entry's transaction does.
   pub now_at-push : (k : ℕ) → is_end e ≡ false → IsRunning g t
       → ((now_at (g ++ e ∷ []) k ≡ now_at g k) × (keys_in stripes (of t g) k ≡ false))
       ⊎ ((now_at (g ++ e ∷ []) k ≡ get (map_after (serial g) (of t g ++ e ∷ [])) k) × (now_at g k ≡ get (map_after (serial g) (of t g)) k))
@@ -95,6 +97,6 @@ module _ (holder : Holder) (stripes : ℕ) (g : List Entry) (e : Entry) (t : ℕ
     | inr none ↦ inr (now_at-push_mine k goes (λ u going away. none u going), now_at-mine stripes g k t running (λ u going away. none u going))
   ]
 
-  -- An entry that does not change the transaction's last map does not change the map `now`.
+  -- An entry that does not change its transaction's last map does not change the map `now`.
   pub now-push_same : is_end e ≡ false → IsRunning g t → map_after (serial g) (of t g ++ e ∷ []) ≡ map_after (serial g) (of t g) → now (g ++ e ∷ []) ≡ now g
   now-push_same goes running same = same_map (now (g ++ e ∷ [])) (now g) (λ k. get-now (g ++ e ∷ []) k ∙ elim (now_at-push k goes running) [ inl w ↦ w.0 | inr w ↦ w.0 ∙ ap (λ m. get m k) same ∙ sym w.1 ] ∙ sym (get-now g k))

@@ -83,15 +83,15 @@ row_fits s LeavingToEnd (Undone c) at = fits_if (1 + s.standing + 0) (nat_lt 0 s
 row_fits s LeavingToEnd (Aborted c) at = fits_if (1 + s.standing + 0) (s.standing == 0) closed_seat (λ b. omega arith)
 row_fits s q e at = tt
 
--- Before an entry its caller has the places for the entries that it owes, and those reserved for
--- the entry. The entry takes one of these places, and the others are enough for the entries that
--- the caller owes afterwards.
+-- Before an entry, its caller has one place for each entry that it owes, and the places that are
+-- reserved for the new entry. The new entry takes one of these places. The others are enough for
+-- the entries that the caller owes afterwards.
 pub owed_by-row : (s next : Seat) (e : Entry) → row s s.phase e ≡ Some next → owed_by (Some next) + 1 ≤ owed_by (Some s) + reserved_for e
 owed_by-row s next e is = subst (FitsIn (owed_in s.standing s.phase + reserved_for e)) is (row_fits s s.phase e refl)
 
--- For all callers together: one more entry takes one place, and each entry that is owed after it
--- takes one place. The places for the entries that were owed before it and the places that are
--- reserved for it are enough.
+-- For all callers together, the new entry takes one place, and so does each entry that is owed
+-- after it. The places for the entries owed before the new entry, with those reserved for the new
+-- entry, are enough.
 pub owed-push : (callers : ℕ) (g : List Entry) (e : Entry) → IsShaped g → is_shaped g e ≡ true → caller_of e < callers → owed callers (g ++ e ∷ []) + 1 ≤ owed callers g + reserved_for e
 owed-push callers g e shape shaped within =
     let c : ℕ = caller_of e in

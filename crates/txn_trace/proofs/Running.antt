@@ -14,7 +14,7 @@ use Rattle.txn_trace.proofs.Callers.{Callers, ended, shaped_seat, closed_begins,
 use Rattle.txn_trace.proofs.Shaped.{callers_of, seat_of_mine, seat_of_other}
 use Rattle.txn_trace.proofs.Inductions.{by_entries}
 
--- In right shape each caller has a seat.
+-- In a history of the right shape, each caller has a seat.
 pub has_seat : (g : List Entry) → IsShaped g → (c : ℕ) → is_some (seat_after (own c g)) ≡ true
 has_seat g shape c = by_entries (λ h. is_some (seat_after (own c h)) ≡ true) step refl g shape
   where
@@ -31,7 +31,7 @@ began_is_in g (Began c t) b is = false≢true (ap is_some (sym is) ∙ ap is_som
     refl_at c t = ap (λ b. cond b (Some t) (txn_in g c)) (eq-eqb c c refl)
 began_is_in g _ b is = absurd (false≢true b)
 
--- A caller that never began is closed.
+-- A caller that has begun no transaction is closed.
 pub closed_before : (g : List Entry) → IsShaped g → (c : ℕ) → txn_in g c ≡ None → seat_after (own c g) ≡ Some closed_seat
 closed_before g shape c = by_entries (λ h. txn_in h c ≡ None → seat_after (own c h) ≡ Some closed_seat) step (λ is. refl) g shape
   where

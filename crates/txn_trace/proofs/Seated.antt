@@ -31,7 +31,7 @@ pub record Seated (g : List Entry) (c t : ℕ) : Type 0 where
 abbrev pub AreSeated : List Entry → Type 0
 AreSeated g = (c t : ℕ) → txn_in g c ≡ Some t → ended t g ≡ false → Seated g c t
 
--- If a run is defined after an entry, the entry's reply is right.
+-- If a run allows an entry, the entry's reply is right.
 pub reply_of_act : (r r' : AloneRun) (e : Entry) → act r e ≡ Some r' → IsReply r e
 reply_of_act r r' (Did c x) is = λ op waits.
     let goes : act_did r (Some op) x ≡ Some r' = ap (λ p. act_did r p x) (sym waits) ∙ is in

@@ -8,7 +8,7 @@ use Rattle.txn_words.proofs.Maps.{get-set_at}
 use Rattle.txn_trace.proofs.Undoing.{IsLogged}
 use Rattle.txn_trace.proofs.Bounds.{first_map}
 
--- The first map, with the values of the second at the keys of the log.
+-- The map `base`, with the values of the map `current` at the keys of the log.
 abbrev pub settled : Map → Map → List (ℕ × Option ℕ) → Map
 settled base current jobs = fold (λ m job. set_at m job.0 (get current job.0)) base jobs
 
@@ -28,8 +28,8 @@ settled_in current k (job ∷ jobs) base there = elim (cases_Bool (list_any (λ 
       ∙ ap (get current) (sym (eqb-true k job.0 here))
 ]
 
--- A key that no change names has the value of the first map. A key that a change names passes the
--- test.
+-- If no change in the log names a key, the key has the same value in a run's first and last maps.
+-- If a change names the key, the key passes the test.
 pub same_as_first : (keys : ℕ → Bool) (k : ℕ) (jobs : List (ℕ × Option ℕ)) (last : Map) (ms : List Map) → IsLogged keys jobs last ms → list_any (λ job. k == job.0) jobs ≡ false → get last k ≡ get (first_map last ms) k
 same_as_first keys k [] last [] is out = refl
 same_as_first keys k [] last (m ∷ ms) is out = absurd is

@@ -22,8 +22,8 @@ module _ (g : List Entry) (e : Entry) (callers : Callers g) (shaped : is_shaped 
   pub ended_out : (t : ℕ) → (txn_at g e ≡ Some t → ⊥) → ended t (g ++ e ∷ []) ≡ ended t g
   ended_out t out = ap (ends_in is_end) (of-push_out t g e out)
 
-  -- A transaction that has ended before the entry keeps its entries. A transaction that has not
-  -- ended after the entry had not ended before it.
+  -- If a transaction has ended before the entry, its entries are unchanged. If a transaction has
+  -- not ended after the entry, it had not ended before the entry.
   pub ended_stays : (t : ℕ) → ended t g ≡ true → of t (g ++ e ∷ []) ≡ of t g
   ended_stays t done = of-push_out t g e (not_after_end g e t callers shaped done)
 
@@ -51,8 +51,8 @@ module _ (g : List Entry) (e : Entry) (callers : Callers g) (shaped : is_shaped 
   pub seat_of_other : (c : ℕ) → (c ≡ caller_of e → ⊥) → seat_after (own c (g ++ e ∷ [])) ≡ seat_after (own c g)
   seat_of_other c other = ap seat_after (own-push_out c g e (not_equal c (caller_of e) other))
 
-  -- After the entry, a caller whose transaction has ended is closed, and one whose transaction has
-  -- not ended runs.
+  -- After the entry, a caller whose transaction has ended is closed, and a caller whose transaction
+  -- has not ended runs.
   closed_push : (c t : ℕ) → txn_in (g ++ e ∷ []) c ≡ Some t → ended t (g ++ e ∷ []) ≡ true → seat_after (own c (g ++ e ∷ [])) ≡ Some closed_seat
   closed_push c t is done = elim (in_or_out (txn_at g e) t) [
     | inl at ↦

@@ -27,8 +27,8 @@ pub filter_all : {X : Type 0} (p : X → Bool) (xs : List X) → AllByRecursion 
 filter_all p [] all = refl
 filter_all p (x ∷ xs) all = ap (λ b. cond b (x ∷ filter p xs) (filter p xs)) all.0 ∙ ap (λ ys. x ∷ ys) (filter_all p xs all.1)
 
--- If one more entry passes a test, its transaction is added to the transactions of the entries that
--- pass the test. Otherwise these are unchanged.
+-- If one more entry passes the test, `txns_of` gets the entry's transaction as its last element.
+-- Otherwise `txns_of` is unchanged.
 pub txns_of-push : (test : Entry → Bool) (g : List Entry) (e : Entry) → txns_of test (g ++ e ∷ []) ≡ txns_of test g ++ cons_option (cond (test e) (txn_at g e) None) []
 txns_of-push test g e =
     let f : Line → Option ℕ = λ l. cond (test l.entry) l.txn None in
@@ -64,7 +64,7 @@ module _ (g : List Entry) (e : Entry) (callers : Callers g) (shape : IsShaped g)
   commits-push : commits (g ++ e ∷ []) ≡ commits g ++ cons_option (cond (is_commit e) (txn_at g e) None) []
   commits-push = commits_are (g ++ e ∷ []) shape_after ∙ txns_of-push is_commit g e ∙ ap (λ ts. ts ++ cons_option (cond (is_commit e) (txn_at g e) None) []) (sym (commits_are g shape))
 
-  -- The fold over the earlier commits is unchanged.
+  -- One more entry does not change the map that the earlier commits leave.
   same_fold : fold (λ m t. map_after m (of t (g ++ e ∷ []))) empty (commits g) ≡ serial g
   same_fold = fold_filter (λ t. is_committed t g) (λ m t. map_after m (of t (g ++ e ∷ []))) (λ m t. map_after m (of t g))
       (λ m t is. ap (map_after m) (ended_stays g e callers shaped t (committed_ended t g is))) empty (txns_of is_commit g)
@@ -75,8 +75,8 @@ module _ (g : List Entry) (e : Entry) (callers : Callers g) (shape : IsShaped g)
       ap (fold (λ m t. map_after m (of t (g ++ e ∷ []))) empty) (commits-push ∙ ap (λ b. commits g ++ cons_option (cond b (txn_at g e) None) []) is ∙ append-nil (commits g))
       ∙ same_fold
 
-  -- After a commit the committed map is the last map of the transaction when it runs alone on the
-  -- committed map before the commit.
+  -- Let a transaction commit. The new committed map is the last map of this transaction if it runs
+  -- alone on the old committed map.
   pub serial-push_commit : (t : ℕ) → is_commit e ≡ true → txn_at g e ≡ Some t → serial (g ++ e ∷ []) ≡ map_after (serial g) (of t (g ++ e ∷ []))
   serial-push_commit t is at =
       let f : Map → ℕ → Map = λ m t. map_after m (of t (g ++ e ∷ [])) in
@@ -104,7 +104,7 @@ any-append_last : (p : ℕ → Bool) (xs : List ℕ) (y : ℕ) → p y ≡ true 
 any-append_last p [] y is = or_left (p y) false is
 any-append_last p (x ∷ xs) y is = or_right (p x) (list_any p (xs ++ y ∷ [])) (any-append_last p xs y is)
 
--- A caller's transaction is among those that began.
+-- The transaction that a caller is in is one of those with a Began entry.
 pub listed_push : (g : List Entry) (e : Entry) → IsListed g → IsListed (g ++ e ∷ [])
 listed_push g e listed c t is =
     subst (λ ts. list_any (λ u. u == t) ts ≡ true) (sym (txns_of-push is_began g e))

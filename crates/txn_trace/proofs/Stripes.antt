@@ -19,15 +19,15 @@ use Rattle.txn_trace.proofs.Callers.{Callers, callers_none, IsOwned, ended, is_o
 use Rattle.txn_trace.proofs.Shaped.{callers_push, not_ended_before}
 use Rattle.txn_trace.proofs.Local.{AsksFor, AllAskFor, RunsAlike, alone_alike}
 
--- The entries ask for a key of the stripe.
+-- Whether one of the entries asks for a key of the stripe.
 abbrev pub holds : ℕ → ℕ → List Entry → Bool
 holds stripes s es = list_any (asks_in stripes s) es
 
 abbrev pub keys_in : ℕ → List Entry → ℕ → Bool
 keys_in stripes es k = holds stripes (stripe_of stripes k) es
 
--- If caller c is a stripe's only holder, an open transaction that holds the stripe is the one that
--- c is in.
+-- If caller `c` is a stripe's only holder, and an open transaction holds the stripe, `c` is in this
+-- transaction.
 holder_is : (stripes s c u : ℕ) (g : List Entry) → ended u g ≡ false → (ls : List Line) → AllByRecursion (IsOwned g) ls
     → list_any (asks_in stripes s) (map (λ l. l.entry) (filter (is_of u) ls)) ≡ true
     → list_all (λ x. x == c) (map (λ l. caller_of l.entry) (filter (λ l. asks_in stripes s l.entry && is_in_open g l) ls)) ≡ true → txn_in g c ≡ Some u
@@ -147,7 +147,7 @@ runs_too keys m n (Some r) None alike is = absurd alike
 runs_too keys m n (Some r) (Some s) alike is = refl
 
 module _ (stripes : ℕ) (es : List Entry) (m n : Map) where
-  -- A key of a stripe that the entries do not hold is unchanged.
+  -- If the entries do not hold the stripe of a key, they leave the key's value unchanged.
   pub untouched : (k : ℕ) → keys_in stripes es k ≡ false → get (map_after m es) k ≡ get m k
   untouched k out = left_of (keys_in stripes es) m m (alone m es) (alone m es) (alone_alike (keys_in stripes es) m m es (asks_own stripes es) (λ q is. refl)) k out
 

@@ -10,8 +10,8 @@ use Rattle.txn_words.specs.Shape.{how_many}
 use Rattle.txn_trace.specs.Legal.{IsLegal, broken, first_bad, callers_in, running, Legal, Illegal, verdict}
 use Rattle.txn_trace.proofs.Judging.{legal_iff, legal_from, legal_none, none_bad}
 
--- Entry i is the first bad one. The entries before it are a legal history. After them entry i
--- breaks the rule with this number.
+-- Entry `i` is the first bad entry. The entries before it are a legal history. After this history,
+-- entry `i` breaks the rule with the number `rule`.
 pub record IsFirstBad (holder : Holder) (stripes : ℕ) (h : List Entry) (i rule : ℕ) : Type 0 where
   pub front : List Entry
   pub entry : Entry
@@ -69,7 +69,7 @@ first_bad-found {holder} stripes h i rule bad =
     let index : 0 + length bad.front ≡ i = (let n = bad.index in omega arith) in
     ap (λ w. first_bad holder stripes [] w 0) bad.is ∙ found_after stripes [] bad.front bad.entry bad.back 0 rule bad.legal bad.breaks ∙ ap (λ n. Some (n, rule)) index
 
--- The verdict on a legal history, and on any other.
+-- The verdict on a legal history, and on a history that is not legal.
 pub verdict-legal : {holder : Holder} (stripes : ℕ) (h : List Entry) → IsLegal holder stripes h → verdict holder stripes h ≡ Legal (how_many is_commit h) (length (running (callers_in h) h))
 verdict-legal stripes h legal = rw ((legal_iff stripes h).0 legal, verdict) refl
 

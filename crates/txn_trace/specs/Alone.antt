@@ -7,9 +7,9 @@ use Rattle.txn_words.specs.declared.entry.Entry.{Entry}
 use Rattle.txn_words.specs.declared.entry.Entry.TheVariants.{Asked, Did, Saved, Undone, Returned}
 use Rattle.txn_words.specs.Map.{Map, reply_of, after, is_change}
 
--- A run has its last map; its earlier maps, newest first; the operation that waits for its reply,
--- if there is one; and for each level the number of maps that the run had when the level was set,
--- which is 1 for level 0.
+-- A run has its last map, its earlier maps (newest first), and the operation that waits for its
+-- reply, if there is one. It also has a note for each level: the number of maps that the run had
+-- when the level was set. The note of level 0 is 1.
 pub record AloneRun : Type 0 where
   pub last : Map
   pub earlier : List Map
@@ -32,7 +32,8 @@ with_op run op =
     then record run { last = after run.last op; earlier = run.last ∷ run.earlier }
     else run
 
--- Did: an operation must be waiting, and the reply must be its reply on the last map.
+-- Did: an operation must be waiting, and the reply must be the one that the last map gives to this
+-- operation.
 abbrev pub act_did : AloneRun → Option Op → Option ℕ → Option AloneRun
 act_did run None r = None
 act_did run (Some op) r =
@@ -45,14 +46,15 @@ abbrev pub act_undone : AloneRun → List Map → Option AloneRun
 act_undone run [] = None
 act_undone run (m ∷ ms) = Some (record run { last = m; earlier = ms })
 
--- Returned: the number of maps must be the one noted at the level. Later notes are dropped.
+-- Returned: the run must have as many maps as the note of level `n` says. The notes of later levels
+-- are dropped.
 abbrev pub act_returned : AloneRun → ℕ → Option AloneRun
 act_returned run n =
     if option_eq nat_eq (slice_get run.notes n) (Some (number_of_maps run))
     then Some (record run { notes = take (n + 1) run.notes })
     else None
 
--- The run after an entry, or None if the entry is not allowed there.
+-- The run after an entry, or None if the run does not allow the entry.
 abbrev pub act : AloneRun → Entry → Option AloneRun
 act run (Asked c op) = Some (record run { pending = Some op })
 act run (Did c r) = act_did run run.pending r
@@ -61,15 +63,15 @@ act run (Saved c) = Some (record run { notes = run.notes ++ number_of_maps run �
 act run (Returned c n) = act_returned run n
 act run _ = Some run
 
--- The run of a list of entries from a map, or None if it is undefined.
+-- The run of a list of entries that starts with the map `m`, or None if an entry is not allowed.
 abbrev pub alone : Map → List Entry → Option AloneRun
 alone m es = fold (λ run e. option_and_then (λ r. act r e) run) (Some (start m)) es
 
--- The last map of a run, or the map that it began with if the run is undefined.
+-- The last map of a run, or the map `m` that it began with if the run is None.
 abbrev pub last_map : Map → Option AloneRun → Map
 last_map m None = m
 last_map m (Some run) = run.last
 
--- The map that a list of entries leaves.
+-- The map that a list of entries leaves if it runs alone from the map `m`.
 abbrev pub map_after : Map → List Entry → Map
 map_after m es = last_map m (alone m es)

@@ -1,5 +1,5 @@
--- A history is a list of entries. Each belongs to a transaction, if its caller has begun one, and
--- each transaction is committed, aborted or open.
+-- A history is a list of entries. An entry belongs to a transaction if its caller has begun one.
+-- Each transaction is committed, aborted or open.
 use Rattle.std.specs.Prelude.{ℕ, ◌==◌, Bool, false, not, ◌||◌, Option, Some, None, List, [], ◌∷◌, map, nat_eq, if◌then◌else◌}
 use Rattle.std.specs.Option.{option_eq}
 use Rattle.std.specs.List.{filter, filter_map, fold}
@@ -12,12 +12,13 @@ pub record Line : Type 0 where
   pub txn : Option ℕ
   pub entry : Entry
 
--- The transaction of each caller after an entry: that of the caller's last Began.
+-- The transaction of caller `x` after an entry. If the entry is a Began of `x`, it is the
+-- transaction that begins. Otherwise it is the one in `before`.
 abbrev pub txn_after : (ℕ → Option ℕ) → Entry → ℕ → Option ℕ
 txn_after before (Began c t) x = if c == x then Some t else before x
 txn_after before _ x = before x
 
--- Each entry with its transaction, if the callers were in these transactions before.
+-- Each entry with its transaction. `before` gives each caller's transaction before the first entry.
 abbrev pub lines_from : (ℕ → Option ℕ) → List Entry → List Line
 lines_from before [] = []
 lines_from before (e ∷ h) =
@@ -59,7 +60,7 @@ txns_of test h = filter_map (λ line. if test line.entry then line.txn else None
 abbrev pub commits : List Entry → List ℕ
 commits h = filter (λ t. is_committed t h) (txns_of is_commit h)
 
--- The open transactions, in the order of their Began entries: by rising number, if the history has
--- the right shape.
+-- The open transactions, in the order of their Began entries. If the history has the right shape,
+-- their numbers rise.
 abbrev pub open_txns : List Entry → List ℕ
 open_txns h = filter (λ t. is_open t h) (txns_of is_began h)

@@ -1,4 +1,4 @@
--- Legal histories, and the judge of any history.
+-- Legal histories, and the verdict on any history.
 use Rattle.std.specs.Prelude.{ℕ, ◌+◌, Bool, true, false, not, Option, Some, None, is_some, List, [], ◌∷◌, ◌++◌, length, max, if◌then◌else◌}
 use Rattle.std.specs.List.{filter, fold, list_all, range_with_len}
 use Rattle.txn_words.specs.declared.entry.Entry.{Entry}
@@ -13,8 +13,8 @@ use Rattle.txn_words.specs.declared.seat.Phase.{Phase}
 use Rattle.txn_words.specs.declared.seat.Phase.TheVariants.{Closed}
 use Rattle.txn_words.specs.Shape.{Seat, seat_after, own, how_many, is_shaped, IsShaped}
 
--- A history is legal if its replies hold, its locks hold by the rule `holder` for Busy entries, and
--- it has the right shape.
+-- A history is legal if its replies hold, its locks hold, and it has the right shape. The rule
+-- `holder` says which caller a Busy entry may name.
 pub record IsLegal (holder : Holder) (stripes : ℕ) (h : List Entry) : Type 0 where
   pub replies : RepliesHold h
   pub locks : LocksHold holder stripes h
@@ -25,16 +25,16 @@ pub record IsLegal (holder : Holder) (stripes : ℕ) (h : List Entry) : Type 0 w
 abbrev pub replies_hold : List Entry → Bool
 replies_hold g = list_all (λ t. is_some (alone (serial g) (of t g))) (open_txns g)
 
--- The number of the rule that an entry breaks after g, or None if it breaks none. Shape, rule 3, is
--- tested first, then replies, rule 1, and then locks, rule 2.
+-- The number of the rule that the entry `e` breaks if it follows the history `g`, or None if it
+-- breaks no rule. The rules are tested in this order: shape (3), replies (1), locks (2).
 abbrev pub broken : Holder → ℕ → List Entry → Entry → Option ℕ
 broken holder stripes g e =
     if not (is_shaped g e) then Some 3 else
     if not (replies_hold (g ++ e ∷ [])) then Some 1 else
     if not (is_locked holder stripes g e) then Some 2 else None
 
--- The first of the entries h that breaks a rule, and the rule. The entries follow g, and the first
--- of them is numbered i.
+-- The number of the first entry of `h` that breaks a rule, and the number of that rule. The entries
+-- of `h` follow the history `g`. The first entry of `h` has the number `i`.
 abbrev pub first_bad : Holder → ℕ → List Entry → List Entry → ℕ → Option (ℕ × ℕ)
 first_bad holder stripes g [] i = None
 first_bad holder stripes g (e ∷ h) i = elim (broken holder stripes g e) [
@@ -52,7 +52,7 @@ abbrev pub is_running : Option Seat → Bool
 is_running None = false
 is_running (Some s) = runs s.phase
 
--- One more than the greatest caller of a history, or 0 if it has no entries.
+-- One more than the greatest caller number in a history, or 0 if the history has no entries.
 abbrev pub callers_in : List Entry → ℕ
 callers_in h = fold (λ n e. max n (caller_of e + 1)) 0 h
 
@@ -60,8 +60,8 @@ callers_in h = fold (λ n e. max n (caller_of e + 1)) 0 h
 abbrev pub running : ℕ → List Entry → List ℕ
 running callers h = filter (λ c. is_running (seat_after (own c h))) (range_with_len 0 callers)
 
--- A verdict is Legal with the numbers of commits and of callers that are not closed, or Illegal
--- with the first bad entry and its rule.
+-- A verdict is Legal or Illegal. Legal has the number of commits and the number of callers that are
+-- not closed. Illegal has the number of the first bad entry and the rule that this entry breaks.
 pub data Verdict : Type 0 where
   Legal : ℕ → ℕ → Verdict
   Illegal : ℕ → ℕ → Verdict

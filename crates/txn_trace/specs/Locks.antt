@@ -1,5 +1,5 @@
 -- The rule of locks: a stripe of keys belongs to at most one open transaction at a time, and a Busy
--- names another caller, by one of two rules.
+-- names another caller. One of two rules says which callers a Busy may name.
 use Rattle.std.specs.Prelude.{ℕ, ◌%◌, ◌==◌, Bool, true, false, not, ◌&&◌, Option, Some, None, slice_get, IsTrue, List, [], ◌∷◌, ◌++◌, map}
 use Rattle.std.specs.List.{filter, list_any, list_all}
 use mathlib.Core.List.{IsPrefix}
@@ -15,7 +15,7 @@ use Rattle.txn_words.specs.Kinds.{caller_of, is_began}
 abbrev pub stripe_of : ℕ → ℕ → ℕ
 stripe_of stripes k = k % stripes
 
--- Whether an entry is an Asked of a key of the stripe.
+-- Whether an entry is an Asked for a key of the stripe.
 abbrev pub asks_in : ℕ → ℕ → Entry → Bool
 asks_in stripes s (Asked c op) = stripe_of stripes (key_of op) == s
 asks_in stripes s _ = false
@@ -38,14 +38,15 @@ holder_of stripes s h = slice_get (holders stripes s h) 0
 abbrev pub has_begun : ℕ → List Entry → Bool
 has_begun c g = list_any (λ e. is_began e && caller_of e == c) g
 
--- Whether a Busy on a key of the stripe may name x after g. By the rule `Now`, x must hold the
--- stripe. By the rule `Begun`, x must have begun a transaction.
+-- Whether a Busy for a key of the stripe `s` may name the caller `x` after the history `g`. By the
+-- rule `Now`, `x` must hold the stripe. By the rule `Begun`, `x` must have begun a transaction.
 abbrev pub may_name : Holder → ℕ → ℕ → List Entry → ℕ → Bool
 may_name Now stripes s g x = list_any (λ y. y == x) (holders stripes s g)
 may_name Begun stripes s g x = has_begun x g
 
--- Whether the rule of locks allows an entry after g. It allows an Asked if no other caller holds
--- the stripe, a Busy if it names another caller that it may name, and every entry of another kind.
+-- Whether the rule of locks allows an entry after the history `g`. An Asked is allowed if no other
+-- caller holds the stripe of its key. A Busy is allowed if it names another caller, and `may_name`
+-- is true of this caller. An entry of another kind is always allowed.
 abbrev pub is_locked : Holder → ℕ → List Entry → Entry → Bool
 is_locked holder stripes g (Asked c op) =
     list_all (λ x. x == c) (holders stripes (stripe_of stripes (key_of op)) g)
@@ -53,7 +54,7 @@ is_locked holder stripes g (Busy c op x) =
     not (x == c) && may_name holder stripes (stripe_of stripes (key_of op)) g x
 is_locked holder stripes g _ = true
 
--- The rule of locks allows each entry after the prefix before it.
+-- The rule of locks allows each entry of the history after the earlier entries.
 abbrev pub LocksHold : Holder → ℕ → List Entry → Type 0
 LocksHold holder stripes h =
     (g : List Entry) (e : Entry) → IsPrefix (g ++ e ∷ []) h → IsTrue (is_locked holder stripes g e)

@@ -1,4 +1,5 @@
--- The log of a caller: its standing changes, which an abort takes back.
+-- The log of a caller: the changes of its transaction that are not taken back. An abort takes them
+-- back.
 use Rattle.std.specs.Prelude.{ℕ, Option, Some, None, List, [], ◌∷◌, drop, if◌then◌else◌}
 use Rattle.std.specs.List.{fold}
 use Rattle.txn_words.specs.declared.op.Op.{Op}
@@ -7,8 +8,8 @@ use Rattle.txn_words.specs.declared.entry.Entry.TheVariants.{Began, Asked, Did, 
 use Rattle.txn_words.specs.Map.{key_of}
 use Rattle.txn_words.specs.Shape.{changes, own}
 
--- A log has the operation that waits for its reply, and the changes that stand, newest first. Each
--- change has its key and the value before it.
+-- A log has the operation that waits for its reply, and the standing changes: those that are not
+-- taken back, newest first. Each change is given by its key and the value before the change.
 pub record Log : Type 0 where
   pub pending : Option Op
   pub standing : List (ℕ × Option ℕ)
@@ -17,7 +18,8 @@ pub record Log : Type 0 where
 abbrev pub no_log : Log
 no_log = record { pending = None; standing = [] }
 
--- The log after a Did. A change is noted with its key and its reply.
+-- The log after a Did. If the operation made a change, the log gets its key and its reply, which is
+-- the value before the change.
 abbrev pub log_did : Log → Option Op → Option ℕ → Log
 log_did log None r = log
 log_did log (Some op) r = record {
@@ -40,6 +42,7 @@ log_step log _ = log
 abbrev pub log_after : List Entry → Log
 log_after es = fold log_step no_log es
 
--- The standing changes of a caller, newest first: of each the key and the value before it.
+-- The standing changes of a caller, newest first. Each is given by its key and the value before the
+-- change.
 abbrev pub log_of : ℕ → List Entry → List (ℕ × Option ℕ)
 log_of c h = (log_after (own c h)).standing

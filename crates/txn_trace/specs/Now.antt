@@ -1,4 +1,5 @@
--- The map with the surviving changes of the open transactions.
+-- The map `now`: the committed map with the changes of the open transactions that are not taken
+-- back.
 use Rattle.std.specs.Prelude.{ℕ, Option, List, [], ◌∷◌, map, nat_eq, if◌then◌else◌}
 use Rattle.std.specs.Option.{option_eq}
 use Rattle.std.specs.List.{fold, flat_map}
@@ -8,20 +9,20 @@ use Rattle.txn_trace.specs.History.{of, open_txns}
 use Rattle.txn_trace.specs.Alone.{map_after}
 use Rattle.txn_trace.specs.Serial.{serial}
 
--- The last map of each open transaction when it runs alone on the map of the committed
--- transactions.
+-- For each open transaction, its last map if it runs alone on the map that the committed
+-- transactions leave.
 abbrev pub open_maps : List Entry → List Map
 open_maps h = map (λ t. map_after (serial h) (of t h)) (open_txns h)
 
--- The value at a key in the first of the maps that differs there from the base. If no map differs,
--- it is the value in the base.
+-- The value at the key `k` in the first map that differs from the base at `k`. If no map differs
+-- there, the value in the base.
 abbrev pub first_differing : Map → List Map → ℕ → Option ℕ
 first_differing base [] k = get base k
 first_differing base (m ∷ ms) k =
     if option_eq nat_eq (get m k) (get base k) then first_differing base ms k else get m k
 
--- The value now at a key. It is the value from the open transaction that changed the key, or the
--- committed value if no open transaction did.
+-- The value of the map `now` at a key. It is the value from the open transaction that changed the
+-- key, or the committed value if no open transaction changed it.
 abbrev pub now_at : List Entry → ℕ → Option ℕ
 now_at h k = first_differing (serial h) (open_maps h) k
 
@@ -29,6 +30,6 @@ now_at h k = first_differing (serial h) (open_maps h) k
 abbrev pub tabulated : List ℕ → (ℕ → Option ℕ) → Map
 tabulated ks f = fold (λ m k. set_at m k (f k)) empty ks
 
--- The map now: it has at each key the value of now_at.
+-- The map that has the value of `now_at` at each key.
 abbrev pub now : List Entry → Map
 now h = tabulated (flat_map keys (serial h ∷ open_maps h)) (now_at h)

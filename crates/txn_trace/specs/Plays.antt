@@ -9,18 +9,18 @@ use Rattle.txn_words.specs.declared.entry.Entry.TheVariants.{Began, Asked, Did, 
 use Rattle.txn_trace.specs.History.{of, txns_of}
 use Rattle.txn_words.specs.Kinds.{caller_of, is_began, is_commit}
 
--- Whether an entry tells that a change was taken back.
+-- Whether an entry is an Undone, which records that a change was taken back.
 abbrev pub is_undone : Entry → Bool
 is_undone (Undone c) = true
 is_undone _ = false
 
--- The entries without those that tell that a change was taken back.
+-- The entries without the Undone entries.
 abbrev pub without_undone : List Entry → List Entry
 without_undone es = filter (λ e. not (is_undone e)) es
 
--- The entries are those of the actions, in order, and then Committed: an operation is asked for and
--- done; a savepoint is set; a caller leaves for a level and returns to it; help has no entries. An
--- abort is never played.
+-- The entries are those of the actions, in order, followed by a Committed. An operation has an
+-- Asked and a Did, a savepoint has a Saved, and a return to a level has a Leave and a Returned.
+-- Help has no entries. A script with an abort is never played.
 abbrev pub ArePlayed : List Action → List Entry → Type 0
 ArePlayed [] (Committed c p ∷ []) = Unit {0}
 ArePlayed (actions.Op op ∷ script) (Asked c asked ∷ Did d reply ∷ es) =
@@ -37,7 +37,7 @@ IsPlayed script (Began c t ∷ es) = ArePlayed script es
 IsPlayed script _ = ⊥
 
 -- A transaction plays a script if its entries are a Began, those of each action in order, and a
--- Committed. Entries that take changes back do not count.
+-- Committed. Undone entries are ignored.
 abbrev pub Plays : ℕ → List Action → List Entry → Type 0
 Plays t script h = IsPlayed script (without_undone (of t h))
 
@@ -49,15 +49,15 @@ is_commit_of c e = is_commit e && (caller_of e == c)
 abbrev pub commits_of : ℕ → List Entry → List ℕ
 commits_of c h = txns_of (is_commit_of c) h
 
--- Caller `c` has the scripts whose number is `c` modulo `callers`. This script, number `n`, is one
--- of them.
+-- The script has the number `n` and belongs to caller `c`. A script belongs to the caller whose
+-- number is the script's number modulo `callers`.
 pub record IsScriptOf (callers : ℕ) (scripts : List (List Action)) (c n : ℕ)
     (script : List Action) : Type 0 where
   pub mine : n % callers ≡ c
   pub there : slice_get scripts n ≡ Some script
 
--- Each of these transactions plays one of the caller's scripts. The scripts' numbers rise. Each is
--- at least `low` and below `high`.
+-- Each of these transactions plays one of the caller's scripts. The numbers of these scripts rise.
+-- Each number is at least `low` and below `high`.
 abbrev pub PlayRising : ℕ → List (List Action) → ℕ → List Entry → ℕ → ℕ → List ℕ → Type 0
 PlayRising callers scripts c h low high [] = Unit {0}
 PlayRising callers scripts c h low high (t ∷ ts) =
@@ -65,7 +65,8 @@ PlayRising callers scripts c h low high (t ∷ ts) =
     × IsScriptOf callers scripts c n script × Plays t script h
     × PlayRising callers scripts c h (suc n) high ts
 
--- Each caller's committed transactions play that caller's scripts, with rising numbers.
+-- Each caller's committed transactions, in commit order, play scripts of this caller with rising
+-- numbers.
 abbrev pub PlayScripts : ℕ → List (List Action) → List Entry → Type 0
 PlayScripts callers scripts h =
     (c : ℕ) → c < callers → PlayRising callers scripts c h 0 (length scripts) (commits_of c h)

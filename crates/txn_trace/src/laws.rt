@@ -1,6 +1,7 @@
-//! The laws of histories: functions that do nothing, whose contracts are the laws. So a crate above
-//! can cite a law without naming a lemma of `proofs/`. The only law here is that aborted
-//! transactions leave nothing behind. It holds for both rules of holders and any number of stripes.
+//! The laws of histories. Each law is the contract of a function that does nothing, so a crate that
+//! uses this one can cite the law without naming a lemma of `proofs/`. The only law here is that
+//! aborted transactions leave nothing behind. It holds for both rules of `Holder` and for any
+//! number of stripes.
 
 ghost use Rattle.std.specs.Prelude.{◌≡◌, ℕ, List};
 ghost use Rattle.txn_trace.specs.Erase.{erase};
@@ -11,10 +12,10 @@ ghost use Rattle.txn_trace.specs.Serial.{serial};
 ghost use Rattle.txn_words.specs.declared.entry.Entry.{Entry};
 ghost use Rattle.txn_words.specs.declared.holder.Holder.{Holder};
 
-/// Leaving the entries of aborted transactions out of a legal history changes neither its map
-/// (`now`) nor its committed map (`serial`). The replies in the entries that are left still hold.
+/// If the entries of aborted transactions are removed from a legal history, its map (`now`) and its
+/// committed map (`serial`) stay the same. The replies in the remaining entries still hold.
 ///
-/// The contract is the law; the function does nothing.
+/// The function does nothing. Its contract states this law.
 pub fn erased()
     ensures now { (holder : Holder) (stripes : ℕ) (h : List Entry) → IsLegal holder stripes h
         → now (erase h) ≡ now h }

@@ -34,7 +34,8 @@ get-after_other m (PutIf k expected v) q other =
       | false ↦ refl
     ]
 
--- If two maps agree at a key and at the operation's key, they agree at the key after the operation.
+-- If two maps agree at the key `q` and at the operation's key, they agree at `q` after the
+-- operation.
 pub get-after_same : (m n : Map) (op : Op) (q : ℕ) → get m q ≡ get n q → get m (key_of op) ≡ get n (key_of op) → get (after m op) q ≡ get (after n op) q
 get-after_same m n (Put k v) q same at = get-insert m k v q ∙ ap (cond (q == k) (Some v)) same ∙ sym (get-insert n k v q)
 get-after_same m n (Take k) q same at = get-remove m k q ∙ ap (cond (q == k) None) same ∙ sym (get-remove n k q)

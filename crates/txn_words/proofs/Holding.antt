@@ -8,15 +8,15 @@ use native.Mathlib.Decide.{ℕ_discrete}
 use lib.ListN.{get_elem?}
 use Rattle.txn_words.specs.Held.{times, removed, once_for}
 
--- A seat's own word counts once for the seat.
+-- If the word names the seat, `once_for` is 1.
 pub once_yes : (n word : ℕ) → word ≡ n + 1 → once_for n word ≡ 1
 once_yes n word e = ap (λ b. cond b 1 0) (eq-eqb word (n + 1) e)
 
--- Any other word does not count for the seat.
+-- If the word does not name the seat, `once_for` is 0.
 pub once_no : (n word : ℕ) → word ≢ n + 1 → once_for n word ≡ 0
 once_no n word ne = ap (λ b. cond b 1 0) (ne_eqb word (n + 1) ne)
 
--- If a seat holds a stripe, the stripe's word is the seat's.
+-- If a seat holds a stripe, the stripe's word names the seat.
 pub own_word : (n word many : ℕ) → many ≡ once_for n word → 0 < many → word ≡ n + 1
 own_word n word many e h = dite (ℕ_discrete word (n + 1)) (λ y. y) (λ ne. absurd (omega (arith, once_no n word ne)))
 
@@ -24,7 +24,7 @@ own_word n word many e h = dite (ℕ_discrete word (n + 1)) (λ y. y) (λ ne. ab
 pub times_same : (k : ℕ) (ks : List ℕ) → times k (k ∷ ks) ≡ 1 + times k ks
 times_same k ks = ap (λ b. cond b 1 0 + times k ks) (eq-eqb k k refl)
 
--- If another stripe is put in front of a list, a stripe occurs as often as before.
+-- If a stripe is put in front of a list, every other stripe occurs as often as before.
 pub times_other : (k j : ℕ) (ks : List ℕ) → j ≢ k → times k (j ∷ ks) ≡ times k ks
 times_other k j ks ne = ap (λ b. cond b 1 0 + times k ks) (ne_eqb j k ne) ∙ (omega arith)
 
@@ -49,22 +49,23 @@ at_times [] k h = absurd (omega arith)
 at_times (x ∷ ks) k h = dite (ℕ_discrete x k) (λ (e : x ≡ k). (0, ap (λ (y : ℕ). Some y) e))
     (λ ne. let more : 0 < times k ks = omega (arith, h, times_other k x ks ne) in let deep = at_times ks k more in (suc deep.0, deep.1))
 
--- If the stripe to remove is the first of the list, the rest of the list is left.
+-- If the first stripe of a list is removed, the result is the rest of the list.
 pub removed_same : (k : ℕ) (ks : List ℕ) → removed k (k ∷ ks) ≡ ks
 removed_same k ks = ap (λ b. cond b ks (k ∷ removed k ks)) (eq-eqb k k refl)
 
--- If the stripe to remove is not the first of the list, the first stays.
+-- If the stripe to remove is not the first of the list, it is removed from the rest of the list.
 pub removed_other : (k x : ℕ) (ks : List ℕ) → x ≢ k → removed k (x ∷ ks) ≡ x ∷ removed k ks
 removed_other k x ks ne = ap (λ b. cond b ks (x ∷ removed k ks)) (ne_eqb x k ne)
 
--- Removing a stripe lowers the number of its occurrences by one, unless there are none.
+-- If a stripe occurs in a list, its removal lowers the number of its occurrences by one. Otherwise
+-- the number stays 0.
 pub times_removed_same : (k : ℕ) (ks : List ℕ) → times k (removed k ks) ≡ times k ks - 1
 times_removed_same k [] = refl
 times_removed_same k (x ∷ ks) = dite (ℕ_discrete x k)
     (λ (e : x ≡ k). subst (λ (y : ℕ). times k (removed k (y ∷ ks)) ≡ times k (y ∷ ks) - 1) (sym e) (let a : times k (removed k (k ∷ ks)) ≡ times k ks = ap (times k) (removed_same k ks) in omega (arith, times_same k ks)))
     (λ ne. ap (times k) (removed_other k x ks ne) ∙ times_other k x (removed k ks) ne ∙ times_removed_same k ks ∙ ap (λ (n : ℕ). n - 1) (sym (times_other k x ks ne)))
 
--- Every other stripe occurs as often as before the removal.
+-- If a stripe is removed from a list, every other stripe occurs as often as before.
 pub times_removed_other : (k j : ℕ) (ks : List ℕ) → j ≢ k → times j (removed k ks) ≡ times j ks
 times_removed_other k j [] ne = refl
 times_removed_other k j (x ∷ ks) ne = dite (ℕ_discrete x k)
@@ -86,14 +87,16 @@ module _ (f g : ℕ → ℕ) (i : ℕ) (other : (k : ℕ) → k ≢ i → g k �
       (λ (y : k ≡ i). subst (λ (j : ℕ). once_for a (g j) ≡ once_for a (f j)) (sym y) (once_no a (g i) is ∙ sym (once_no a (f i) was)))
       (λ no. ap (once_for a) (other k no))
 
-  -- A seat that takes stripe i holds exactly the stripes whose words are its own.
+  -- If seat `n` held exactly the stripes whose words name it, the same is true after it takes
+  -- stripe `i`.
   pub times_taken : (n : ℕ) (ks : List ℕ) → f i ≡ 0 → g i ≡ n + 1 → (k : ℕ) → times k ks ≡ once_for n (f k) → times k (i ∷ ks) ≡ once_for n (g k)
   times_taken n ks free mine k old = dite (ℕ_discrete k i)
       (λ (y : k ≡ i). subst (λ (j : ℕ). times j ks ≡ once_for n (f j) → times j (i ∷ ks) ≡ once_for n (g j)) (sym y)
       (λ at. omega (arith, at, times_same i ks, once_no n (f i) (λ q. omega arith), once_yes n (g i) mine)) old)
       (λ ne. times_other k i ks (λ y. ne (sym y)) ∙ old ∙ ap (once_for n) (sym (other k ne)))
 
-  -- A seat that gives stripe i back holds exactly the stripes whose words are its own.
+  -- If seat `n` held exactly the stripes whose words name it, the same is true after it gives
+  -- stripe `i` back.
   pub times_given : (n : ℕ) (ks : List ℕ) → f i ≡ n + 1 → g i ≡ 0 → (k : ℕ) → times k ks ≡ once_for n (f k) → times k (removed i ks) ≡ once_for n (g k)
   times_given n ks mine free k old = dite (ℕ_discrete k i)
       (λ (y : k ≡ i). subst (λ (j : ℕ). times j ks ≡ once_for n (f j) → times j (removed i ks) ≡ once_for n (g j)) (sym y)
@@ -120,6 +123,6 @@ module _ {A : Type 0} where
   at_end (x ∷ xs) a b zero e = inl e
   at_end (x ∷ xs) a b (suc i) e = ⊎_elim (λ (t : get_elem? xs i ≡ some b). inl t) (λ (t : (i ≡ length xs) × (a ≡ b)). inr (omega arith, t.1)) (at_end xs a b i e)
 
-  -- A list of one element has only this element, at position 0.
+  -- An element that is read from a list of one element is that element, and its position is 0.
   pub only : (a b : A) (i : ℕ) → get_elem? (a ∷ []) i ≡ some b → (i ≡ 0) × (a ≡ b)
   only a b i e = ⊎_elim (λ z. absurd (some-ne-none b (sym z))) (λ t. t) (at_end [] a b i e)

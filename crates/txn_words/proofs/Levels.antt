@@ -1,5 +1,5 @@
--- The levels of a seat: no level keeps fewer changes than the levels before it, and no level that a
--- caller may go back to keeps more changes than stand.
+-- The levels of a seat. Each level keeps at least as many changes as the levels before it, and each
+-- level that a caller may go back to keeps at most as many changes as stand.
 use Rattle.std.proofs.Common.{◌≡◌, ℕ, ◌+◌, ◌-◌, ◌<◌, ◌≤◌, ◌==◌, ◌&&◌, Bool, true, false, cond, List, [], ◌∷◌, ◌++◌, length, take, get_or, slice_index, refl, sym, subst, Some, None, Option, arith}
 use Rattle.std.specs.Prelude.{nat_lt}
 use Rattle.std.specs.Option.{option_and_then}
@@ -21,7 +21,7 @@ IsRisingList kept = (i j : ℕ) → i ≤ j → j < length kept → get_or kept 
 abbrev pub AreWithin : ℕ → List ℕ → Type 0
 AreWithin standing kept = (i : ℕ) → i < length kept → get_or kept i 0 ≤ standing
 
--- What holds of the standing changes and the levels in a phase.
+-- The condition on the standing changes and on the levels in each phase.
 abbrev pub IsLevelIn : Phase → ℕ → List ℕ → Type 0
 IsLevelIn Closed standing kept = (standing ≡ 0) × (kept ≡ 0 ∷ [])
 IsLevelIn Opened standing kept = AreWithin standing kept
@@ -149,6 +149,6 @@ fold_leveled [] o is = is
 fold_leveled (e ∷ es) None is = fold_leveled es None tt
 fold_leveled (e ∷ es) (Some s) is = fold_leveled es (row s s.phase e) (row_leveled s s.phase e refl is.rising is.within)
 
--- After any entries the seat is `Leveled`.
+-- Every seat that results from a list of entries is `Leveled`.
 pub seat_leveled : (es : List Entry) (s : Seat) → seat_after es ≡ Some s → Leveled s
 seat_leveled es s is = subst LeveledAfter is (fold_leveled es (Some closed_seat) closed_leveled)

@@ -1,5 +1,5 @@
--- Maps by their values: maps that agree at each key are equal, and the values after insert and
--- remove.
+-- Lemmas about the values of maps: maps with the same value at each key are equal, and `insert` and
+-- `remove` change the value at one key only.
 use Rattle.std.specs.Prelude.{ℕ, ◌≡◌, ◌==◌, Bool, true, false, cond, not, Option, Some, None, is_some, T, List}
 use Rattle.std.specs.FinMap.Entries.{is_sorted, find-put, find-where_key, same_entries}
 use Rattle.std.specs.FinMap.{nat_cmp-IsAntisymmetric}
@@ -22,7 +22,7 @@ pub none_is : (o : Option ℕ) → is_some o ≡ false → o ≡ None
 none_is None h = refl
 none_is (Some v) h = absurd (false≢true (sym h))
 
--- An inserted key has its value, and every other key is unchanged.
+-- After an insert, the inserted key has the inserted value, and every other key is unchanged.
 pub get-insert : (m : Map) (k v q : ℕ) → get (insert m k v) q ≡ cond (q == k) (Some v) (get m q)
 get-insert m k v q = find-put nat_cmp nat_cmp_total q k v m.rows ∙ ap (λ b. cond b (Some v) (get m q)) (unsigned_tied q k)
 
@@ -30,7 +30,7 @@ cond_not : {A : Type 0} (b : Bool) (x y : A) → cond (not b) x y ≡ cond b y x
 cond_not true x y = refl
 cond_not false x y = refl
 
--- A removed key has no value, and every other key is unchanged.
+-- After a remove, the removed key has no value, and every other key is unchanged.
 pub get-remove : (m : Map) (k q : ℕ) → get (remove m k) q ≡ cond (q == k) None (get m q)
 get-remove m k q =
     find-where_key nat_cmp (λ x. not (eq_by_cmp nat_cmp k x)) q (λ x t. ap (λ r. not (is_eq r)) (sym (alike_right nat_cmp_total q x k t))) m.rows
@@ -43,7 +43,8 @@ get-insert-here m k v = get-insert m k v k ∙ ap (λ b. cond b (Some v) (get m 
 pub get-remove-here : (m : Map) (k : ℕ) → get (remove m k) k ≡ None
 get-remove-here m k = get-remove m k k ∙ ap (λ b. cond b None (get m k)) (eq-eqb k k refl)
 
--- After `set_at` the key has the value that was set, or none, and every other key is unchanged.
+-- After `set_at`, the key has the value that was set, or no value if none was set. Every other key
+-- is unchanged.
 pub get-set_at : (m : Map) (j : ℕ) (o : Option ℕ) (k : ℕ) → get (set_at m j o) k ≡ cond (k == j) o (get m k)
 get-set_at m j None k = get-remove m j k
 get-set_at m j (Some v) k = get-insert m j v k

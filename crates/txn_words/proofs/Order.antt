@@ -1,5 +1,5 @@
--- The pairs of a map in the order of the table: exactly one list of them rises strictly by sort
--- keys.
+-- The pairs of a map in the order of the table. Exactly one list of these pairs rises strictly by
+-- sort keys.
 use Rattle.std.proofs.Common.{[], ◌≡◌, ◌≢◌, ℕ, ◌+◌, ◌<◌, ◌==◌, ◌&&◌, Bool, true, false, cond, T, List, ◌∷◌, length, refl, ap, sym, subst, ◌∙◌, Some, None, Option, is_some, arith}
 use Rattle.std.specs.List.{fold, AllByRecursion}
 use Rattle.std.specs.FinMap.{IsAntisymmetric, nat_cmp-IsAntisymmetric}
@@ -17,7 +17,8 @@ use Rattle.split_key.proofs.SortLemmas.{lower_from, before_by_split, before_by_k
 use Rattle.txn_words.specs.Map.{Map, get, count_of}
 use Rattle.txn_words.specs.Ordered.{split_cmp, ordered}
 
--- The order of keys is total, and only equal keys compare as equal.
+-- The order of keys by their split keys is total. So is `split_cmp`, by which only equal keys
+-- compare as equal.
 by_split_total : IsTotalOrder (λ a b. nat_cmp (split a) (split b))
 by_split_total = record {
   antisymm = λ a b. nat_cmp_total.antisymm (split a) (split b);
@@ -55,7 +56,7 @@ split_cmp_less a b before = elim (lower_from (regular_at a) (regular_at b) befor
       ∙ sym (nat_cmp_is a b Less both.1)
 ]
 
--- The value at a key in a list of pairs.
+-- The value that a list of pairs has at a key.
 abbrev pub value_at : ℕ → List (ℕ × ℕ) → Option ℕ
 value_at k es = find split_cmp k es
 
@@ -118,11 +119,12 @@ pub or_else_none : (o : Option ℕ) → or_else o None ≡ o
 or_else_none None = refl
 or_else_none (Some v) = refl
 
--- The ordered pairs have at each key the map's value.
+-- At each key, the ordered pairs have the same value as the map.
 pub value_at-ordered : (m : Map) (k : ℕ) → value_at k (ordered m) ≡ get m k
 value_at-ordered m k = value_at-puts k m.rows [] m.rising ∙ or_else_none (get m k)
 
--- A list that rises, and has at each key the map's value, is the list of the map's ordered pairs.
+-- If a list rises by `split_cmp` and has the map's value at each key, it is the list of the map's
+-- ordered pairs.
 pub ordered_is : (m : Map) (es : List (ℕ × ℕ)) → IsSortedBySplit es → ((k : ℕ) → value_at k es ≡ get m k) → es ≡ ordered m
 ordered_is m es sorted same = same_entries split_cmp split_cmp_total split_cmp-IsAntisymmetric es (ordered m) sorted (sorted-ordered m) (λ k. same k ∙ sym (value_at-ordered m k))
 
@@ -163,7 +165,7 @@ pub sorted-rises : (es : List (ℕ × ℕ)) → Rises es → IsSortedBySplit es
 sorted-rises [] rises = tt
 sorted-rises (pair ∷ rest) rises = pair_both _ _ (below_sorted pair rest rises.0) (sorted-rises rest rises.1)
 
--- A list that rises strictly by sort keys, and has at each key the map's value, is the list of the
+-- If a list rises strictly by sort keys and has the map's value at each key, it is the list of the
 -- map's ordered pairs.
 pub ordered_rising : (m : Map) (es : List (ℕ × ℕ)) → Rises es → ((k : ℕ) → value_at k es ≡ get m k) → es ≡ ordered m
 ordered_rising m es rises same = ordered_is m es (sorted-rises es rises) same
@@ -230,7 +232,7 @@ value_at-among k v (other ∷ rest) sorted among =
           ∙ value_at-among k v rest parts.1 later
     ]
 
--- A list that rises strictly by sort keys, and has exactly the map's pairs, is the list of the
+-- If a list rises strictly by sort keys and has exactly the map's pairs, it is the list of the
 -- map's ordered pairs.
 pub ordered_of_pairs : (m : Map) (es : List (ℕ × ℕ)) → Rises es → ((k v : ℕ) → IsAmong (k, v) es → get m k ≡ Some v) → ((k v : ℕ) → get m k ≡ Some v → IsAmong (k, v) es) → es ≡ ordered m
 ordered_of_pairs m es rises within all = ordered_rising m es rises (λ k. from k (value_at k es) refl)

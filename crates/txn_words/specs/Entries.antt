@@ -1,4 +1,4 @@
--- The entries of a step with its answer.
+-- The entries that steps add to the history.
 use Rattle.std.specs.Prelude.{List, [], ◌∷◌, Some, None}
 use Rattle.txn_words.specs.declared.step.Step.{Step}
 use Rattle.txn_words.specs.declared.step.Step.TheVariants.{Begin, Ask, Act, Save, Back, Commit, Abort}
@@ -7,7 +7,7 @@ use Rattle.txn_words.specs.declared.answer.Answer.TheVariants as answers
 use Rattle.txn_words.specs.declared.entry.Entry.{Entry}
 use Rattle.txn_words.specs.declared.entry.Entry.TheVariants as entries
 
--- The entries that a step with its answer adds to the history.
+-- The entries, at most one, that a step with this answer adds to the history.
 abbrev pub entries_of : Step → Answer → List Entry
 entries_of (Begin c) (answers.Began t) = entries.Began c t ∷ []
 entries_of (Ask c op) answers.Asked = entries.Asked c op ∷ []

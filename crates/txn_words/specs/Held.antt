@@ -1,5 +1,5 @@
--- The stripes that a seat holds, as a list, and the words that name the holders of stripes. Here
--- a seat is one of the toolchain's `atomic_table`, not a caller's `Seat`.
+-- The list of the stripes that a seat holds, and the words that name the holders of stripes. In
+-- this file, a seat is a seat of the toolchain's `atomic_table`, not a caller's `Seat`.
 use Rattle.std.specs.Prelude.{ℕ, ◌+◌, ◌==◌, cond, List, [], ◌∷◌}
 
 -- How often a stripe occurs in a list.
@@ -12,6 +12,6 @@ abbrev pub removed : ℕ → List ℕ → List ℕ
 removed stripe [] = []
 removed stripe (first ∷ others) = cond (first == stripe) others (first ∷ removed stripe others)
 
--- 1 if the word names the seat of this number, else 0.
+-- 1 if the word names the seat with this number, else 0.
 abbrev pub once_for : ℕ → ℕ → ℕ
 once_for number word = cond (word == number + 1) 1 0

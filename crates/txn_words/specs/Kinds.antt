@@ -1,4 +1,4 @@
--- The caller of an entry, and its kind.
+-- The caller and the kind of an entry.
 use Rattle.std.specs.Prelude.{ℕ, Bool, true, false}
 use Rattle.txn_words.specs.declared.entry.Entry.{Entry}
 use Rattle.txn_words.specs.declared.entry.Entry.TheVariants.{Began, Asked, Did, Saved, Leave, Undone, Returned, Committed, Busy, Aborted}

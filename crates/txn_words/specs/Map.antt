@@ -7,8 +7,8 @@ use Rattle.std.specs.Cmp.{nat_cmp_total}
 use Rattle.txn_words.specs.declared.op.Op.{Op}
 use Rattle.txn_words.specs.declared.op.Op.TheVariants.{Put, Take, Get, PutIf}
 
--- A map is the list of its pairs of key and value, by rising keys. It is std's finite map, written
--- in a form that computes.
+-- A map: the list of its pairs of key and value, in rising order of keys. It is std's finite map,
+-- written in a form that computes.
 pub record Map : Type 0 where
   pub rows : List (ℕ × ℕ)
   pub rising : T (is_sorted nat_cmp rows)
@@ -21,26 +21,26 @@ empty = record { rows = []; rising = tt }
 abbrev pub get : Map → ℕ → Option ℕ
 get m k = find nat_cmp k m.rows
 
--- The map with this value at a key.
+-- The map after this value is put at the key.
 abbrev pub insert : Map → ℕ → ℕ → Map
 insert m k v = record {
   rows = put nat_cmp k v m.rows;
   rising = is_sorted-put nat_cmp nat_cmp_total k v m.rows m.rising;
 }
 
--- The map without a key.
+-- The map after the key is removed.
 abbrev pub remove : Map → ℕ → Map
 remove m k = record {
   rows = where_key nat_cmp (λ x. not (eq_by_cmp nat_cmp k x)) m.rows;
   rising = is_sorted-where_key nat_cmp _ m.rows m.rising;
 }
 
--- The map with this value at a key, or without the key.
+-- The map after the key is set to this value or, if there is no value, removed.
 abbrev pub set_at : Map → ℕ → Option ℕ → Map
 set_at m k None = remove m k
 set_at m k (Some v) = insert m k v
 
--- The keys, rising.
+-- The keys of a map, in rising order.
 abbrev pub keys : Map → List ℕ
 keys m = map (λ pair. pair.0) m.rows
 
@@ -55,20 +55,20 @@ key_of (Take k) = k
 key_of (Get k) = k
 key_of (PutIf k expected v) = k
 
--- The reply of an operation: the value at its key, if the key is there.
+-- The reply to an operation: the value at its key, if the key is there.
 abbrev pub reply_of : Map → Op → Option ℕ
 reply_of m op = get m (key_of op)
 
 -- The map after an operation. A PutIf puts its value exactly if the key's value is the expected
--- one; None expects that the key is not there.
+-- one. If None is expected, the key must be absent.
 abbrev pub after : Map → Op → Map
 after m (Put k v) = insert m k v
 after m (Take k) = remove m k
 after m (Get k) = m
 after m (PutIf k expected v) = if option_eq nat_eq (get m k) expected then insert m k v else m
 
--- Whether an operation is a change: a Put, a Take of a key that is there, or a PutIf whose key has
--- the expected value. None expects that the key is not there.
+-- True if an operation is a change: a Put, a Take of a key that is there, or a PutIf whose key has
+-- the expected value. If None is expected, the key must be absent.
 abbrev pub is_change : Map → Op → Bool
 is_change m (Put k v) = true
 is_change m (Take k) = is_some (get m k)

@@ -12,6 +12,6 @@ use Rattle.txn_words.specs.Map.{Map}
 abbrev pub split_cmp : ℕ → ℕ → Ordering
 split_cmp = then_cmp (λ a b. nat_cmp (split a) (split b)) nat_cmp
 
--- The pairs of a map, each once, in this order.
+-- The pairs of a map in the order of `split_cmp`, each pair once.
 abbrev pub ordered : Map → List (ℕ × ℕ)
 ordered m = fold (λ pairs pair. put split_cmp pair.0 pair.1 pairs) [] m.rows

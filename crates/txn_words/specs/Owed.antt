@@ -10,22 +10,23 @@ use Rattle.txn_words.specs.declared.seat.Phase.{Phase}
 use Rattle.txn_words.specs.declared.seat.Phase.TheVariants.{Closed, Opened, Waiting, LeavingTo, LeavingToEnd}
 use Rattle.txn_words.specs.Shape.{Seat, seat_after, own}
 
--- Whether there is a map on which the operation is a change. For a `Get` there is none.
+-- True if the operation is a change on some map. This holds for every operation but a `Get`.
 abbrev pub may_change : Op → Bool
 may_change (Put k v) = true
 may_change (Take k) = true
 may_change (Get k) = false
 may_change (PutIf k expected v) = true
 
--- The entries owed for an operation that waits: its reply, and its undoing if it may change the
--- map.
+-- The number of entries that a waiting operation may still add: one for its reply, and one for its
+-- undoing if it may change the map.
 abbrev pub owed_for : Op → ℕ
 owed_for (Put k v) = 2
 owed_for (Take k) = 2
 owed_for (Get k) = 1
 owed_for (PutIf k expected v) = 2
 
--- The entries owed by a caller with this number of standing changes and this phase.
+-- The number of entries that a caller with this many standing changes may still append in this
+-- phase without a new reservation.
 abbrev pub owed_in : ℕ → Phase → ℕ
 owed_in s Closed = 0
 owed_in s Opened = 2 + s
@@ -33,18 +34,20 @@ owed_in s (Waiting op) = 2 + s + owed_for op
 owed_in s (LeavingTo n) = 3 + s
 owed_in s LeavingToEnd = 1 + s
 
--- The entries owed by a caller with this seat; none if there is no seat.
+-- The number of entries that a caller with this seat may still append without a new reservation, or
+-- 0 if there is no seat.
 abbrev pub owed_by : Option Seat → ℕ
 owed_by None = 0
 owed_by (Some s) = owed_in s.standing s.phase
 
--- The entries owed by all callers together. Callers are numbered from 0.
+-- The number of entries that all callers together may still append to the history `h` without a new
+-- reservation. Callers are numbered from 0.
 abbrev pub owed : ℕ → List Entry → ℕ
 owed callers h = sum_by (λ c. owed_by (seat_after (own c h))) (range_with_len 0 callers)
 
--- The room that a step reserves in the history before it does anything: for its entry, and for the
--- further entries that its caller owes after it. A step that reserves no room adds only entries
--- that are owed already.
+-- The number of entries for which a step reserves room in the history before it does anything else:
+-- its own entry, and the further entries that its caller may append because of the step. A step
+-- that reserves no room adds only entries for which room is reserved already.
 abbrev pub reserved : Step → ℕ
 reserved (Begin c) = 3
 reserved (Ask c op) = 1 + owed_for op

@@ -19,7 +19,8 @@ use Rattle.txn_words.specs.declared.step.Step.{Step}
 use Rattle.txn_words.specs.declared.step.Step.TheVariants as steps
 use Rattle.txn_words.specs.Kinds.{caller_of}
 
--- The operation of this kind, with its key, its value and the value that it expects.
+-- The operation of this kind with key `k`, value `v` and expected value `e`. A number that the kind
+-- lacks is ignored.
 abbrev pub packed_op : OpKind → ℕ → ℕ → ℕ → Op
 packed_op op_kinds.Put k v e = ops.Put k v
 packed_op op_kinds.Take k v e = ops.Take k
@@ -27,7 +28,7 @@ packed_op op_kinds.Get k v e = ops.Get k
 packed_op op_kinds.PutIf k v e = ops.PutIf k (Some e) v
 packed_op op_kinds.PutIfNone k v e = ops.PutIf k None v
 
--- The action of this kind, with the number `n` or the operation at key `n`.
+-- The action of this kind. `n` is its level, its key or its operation's key.
 abbrev pub packed_action : ActionKind → OpKind → ℕ → ℕ → ℕ → Action
 packed_action action_kinds.Op op n v e = actions.Op (packed_op op n v e)
 packed_action action_kinds.Save op n v e = actions.Save
@@ -35,7 +36,8 @@ packed_action action_kinds.Back op n v e = actions.Back n
 packed_action action_kinds.Help op n v e = actions.Help n
 packed_action action_kinds.Abort op n v e = actions.Abort
 
--- The entry of this kind and of caller `c`, with the number `n` or the operation at key `n`.
+-- The entry of this kind by caller `c`. `n` is its operation's key, its reply, its level, or the
+-- number of a transaction or a commit. `x` is the holder that it names.
 abbrev pub packed_entry : Kind → OpKind → ℕ → ℕ → ℕ → ℕ → ℕ → Entry
 packed_entry kinds.Began op c n v e x = entries.Began c n
 packed_entry kinds.Asked op c n v e x = entries.Asked c (packed_op op n v e)
@@ -55,7 +57,7 @@ abbrev pub holder_part : Kind → ℕ → ℕ
 holder_part kinds.Busy x = x
 holder_part kind x = 0
 
--- The holder that an entry names, or 0.
+-- The holder that an entry names, or 0 if it names none.
 abbrev pub holder_in : Entry → ℕ
 holder_in (entries.Busy c op x) = x
 holder_in e = 0
@@ -64,7 +66,7 @@ holder_in e = 0
 abbrev pub is_small : Entry → Bool
 is_small e = nat_lt (caller_of e) 65536 && nat_lt (holder_in e) 65536
 
--- An entry, if it is small.
+-- The entry if it is small, else None.
 abbrev pub small_entry : Entry → Option Entry
 small_entry e = if is_small e then Some e else None
 

@@ -1,4 +1,4 @@
--- The refusals of a step by its caller's seat, in the order of their tests.
+-- Which steps a caller's seat refuses, and with which refusal.
 use Rattle.std.specs.Prelude.{Bool, true, false, not, ◌||◌, nat_lt, nat_le, slice_index, length, List, [], ◌∷◌, ◌++◌, Option, Some, None, if◌then◌else◌}
 use Rattle.txn_words.specs.declared.entry.Entry.{Entry}
 use Rattle.txn_words.specs.declared.entry.Entry.TheVariants.{Saved}
@@ -25,7 +25,7 @@ is_leaving (LeavingTo n) = true
 is_leaving LeavingToEnd = true
 is_leaving _ = false
 
--- Whether the caller is taking changes back, and a change is left to take back.
+-- True if the caller is taking changes back and has at least one more to take back.
 abbrev pub has_job : Seat → Bool
 has_job seat = elim seat.phase [
   | LeavingTo n ↦ nat_lt (slice_index seat.kept n) seat.standing
@@ -37,14 +37,14 @@ has_job seat = elim seat.phase [
 abbrev pub has_target : Seat → Bool
 has_target seat = is_waiting seat.phase || has_job seat
 
--- The tests of a step that only an open caller with nothing unfinished may take.
+-- The tests of a step that needs an open transaction with nothing unfinished.
 abbrev pub unready_tests : Phase → List (Bool × Refusal)
 unready_tests phase =
     (is_closed phase, NotOpen) ∷ (is_leaving phase, Leaving)
     ∷ (is_waiting phase, OperationUnfinished) ∷ []
 
--- The tests of a step by its caller's seat, in order, each with the refusal that is answered if the
--- test holds. The first argument says whether only half keys are taken.
+-- The tests by which a caller's seat may refuse a step, in order, each with the refusal that is
+-- answered if the test holds. The first argument says whether only half keys are allowed.
 abbrev pub tests_in : Bool → Seat → Step → List (Bool × Refusal)
 tests_in half seat (Begin c) =
     (is_leaving seat.phase, Leaving) ∷ (not (is_closed seat.phase), AlreadyOpen) ∷ []
@@ -63,12 +63,12 @@ tests_in half seat (Abort c) =
     (is_closed seat.phase, NotOpen) ∷ (is_leaving seat.phase, Leaving) ∷ []
 tests_in half seat step = []
 
--- The refusal of the first test that holds.
+-- The refusal that comes with the first test that holds, or None if no test holds.
 abbrev pub first_of : List (Bool × Refusal) → Option Refusal
 first_of [] = None
 first_of (test ∷ tests) = if test.0 then Some test.1 else first_of tests
 
--- The refusal of a step by its caller's seat, if one of the step's tests holds.
+-- The refusal with which a caller's seat refuses a step, or None if none of the step's tests holds.
 abbrev pub refusal_in : Bool → Seat → Step → Option Refusal
 refusal_in half seat step = first_of (tests_in half seat step)
 

@@ -1,5 +1,5 @@
--- The rule of shape: the entries that are allowed in each phase of a caller, and the seat after
--- each.
+-- The rule of shape: which entries a caller may add in each phase, and which seat the caller has
+-- after each entry.
 use Rattle.std.specs.Prelude.{ℕ, ◌+◌, ◌-◌, ◌==◌, Bool, true, false, ◌&&◌, Option, Some, None, is_some, IsTrue, List, [], ◌∷◌, ◌++◌, length, take, slice_index, nat_eq, nat_lt, if◌then◌else◌}
 use Rattle.std.specs.Option.{option_eq, option_and_then}
 use Rattle.std.specs.List.{fold, filter}
@@ -12,8 +12,8 @@ use Rattle.txn_words.specs.declared.seat.Phase.{Phase}
 use Rattle.txn_words.specs.declared.seat.Phase.TheVariants.{Closed, Opened, Waiting, LeavingTo, LeavingToEnd}
 use Rattle.txn_words.specs.Kinds.{caller_of, is_began, is_commit}
 
--- A caller's phase, how many of its changes stand, and how many stood at each level; none stood at
--- level 0.
+-- A caller's phase, how many of its changes stand, and how many changes stood at each level. No
+-- change stood at level 0.
 pub record Seat : Type 0 where
   pub phase : Phase
   pub standing : ℕ
@@ -79,16 +79,17 @@ own c h = filter (λ e. caller_of e == c) h
 abbrev pub how_many : (Entry → Bool) → List Entry → ℕ
 how_many test h = length (filter test h)
 
--- Whether an entry after g has the right number: transactions and commits are numbered from 1.
+-- True if an entry that follows the history `g` has the right number. Transactions and commits are
+-- numbered from 1. Other entries need no number.
 abbrev pub is_numbered : List Entry → Entry → Bool
 is_numbered g (Began c t) = t == how_many is_began g + 1
 is_numbered g (Committed c p) = p == how_many is_commit g + 1
 is_numbered g _ = true
 
--- Whether an entry has the right shape after g.
+-- True if the rule of shape allows an entry after the history `g`, and the entry's number is right.
 abbrev pub is_shaped : List Entry → Entry → Bool
 is_shaped g e = is_some (seat_after (own (caller_of e) (g ++ e ∷ []))) && is_numbered g e
 
--- Each entry has the right shape after the prefix before it.
+-- Each entry of the history has the right shape after the entries before it.
 abbrev pub IsShaped : List Entry → Type 0
 IsShaped h = (g : List Entry) (e : Entry) → IsPrefix (g ++ e ∷ []) h → IsTrue (is_shaped g e)

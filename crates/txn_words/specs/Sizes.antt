@@ -4,15 +4,15 @@ use Rattle.std.specs.Int.{is_power_of_two}
 use Rattle.txn_words.specs.declared.refusal.Refusal.{Refusal}
 use Rattle.txn_words.specs.declared.refusal.Refusal.TheVariants.{Limit}
 
--- The numbers of callers and of stripes, and the largest size of the table, in buckets; and whether
--- only half keys, those below 2^63, are taken.
+-- How many callers and how many stripes a map has, how many buckets its table may have at most, and
+-- whether the map allows only half keys, which are below 2^63.
 pub record Sizes : Type 0 where
   pub callers : ℕ
   pub stripes : ℕ
   pub buckets : ℕ
   pub half : Bool
 
--- Whether a key is refused: only half keys are taken, and it is 2^63 or more.
+-- True if only half keys are allowed and the key is 2^63 or more.
 abbrev pub is_bad_key : Bool → ℕ → Bool
 is_bad_key half key = half && nat_le (2 ^ 63) key
 
@@ -38,7 +38,7 @@ are_limits callers stripes buckets =
     is_within 1 max_callers callers && is_within 1 max_stripes stripes
     && is_within 2 max_buckets buckets && is_power_of_two buckets
 
--- The limits with these numbers, if the numbers are in range. Such limits take every key.
+-- The limits with these numbers, which allow every key, or an error if a number is out of range.
 abbrev pub limits_of : ℕ → ℕ → ℕ → Result Sizes Refusal
 limits_of callers stripes buckets =
     if are_limits callers stripes buckets

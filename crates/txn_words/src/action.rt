@@ -1,6 +1,6 @@
-//! The actions of scripts. An action is a whole call, which may take many steps, so it is a type
-//! apart from `Step`. No action begins or commits a transaction: a worker begins one before the
-//! first action of a script, and commits it after the last action.
+//! The actions of scripts. An action is a whole call, which may take many steps, so an action has a
+//! type of its own, apart from `Step`. No action begins or commits a transaction: a worker begins
+//! the transaction before the first action of a script and commits it after the last.
 
 use crate::op::Op;
 
@@ -11,10 +11,10 @@ pub enum Action {
     Op(Op),
     /// Sets a savepoint.
     Save,
-    /// Goes back to the savepoint of this number; 0 is the start of the transaction.
+    /// Goes back to the savepoint with this number; 0 is the start of the transaction.
     Back(u64),
-    /// Helps the table along for this key: doubles the table if that is due, and initialises the
-    /// key's bucket.
+    /// Helps the table to grow: doubles it if it has more than twice as many keys as buckets and
+    /// may still grow, and initialises the bucket of this key.
     Help(u64),
     /// Aborts the transaction and ends the script.
     Abort,

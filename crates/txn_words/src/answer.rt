@@ -1,6 +1,6 @@
-//! The answers to steps, and the text of an answer as a report prints it. The steps of callers, of
-//! helpers and of the table share this type, and an answer does not say who took the step. So only
-//! a step and its answer together determine the entry that the step adds to the history.
+//! The answers to steps, and the text of an answer as a report prints it. Callers, helpers and the
+//! table all get answers of this type, and an answer does not say who took the step. So the entry
+//! that a step adds to the history depends on both the step and its answer.
 ghost use Rattle.std.specs.Prelude.{◌≡◌, ◌++◌, IfOk, string_bytes};
 ghost use Rattle.txn_words.specs.Text.{rest_text, text_of};
 
@@ -12,15 +12,15 @@ use std::fmt;
 /// The answer to a step.
 #[derive(Clone, Copy, Debug, PartialEq, Eq)]
 pub enum Answer {
-    /// The transaction of this number began.
+    /// The transaction with this number began.
     Began(u64),
-    /// The operation is asked for.
+    /// The caller has asked for the operation.
     Asked,
-    /// The stripe was found held by this caller; the transaction aborts.
+    /// The caller with this number was found to hold the stripe. The transaction aborts.
     Busy(u64),
-    /// There is a cursor now.
+    /// The caller or the helper now has a cursor at the position that it sought.
     Placed,
-    /// The cursor no longer fits and is dropped.
+    /// The cursor no longer fits the list, so it is dropped.
     Again,
     /// The operation was done, with this reply.
     Done(Reply),
@@ -28,9 +28,9 @@ pub enum Answer {
     Undone,
     /// The caller is back at this level.
     Returned(u64),
-    /// The transaction is over, with nothing left of it.
+    /// The transaction has ended, and all its changes are taken back.
     Aborted,
-    /// The savepoint of this number is set.
+    /// The savepoint with this number is set.
     Saved(u64),
     /// From now on the caller takes changes back.
     Leaving,
@@ -52,16 +52,16 @@ pub enum Answer {
     Moved(u64),
     /// The size is the largest one allowed.
     AtLimit,
-    /// There are too few keys to double.
+    /// There are too few keys to double the table.
     Light,
-    /// The size is doubled to this one.
+    /// The table's size is doubled; this number is the new size.
     Doubled(u64),
-    /// The step was refused, and the core's state is unchanged, except that `StaleWord` may use up
-    /// a stamp.
+    /// The step was refused. The core's state is unchanged, except that a step refused with
+    /// `StaleWord` may have used up a stamp.
     Refused(Refusal),
 }
 
-/// The part of an answer's text after its words.
+/// What follows the words in the text of an answer.
 enum Rest {
     Nothing,
     Number(u64),

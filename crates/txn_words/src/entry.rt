@@ -1,41 +1,45 @@
-//! The entries of a history, which tell what happened to each transaction. `Entry` is a type apart
-//! from `Step` and `Answer`, since many steps add no entry and a judge of a history sees only
-//! entries. The meaning of a list of entries is in `txn_trace`. A long list keeps its entries
-//! packed, as `SmallEntry`.
+//! The entries of a history, which record what happened to each transaction. `Entry` is a type of
+//! its own, apart from `Step` and `Answer`, since many steps add no entry, and a judge of a history
+//! sees only entries. `txn_trace` defines what a list of entries means. A long list keeps its
+//! entries packed, as `SmallEntry`.
 ghost use Rattle.std.specs.Prelude.{◌≡◌};
 ghost use Rattle.txn_words.specs.Kinds.{caller_of};
 
 use crate::op::{Op, Reply};
 
-/// A record of one thing that a caller did. The first number is the caller's; the entry belongs to
-/// the transaction that its caller began last.
+/// A record of one thing that a caller did. The first field is the caller's number. The entry
+/// belongs to the transaction that this caller began last.
 #[derive(Clone, Copy, Debug, PartialEq, Eq)]
 pub enum Entry {
-    /// A transaction began; the second number is the transaction's, counted from 1 over all
-    /// callers.
+    /// A transaction began. The second field is the transaction's number. The transactions of all
+    /// callers are numbered together, from 1.
     Began(u64, u64),
-    /// An operation was asked for: the stripe of its key belongs to the caller from now on.
+    /// The caller asked for an operation. From now on the stripe of the operation's key belongs to
+    /// the caller.
     Asked(u64, Op),
-    /// The operation that was asked for has its reply.
+    /// The operation that was asked for got this reply.
     Did(u64, Reply),
     /// A savepoint was set.
     Saved(u64),
-    /// The caller goes back to this level, or aborts its transaction if no level is given.
+    /// The caller starts to go back to this level or, if the second field is `None`, to abort its
+    /// transaction.
     Leave(u64, Option<u64>),
-    /// The newest change that stood was taken back.
+    /// The newest of the transaction's remaining changes was taken back.
     Undone(u64),
-    /// The caller is back at a level, and its transaction is open again.
+    /// The caller is back at the level in the second field, and its transaction is open again.
     Returned(u64, u64),
-    /// The transaction committed; the second number is its commit number, from 1.
+    /// The transaction committed. The second field is its commit number; commits are numbered from
+    /// 1.
     Committed(u64, u64),
-    /// An operation found its stripe held by the caller named last, and its transaction aborts.
+    /// An operation found its stripe held by another caller, so the operation's transaction aborts.
+    /// The last field is the other caller's number.
     Busy(u64, Op, u64),
     /// All changes are taken back, and the transaction is over.
     Aborted(u64),
 }
 
 impl Entry {
-    /// The caller whose entry this is.
+    /// The number of the entry's caller.
     pub fn caller(&self) -> u64
         ensures { result ≡ caller_of self.now }
     {

@@ -1,16 +1,16 @@
-//! The two rules for the caller that a Busy entry names. The rule of locks takes one of them as a
-//! parameter. So one definition of legal histories serves maps that record an entry when they test
-//! the stripe, and maps that record it later.
+//! The two rules that say which caller a Busy entry may name. The rule of locks takes one of these
+//! two rules as a parameter. So one definition of legal histories serves both maps that record an
+//! entry when they test the stripe and maps that record the entry later.
 
-/// The rule that says which caller a Busy entry may name. By both rules it is another caller than
-/// the entry's own.
+/// The rule that says which caller a Busy entry may name as the holder of the stripe. Under both
+/// rules the holder is not the entry's own caller.
 #[derive(Clone, Copy, Debug, PartialEq, Eq)]
 pub enum Holder {
-    /// A caller whose open transaction has asked for a key of the stripe. Use this rule if the
-    /// entry is recorded at the same moment as the stripe is tested.
+    /// The holder is a caller whose open transaction has asked for a key of the stripe. Use this
+    /// rule if the stripe is tested and the entry recorded at the same moment.
     Now,
-    /// A caller that has begun a transaction before, open or ended. Use this rule if the stripe is
-    /// tested first and the entry recorded later, since the holder's transaction may have ended in
-    /// between.
+    /// The holder is a caller that has begun a transaction before, whether or not that transaction
+    /// has ended. Use this rule if the stripe is tested first and the entry recorded later, since
+    /// the holder's transaction may end in between.
     Begun,
 }

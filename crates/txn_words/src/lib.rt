@@ -4,10 +4,10 @@
 //! The meaning of a history is in `txn_trace`, which uses this crate. So a crate that only names
 //! operations, entries or refusals needs none of the laws of histories.
 //!
-//! The functions compute definitions that the crates above share: limits and texts, the entry of a
-//! step with its answer, packed actions, entries and steps, the room that an operation or a step
-//! needs in a history, and a caller's seat. Calls take constant time and no memory unless they say
-//! otherwise.
+//! The functions of this crate compute what the crates above share: limits and texts, the entry
+//! that a step adds to a history, packed actions, entries and steps, the room in a history that an
+//! operation or a step needs, and a caller's seat. A call takes constant time and no memory unless
+//! its comment says otherwise.
 #![tactic(auto)]
 
 mod action;

@@ -1,6 +1,7 @@
-//! The limits of a map: its callers, stripes and buckets, and whether the map allows keys of the
-//! upper half. Files, cores and the C library share the type, so all have the same ranges; only a
-//! striped map has other ranges. The type keeps the numbers in range, so no call tests them again.
+//! The limits of a map: how many callers, stripes and buckets it has, and whether it allows keys of
+//! 2^63 or more. Files, cores and the C library share this type, so the same ranges hold for all of
+//! them; only a striped map has other ranges. A `Limits` is always in range, so no call tests it
+//! again.
 ghost use Rattle.std.specs.Prelude.{◌≡◌, true, IsTrue};
 ghost use Rattle.txn_words.specs.Sizes.{Sizes, are_limits, is_bad_key, limits_of};
 
@@ -8,8 +9,8 @@ use crate::refusal::Refusal;
 use split_key::Key;
 use std::marker::Model;
 
-/// The numbers of callers and of stripes, and the largest size of the table, in buckets; and
-/// whether the map allows every key or only half keys. A half key is below 2^63.
+/// How many callers and how many stripes a map has, how many buckets its table may have at most,
+/// and whether the map allows every key or only half keys. A half key is a key below 2^63.
 #[derive(Clone, Copy, Debug, PartialEq, Eq)]
 pub struct Limits {
     callers: u32,
@@ -48,9 +49,9 @@ impl Limits {
     /// The greatest number of buckets, a power of two.
     pub const MAX_BUCKETS: u64 = 65536;
 
-    /// The limits with these numbers, which take every key. There may be 1 to `MAX_CALLERS` callers
-    /// and 1 to `MAX_STRIPES` stripes. The largest size of the table is a power of two from 2 to
-    /// `MAX_BUCKETS` buckets.
+    /// The limits with these numbers, which allow every key. There may be 1 to `MAX_CALLERS`
+    /// callers and 1 to `MAX_STRIPES` stripes. `buckets`, the largest size of the table, must be a
+    /// power of two from 2 to `MAX_BUCKETS`.
     ///
     /// # Errors
     ///
@@ -107,14 +108,15 @@ impl Limits {
         }
     }
 
-    /// Whether only half keys are taken.
+    /// Returns true if these limits allow only half keys.
     pub fn has_half_keys(self) -> bool
         ensures { result ≡ self.half }
     {
         self.half_keys
     }
 
-    /// Whether these limits refuse a key: only half keys are taken, and the key is no half key.
+    /// Returns true if these limits refuse the key: they allow only half keys, and the key is 2^63
+    /// or more.
     pub fn is_bad_key(self, key: u64) -> bool
         ensures { result ≡ is_bad_key self.half key }
     {

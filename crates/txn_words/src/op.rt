@@ -1,7 +1,7 @@
-//! The operations on one key. Each replies with the value that the key had before. Actions, steps
-//! and entries all carry an operation, so the rules of operations are here: whether an operation
-//! may change the key, whether it did, and how many entries are owed for it. These rules need the
-//! operation and its reply, and no map.
+//! The operations on one key. The reply to an operation is the value that the key had before.
+//! Actions, steps and entries all carry operations, so this module says whether an operation may
+//! change the key, whether it did, and how many entries it may still add. For this only the
+//! operation and its reply are needed, not the map.
 ghost use Rattle.std.specs.Prelude.{◌≡◌};
 ghost use Rattle.txn_words.specs.Map.{key_of};
 ghost use Rattle.txn_words.specs.Shape.{changes};
@@ -16,8 +16,8 @@ pub enum Op {
     Take(u64),
     /// Looks a key up.
     Get(u64),
-    /// Puts a value at a key exactly if the key's value is the expected one; `None` expects that
-    /// the key is not there. The fields are the key, the expected value and the new value.
+    /// Puts a value at a key exactly if the key's value is the expected one. If `None` is expected,
+    /// the key must be absent. The fields are the key, the expected value and the new value.
     PutIf(u64, Option<u64>, u64),
 }
 
@@ -30,15 +30,16 @@ impl Op {
         key
     }
 
-    /// Whether there is a map on which the operation is a change. For a `Get` there is none.
+    /// Returns true if the operation is a change on some map. This holds for every operation but
+    /// `Get`.
     pub fn may_change(self) -> bool
         ensures { result ≡ may_change self }
     {
         !matches!(self, Op::Get(_))
     }
 
-    /// Whether the operation was a change, if this is its reply: it put a value, or took out a key
-    /// that was there.
+    /// Returns true if an operation with this reply was a change: it put a value, or it took out a
+    /// key that was there.
     pub fn changes(self, reply: Reply) -> bool
         ensures { result ≡ changes self reply }
     {
@@ -50,8 +51,8 @@ impl Op {
         }
     }
 
-    /// The number of entries owed for the operation while it waits: its reply, and its undoing if
-    /// it may change the map.
+    /// The number of entries that the operation may still add while it waits: one for its reply,
+    /// and one for its undoing if it may change the map.
     pub fn owed(self) -> u64
         ensures { result ≡ owed_for self }
     {
@@ -59,5 +60,5 @@ impl Op {
     }
 }
 
-/// The reply of an operation: the value that the key had before it, or none.
+/// The reply to an operation: the value that the key had before the operation, if it had a value.
 pub type Reply = Option<u64>;

@@ -1,6 +1,6 @@
-//! An action in 32 bytes instead of 48; the size is proved. A script keeps its actions in this
-//! form, and a worker unpacks the next action in constant time. The model is the action, so a
-//! contract reads a list of packed actions as a list of actions.
+//! An action packed into 32 bytes instead of 48; the size is proved. A script keeps its actions in
+//! this form, and a worker unpacks the next action in constant time. The model of a packed action
+//! is the action itself, so a contract reads a list of packed actions as a list of actions.
 ghost use Rattle.std.specs.Prelude.{◌≡◌};
 ghost use Rattle.txn_words.specs.Packed.{packed_op, packed_action};
 
@@ -19,8 +19,8 @@ enum ActionKind {
     Abort,
 }
 
-/// An action in 32 bytes, for those who keep many; an `Action` takes 48. A contract sees a packed
-/// action as the action.
+/// An action in 32 bytes, for lists of many actions. An `Action` takes 48 bytes. In contracts, a
+/// packed action is the action that it stands for.
 #[derive(Debug, Drop)]
 pub struct PackedAction {
     kind: ActionKind,

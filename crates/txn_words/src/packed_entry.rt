@@ -1,6 +1,7 @@
-//! An entry of a history in 48 bytes instead of 64; and the parts of an operation, which packed
-//! actions and packed steps use too. A caller may have any number, unlike in a `SmallEntry`. The
-//! model is the entry, so a contract reads a list of packed entries as a history.
+//! An entry of a history in 48 bytes instead of 64, and the parts of an operation, which packed
+//! actions and packed steps use too. Unlike in a `SmallEntry`, the caller may have any number. The
+//! model of a packed entry is the entry itself, so a contract reads a list of packed entries as a
+//! history.
 ghost use Rattle.std.specs.Prelude.{◌≡◌};
 ghost use Rattle.txn_words.specs.Packed.{packed_op, packed_entry};
 
@@ -19,7 +20,8 @@ pub(crate) enum OpKind {
     PutIfNone,
 }
 
-/// The kind of an entry, and whether a reply or a level is there.
+/// The kind of an entry. It also says whether a reply has a value and whether a `Leave` names a
+/// level.
 #[derive(Clone, Copy, Debug, PartialEq, Eq)]
 pub(crate) enum Kind {
     Began,
@@ -36,14 +38,15 @@ pub(crate) enum Kind {
     Aborted,
 }
 
-/// An entry in 48 bytes, for those who keep many; an `Entry` takes 64. A contract sees a packed
-/// entry as the entry.
+/// An entry in 48 bytes, for lists of many entries. An `Entry` takes 64 bytes. In contracts, a
+/// packed entry is the entry that it stands for.
 #[derive(Drop)]
 pub struct PackedEntry {
     pub(crate) kind: Kind,
     pub(crate) op: OpKind,
     pub(crate) caller: u64,
-    /// The key of an operation; or the number of a transaction or a commit, a reply or a level.
+    /// The key of an operation, the number of a transaction, the number of a commit, a reply, or a
+    /// level.
     pub(crate) number: u64,
     pub(crate) value: u64,
     pub(crate) expected: u64,
@@ -162,7 +165,7 @@ pub(crate) fn parts_of(op: Op) -> (OpKind, u64, u64, u64)
     }
 }
 
-/// The operation of these parts.
+/// The operation that has these parts.
 pub(crate) fn op_of(kind: OpKind, key: u64, value: u64, expected: u64) -> Op
     ensures { result ≡ packed_op kind key value expected }
 {

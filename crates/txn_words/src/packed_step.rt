@@ -1,6 +1,7 @@
 //! A step in 40 bytes instead of 56; the size is proved. A step file may have a million steps, so
-//! its reader packs each step as soon as it is read. The model is the step, so a contract reads a
-//! list of packed steps as a list of steps, and packing loses nothing.
+//! the file's reader packs each step as soon as it is read. The model of a packed step is the step
+//! itself, so a contract reads a list of packed steps as a list of steps, and packing loses
+//! nothing.
 ghost use Rattle.std.specs.Prelude.{◌≡◌};
 ghost use Rattle.txn_words.specs.Packed.{packed_op, packed_step};
 
@@ -27,8 +28,8 @@ enum StepKind {
     Double,
 }
 
-/// A step in 40 bytes, for those who keep many; a `Step` takes 56. A contract sees a packed step as
-/// the step.
+/// A step in 40 bytes, for lists of many steps. A `Step` takes 56 bytes. In contracts, a packed
+/// step is the step that it stands for.
 #[derive(Debug, Drop)]
 pub struct PackedStep {
     kind: StepKind,

@@ -1,7 +1,7 @@
-//! The refusals of calls, each with a number and a sentence. One list serves all calls, so a number
-//! means the same in files, in reports and, with 16 added, in the statuses of the C library. The
-//! numbers are 1 to 22, one for each refusal; numbers and sentences are constants, which take no
-//! memory.
+//! The reasons why calls are refused. Each refusal has a number from 1 to 22 and a sentence. All
+//! calls share this one list, so a number means the same in files and in reports. In the C library
+//! the status for a refusal is its number plus 16. Numbers and sentences are constants, which take
+//! no memory.
 ghost use Rattle.std.specs.Prelude.{◌≡◌};
 ghost use Rattle.txn_words.specs.Refusals.{number_of, words_of};
 ghost use Rattle.txn_words.specs.Sentences.{sentence_of};
@@ -10,15 +10,15 @@ use std::alloc::AllocError;
 use std::error::Error;
 use std::fmt;
 
-/// The reason why a call was refused. Each refusal has a number, by which answers and programs name
-/// it. `Display` writes the number, as reports and error messages show it. `text` is a sentence for
-/// a person to read.
+/// The reason why a call was refused. Answers and programs name a refusal by its number. `Display`
+/// writes this number, and so reports and error messages show it. `text` is a sentence for a person
+/// to read.
 #[derive(Clone, Copy, Debug, PartialEq, Eq)]
 pub enum Refusal {
-    /// 1: the key is 2^63 or more, and the limits take only half keys.
+    /// 1: the key is 2^63 or more, and the limits allow only half keys.
     BadKey,
-    /// 2: the caller's number is not below the number of callers; or a join in C finds no caller of
-    /// the striped map that still waits to be joined.
+    /// 2: the caller's number is not below the number of callers. In C it also means that a join
+    /// finds no caller of the striped map that still waits to be joined.
     NoSuchCaller,
     /// 3: the caller has no transaction.
     NotOpen,
@@ -44,8 +44,8 @@ pub enum Refusal {
     HelperOutOfOrder,
     /// 14: memory was refused.
     NoMemory,
-    /// 15: a caller's token does not agree with the core or with its own side value, now or at an
-    /// earlier call; or the map does not close.
+    /// 15: at this call or at an earlier one, a caller's token did not agree with the core or with
+    /// the caller's side value; or the map cannot be closed.
     OutOfStep,
     /// 16: no stamp below 2^64 - 1 is left.
     StampsUsedUp,
@@ -53,16 +53,16 @@ pub enum Refusal {
     CallersMissing,
     /// 18: a worker could not be started.
     NoThread,
-    /// 19: the claim to a stripe is stale. A right is stale if by the core's record another caller
-    /// holds the stripe. A word is stale if it names the caller itself, or a caller that has never
-    /// begun a transaction.
+    /// 19: the claim to a stripe is stale. A right is stale if the core has recorded another caller
+    /// as the stripe's holder. A word is stale if it names the caller itself, or a caller that has
+    /// never begun a transaction.
     StaleWord,
     /// 20: a file is not JSON.
     NotJson,
     /// 21: a file, or a part of it, does not have the shape that it should have.
     WrongShape,
-    /// 22: a file, one of its numbers, or a number that a map or a judge is made with is out of
-    /// range.
+    /// 22: something is out of range: a file, a number in a file, or a number that is given to make
+    /// a map or a judge.
     Limit,
 }
 
@@ -145,7 +145,7 @@ impl Refusal {
     }
 }
 
-/// `NoMemory`, so that `?` converts an allocation error.
+/// Converts an allocation error to `NoMemory`, as `?` does.
 impl From<AllocError> for Refusal {
     ghost use Rattle.txn_words.specs.declared.refusal.Refusal.TheVariants.{NoMemory};
 

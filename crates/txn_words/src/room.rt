@@ -1,15 +1,14 @@
-//! Room in a list, made before the list needs it. Three lists take room in this way: a core's
-//! history, the list of the history's entries that a caller has seen, and the savepoints of a seat.
-//! Invariant: the elements of the list stay the same, whether the list's room is written or not.
+//! Makes room in a list before the list needs it. Three lists use this: a core's history, a
+//! caller's list of the entries that it has seen, and the savepoints of a seat. Invariant: the
+//! elements of the list stay the same, even if the room is written.
 ghost use Rattle.std.specs.Prelude.{◌≡◌, ◌+◌, ◌≤◌, ◌<◌, OnErr, OnOk, vec_capacity, vec_len};
 
 use crate::entry::Entry;
 use crate::small_entry::SmallEntry;
 use std::alloc::AllocError;
 
-/// Makes room in a list for this many more entries. If the room is to be written, all of the list's
-/// room is filled once, so that no later entry is the first to touch a page of memory. The entries
-/// are unchanged.
+/// Makes room in a list for `more` more entries. If `is_written`, fills all of the list's room
+/// once, so that no later entry is the first to touch a page of memory. The entries are unchanged.
 ///
 /// # Errors
 ///
@@ -17,8 +16,8 @@ use std::alloc::AllocError;
 ///
 /// # Cost
 ///
-/// At most one allocation, with a copy of the entries if there are any; if the room is written,
-/// time in proportion to it.
+/// At most one allocation, with a copy of the entries if there are any. If the room is written,
+/// also time in proportion to the room.
 pub fn make_room(
     entries: &mut Vec<SmallEntry>,
     more: usize,

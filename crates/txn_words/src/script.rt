@@ -1,6 +1,7 @@
-//! Scripts, which are lists of actions, and the work of a set of workers: scripts, limits and the
-//! number of tries. Readers of files make them and workers run them, without knowing each other.
-//! Actions are kept packed, 32 bytes each; nothing here bounds their number or the tries.
+//! Scripts and sets of scripts. A script is a list of actions, kept packed in 32 bytes each. A set
+//! holds scripts, limits and the number of tries. File readers make both and workers run them;
+//! neither side depends on the other. This module bounds neither the number of actions nor the
+//! tries.
 ghost use Rattle.std.specs.Prelude.{◌≡◌, IfOk};
 
 use crate::action::Action;
@@ -26,14 +27,14 @@ impl Model for Script {
 }
 
 impl Script {
-    /// The script of these actions.
+    /// A script with these actions.
     pub fn new(actions: Vec<PackedAction>) -> Script
         ensures { result ≡ actions.items }
     {
         Self { actions }
     }
 
-    /// Packs these actions, and answers their script.
+    /// Packs these actions and returns them as a script.
     ///
     /// # Errors
     ///
@@ -41,7 +42,7 @@ impl Script {
     ///
     /// # Cost
     ///
-    /// Time and memory in proportion to the actions.
+    /// Time and memory in proportion to the number of actions.
     pub fn of_actions(alloc: Global, actions: &[Action]) -> Result<Script, AllocError>
         ensures { IfOk result (λ script. script ≡ actions.now) }
     {
@@ -92,7 +93,7 @@ impl Model for Scripts {
 }
 
 impl Scripts {
-    /// The work of these scripts.
+    /// A set of these scripts, with this version, these limits and this number of tries.
     pub fn new(version: u64, limits: Limits, tries: u64, scripts: Vec<Script>) -> Scripts
         ensures { result ≡ record {
           version = version;
@@ -123,7 +124,7 @@ impl Scripts {
         self.limits
     }
 
-    /// How often a script that found a stripe held is tried again.
+    /// How often a script is tried again if it found a stripe held by another caller.
     pub fn tries(&self) -> u64
         ensures { result ≡ self.now.tries }
     {

@@ -1,8 +1,8 @@
-//! The seat of a caller: the state of the rule of shape after the caller's own entries. This state
-//! decides most refusals of the caller's next step.
+//! The seat of a caller: the caller's state in the rule of shape, after the caller's own entries.
+//! Most refusals of the caller's next step depend only on this state.
 //!
-//! The tests of the seat are compiled into each step (`inline(always)`). There the kind of step is
-//! known, so most tests take no instruction.
+//! The tests of the seat are inlined into the code of each step (`inline(always)`). The kind of
+//! step is known there, so most tests take no instruction.
 ghost use Rattle.std.specs.Prelude.{◌≡◌, ℕ, ◌+◌, ◌-◌, ◌<◌, ◌≤◌, ◌^◌, true, false, is_some, length, slice_get, slice_index, Some, IfOk, OnOk, OnErr};
 ghost use Rattle.txn_words.specs.declared.seat.Phase.TheVariants.{Opened};
 ghost use Rattle.txn_words.specs.Shape.{row, capacity, closed_seat};
@@ -18,26 +18,26 @@ use crate::step::Step;
 use std::alloc::{AllocError, Global};
 use std::marker::Model;
 
-/// The state of a caller in the rule of shape, which says for each phase which entries may follow.
+/// A caller's phase. For each phase, the rule of shape says which entries of the caller may follow.
 #[derive(Clone, Copy, Debug, PartialEq, Eq)]
 pub enum Phase {
-    /// It has no transaction.
+    /// The caller has no transaction.
     Closed,
-    /// Its transaction is open, with nothing unfinished.
+    /// The caller's transaction is open, and nothing in it is unfinished.
     Opened,
     /// An operation was asked for and has no reply yet.
     Waiting(Op),
-    /// It takes changes back, to this level.
+    /// The caller takes changes back until it reaches this level.
     LeavingTo(u64),
-    /// It takes all changes back, and then its transaction is over.
+    /// The caller takes all its changes back. After that its transaction ends.
     LeavingToEnd,
 }
 
 /// A caller's seat: its phase, how many of its changes stand, and how many stood at each savepoint.
 ///
-/// A contract sees it as two things: `seat`, the seat of the definitions, which also lists level 0,
-/// at which no change stood; and `room`, the number of further `Saved` entries that the seat has
-/// memory for.
+/// A contract sees two parts. `seat` is the seat of the definitions, which also lists level 0, at
+/// which no change stood. `room` is the number of further `Saved` entries for which the seat has
+/// memory.
 #[derive(Drop)]
 pub struct Seat {
     phase: Phase,
@@ -71,16 +71,16 @@ impl Seat {
 
     /// The seat of a caller without a transaction, with room for this many savepoints. If
     /// `is_written`, the room is written, so that no later savepoint is the first to touch a page
-    /// of it.
+    /// of the room.
     ///
     /// # Errors
     ///
-    /// `AllocError` if memory is refused, which never happens if no savepoints are asked for.
+    /// `AllocError` if memory is refused. This never happens if `savepoints` is 0.
     ///
     /// # Cost
     ///
-    /// One allocation if there are savepoints, none otherwise; if the room is written, time in
-    /// proportion to it.
+    /// One allocation, or none if `savepoints` is 0. If the room is written, also time in
+    /// proportion to the room.
     pub fn with_capacity(
         alloc: Global,
         savepoints: usize,
@@ -115,7 +115,8 @@ impl Seat {
         self.savepoints.len() as u64
     }
 
-    /// How many changes stood at a level: 0 at level 0. Answers `None` if there is no such level.
+    /// How many changes stood at a level. At level 0 there were none. Returns `None` if there is no
+    /// such level.
     pub fn kept(&self, level: u64) -> Option<u64>
         ensures { result ≡ slice_get self.now.seat.kept level }
     {
@@ -125,7 +126,7 @@ impl Seat {
         }
     }
 
-    /// Whether the caller is taking changes back, and a change is left to take back.
+    /// Returns true if the caller is taking changes back and has at least one more to take back.
     pub fn has_job(&self) -> bool
         ensures { result ≡ has_job self.now.seat }
     {
@@ -144,8 +145,8 @@ impl Seat {
         matches!(self.phase, Phase::Waiting(_)) || self.has_job()
     }
 
-    /// The refusal of a step of the seat's caller, if the seat refuses the step. The limits say
-    /// whether only half keys are taken.
+    /// The refusal of this step of the seat's caller, or `None` if the seat does not refuse the
+    /// step. The limits say whether only half keys are allowed.
     #[inline(always)]
     pub fn refusal(&self, limits: Limits, step: Step) -> Option<Refusal>
         ensures { result ≡ refusal_in limits.half self.now.seat step }
@@ -187,7 +188,7 @@ impl Seat {
         }
     }
 
-    /// The refusal of a step that only an open caller with nothing unfinished may take.
+    /// The refusal, if any, of a step that needs an open transaction with nothing unfinished.
     fn unready(&self) -> Option<Refusal>
         ensures { result ≡ first_of (unready_tests self.now.seat.phase) }
     {
@@ -206,9 +207,11 @@ impl Seat {
         self.kept(level).unwrap_or(0)
     }
 
-    /// The number of entries that the seat's caller may add without a new reservation. These are:
+    /// The number of entries that the seat's caller may add without a new reservation. The entries
+    /// are:
     ///
-    /// - the reply to an operation that waits, and its undoing if it may change the map;
+    /// - the reply to an operation that waits, and the operation's undoing if it may change the
+    ///   map;
     /// - the `Returned` of a return to a level;
     /// - the entries of an abort: a `Leave` unless the abort has begun, an `Undone` for each change
     ///   that stands, and `Aborted`.
@@ -246,8 +249,8 @@ impl Seat {
     }
 
     /// Makes room for this many more savepoints, unless there is room already. If `is_written`, the
-    /// room that is made is also written, so that no later savepoint is the first to touch a page
-    /// of it. The seat is unchanged, and the room never shrinks.
+    /// new room is also written, so that no later savepoint is the first to touch a page of it. The
+    /// seat is unchanged, and the room never shrinks.
     ///
     /// # Errors
     ///
@@ -255,8 +258,8 @@ impl Seat {
     ///
     /// # Cost
     ///
-    /// At most one allocation, with a copy of the savepoints; if the room is written, time in
-    /// proportion to it.
+    /// At most one allocation, with a copy of the savepoints. If the room is written, also time in
+    /// proportion to the room.
     pub fn make_room(&mut self, savepoints: usize, is_written: bool) -> Result<(), AllocError>
         ensures seat { self.new.seat ≡ self.old.seat }
         ensures room { self.old.room ≤ self.new.room }
@@ -269,7 +272,7 @@ impl Seat {
         make_room_of(&mut self.savepoints, savepoints, is_written, || 0)
     }
 
-    /// Whether an entry may follow: whether the rule of shape has a row for it in this seat.
+    /// Returns true if the rule of shape allows this entry as the caller's next one.
     #[inline(always)]
     pub fn allows(&self, entry: &Entry) -> bool
         ensures { result ≡ is_some (row self.now.seat self.now.seat.phase entry.now) }
@@ -291,7 +294,7 @@ impl Seat {
         }
     }
 
-    /// Whether an entry may follow in an open transaction with nothing unfinished.
+    /// Like `allows`, for a caller whose transaction is open with nothing unfinished.
     fn allows_opened(&self, entry: &Entry) -> bool
         ensures { result ≡ is_some (row self.now.seat Opened entry.now) }
     {
@@ -306,13 +309,13 @@ impl Seat {
         }
     }
 
-    /// Moves the seat on by an entry if the entry may follow, and answers whether it may. If it may
-    /// not, the seat is unchanged. A `Saved` takes one place of the room, and a savepoint that is
-    /// dropped gives one back.
+    /// If the rule of shape allows this entry next, updates the seat by the entry and returns true.
+    /// Otherwise returns false and leaves the seat unchanged. A `Saved` uses room for one
+    /// savepoint. A savepoint that is dropped frees its room.
     ///
     /// # Cost
     ///
-    /// Amortized constant time, since it may drop savepoints; takes no memory.
+    /// Amortized constant time, since savepoints may be dropped. Takes no memory.
     #[inline(always)]
     pub fn enter(&mut self, entry: Entry) -> bool
         requires standing { self.old.seat.standing < 2 ^ 64 - 1 }
@@ -343,7 +346,7 @@ impl Seat {
         true
     }
 
-    /// Moves the seat on by the reply to the operation that waits.
+    /// Updates the seat by the reply to the operation that waits.
     #[inline(always)]
     fn reply(&mut self, reply: Reply)
         requires { self.old.seat.standing < 2 ^ 64 - 1 }

@@ -1,6 +1,6 @@
-//! An entry of a history in 32 bytes, half the size of an `Entry`. The caller and the holder that
-//! the entry names must be below 65,536. Every caller of a map is below this bound. The model is
-//! the entry, so a contract reads a list of small entries as a history; `Unpacked` goes through
+//! An entry of a history in 32 bytes, half the size of an `Entry`. Its caller and the holder that
+//! it names must be below 65,536, as every caller of a map is. The model of a small entry is the
+//! entry itself, so a contract reads a list of small entries as a history. `Unpacked` iterates over
 //! such a list. All calls take constant time and no memory.
 ghost use Rattle.std.specs.Prelude.{◌≡◌, ◌↔◌, true, IsTrue};
 ghost use Rattle.txn_words.specs.Kinds.{caller_of};
@@ -11,12 +11,12 @@ use crate::packed_entry::{Kind, OpKind, PackedEntry};
 use std::marker::Model;
 use std::mem::size_of;
 
-/// The callers and the holders of small entries are below this number.
+/// The numbers of callers and holders in small entries are below this number.
 const CALLERS: u64 = 65_536;
 
-/// An entry in 32 bytes, for those who keep many, as a core does. Its caller and the holder that it
-/// names are below 65,536. A `PackedEntry` takes 48 bytes and has no such bound. A contract sees a
-/// small entry as the entry.
+/// An entry in 32 bytes, for long lists of entries, such as a core's history. The entry's caller
+/// and the holder that the entry names are below 65,536. A `PackedEntry` has no such bound but
+/// takes 48 bytes. In contracts, a small entry is the entry that it stands for.
 #[derive(Debug, Drop)]
 pub struct SmallEntry {
     kind: Kind,
@@ -40,8 +40,8 @@ impl Model for SmallEntry {
 }
 
 impl SmallEntry {
-    /// Packs an entry. Answers `None` if the caller, or the holder that the entry names, is 65,536
-    /// or more.
+    /// Packs an entry. Returns `None` if the number of the entry's caller, or of the holder that
+    /// the entry names, is 65,536 or more.
     #[inline(always)]
     pub fn new(entry: Entry) -> Option<SmallEntry>
         ensures { result ≡ small_entry entry }
@@ -80,14 +80,14 @@ impl SmallEntry {
         packed.entry()
     }
 
-    /// The caller whose entry this is.
+    /// The number of the entry's caller.
     pub fn caller(&self) -> u64
         ensures { result ≡ caller_of self.now }
     {
         u64::from(self.caller)
     }
 
-    /// Whether another small entry is the same entry.
+    /// Returns true if both small entries stand for the same entry.
     #[inline(always)]
     pub fn is_same(&self, other: &SmallEntry) -> bool
         ensures { IsTrue result ↔ (self.now ≡ other.now) }
@@ -95,8 +95,9 @@ impl SmallEntry {
         self.has_fields_of(other) || self.is_same_unpacked(other)
     }
 
-    /// Whether another small entry is equal in each field; if so, both are the same entry. A field
-    /// that the kind does not use may differ between two small entries that are the same entry.
+    /// Returns true if both small entries are equal in every field, and so stand for the same
+    /// entry. Two small entries that stand for the same entry may still differ in a field that
+    /// their kind does not use.
     #[inline(always)]
     fn has_fields_of(&self, other: &SmallEntry) -> bool
         ensures { result ≡ true → self.now ≡ other.now }
@@ -110,8 +111,8 @@ impl SmallEntry {
             && self.expected == other.expected
     }
 
-    /// Whether another small entry is the same entry, whatever is in the fields that its kind does
-    /// not use.
+    /// Returns true if both small entries stand for the same entry. Ignores the fields that their
+    /// kind does not use.
     #[cold]
     #[inline(never)]
     fn is_same_unpacked(&self, other: &SmallEntry) -> bool
@@ -147,7 +148,7 @@ impl<'a> Model for Unpacked<'a> {
 }
 
 impl<'a> Unpacked<'a> {
-    /// The entries of this list.
+    /// An iterator over the entries of this list.
     pub fn new(list: &'a [SmallEntry]) -> Unpacked<'a>
         ensures { result ≡ list.now }
     {

@@ -1,6 +1,6 @@
-//! The steps of callers, of helpers and of the table, and the entries that they add to a history.
-//! These rules need no core. A step and its answer determine the entry that they add, if they add
-//! one. The step determines how many entries the history must have room for before it is taken.
+//! The steps that callers, helpers and the table take, and the entries that steps add to a history.
+//! A step and its answer determine which entry, if any, is added. The step alone determines for how
+//! many entries the history must have room before the step is taken. These rules need no core.
 ghost use Rattle.std.specs.Prelude.{◌≡◌, option_to_list};
 ghost use Rattle.txn_words.specs.Entries.{entries_of};
 ghost use Rattle.txn_words.specs.Owed.{reserved};
@@ -11,18 +11,19 @@ use crate::op::Op;
 
 /// A step of a caller, of a helper or of the table. A step names its caller or helper by number.
 ///
-/// Each kind lists the `Refusal`s with which a core answers it, in the order of their tests: the
-/// first that fits is the answer.
+/// Each variant lists the `Refusal`s with which a core may answer the step. The core tests for them
+/// in this order and answers with the first that applies.
 #[derive(Clone, Copy, Debug, PartialEq, Eq)]
 pub enum Step {
     /// Begins a transaction.
     ///
     /// Refused, in this order: `NoSuchCaller`, `Leaving`, `AlreadyOpen`, `NoMemory`.
     Begin(u64),
-    /// Asks for an operation: locks its stripe, and reserves all that it and its undoing need.
+    /// Asks for an operation: locks the stripe of its key, and reserves everything that the
+    /// operation and its undoing need.
     ///
     /// Refused, in this order: `NoSuchCaller`, `NotOpen`, `Leaving`, `OperationUnfinished`,
-    /// `BadKey`; then `NoMemory` or, if the operation takes a node, `StampsUsedUp`; and at last, if
+    /// `BadKey`; then `NoMemory` or, if the operation takes a node, `StampsUsedUp`; and last, if
     /// stripes are words, `StaleWord`.
     Ask(u64, Op),
     /// Seeks the position of the operation that was asked for, or of the newest change to take
@@ -63,13 +64,14 @@ pub enum Step {
     InitSeek(u64, u64),
     /// A helper links the dummy at the position that it sought.
     ///
-    /// Refused, in this order: `NoSuchHelper`, `HelperOutOfOrder`; then, if the dummy is not
-    /// linked yet, `StampsUsedUp`, `NoMemory`.
+    /// Refused, in this order: `NoSuchHelper`, `HelperOutOfOrder`, `StampsUsedUp`, `NoMemory`. The
+    /// last two are possible only if the dummy is not linked yet.
     InitLink(u64),
     /// A helper stores its dummy, which initialises the bucket.
     ///
-    /// Refused, in this order: `NoSuchHelper`, `HelperOutOfOrder`; then, if no bucket of the
-    /// bucket's segment of 64 is stored, `NoMemory`. After `NoMemory` the helper keeps its dummy.
+    /// Refused, in this order: `NoSuchHelper`, `HelperOutOfOrder`, `NoMemory`. `NoMemory` is
+    /// possible only if no bucket in the same segment of 64 buckets is stored yet; the helper then
+    /// keeps its dummy.
     InitStore(u64),
     /// Doubles the table's size if three conditions hold: the size is still the one that the step
     /// names, it is below the largest size allowed, and there are more than twice as many keys as
@@ -96,7 +98,7 @@ impl Step {
     }
 }
 
-/// The entry that a step with its answer adds to the history, if it adds one.
+/// The entry that a step with this answer adds to the history, or `None` if it adds no entry.
 #[inline(always)]
 pub fn entry_of(step: Step, answer: Answer) -> Option<Entry>
     ensures { option_to_list result ≡ entries_of step answer }

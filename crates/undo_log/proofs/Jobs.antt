@@ -6,13 +6,13 @@ use Rattle.std.proofs.lemmas.Option.{slice_get_within}
 use Rattle.undo_log.specs.InlineJobs.{AreThere, jobs_in}
 
 module _ {J : Type 0} where
-  -- There are as many jobs as places.
+  -- If each place holds a job, there are as many jobs as places.
   pub length_jobs_in : (places : List (Option J)) → AreThere places → length (jobs_in places) ≡ length places
   length_jobs_in [] there = refl
   length_jobs_in (None ∷ rest) there = absurd there
   length_jobs_in (Some job ∷ rest) there = ap suc (length_jobs_in rest there)
 
-  -- A job in one more place at the end is the newest job.
+  -- If a place with a job is added at the end, this job becomes the newest job.
   pub jobs_in-push : (places : List (Option J)) (job : J) → jobs_in (places ++ Some job ∷ []) ≡ jobs_in places ++ job ∷ []
   jobs_in-push [] job = refl
   jobs_in-push (None ∷ rest) job = jobs_in-push rest job
@@ -43,7 +43,7 @@ module _ {J : Type 0} where
       let same : length (jobs ++ job ∷ []) - 1 ≡ length jobs = omega (arith, length_push jobs job) in
       ap (slice_get (jobs ++ job ∷ [])) same ∙ slice_get-push jobs job
 
-  -- The newest place was taken out with its job, and `rest` is left.
+  -- The newest place was taken out with its job. The places `rest` remain.
   pub record IsPopped (places rest : List (Option J)) (job : Option J) : Type 0 where
     pub some : IsSome job
     pub one : length (option_to_list job) ≡ 1
@@ -51,7 +51,7 @@ module _ {J : Type 0} where
     pub jobs : jobs_in places ≡ jobs_in rest ++ option_to_list job
     pub there : AreThere rest
 
-  -- A pop takes out the newest place.
+  -- If the last place is taken out of places that each hold a job, `IsPopped` holds.
   pub popped : (places rest : List (Option J)) (job : Option J) → places ≡ rest ++ job ∷ [] → AreThere places → IsPopped places rest job
   popped places rest None is there = absurd (none_newest rest (subst AreThere is there))
   popped places rest (Some job) is there =
@@ -74,13 +74,13 @@ module _ {J : Type 0} where
   found_inside None job same = let none : ⊥ = cc in absurd none
   found_inside (Some inside) job same = let is : job ≡ Some inside = cc in (is, subst IsSome (sym is) refl)
 
-  -- The newest place has the newest job.
+  -- The newest place holds this job, which is the newest job.
   pub record IsNewest (places : List (Option J)) (job : Option J) : Type 0 where
     pub some : IsSome job
     pub last : job ≡ slice_get (jobs_in places) (length (jobs_in places) - 1)
     pub any : 0 < length (jobs_in places)
 
-  -- A look at the newest place sees the newest job.
+  -- If each place holds a job and this job is in the last place, `IsNewest` holds.
   pub newest : (places : List (Option J)) (job : Option J) → AreThere places → slice_get places (length places - 1) ≡ Some job → IsNewest places job
   newest places job there is =
       let many : length (jobs_in places) ≡ length places = length_jobs_in places there in

@@ -1,4 +1,4 @@
--- The words of a side value at its levels when jobs are pushed, run and dropped.
+-- What happens to the words of a side value's levels when jobs are pushed, run and dropped.
 use Rattle.std.proofs.Common.{◌≡◌, ℕ, zero, suc, ◌+◌, ◌<◌, ◌≤◌, List, [], ◌∷◌, ◌++◌, map, take, length, get_or, slice_get, Some, Result, Ok, Err, OnOk, OnErr, refl, ap, sym, subst, ◌∙◌, arith, add-one}
 use Rattle.std.specs.Option.{option_map}
 use Rattle.std.proofs.lemmas.List.{map-append, take-map, length_push}
@@ -6,17 +6,17 @@ use Rattle.std.proofs.lemmas.Option.{slice_get-map, slice_get-get_or}
 use Rattle.undo_log.specs.UndoLog.{LogAt, kept_at}
 use Rattle.undo_log.specs.SideValue.{words_at, levels_of, AreConnected, IsRising, IsUndoable}
 
--- A higher bound is a bound too.
+-- If `IsRising` holds for an upper bound, it holds for every higher upper bound.
 IsRising-more : (low : ℕ) (ks : List ℕ) (high higher : ℕ) → high ≤ higher → IsRising low ks high → IsRising low ks higher
 IsRising-more low [] high higher more rising = omega (arith, more, rising)
 IsRising-more low (k ∷ ks) high higher more rising = (rising.0, IsRising-more k ks high higher more rising.1)
 
--- The bound may be added to the numbers.
+-- If the upper bound is appended to the numbers, `IsRising` still holds.
 IsRising-push : (low : ℕ) (ks : List ℕ) (high : ℕ) → IsRising low ks high → IsRising low (ks ++ high ∷ []) high
 IsRising-push low [] high rising = (rising, omega arith)
 IsRising-push low (k ∷ ks) high rising = (rising.0, IsRising-push k ks high rising.1)
 
--- Each of the numbers bounds those before it.
+-- Each of the numbers is an upper bound of the numbers before it.
 IsRising-take : (low : ℕ) (ks : List ℕ) (high n : ℕ) → n ≤ length ks → IsRising low ks high → IsRising low (take n ks) (get_or (low ∷ ks) n 0)
 IsRising-take low ks high zero there rising = omega arith
 IsRising-take low [] high (suc n) there rising = absurd (omega (arith, there))
@@ -37,21 +37,22 @@ map_rising f g low (k ∷ ks) high rising same =
     let rest : map f (k ∷ ks) ≡ map g (k ∷ ks) = map_rising f g k ks high rising.1 same in cc
 
 module _ {J : Type 0} (before after : J → List ℕ) where
-  -- If all jobs are left, the words are the current words.
+  -- If no job is removed, `words_at` gives the current words.
   words_at_end : (now : List ℕ) (jobs : List J) (k : ℕ) → length jobs ≤ k → words_at before now jobs k ≡ now
   words_at_end now [] k past = refl
   words_at_end now (job ∷ jobs) zero past = absurd (omega (arith, past))
   words_at_end now (job ∷ jobs) (suc k) past = words_at_end now jobs k (omega (arith, past))
 
-  -- Remove the newest job, and make the words before it the current words. Then `words_at` is the
-  -- same as before, for each number of jobs that are left.
+  -- Suppose the newest job is removed, and the words before it become the current words. Then
+  -- `words_at` does not change, for any number of remaining jobs.
   words_at-push : (now : List ℕ) (jobs : List J) (job : J) (k : ℕ) → k ≤ length jobs → words_at before now (jobs ++ job ∷ []) k ≡ words_at before (before job) jobs k
   words_at-push now [] job zero within = refl
   words_at-push now [] job (suc k) within = absurd (omega (arith, within))
   words_at-push now (first ∷ jobs) job zero within = refl
   words_at-push now (first ∷ jobs) job (suc k) within = words_at-push now jobs job k (omega (arith, within))
 
-  -- A chain goes on with one more job if the words before this job are the current words.
+  -- If the words before a job are the current words, the jobs are still connected after this job is
+  -- appended.
   IsChain-push : (jobs : List J) (job : J) → AreConnected before after (before job) jobs
       → AreConnected before after (after job) (jobs ++ job ∷ [])
   IsChain-push [] job chain = (refl, tt)
@@ -63,7 +64,8 @@ module _ {J : Type 0} (before after : J → List ℕ) where
   newest_fits now [] job chain = sym chain.0
   newest_fits now (first ∷ jobs) job chain = newest_fits now jobs job chain.1
 
-  -- Without its newest job the chain leads to the words before that job.
+  -- If the newest job is removed, the jobs are still connected, and the words before that job
+  -- become the current words.
   IsChain_pop : (now : List ℕ) (jobs : List J) (job : J) → AreConnected before after now (jobs ++ job ∷ []) → AreConnected before after (before job) jobs
   IsChain_pop now [] job chain = tt
   IsChain_pop now (first ∷ jobs) job chain =
@@ -94,7 +96,7 @@ module _ {J : Type 0} (before after : J → List ℕ) where
     nested = subst (λ ks. IsRising 0 ks (length saved.jobs)) (sym kept) (subst (λ js. IsRising 0 (log.kept ++ length log.jobs ∷ []) (length js)) (sym jobs) (IsRising-push 0 log.kept (length log.jobs) undoable.nested));
   }
 
-  -- The level of one more savepoint, which keeps all jobs, has the current words.
+  -- If a savepoint is added that keeps all jobs, its level has the current words.
   pub levels_of-save : (now : List ℕ) (log saved : LogAt J) → saved.jobs ≡ log.jobs → saved.kept ≡ log.kept ++ length log.jobs ∷ [] → levels_of before now saved ≡ levels_of before now log ++ now ∷ []
   levels_of-save now log saved jobs kept =
       ap (λ js. map (words_at before now js) (0 ∷ saved.kept)) jobs
@@ -102,12 +104,13 @@ module _ {J : Type 0} (before after : J → List ℕ) where
       ∙ map-append (words_at before now log.jobs) (0 ∷ log.kept) (length log.jobs ∷ [])
       ∙ ap (λ w. levels_of before now log ++ w ∷ []) (words_at_end now log.jobs (length log.jobs) (omega arith))
 
-  -- The log stays undoable, whether or not there was memory for the savepoint.
+  -- The log is still undoable after a call that makes a savepoint, whether or not memory was
+  -- refused.
   pub IsUndoable-saved : {T E : Type 0} (now : List ℕ) (log saved : LogAt J) (r : Result T E) → saved.jobs ≡ log.jobs → OnOk r (saved.kept ≡ log.kept ++ length log.jobs ∷ []) → OnErr r (saved ≡ log) → IsUndoable before after now log → IsUndoable before after now saved
   IsUndoable-saved now log saved (Ok x) jobs kept err undoable = IsUndoable-save now log saved jobs kept undoable
   IsUndoable-saved now log saved (Err e) jobs kept err undoable = subst (IsUndoable before after now) (sym err) undoable
 
-  -- Some of the newest jobs have been run, but no job that the level keeps; these runs led from the
+  -- Some of the newest jobs have been run, but none that the level keeps. Running them led from the
   -- words `start` to the words `now`.
   pub record IsOnTheWay (start now : List ℕ) (old new : LogAt J) (level : ℕ) : Type 0 where
     pub kept : new.kept ≡ old.kept
@@ -115,7 +118,7 @@ module _ {J : Type 0} (before after : J → List ℕ) where
     pub enough : kept_at old.kept level ≤ length new.jobs
     pub words : (k : ℕ) → k ≤ length new.jobs → words_at before now new.jobs k ≡ words_at before start old.jobs k
 
-  -- At the start of the way, no job has been run.
+  -- `IsOnTheWay` holds at the start, when no job has been run.
   pub on_the_way_start : (start : List ℕ) (log : LogAt J) (level : ℕ) → level ≤ length log.kept → IsUndoable before after start log → IsOnTheWay start start log log level
   on_the_way_start start log level there undoable = record {
     kept = refl;
@@ -124,7 +127,7 @@ module _ {J : Type 0} (before after : J → List ℕ) where
     words = λ k within. refl;
   }
 
-  -- The run of one more job leads to the words before that job.
+  -- After one more job is run, `IsOnTheWay` holds for the words before that job.
   pub on_the_way_step : (start now next : List ℕ) (old log popped : LogAt J) (job : J) (level : ℕ) → IsOnTheWay start now old log level → kept_at log.kept level < length log.jobs → log.jobs ≡ popped.jobs ++ job ∷ [] → popped.kept ≡ log.kept → next ≡ before job → IsOnTheWay start next old popped level
   on_the_way_step start now next old log popped job level way above jobs kept gives =
       let shorter : length log.jobs ≡ length popped.jobs + 1 = ap length jobs ∙ length_push popped.jobs job in
@@ -144,14 +147,14 @@ module _ {J : Type 0} (before after : J → List ℕ) where
   pub on_the_way_fits : (start now : List ℕ) (old log : LogAt J) (jobs : List J) (job : J) (level : ℕ) → IsOnTheWay start now old log level → log.jobs ≡ jobs ++ job ∷ [] → now ≡ after job
   on_the_way_fits start now old log jobs job level way is = newest_fits now jobs job (subst (AreConnected before after now) is way.chain)
 
-  -- A log that was cut at the level to which the way has led.
+  -- The jobs above the level have been run, and the log was then cut at the level.
   pub record IsCutAt (start now : List ℕ) (old cut : LogAt J) (level : ℕ) : Type 0 where
     pub undoable : IsUndoable before after now cut
     pub kept : 0 ∷ cut.kept ≡ take (level + 1) (0 ∷ old.kept)
     pub levels : levels_of before now cut ≡ take (level + 1) (levels_of before start old)
     pub words : slice_get (levels_of before start old) level ≡ Some now
 
-  -- If no job above the level is left, the way is at its end.
+  -- If `IsOnTheWay` holds and no job above the level is left, a cut at the level gives `IsCutAt`.
   pub on_the_way_end : (start now : List ℕ) (old log cut : LogAt J) (level : ℕ) → level ≤ length old.kept → IsUndoable before after start old → IsOnTheWay start now old log level → length log.jobs ≤ kept_at log.kept level → log.jobs ≡ cut.jobs → cut.kept ≡ take level log.kept → IsCutAt start now old cut level
   on_the_way_end start now old log cut level there undoable way none_above jobs kept =
       let all_kept : length cut.jobs ≡ kept_at old.kept level =

@@ -13,13 +13,14 @@ jobs_in [] = []
 jobs_in (None ∷ rest) = jobs_in rest
 jobs_in (Some job ∷ rest) = job ∷ jobs_in rest
 
--- Each place has its job.
+-- Each place holds a job.
 abbrev pub AreThere : {J : Type 0} → List (Option J) → Type 0
 AreThere [] = Unit {0}
 AreThere (None ∷ rest) = ⊥
 AreThere (Some job ∷ rest) = AreThere rest
 
--- Each place has its job, the places in use are within the capacity, and so are the inline places.
+-- Each place in use holds a job. The number of places in use is at most the capacity, and so is the
+-- number of inline places.
 pub record IsSound {J : Type 0} (inline : ℕ) (places : SmallVec (Option J)) : Type 0 where
   pub there : AreThere places.items
   pub fits : small_vec_len places ≤ places.capacity

@@ -1,10 +1,11 @@
--- The words of a side value at each level, as its jobs tell them.
+-- The words of a side value at each level. Its jobs determine them.
 use Rattle.std.specs.Prelude.{ℕ, zero, suc, ◌≡◌, ◌≤◌, List, [], ◌∷◌, map, length}
 use Rattle.undo_log.specs.UndoLog.{LogAt}
 
--- The value, its words at each level, level 0 first; how many changes can be taken back, and how
--- many of them each level keeps, level 0 first; and how many changes and how many savepoints can be
--- made before memory is taken.
+-- A side value as contracts see it. `levels` has the value's words at each level, level 0 first.
+-- `changes` is the number of changes that can be taken back, and `kept` says how many of them each
+-- level keeps, level 0 first. `room` and `save_room` are the numbers of changes and of savepoints
+-- that can be made before memory is taken.
 pub record Leveled (S : Type 0) : Type 0 where
   pub value : S
   pub levels : List (List ℕ)
@@ -13,8 +14,8 @@ pub record Leveled (S : Type 0) : Type 0 where
   pub room : ℕ
   pub save_room : ℕ
 
--- The words if only the first k jobs are left: the words before the job that follows them, or the
--- current words (`now`) if no job follows.
+-- The words that the value has if only its first `k` changes are kept: the words before job `k`,
+-- counted from 0, or the current words (`now`) if there is no such job.
 abbrev pub words_at : {J : Type 0} → (J → List ℕ) → List ℕ → List J → ℕ → List ℕ
 words_at before now [] k = now
 words_at before now (job ∷ jobs) zero = before job
@@ -36,7 +37,8 @@ abbrev pub IsRising : ℕ → List ℕ → ℕ → Type 0
 IsRising low [] high = low ≤ high
 IsRising low (k ∷ ks) high = (low ≤ k) × IsRising k ks high
 
--- The jobs lead from the current words back through the words of each level.
+-- The jobs can be run, newest first, from the current words back to the words of each level. A
+-- later level keeps at least as many jobs as an earlier one.
 pub record IsUndoable {J : Type 0} (before after : J → List ℕ) (now : List ℕ)
     (log : LogAt J) : Type 0 where
   pub chain : AreConnected before after now log.jobs

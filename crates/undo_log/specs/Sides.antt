@@ -2,7 +2,7 @@
 use Rattle.std.specs.Prelude.{ℕ, ◌≡◌, ◌+◌, List, [], ◌∷◌, ◌++◌, take, slice_get, Some}
 use Rattle.undo_log.specs.SideValue.{Leveled}
 
--- The value is unchanged, with the same levels, and the same changes can be taken back.
+-- The value, its levels and the changes that can be taken back are unchanged.
 pub record IsSameSide {S : Type 0} (a b : Leveled S) : Type 0 where
   pub value : b.value ≡ a.value
   pub levels : b.levels ≡ a.levels
@@ -25,8 +25,8 @@ pub record HasLevel {S : Type 0} (words : S → List ℕ) (a b : Leveled S) : Ty
   pub changes : b.changes ≡ a.changes
   pub kept : b.kept ≡ a.kept ++ a.changes ∷ []
 
--- The value has the words of a level again, with the changes that the level keeps, and there is no
--- level above it.
+-- The value has the words of this level again. The changes that the level keeps can still be taken
+-- back, and there is no level above it.
 pub record IsBackAt {S : Type 0} (words : S → List ℕ) (level : ℕ) (a b : Leveled S) : Type 0 where
   pub value : slice_get a.levels level ≡ Some (words b.value)
   pub levels : b.levels ≡ take (level + 1) a.levels

@@ -1,15 +1,16 @@
 -- An undo log as contracts see it, and the jobs above a level.
 use Rattle.std.specs.Prelude.{ℕ, ◌∷◌, ◌-◌, nat_lt, List, length, slice_get, slice_index, Option, None, if◌then◌else◌}
 
--- The jobs, oldest first; how many there were at each savepoint, savepoint 1 first; and how many
--- jobs and how many savepoints can be added before memory is taken.
+-- An undo log as contracts see it. `jobs` has the jobs, oldest first. `kept` says how many jobs
+-- there were at each savepoint, savepoint 1 first. `room` and `save_room` are the numbers of jobs
+-- and of savepoints that can be added before memory is taken.
 pub record LogAt (J : Type 0) : Type 0 where
   pub jobs : List J
   pub kept : List ℕ
   pub room : ℕ
   pub save_room : ℕ
 
--- The number of jobs that a return to a level keeps: none at level 0, the beginning.
+-- The number of jobs that a return to a level keeps. Level 0 is the beginning, which keeps none.
 abbrev pub kept_at : List ℕ → ℕ → ℕ
 kept_at kept level = slice_index (0 ∷ kept) level
 

@@ -1,13 +1,14 @@
-//! The store of a transaction's jobs: a small vector whose first places are in the value itself, so
-//! that a few changes take no memory. The other store, a `Vec`, has no such places. Invariant: each
-//! place in use holds a job; `None` fills only unused inline places.
+//! The store of a transaction's jobs. It is a small vector whose first places are in the value
+//! itself, so a few changes take no memory. The other store, a `Vec`, has no such places.
+//! Invariant: each place in use holds a job, and only unused inline places hold `None`.
 use crate::job::UndoJob;
 use crate::store::JobStore;
 use smallvec::SmallVec;
 use std::alloc::{AllocError, Global};
 use std::marker::Model;
 
-/// Jobs in places. Up to `INLINE` places are in the value itself; more places take an allocation.
+/// A store of jobs with `INLINE` places in the value itself. More places than that take an
+/// allocation.
 #[derive(Drop)]
 pub struct InlineJobs<J: UndoJob, const INLINE: usize> {
     // Each place in use holds `Some`. Each unused inline place holds `None`.
@@ -32,8 +33,8 @@ impl<J: UndoJob, const INLINE: usize> Model for InlineJobs<J, INLINE> {
 impl<J: UndoJob, const INLINE: usize> InlineJobs<J, INLINE> {
     ghost use Rattle.std.specs.Prelude.{◌≡◌, ◌≤◌, [], IfOk, IsOk};
 
-    /// A store without a job, with room for this many jobs. If `is_written`, the room is written,
-    /// so that no later job is the first to touch a page of it.
+    /// An empty store, with room for this many jobs. If `is_written`, the room is written now. Then
+    /// a job that is added later never touches a page of the room for the first time.
     pub(crate) fn with_capacity(
         alloc: Global,
         jobs: usize,

@@ -1,25 +1,25 @@
-//! The trait of an inverse: what the world shows before and after the change, and the law that
-//! `run` keeps. A log keeps jobs and runs none, so it names no world. The world of the map's jobs
-//! is the table, and that of a side value's jobs is the value itself. Nothing bounds the cost of a
-//! run.
+//! The trait for the inverse of a change: what the world shows before and after the change, and the
+//! law that `run` obeys. A log stores jobs but runs none, so a log names no world. The world of the
+//! map's jobs is the table, and the world of a side value's jobs is the value itself. The cost of a
+//! run is not bounded.
 /// The inverse of one change, which is run at most once.
 ///
-/// Its law is the contract of `run`. A job names the state after its change and the state before
-/// it. `run` takes a world that shows the state after the change, and answers a world that shows
-/// the state before it. `takes_back` says how the two worlds differ, and that nothing else differs.
-/// A job that is no longer needed is dropped.
+/// The contract of `run` is its law. A job names the state after its change and the state before
+/// it. `run` takes a world that shows the state after the change, and returns a world that shows
+/// the state before it. `takes_back` says what differs between the two worlds, and that everything
+/// else is the same. A job that is no longer needed is dropped.
 pub trait UndoJob: Drop {
     /// The world that was changed, such as a table of nodes.
     type World;
 
-    /// Whether the world shows the state that the job names as the one after its change.
+    /// The world shows the state after the change, as the job names it.
     ghost shows_after: { Self → Self.World → Type 0 };
 
-    /// Whether the world shows the state that the job names as the one before its change.
+    /// The world shows the state before the change, as the job names it.
     ghost shows_before: { Self → Self.World → Type 0 };
 
-    /// Whether the second world is the first without the job's change, with everything else
-    /// unchanged.
+    /// The second world is the first world without the job's change, and everything else is the
+    /// same in both.
     ghost takes_back: { Self → Self.World → Self.World → Type 0 };
 
     /// Takes the change back. The job's type determines the cost.

@@ -1,6 +1,6 @@
-//! The log of a transaction: its jobs, oldest first, and how many of them each savepoint keeps. It
-//! runs no job, and the same log serves both kinds of job store. Room for a job is reserved first,
-//! so no memory is taken when the job is added or taken out, or when savepoints are dropped.
+//! The log of a transaction: its jobs, oldest first, and how many of them each savepoint keeps. A
+//! log runs no job. The same type works with both kinds of job store. Room for a job is reserved
+//! first, so adding or taking out a job takes no memory, and neither does dropping savepoints.
 ghost use Rattle.std.specs.Prelude.{◌≡◌, ◌+◌, ◌-◌, ◌<◌, ◌≤◌, ◌↔◌, [], ◌∷◌, ◌++◌, length, take, IsTrue, IsOk, IsSome, IfOk, OnOk, OnErr, option_to_list, option_copied};
 ghost use Rattle.undo_log.specs.UndoLog.{kept_at, newest_above};
 
@@ -14,23 +14,23 @@ use std::marker::Model;
 ///
 /// Contracts see the `jobs`, oldest first. `kept` says how many jobs there were at each savepoint,
 /// savepoint 1 first. `room` is the room that is reserved for jobs, and `save_room` the room for
-/// savepoints. A level is the number of a savepoint, or 0, the beginning; a call that takes a level
-/// requires one that exists.
+/// savepoints. A level is the number of a savepoint, or 0 for the beginning. A call with a level
+/// requires that the level exists.
 ///
-/// `S` is the store of the jobs, and its `inline` says how many of them take no memory.
+/// `S` is the type of the job store. `S.inline` is the number of jobs that take no memory.
 #[derive(Drop)]
 pub struct JobLog<S: JobStore> {
     jobs: S,
     kept: Vec<usize>,
 }
 
-/// A log that keeps up to eight jobs in itself, and more in an allocation: a transaction of up to
-/// eight changes takes no memory for their inverses.
+/// A log that keeps up to eight jobs in itself, and more in an allocation. A transaction with at
+/// most eight changes takes no memory for their inverses.
 ///
 /// # Cost
 ///
-/// Eight places, used or not, each 8 bytes larger than a job, and 40 bytes. A log that has grown
-/// keeps the allocation of its jobs.
+/// A log takes 40 bytes and eight places, whether the places are used or not. Each place is 8 bytes
+/// larger than a job. Once a log has taken an allocation for its jobs, it keeps the allocation.
 pub type UndoLog<J> = JobLog<InlineJobs<J, 8>>;
 
 impl<S: JobStore> Model for JobLog<S> {
@@ -49,18 +49,18 @@ impl<S: JobStore> Model for JobLog<S> {
 
 impl<J: UndoJob, const INLINE: usize> JobLog<InlineJobs<J, INLINE>> {
     /// An empty log at level 0, with room for this many jobs and savepoints. If `is_written`, the
-    /// room is written, so that no later job and no later savepoint is the first to touch a page of
-    /// it.
+    /// room is written now. Then a job or a savepoint that is added later never touches a page of
+    /// the room for the first time.
     ///
     /// # Errors
     ///
-    /// `AllocError` if memory is refused, which never happens for at most `INLINE` jobs and no
-    /// savepoint.
+    /// `AllocError` if memory is refused. This never happens if `jobs` is at most `INLINE` and
+    /// `savepoints` is 0.
     ///
     /// # Cost
     ///
-    /// One allocation if there are more than `INLINE` jobs, and one if there are savepoints; if the
-    /// room is written, time in proportion to it.
+    /// One allocation if `jobs` is above `INLINE`, and one if `savepoints` is above 0. If the room
+    /// is written, also time in proportion to the room.
     pub fn with_capacity(
         alloc: Global,
         jobs: usize,
@@ -119,8 +119,8 @@ impl<S: JobStore> JobLog<S> {
         self.kept.len()
     }
 
-    /// The number of jobs that a return to the level keeps: those that were there at its savepoint,
-    /// none at level 0.
+    /// The number of jobs that a return to the level keeps: as many as there were when the level's
+    /// savepoint was made, or 0 for level 0.
     pub fn kept(&self, level: usize) -> usize
         requires { level ≤ length self.now.kept }
         ensures { result ≡ kept_at self.now.kept level }
@@ -131,13 +131,13 @@ impl<S: JobStore> JobLog<S> {
         }
     }
 
-    /// Makes room for one more job, unless there is room already. The room stays until a job is
+    /// Makes room for one more job, unless there is room already. The room remains until a job is
     /// pushed into it.
     ///
     /// # Errors
     ///
-    /// `AllocError` if memory is refused; then nothing has changed. It happens only if there was no
-    /// room, so never while there are fewer than `S.inline` jobs.
+    /// `AllocError` if memory is refused. Then nothing has changed. This happens only if there was
+    /// no room, so it never happens while there are fewer than `S.inline` jobs.
     ///
     /// # Cost
     ///
@@ -192,8 +192,8 @@ impl<S: JobStore> JobLog<S> {
         self.kept.reserve(1)
     }
 
-    /// Makes a savepoint here, which keeps all jobs, and answers its number: one more than the
-    /// number of savepoints before.
+    /// Makes a savepoint here, which keeps all present jobs. Returns the number of the savepoint,
+    /// which is one more than the number of savepoints before the call.
     ///
     /// # Errors
     ///
@@ -230,11 +230,12 @@ impl<S: JobStore> JobLog<S> {
         }
     }
 
-    /// Takes out the newest job. Answers `None` if only the jobs that the level keeps are left.
+    /// Takes out the newest job and returns it. Returns `None` if the log has only the jobs that
+    /// the level keeps.
     ///
-    /// Savepoints stay until `cut`, also those above the level. The job's place is room again, into
-    /// which the job may be pushed back. A transaction that commits takes out all its jobs above
-    /// level 0, discards them and cuts at 0.
+    /// All savepoints remain until `cut`, even those above the level. The job's place becomes room
+    /// again, and the job may be pushed back into it. A transaction that commits takes out all jobs
+    /// above level 0, discards them and calls `cut` with level 0.
     pub fn pop_above(&mut self, level: usize) -> Option<S::Job>
         requires { level ≤ length self.old.kept }
         ensures newest { result ≡ newest_above self.old level }
@@ -248,8 +249,8 @@ impl<S: JobStore> JobLog<S> {
         self.jobs.take_newest()
     }
 
-    /// Drops the savepoints above the level, and keeps the level's savepoint. No job above the
-    /// level may be left.
+    /// Drops the savepoints above the level, and keeps the level's own savepoint. The log must have
+    /// no jobs but those that the level keeps.
     ///
     /// # Cost
     ///

@@ -1,13 +1,13 @@
-//! A value that belongs to the caller, beside a transaction, and the job that takes back one change
-//! of it. `SideJob` makes that job an `UndoJob`, so that one kind of log serves callers and the
-//! map. The library sees four words of the value, and those that each job names.
+//! A value that belongs to the caller of a transaction, and the job that takes back one change of
+//! the value. `SideJob` makes this job an `UndoJob`, so that one kind of log serves callers and the
+//! map. The library sees four words of the value, and the words that each job names.
 use crate::job::UndoJob;
 
-/// A value that belongs to the caller, kept beside a transaction. Each of its changes can be taken
-/// back by a job.
+/// A value that belongs to the caller, kept beside a transaction. A job can take back each change
+/// of the value.
 ///
-/// The library makes no such value and does not look into one: it sees four words, and a job names
-/// those before its change and after it.
+/// The library does not make the value and does not look into it. The library sees four words of
+/// the value. A job names the words before its change and the words after its change.
 pub trait Side: Drop + Send {
     /// The inverse of one change, used at most once.
     type Job: Drop + Send;
@@ -17,18 +17,18 @@ pub trait Side: Drop + Send {
     /// The words of a value.
     ghost words_of: { Self → List ℕ };
 
-    /// The words that a job names as those before its change.
+    /// The value's words before the change, as the job names them.
     ghost before: { Self.Job → List ℕ };
 
-    /// The words that a job names as those after its change.
+    /// The value's words after the change, as the job names them.
     ghost after: { Self.Job → List ℕ };
 
     /// The four words of the value. The side type determines the cost.
     fn words(&self) -> [u64; 4]
         ensures { result ≡ words_of self.now };
 
-    /// The value without the job's change, restored from what the job keeps. The side type
-    /// determines the cost.
+    /// Takes back the job's change, by what the job stores, and returns the value without the
+    /// change. The side type determines the cost.
     fn undo(self, job: Self::Job) -> Self
         requires { words_of self ≡ after job }
         ensures { words_of result ≡ before job };

@@ -1,6 +1,7 @@
 //! A side value with the log of its changes, as one value, so that no change is made without its
-//! job. Invariant: the jobs, run newest first, restore the words that the value had at each level.
-//! So no words are stored, and going back takes no memory but what the jobs' runs take.
+//! job. Invariant: if the jobs are run, newest first, they restore the words that the value had at
+//! each level. So a level's words are not stored, and going back takes no memory except what the
+//! jobs take when they run.
 ghost use Rattle.std.specs.Prelude.{◌≡◌, ◌+◌, ◌<◌, ◌≤◌, [], ◌∷◌, ◌++◌, length, take, slice_get, IsOk, IfOk, IfErr, OnOk, OnErr};
 
 use crate::job::UndoJob;
@@ -12,10 +13,11 @@ use std::marker::Model;
 
 /// A side value with the jobs of its changes and its savepoints.
 ///
-/// Contracts see the `value`. `levels` has the words that it had at the beginning and at each
+/// Contracts see the `value`. `levels` has the words of the value at the beginning and at each
 /// savepoint, level 0 first. `changes` says how many changes can be taken back, and `kept` how many
 /// of them each level keeps. `room` is the room that is reserved for changes, and `save_room` the
-/// room for savepoints. No words are stored: each job names those that it restores.
+/// room for savepoints. The words of the levels are not stored: each job names the words that it
+/// restores.
 #[derive(Drop)]
 pub struct SideValue<S: Side> {
     value: S,
@@ -42,7 +44,7 @@ impl<S: Side> Model for SideValue<S> {
 }
 
 impl<S: Side> SideValue<S> {
-    /// A side value with this value at level 0, and no change to take back.
+    /// A side value that consists of this value, at level 0. It has no change to take back.
     pub fn new(alloc: Global, value: S) -> SideValue<S>
         ensures value { result.value ≡ value }
         ensures levels { result.levels ≡ S.words_of value ∷ [] }
@@ -77,9 +79,9 @@ impl<S: Side> SideValue<S> {
 
     /// Changes the value, and logs the job that takes the change back.
     ///
-    /// The current value must meet what `change` requires, and have the words that the job names as
-    /// those before its change. The value that `change` answers must have the words that the job
-    /// names as those after its change.
+    /// The current value must meet what `change` requires, and its words must be those that the job
+    /// names as the words before its change. The value that `change` returns must have the words
+    /// that the job names as the words after its change.
     ///
     /// # Errors
     ///
@@ -152,8 +154,8 @@ impl<S: Side> SideValue<S> {
         self.log.save_room()
     }
 
-    /// Makes a savepoint of the value, and answers its number: one more than the number of
-    /// savepoints before.
+    /// Makes a savepoint of the value. Returns the number of the savepoint, which is one more than
+    /// the number of savepoints before the call.
     ///
     /// # Errors
     ///
@@ -178,13 +180,13 @@ impl<S: Side> SideValue<S> {
         self.log.save()
     }
 
-    /// Takes back each change since the level, newest first, and drops the savepoints above it. The
-    /// value then has the words that it had at the level.
+    /// Takes back each change since the level, newest first, and drops the savepoints above the
+    /// level. The value then has the words that it had at the level.
     ///
     /// # Cost
     ///
     /// Time in proportion to the changes and savepoints above the level, with one run of a job for
-    /// each change; takes no memory but what these runs take.
+    /// each change. Takes no memory except what these runs take.
     pub fn back(&mut self, level: usize)
         requires { level < length self.old.levels }
         ensures words { slice_get self.old.levels level ≡ Some (S.words_of self.new.value) }
@@ -208,8 +210,8 @@ impl<S: Side> SideValue<S> {
         self.log.cut(level);
     }
 
-    /// Keeps the value, which is level 0 from now on: drops all jobs without running them, and all
-    /// savepoints.
+    /// Keeps the value as it is, and makes it level 0. Drops all savepoints, and drops all jobs
+    /// without running them.
     ///
     /// # Cost
     ///

@@ -1,4 +1,4 @@
-//! The store of a log's jobs: the trait, and a `Vec` as a store. The other store is in
+//! The trait for the store of a log's jobs, and a `Vec` as such a store. The other store is in
 //! `inline_jobs.rt`. A store says how many jobs take no memory (`inline`) and how much room there
 //! is (`room_of`).
 use crate::job::UndoJob;
@@ -67,8 +67,8 @@ pub trait JobStore: Drop {
         ensures room { room_of self.new ≡ room_of self.old + length (option_to_list result) };
 }
 
-/// All jobs are in an allocation. So the size of a log does not depend on the size of a job, which
-/// for a side value is the caller's choice.
+/// All jobs are in an allocation, so the size of a log does not depend on the size of a job. The
+/// caller chooses the size of a side value's jobs.
 impl<J: UndoJob> JobStore for Vec<J> {
     type Job = J;
 

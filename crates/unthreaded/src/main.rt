@@ -1,6 +1,7 @@
-//! The program `boostmap` without threads: its command `run` answers that no thread could be
-//! started. The script `boostmap` builds it first, since it needs none of the proofs about threads.
-//! `unthreaded_program::run` decides everything, as `boostmap_program::run` does for `boostmap`.
+//! The program `boostmap` without threads: its command `run` reports that no thread could be
+//! started. The script `boostmap` builds this program first, since it needs none of the proofs
+//! about threads. `unthreaded_program::run` decides everything, as `boostmap_program::run` does for
+//! `boostmap`.
 #![tactic(auto)]
 
 use program_host::Host;

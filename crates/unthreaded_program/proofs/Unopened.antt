@@ -1,4 +1,4 @@
--- The faults if the words of a call cannot be read or are no call, or its file cannot be opened.
+-- The faults of a call whose words cannot be read or are no call, or whose file cannot be opened.
 use Rattle.std.proofs.Common.{◌≡◌, ◌⊎◌, inl, inr, ℕ, List, Option, Some, None, ap, subst, true}
 use Rattle.std.specs.Prelude.{IfSome, is_some}
 use Rattle.std.specs.declared.io.ErrorKind.{ErrorKind}

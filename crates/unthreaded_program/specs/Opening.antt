@@ -29,12 +29,12 @@ IsUnopened spoken faults.NoThread = ⊥
 IsUnopened spoken faults.Write = ⊥
 IsUnopened spoken faults.OutOfStep = ⊥
 
--- `NoMemory` if an error of the system is that memory was refused, else the other fault.
+-- `NoMemory` if an error of the system says that memory was refused, otherwise the other fault.
 abbrev pub memory_or : ErrorKind → Fault → Fault
 memory_or OutOfMemory other = faults.NoMemory
 memory_or kind other = other
 
--- The fault of words that give no call.
+-- The fault that reports why the words give no call.
 abbrev pub of_words : NoCall → Fault
 of_words reasons.Usage = faults.Usage
 of_words reasons.NoMemory = faults.NoMemory

@@ -1,4 +1,4 @@
--- The effect of the program, from the words of its call, and its end.
+-- What the program does, given the words of its call, and how it ends.
 use Rattle.std.specs.Prelude.{◌≡◌, ◌⊎◌, ℕ, Bool, true, false, List, Option, Result, Ok, Err}
 use Rattle.std.specs.Io.KnownBytes.{Appends, Keeps}
 use Rattle.boostmap_engine.specs.declared.fault.Fault.{Fault}
@@ -17,7 +17,7 @@ use Rattle.unthreaded_program.specs.declared.ending.Ending.{Ending}
 abbrev pub RunResult : Type 0
 RunResult = Result Bool Fault
 
--- The effect of an engine. It relates the bytes of its file, if they are known, standard output
+-- What an engine does: a relation between the bytes of its file, if they are known, standard output
 -- before and after, and the outcome.
 abbrev pub Engine : Type 1
 Engine = Option (List ℕ) → Option (List ℕ) → Option (List ℕ) → RunResult → Type 0
@@ -26,7 +26,7 @@ Engine = Option (List ℕ) → Option (List ℕ) → Option (List ℕ) → RunRe
 abbrev pub StartsNone : Engine
 StartsNone bytes old new outcome = (outcome ≡ Err NoThread) × Keeps old new
 
--- A command ran on a file, with this engine of `run`.
+-- A command ran on a file. `OfRun` is the engine for the command `run`.
 abbrev pub RunsCommand : Engine → Command → Engine
 RunsCommand OfRun Replay bytes old new (Ok well) =
     WritesTextOf IsReportOf bytes old new × (well ≡ true)
@@ -56,26 +56,27 @@ pub record RunsOne (OfRun : Engine) (spoken : Option (List (List ℕ)))
   pub opened : SpellsCommand spoken bytes_of command bytes
   pub does : RunsCommand OfRun command bytes old new outcome
 
--- The outcome of a run, from its words and the files' bytes, if they are known.
+-- What a run does, given its words and the files' bytes, if they are known: it runs one command, or
+-- none.
 abbrev pub Runs : Engine → Option (List (List ℕ)) → (List ℕ → Option (List ℕ)) → Option (List ℕ)
     → Option (List ℕ) → RunResult → Type 0
 Runs OfRun spoken bytes_of old new outcome =
     RunsOne OfRun spoken bytes_of old new outcome ⊎ RunsNone spoken old new outcome
 
--- The exit status.
+-- The exit status after a run with this outcome.
 abbrev pub status_after : RunResult → ℕ
 status_after (Ok true) = 0
 status_after (Ok false) = 1
 status_after (Err fault) = status_of fault
 
 -- Standard error after a run. If there was a fault and standard error took its whole line, the line
--- was added; if there was no fault, standard error is unchanged.
+-- was added. If there was no fault, standard error is unchanged.
 abbrev pub TellsError : Option (List ℕ) → Option (List ℕ) → Bool → RunResult → Type 0
 TellsError old new is_told (Ok well) = Keeps old new × (is_told ≡ true)
 TellsError old new is_told (Err fault) = is_told ≡ true → Appends old new (line (message_of fault))
 
--- The end of a run: it had an outcome as `HasRun` says, the status is that of the outcome, and
--- standard error is as `HasTold` says.
+-- The end of a run. The run had an outcome for which `HasRun` holds, the status is that of this
+-- outcome, and `HasTold` holds for the outcome and standard error.
 abbrev pub HasExited : (RunResult → Type 0) → (Bool → RunResult → Type 0) → Ending → Type 0
 HasExited HasRun HasTold ending = (outcome : RunResult) × HasRun outcome
     × (ending.status ≡ status_after outcome) × HasTold ending.is_told outcome

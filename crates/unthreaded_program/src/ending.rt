@@ -1,18 +1,19 @@
-//! The end of a call: the line of a fault on standard error, and the exit status. Both programs end
-//! here, whatever ran before, so a status means the same in both. The status does not depend on
-//! whether standard error takes the line.
+//! The end of a call of the program: the line of a fault on standard error, and the exit status.
+//! The programs `boostmap` and `unthreaded` both end here, whatever ran before, so a status means
+//! the same in both. The status does not depend on whether the line could be written.
 ghost use Rattle.std.specs.Prelude.{◌≡◌};
 ghost use Rattle.unthreaded_program.specs.Runs.{TellsError, status_after};
 
 use boostmap_engine::Fault;
 use std::io::Write;
 
-/// The end of a run of the program.
+/// How a run of the program ended.
 #[derive(Clone, Copy, Debug, PartialEq, Eq)]
 pub struct Ending {
-    /// The exit status: 0 if all is well, 1 for an illegal history, else that of the fault.
+    /// The exit status: 0 if all is well, 1 for an illegal history, otherwise the status of the
+    /// fault.
     pub status: u8,
-    /// Whether standard error took the whole message; true if there is none.
+    /// Whether standard error took the whole message. Also true if there is no message.
     pub is_told: bool,
 }
 
@@ -27,12 +28,12 @@ fn status_of(outcome: &Result<bool, Fault>) -> u8
     }
 }
 
-/// If the outcome is a fault, writes the line of the fault to `errors`. Answers the exit status,
-/// and whether `errors` took the line. The status does not depend on that.
+/// If the outcome is a fault, writes the line of the fault to `errors`. Returns the exit status,
+/// and whether `errors` took the line. The status does not depend on whether it did.
 ///
 /// # Cost
 ///
-/// That of the writer.
+/// The cost of the writer.
 pub fn end<E: Write>(outcome: &Result<bool, Fault>, errors: &mut E) -> Ending
     ensures status { result.status ≡ status_after outcome.now }
     ensures told { TellsError (E.contents errors.old) (E.contents errors.new) result.is_told

@@ -1,20 +1,25 @@
-//! The program `boostmap` without the engine of `run`: from the words of a call to its exit status.
+//! The program `boostmap` without an engine for the command `run`: from the words of a call to its
+//! exit status.
 //!
-//! A program opens the file that the words name (`open`), runs the command on it (`run_command`),
-//! and ends with the line of a fault and a status (`end`). `boostmap_program` does so with an
-//! engine of `run` in threads. The function `run` of this crate does so without one. It is the
-//! whole program `unthreaded`, in which the command `run` answers that no thread could be started.
+//! A program opens the file that the words name (`open`), runs the command on the file
+//! (`run_command`), and ends with the line of a fault, if there is one, and a status (`end`).
+//! `boostmap_program` does so with an engine that runs the command `run` in threads. The function
+//! `run` of this crate has no such engine. It is the whole program `unthreaded`, in which the
+//! command `run` fails since no thread can be started.
 //!
 //! This is a separate crate, since nothing in it needs the proofs about threads. The proof of a
 //! program that only replays, mixes and judges takes two thirds of the time of the proof of
 //! `boostmap`.
 //!
-//! Proved (`specs/Runs.antt`): one of two things has happened. Either an engine ran on the file
-//! that the words name. It is the engine of the command that the words ask for, and standard output
-//! has exactly what this engine wrote. Or no engine ran, and standard output is unchanged: the
-//! words are no call, their file was not opened, or memory was refused. Standard error has the line
-//! of the fault, if there is one, and nothing else, unless writing the line failed. The status is
-//! that of the outcome.
+//! Proved (`specs/Runs.antt`): after a run, one of two things has happened.
+//!
+//! - The engine of the command that the words ask for ran on the file that they name. Standard
+//!   output has exactly what this engine wrote.
+//! - No engine ran, and standard output is unchanged: the words are no call, their file was not
+//!   opened, or memory was refused.
+//!
+//! Standard error has the line of the fault, if there is a fault, and nothing else, unless writing
+//! the line failed. The status is that of the outcome.
 #![tactic(auto)]
 
 mod ending;

@@ -1,6 +1,6 @@
-//! The beginning of a call: its words are read, and the file that they name is opened. Both
-//! programs begin here, before they choose an engine. Nothing is written: if a call is refused
-//! here, only `end` writes, and only to standard error.
+//! The beginning of a call: its words are read, and the file that they name is opened. The programs
+//! `boostmap` and `unthreaded` both begin here, before they choose an engine. Nothing is written
+//! here: if the call is refused, only `end` writes, and only to standard error.
 ghost use Rattle.std.specs.Prelude.{◌≡◌, IfOk, IfErr};
 ghost use Rattle.std.specs.IoError.{error_kind};
 ghost use Rattle.unthreaded_program.specs.Opening.{SpellsCommand, IsUnopened, memory_or, of_words};
@@ -14,13 +14,13 @@ use std::io;
 /// A command with its file, which is open.
 #[derive(Drop)]
 pub struct Opened<I> {
-    /// The command.
+    /// The command to run.
     pub command: Command,
-    /// The file.
+    /// The open file.
     pub input: I,
 }
 
-/// `NoMemory` if the error is that memory was refused, else the other fault.
+/// `NoMemory` if the error says that memory was refused, otherwise the fault `other`.
 fn memory_or(error: &io::Error, other: Fault) -> Fault
     ensures { result ≡ memory_or (error_kind error.now) other }
 {
@@ -30,7 +30,7 @@ fn memory_or(error: &io::Error, other: Fault) -> Fault
     }
 }
 
-/// The fault of words that give no call, for this reason.
+/// The fault that reports why the words give no call.
 fn fault_of(reason: NoCall) -> Fault
     ensures { result ≡ of_words reason }
 {
@@ -40,7 +40,7 @@ fn fault_of(reason: NoCall) -> Fault
     }
 }
 
-/// Reads the words of the call and opens the file that they name. Answers the command and the open
+/// Reads the words of the call and opens the file that they name. Returns the command and the open
 /// file.
 ///
 /// # Errors
@@ -51,7 +51,7 @@ fn fault_of(reason: NoCall) -> Fault
 ///
 /// # Cost
 ///
-/// That of the system, and time and memory in proportion to the words.
+/// The cost of the system, and time and memory in proportion to the length of the words.
 pub fn open<S: System>(alloc: Global, system: &S) -> Result<Opened<S::Input>, Fault>
     ensures ok { IfOk result (λ opened. SpellsCommand (S.spoken system.now) (S.bytes system.now)
         opened.command (S.Input.remaining opened.input)) }

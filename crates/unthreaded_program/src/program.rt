@@ -1,6 +1,6 @@
-//! The commands on an open file, and the whole call of the program without threads: words, file,
-//! engine, the line of a fault, exit status. The system and both outputs are type parameters, so
-//! that contracts and tests reach all of it. `boostmap_program` calls `run_command` for every
+//! A command on an open file (`run_command`), and the whole program without threads (`run`), from
+//! the words of a call to the exit status. The system and both outputs are type parameters, so that
+//! contracts and tests reach the whole program. `boostmap_program` calls `run_command` for every
 //! command except `run`.
 ghost use Rattle.std.specs.Prelude.{◌≡◌};
 ghost use Rattle.unthreaded_program.specs.Runs.{RunsCommand, HasExited, Runs, StartsNone, TellsError};
@@ -13,16 +13,17 @@ use program_host::System;
 use std::alloc::Global;
 use std::io::{Read, Write};
 
-/// Runs the engine of a command on its open file. Answers `false` if the command judges a history
-/// and the history is illegal, else `true`.
+/// Runs the engine of a command on its open file. Returns `false` if the command judges a history
+/// and the history is illegal, otherwise `true`.
 ///
 /// # Errors
 ///
-/// Those of the engine. The command `run` is refused with `NoThread`: nothing is read or written.
+/// The errors of the engine. The command `run` is refused with `NoThread`: nothing is read or
+/// written.
 ///
 /// # Cost
 ///
-/// That of the engine.
+/// The cost of the engine.
 pub fn run_command<R: Read, W: Write>(
     alloc: Global,
     command: Command,
@@ -61,7 +62,7 @@ fn run_words<S: System, W: Write>(alloc: Global, system: &S, output: &mut W) -> 
 ///
 /// # Cost
 ///
-/// That of the engine, and time and memory in proportion to the words.
+/// The cost of the engine, and time and memory in proportion to the length of the words.
 pub fn run<S: System, W: Write, E: Write>(
     alloc: Global,
     system: &S,

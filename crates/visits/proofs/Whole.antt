@@ -1,4 +1,4 @@
--- The replies of visitors, by their entries in a legal history.
+-- Which replies visitors got, given their entries in a legal history.
 use Rattle.std.proofs.Common.{◌≡◌, ℕ, Bool, true, false, cond, List, [], ◌∷◌, ◌++◌, Option, Some, None, IsSome, IfOk, refl, sym, ap, ◌∙◌}
 use Rattle.std.specs.Prelude.{nat_eq, Result, Ok}
 use Rattle.std.specs.Option.{option_eq, option_and_then}
@@ -31,12 +31,12 @@ use Rattle.locked_map.specs.Closes.{IsOwn}
 use Rattle.visits.specs.declared.visit.Visit.{Visit}
 use Rattle.visits.specs.Visits.{visiting, HasDone, HasVisited, IsAnswered, AreAnswered}
 
--- A run goes on to its commit only if its reply was right.
+-- If a run reaches its commit, its reply was right.
 tested : (c place : ℕ) (b : Bool) (run : AloneRun) → IsSome (option_and_then (λ r. act r (Committed c place)) (cond b (Some run) None)) → b ≡ true
 tested c place true run there = refl
 tested c place false run there = absurd (false≢true there)
 
--- A visit that runs alone on any map gets what it put.
+-- If a visit runs alone on any map, it gets the value that it has put.
 got_alone : (m : Map) (c : ℕ) (visit : Visit) (txn : ℕ) (before reply : Option ℕ) (place : ℕ) → IsSome (alone m (visiting c visit txn before reply place)) → reply ≡ Some visit.value
 got_alone m c visit txn before reply place =
     let put : Map = insert m visit.key visit.value in
@@ -46,8 +46,8 @@ got_alone m c visit txn before reply place =
       | false ↦ λ there. absurd (false≢true there)
     ]
 
--- In every legal history that has the visitor's entries, the visit got what it put, whatever the
--- other callers do.
+-- In every legal history that has the visitor's entries, the visit got the value that it had put,
+-- whatever the other callers do.
 pub got_at_close : {S : Type 0} (visit : Visit) (reply : Option ℕ) (me : Token S) (stripes : ℕ) (h : List Entry) → HasVisited visit reply me → IsLegal Begun stripes h → IsOwn h me → IsAnswered h visit reply
 got_at_close visit reply me stripes h visited legal own_is =
     let c : ℕ = me.number in
@@ -63,7 +63,7 @@ got_at_close visit reply me stripes h visited legal own_is =
       got = got_alone (serial committed.before) c visit visited.txn visited.before reply visited.place committed.replied;
     }
 
--- All visitors whose works have ended are answered.
+-- If all visits are done (`AreDone`), all of them are answered (`AreAnswered`).
 pub all_answered : {S : Type 0} (limits : Sizes) (callers : ℕ) (visits : List Visit) (core : State) (answers : List (Result (Option ℕ) Stop))
     → AreDone {S = S} (λ visit answer me. IfOk answer (λ reply. HasVisited visit reply me)) limits callers visits core answers → AreAnswered core.history visits answers
 all_answered limits callers visits core answers done = record {
@@ -73,7 +73,7 @@ all_answered limits callers visits core answers done = record {
       got_at_close visit reply its.me core.limits.stripes core.history its.promised done.legal its.own;
 }
 
--- The visitor put the value, and then got the key.
+-- The visitor has put the value, and has then got the value at the key.
 pub has_done : {S E : Type 0} (visit : Visit) (before : Option ℕ) (k m l : MutBor (Token S)) (result : Result (Option ℕ) E)
     → m.now.seen ≡ k.now.seen ++ Asked k.now.number (Put visit.key visit.value) ∷ Did k.now.number before ∷ [] → Keeps k m
     → IfOk result (λ reply. l.now.seen ≡ m.now.seen ++ Asked m.now.number (Get visit.key) ∷ Did m.now.number reply ∷ []) → Keeps m l
@@ -90,7 +90,7 @@ has_done visit before k m l (Ok reply) put first got second =
     }
 has_done visit before k m l (Err e) put first got second = got
 
--- The visit was made in a transaction that committed.
+-- The visit was made in a transaction, and this transaction was committed.
 pub has_visited : {S : Type 0} (visit : Visit) (reply : Option ℕ) (base opened done l : Token S) (txn place : ℕ) → IsRun base opened done l txn place → HasDone visit reply opened done → HasVisited visit reply l
 has_visited visit reply base opened done l txn place run work =
     let c : ℕ = base.number in

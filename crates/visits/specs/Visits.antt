@@ -1,4 +1,4 @@
--- The visit that a visitor of a shared map has seen, and the answers to all visitors.
+-- The entries of a visit to a shared map, and the answers to all visitors.
 use Rattle.std.specs.Prelude.{ℕ, ◌≡◌, List, [], ◌∷◌, ◌++◌, length, slice_get, Option, Some, Result}
 use Rattle.std.specs.Prelude.{Ok}
 use Rattle.txn_words.specs.declared.op.Op.TheVariants.{Put, Get}
@@ -15,7 +15,8 @@ visiting c visit txn before reply place =
     Began c txn ∷ Asked c (Put visit.key visit.value) ∷ Did c before ∷ Asked c (Get visit.key)
     ∷ Did c reply ∷ Committed c place ∷ []
 
--- Within a transaction, the caller has put the value and got this reply.
+-- Within a transaction, the caller has put the visit's value, and has then got this reply for the
+-- visit's key.
 pub record HasDone {S : Type 0} (visit : Visit) (reply : Option ℕ) (k l : Token S) : Type 0 where
   pub before : Option ℕ
   pub seen : l.seen ≡ k.seen ++ Asked k.number (Put visit.key visit.value) ∷ Did k.number before
@@ -30,7 +31,7 @@ pub record HasVisited {S : Type 0} (visit : Visit) (reply : Option ℕ) (me : To
   pub place : ℕ
   pub seen : me.seen ≡ earlier ++ visiting me.number visit txn before reply place
 
--- A visit has committed in the history, and it got what it put.
+-- The visit is committed in the history, and got the value that it had put.
 pub record IsAnswered (h : List Entry) (visit : Visit) (reply : Option ℕ) : Type 0 where
   pub caller : ℕ
   pub txn : ℕ
@@ -40,7 +41,7 @@ pub record IsAnswered (h : List Entry) (visit : Visit) (reply : Option ℕ) : Ty
   pub got : reply ≡ Some visit.value
 
 -- There is an answer for each visit, in the order of the visits. If the answer is a reply, the
--- visit has committed in the history with this reply, and got what it put.
+-- visit is committed in the history with this reply, and got the value that it had put.
 pub record AreAnswered (h : List Entry) (visits : List Visit)
     (answers : List (Result (Option ℕ) Stop)) : Type 0 where
   pub count : length answers ≡ length visits

@@ -1,7 +1,7 @@
-//! Visits of one map, each in its own thread: a visitor puts a value at a key and gets the key, in
-//! one transaction. `Visit` is the work of a thread. It promises that, if it got a reply, the last
-//! entries that its caller has seen are those of the visit. What `visit_all` ensures of the history
-//! of the map follows from these promises.
+//! Visits to one map, each in its own thread. In one transaction, a visitor puts a value at a key
+//! and gets the value at this key. `Visit` is the work of a thread. It promises that if it got a
+//! reply, the last entries that its caller has seen are those of the visit. From these promises
+//! follows what `visit_all` ensures about the history of the map.
 ghost use Rattle.std.specs.Prelude.{◌≡◌, ◌⊎◌, IfOk, IfErr, length};
 ghost use Rattle.shared_transactions.specs.Keeps.{Keeps};
 ghost use Rattle.txn_words.specs.declared.refusal.Refusal.{Refusal};
@@ -30,7 +30,7 @@ pub struct Visit {
 pub type Answer = Result<Reply, Stop>;
 
 impl Visit {
-    /// Puts the value at the key, then gets the key, and answers the reply.
+    /// Puts the value at the key, then gets the key's value, and returns what it got.
     ///
     /// # Errors
     ///
@@ -65,7 +65,7 @@ impl Visit {
     }
 }
 
-/// Each visitor has its own thread and its own caller.
+/// The work of a visitor, which has its own thread and its own caller.
 impl<R: Wait> Work<R> for Visit {
     type Output = Answer;
 
@@ -76,18 +76,20 @@ impl<R: Wait> Work<R> for Visit {
     }
 }
 
-/// Makes a map, has each visitor visit it in its own thread, and closes the map. Answers the map's
-/// core, and an answer to each visit, in the order of the visits. Each visitor that has a reply got
-/// what it put, whatever the others did, and its transaction is committed in the core's history.
+/// Makes a map, lets each visitor visit it in its own thread, and closes the map. Returns the map's
+/// core, and an answer for each visit, in the order of the visits. Each visitor with a reply got
+/// the value that it had put, whatever the other visitors did, and its transaction is committed in
+/// the core's history.
 ///
 /// # Errors
 ///
-/// `NoMemory` if memory is refused, `CallersMissing` only if there are more visits than callers,
-/// `OutOfStep` if the map does not close.
+/// - `NoMemory` if memory is refused.
+/// - `CallersMissing` only if there are more visits than callers.
+/// - `OutOfStep` if the map does not close.
 ///
 /// # Cost
 ///
-/// For each visit a thread, and a transaction that is begun again as long as its stripe is held.
+/// For each visit, a thread, and a transaction that is begun again as long as its stripe is held.
 /// Also the cost of the map's `new` and `close`.
 pub fn visit_all<R: Threads + Wait + Sync>(
     rt: &R,

@@ -10,7 +10,7 @@ own_ancestor : (bucket : ℕ) → IsAncestor bucket bucket
 unfolding ancestor_of
 own_ancestor bucket = record { steps = 0; reached = refl }
 
--- A statement that holds of an option's value holds of `x` if the option is `Some x`.
+-- If an option is `Some x` and a statement holds of the option's value, the statement holds of `x`.
 at_some : {A : Type 0} (P : A → Type 0) (o : Option A) (x : A) → o ≡ Some x → IfSome o P → P x
 at_some {A = A} P o x is holds = subst (λ (o : Option A). IfSome o P) is holds
 

@@ -3,7 +3,7 @@ use Rattle.probe_map.specs.MapAt.{map_of}
 use Rattle.probe_map.specs.Slots.{pairs_of}
 use Rattle.probe_map.proofs.map.put_all.Given as goal
 
--- The keys of the slots from `left` on have been put.
+-- The keys in the slots from `left` on have been put into the map.
 abbrev pub invariant-loop-left : goal.invariant-loop-left
 invariant-loop-left l = record {
   within : l.left ≤ length l.slots;

@@ -10,7 +10,7 @@ returns-in_ok-receipt-in-Ok-clause-ok g c =
     let begun = c.in_ok-begin_anew.ensures.ok in
     (_, _, c.in-Ok.ensures, begun.1, run _ _ _ _ _ _ _ begun.0 kept.goes_on c.in_ok-receipt-in-Ok.ensures.ok)
 
--- The commit was refused.
+-- The case in which the commit was refused.
 pub returns-in_err-receipt-in-Ok-clause-failed : goal.returns-in_err-receipt-in-Ok-clause-failed
 returns-in_err-receipt-in-Ok-clause-failed g c =
     let kept = c.requires.keeps _ _ _ c.in-Ok.ensures in
@@ -19,7 +19,7 @@ returns-in_err-receipt-in-Ok-clause-failed g c =
     let p = err_from_is_err_and on.result on.ensures.1 in
     rw (p.1, p.2) (failed_try _ _ _ _ _ _ _ _ _ c.in_ok-begin_anew.ensures.ok.0 c.in-Ok.ensures ended.stopped kept.goes_on ended.err)
 
--- The work failed.
+-- The case in which the work failed.
 pub returns-in-Err-clause-failed : goal.returns-in-Err-clause-failed
 returns-in-Err-clause-failed g c =
     let kept = c.requires.keeps _ _ _ c.in-Err.ensures in

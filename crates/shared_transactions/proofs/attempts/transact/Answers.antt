@@ -8,7 +8,7 @@ use Rattle.shared_transactions.proofs.attempts.transact.Goals as goal
 pub loop-round-init : goal.loop-round-init
 loop-round-init g c = record { same_token = refl; undone = undone_same _; within = omega arith; tries = refl }
 
--- The try found a stripe held.
+-- The case in which the try found a stripe held.
 pub loop-round-preserved : goal.loop-round-preserved
 loop-round-preserved g c =
     let busy : is_busy c.attempt-outcome.result ≡ true = sym c.found_busy.ensures ∙ c.if-not-found_busy.false in
@@ -20,7 +20,7 @@ loop-round-preserved g c =
       tries = one_more _ _ _ _ _ _ c.attempt-outcome.result busy so_far.tries c.attempt-outcome.ensures.failed;
     }
 
--- The try found no stripe held.
+-- The case in which the try found no stripe held.
 pub returns-then-not-found_busy-clause-ok : goal.returns-then-not-found_busy-clause-ok
 returns-then-not-found_busy-clause-ok g c =
     let so_far = c.loop-round.invariant in
@@ -32,7 +32,7 @@ returns-then-not-found_busy-clause-tries g c =
     let so_far = c.loop-round.invariant in
     gives_up _ _ _ _ _ _ _ c.attempt-outcome.result so_far.within (λ busy. absurd (false≢true (sym free ∙ busy))) so_far.tries so_far.undone c.attempt-outcome.ensures.failed
 
--- The last try.
+-- The case in which the try is the last.
 pub returns-clause-ok : goal.returns-clause-ok
 returns-clause-ok g c =
     let so_far = c.loop-round.invariant in

@@ -14,7 +14,7 @@ remove-requires g c =
     let as_many : length c.in_ok-map.passes.items ≡ c.args.limits.callers = ap length passes.are ∙ length-map-range_with_len (new_ticket c.args.limits passes.words) 0 c.args.limits.callers in
     omega (arith, as_many, c.requires.few, c.len.ensures, c.args.works.ok.0, c.in_ok-map.passes.ok.0)
 
--- The pairs were not put.
+-- The case in which the pairs were not put.
 pub returns-in_err-refill-clause-err : goal.returns-in_err-refill-clause-err
 returns-in_err-refill-clause-err g c =
     let place : c.len.result ≡ length c.args.works.items = omega (arith, c.len.ensures, c.args.works.ok.0) in

@@ -10,8 +10,8 @@ none_long : (es : List Entry) → length es ≡ 0 → es ≡ []
 none_long [] none = refl
 none_long (e ∷ es) none = absurd (omega arith)
 
--- `second` is a beginning of `one`, and `one` of `two`. If `second` and `two` have the same entries
--- of `b`, then `one` has exactly these entries of `b`.
+-- If `one` begins with `second`, `two` begins with `one`, and `two` has the same entries of `b` as
+-- `second`, then `one` has the same entries of `b` too.
 none_between : (b : ℕ) (second one two : List Entry) → IsPrefix second one → IsPrefix one two → own b two ≡ own b second → own b one ≡ own b second
 none_between b second one two begins within same =
     let parts : own b one ≡ own b second ++ own b begins.0 = ap (own b) (sym begins.1) ∙ own-append b second begins.0 in

@@ -43,7 +43,8 @@ abbrev stayed : Stays ended.signature.params ended.kept
 stayed = (stay_dropped (mut_ref_to (0 ∷ []) tt (plain (λ _. Row))) no, tt)
 
 module _ {M : Type 1} {𝓤 : Ura M} (𝓛 : Logic 𝓤) (d : Row.Denot) (rb ro : ℕ) (heap : Global) (b o : ℕ) where
-  -- All but the member: the right to free its block, and the pointer's own memory.
+  -- Everything except the member: the right to free the member's block, and the pointer's own
+  -- memory.
   abbrev Rest : Fml
   Rest = fsep (ghosts.dealloc_token heap (bare (lone member.the_row.mir)) (block_ptr b o)) (cell_at full_share Row.mir (word (block_ptr b o) ∷ []) rb ro)
 

@@ -20,8 +20,8 @@ use Rattle.bucket_table.proofs.buckets.Buckets.link_at.Goals as goal
 own_split : (l : Listing) (helpers : List Helper) (helper bucket : ℕ) (cursor : Cursor) → All (IsHelperHome l) helpers → slice_get helpers helper ≡ Some (Seeking bucket cursor) → at_of cursor ≡ dummy_at bucket
 own_split l helpers helper bucket cursor home had = (helper_found (IsHelperHome l) helpers helper (Seeking bucket cursor) home had).1
 
--- If the cursor of a bucket's dummy finds no node, that dummy belongs right behind the cursor's
--- first node.
+-- If a cursor for a bucket's dummy finds no node, the position of that dummy is right after the
+-- cursor's first node.
 room : (l : Listing) (cursor : Cursor) (bucket : ℕ) (found : Option ℕ) → at_of cursor ≡ dummy_at bucket → found ≡ None → Finds l cursor found → IsVacant l.nodes (pred_of cursor) (dummy_at bucket)
 room l cursor bucket found sought is finds =
     let P : Option ℕ → Type 0 = Finds l cursor in
@@ -36,13 +36,13 @@ link_dummy-requires c =
 pub set_helper-requires-in-Ok-None-clause-there : goal.set_helper-requires-in-Ok-None-clause-there
 set_helper-requires-in-Ok-None-clause-there c = slice_get_within _ _ _ c.requires.had
 
--- If the cursor of a bucket's dummy finds a node, the node is that dummy.
+-- If a cursor for a bucket's dummy finds a node, the node is that dummy.
 there : (l : Listing) (cursor : Cursor) (bucket dummy : ℕ) (found : Option ℕ) → bucket < 2 ^ 32 → IsKeyed l.nodes → at_of cursor ≡ dummy_at bucket → found ≡ Some dummy → Finds l cursor found → IsDummyAt l.nodes dummy bucket
 there l cursor bucket dummy found fits keyed sought is finds =
     let P : Option ℕ → Type 0 = Finds l cursor in
     there_dummy l cursor bucket dummy fits keyed sought (subst P is finds)
 
--- If the cursor of a bucket's dummy finds no node, that dummy is not linked.
+-- If a cursor for a bucket's dummy finds no node, that dummy is not linked.
 none : (l : Listing) (cursor : Cursor) (bucket : ℕ) (found : Option ℕ) → at_of cursor ≡ dummy_at bucket → found ≡ None → Finds l cursor found → has_dummy l.nodes bucket ≡ false
 none l cursor bucket found sought is finds =
     let P : Option ℕ → Type 0 = Finds l cursor in

@@ -11,7 +11,7 @@ use Rattle.history_check.specs.Logs.{log_entered}
 use Rattle.history_check.specs.Callers.{seat_of}
 use Rattle.history_check.proofs.caller.Caller.enter.Goals as goal
 
--- If there is a seat, it counts as many changes as the log has.
+-- If there is a seat, its number of standing changes is the length of the log.
 abbrev Counted : Option Seat → List (ℕ × Option ℕ) → Type 0
 Counted None log = Unit {0}
 Counted (Some s) log = length log ≡ s.standing

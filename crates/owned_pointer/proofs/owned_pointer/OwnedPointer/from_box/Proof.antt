@@ -62,8 +62,8 @@ from_box_spec {M = M} 𝓤 𝓛 𝓜 𝓡 wired T L lets_go gone =
     qed 𝓛 (((‵ (flft κ q) ⊛ ‵ ftrue) ⊛ ‵ (owns (types_at S.signature.params z.0.0) z.0.3 z.0.4)) ∷ raw ((c z.0.0 z.0.3).requires z.1) ∷ []) ∵
     move ! (1 ∷ []) $ use1 𝓛 (raw (fact 𝓤 (κ ⊑ T.lives)) ⊛ ‵ ftrue) (id⊢ 𝓤 _) $ split ! $ heard ! (κ ⊑ T.lives) (λ lives. drop ! $
     split ! $ split ! $ move ! (0 ∷ 2 ∷ []) $ move ! (1 ∷ []) $ fsplit ! $ box_out E ! v z.0.4.0 (λ b o h there spelled fits. box_in E ! v b o v.value there refl $
-    -- The resources at this point, in order: the box, an empty one that ends the parameters, the
-    -- token, and an empty one that ends the tokens.
+    -- The resources at this point, in order: the box, an empty resource that ends the parameters,
+    -- the token, and an empty resource that ends the tokens.
     let w : Val = form.word E h b o in let typed = form.box_typed E h b o fits in
     let k = triple_of 𝓛 (into_raw.signature T the_heap.row the_heap.g the_heap.d glue lets_go) (into_raw.spec T the_heap.row the_heap.g the_heap.d glue lets_go 𝓛 𝓜.mem 𝓡.returns) in
     let y : k.Ghost = (((κ, (κ, tt)), (Share.left q, (Share.right q, tt)), tt, (v, tt), (w ∷ [], tt)), tt) in
@@ -81,11 +81,11 @@ from_box_spec {M = M} 𝓤 𝓛 𝓜 𝓡 wired T L lets_go gone =
     await ! tt $ pick ! (λ r. split ! $ move ! (1 ∷ []) $ pick ! (λ ls. split ! $ drop ! $
     in_a_block ! r (λ p. box_owns (the_heap.g.dealloc_token v.alloc) (param 0 T) p v.value) (fst∗ 𝓤 (never 𝓤) (sem 𝓛 (the_heap.g.dealloc_token v.alloc (bare (layout T)) null_ptr))) (λ b' o' here.
     move ! (1 ∷ []) $ split ! $ move ! (1 ∷ []) $ feq_l ! (λ is.
-    -- The resources at this point, in order: the tokens, the block, and an empty one that ends the
-    -- tokens.
+    -- The resources at this point, in order: the tokens, the block, and an empty resource that ends
+    -- the tokens.
     lands_as ! (ap only (is ∙ ap (λ (p : Ptr). ptr_val p ∷ []) here)) refl (tt, tt) $ sets ! (agg ! (and_then ! (get ! refl) (no_more !))) refl (tt, (tt, tt)) $
     split3 ! $ use2 𝓛 (‵ (flft κ q)) (𝓛.lfts.lft_join κ q) $ move ! (2 ∷ []) $ makes_pointer (param 0 T) ! v.alloc b' o' v.value $
     use0 𝓛 (raw (fact 𝓤 (v.value ≡ v.value))) (fact_i 𝓤 (v.value ≡ v.value) (emp 𝓤) refl) $ nothing ! $ nothing ! $ fjoin ! $ move ! (3 ∷ 4 ∷ []) $ join ! $
-    -- The resources at this point, in order: the token, an empty one for the box, what is ensured,
-    -- and the pointer.
+    -- The resources at this point, in order: the token, an empty resource for the box, what the
+    -- contract ensures, and the pointer.
     returns ! (look_at ! 0 refl) $ free_all ! refl $ keep ! (0 ∷ 1 ∷ 3 ∷ 2 ∷ []) $ by ! (leaves 𝓛 S hs c z (word (block_ptr b' o')) (record { at = block_ptr b' o'; value = v.value }) (tt, tt) (tt, tt)))))))))))

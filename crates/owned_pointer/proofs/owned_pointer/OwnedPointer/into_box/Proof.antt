@@ -60,8 +60,8 @@ into_box_spec {M = M} 𝓤 𝓛 𝓜 𝓡 wired T L lets_go gone =
     move ! (1 ∷ []) $ use1 𝓛 (raw (fact 𝓤 (κ ⊑ T.lives)) ⊛ ‵ ftrue) (id⊢ 𝓤 _) $ split ! $ heard ! (κ ⊑ T.lives) (λ lives. drop ! $
     split ! $ split ! $ move ! (2 ∷ []) $ fsplit ! $ opens_pointer (param 0 T) ! v z.0.4.0 (λ freed b o here spelled.
     move ! (1 ∷ []) $ fsplit ! $ handle_tells the_heap ! a z.0.4.1.0 (λ h handed fits.
-    -- The resources at this point, in order: the handle, an empty one that ends the parameters, the
-    -- block, the token, and an empty one that ends the tokens.
+    -- The resources at this point, in order: the handle, an empty resource that ends the
+    -- parameters, the block, the token, and an empty resource that ends the tokens.
     let w : Val = word (block_ptr b o) in let us : List Val = w ∷ h ∷ [] in let B : RattleType = form.B E in
     let k = triple_of 𝓛 (from_raw.signature T the_heap.row the_heap.g the_heap.d glue) (from_raw.spec T the_heap.row the_heap.g the_heap.d glue 𝓛 𝓜.mem 𝓡.returns) in
     let y : k.Ghost = (((κ, (κ, tt)), (Share.left q, (Share.right q, tt)), tt, (a, (block_ptr b o, tt)), (h ∷ [], (vptr b o ∷ [], tt))), v.value) in
@@ -79,13 +79,13 @@ into_box_spec {M = M} 𝓤 𝓛 𝓜 𝓡 wired T L lets_go gone =
     calls_at_last ! (fm 𝓛 𝓜 𝓡) k (met 𝓤 𝓛 𝓜 𝓡 (code.calls-std_alloc::boxed::Box::from_raw 𝓡.env wired) T the_heap.row L the_heap.laws the_heap.g the_heap.d glue frees lets_heap_go) y (and_then ! (get ! refl) (and_then ! (get ! refl) (no_more !))) (λ u.
     use1 𝓛 (later (some (λ (r : B.Denot). ((‵ (flft κ (Share.left q)) ⊛ ‵ (flft κ (Share.right q)) ⊛ ‵ ftrue) ⊛ ‵ (B.own_val r (u ∷ []))) ⊛ some (λ (ls : Lasts Called y.0.0 y.0.3). ‵ (lasts Called y.0.0 y.0.3 ls) ⊛ (raw (fact 𝓤 (r.value ≡ v.value)) ⊛ raw (fact 𝓤 (r.alloc ≡ a))))))) (id⊢ 𝓤 (k.post y u)) $
     await ! tt $ pick ! (λ r. split ! $ move ! (1 ∷ []) $ pick ! (λ ls. split3 ! $ drop ! $
-    -- The resources at this point, in order: the fact about the box's value, the fact about its
-    -- allocator, the tokens with the box, and an empty one that ends the tokens.
+    -- The resources at this point, in order: the fact about the box's value, the fact about the
+    -- box's allocator, the tokens with the box, and an empty resource that ends the tokens.
     move ! (2 ∷ []) $ split ! $ split3 ! $ use2 𝓛 (‵ (flft κ q)) (𝓛.lfts.lft_join κ q) $ move ! (2 ∷ []) $
     box_out E ! r (u ∷ []) (λ b' o' h' there made fits'. box_in E ! r b' o' r.value there refl $ rewrite ! 0 (λ (xs : List Val). ‵ (B.own_val r xs)) (sym made) refl $
     let good : Good (layout B) u = subst (Good (layout B)) (sym (ap only made)) (form.box_typed E h' b' o' fits') in
     lands_last ! refl good $ exec ! 𝓣.C 𝓣.Λ Ev (after 2 fn.body) (at_ret Ev Post) $ sets ! (of_opd ! (get ! refl)) refl good $
     nothing ! $ nothing ! $ fjoin ! $ nothing ! $ fjoin ! $ move ! (2 ∷ 3 ∷ []) $ join ! $
-    -- The resources at this point, in order: the token, an empty one for the parameters, the box,
-    -- and the fact about its value.
+    -- The resources at this point, in order: the token, an empty resource for the parameters, the
+    -- box, and the fact about the box's value.
     returns ! (look_at ! 0 refl) $ free_all ! refl $ keep ! (0 ∷ 1 ∷ 2 ∷ 3 ∷ []) $ by ! (leaves 𝓛 S hs c z u r (tt, (tt, tt)) (tt, (tt, tt))))))))))))

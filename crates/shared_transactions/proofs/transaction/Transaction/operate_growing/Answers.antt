@@ -7,7 +7,7 @@ use Rattle.shared_transactions.proofs.transaction.Transaction.operate_growing.Go
 pub returns-in_err-grow-clause-keeps : goal.returns-in_err-grow-clause-keeps
 returns-in_err-grow-clause-keeps g c = keeps_on _ _ _ c.in_ok-reply.ensures.keeps c.in_err-grow.ensures.keeps
 
--- The operation was done, but the growth fell out of step.
+-- The case in which the operation was done, but growing the table was refused as `OutOfStep`.
 pub returns-in_err-grow-clause-stopped : goal.returns-in_err-grow-clause-stopped
 returns-in_err-grow-clause-stopped g c =
     let on = c.from_residual-in_err-grow in

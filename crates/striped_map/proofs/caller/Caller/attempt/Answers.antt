@@ -17,7 +17,7 @@ returns-in_err-value-clause-err g c =
     rw (p.1, p.2) (λ was. failed_by c.args.self.now c.begin.new.self c.work.new.arg2.me.now _ step.2 (Err c.in_err-value.field-0.0) _ step.3 (_, _, c.in_err-value.ensures, refl, refl) kept.goes_on refl
     (subst (IsTakenBack c.work.new.arg2.me.now) (sym ends) c.drop-open.ensures))
 
--- The work went on after a call that was busy, so there was no transaction to commit.
+-- The work continued after a call that was busy, so there was no transaction to commit.
 pub returns-in_err-place-clause-err : goal.returns-in_err-place-clause-err
 returns-in_err-place-clause-err g c =
     let kept = c.requires.keeps _ _ _ c.in_ok-value.ensures in

@@ -1,7 +1,7 @@
 use Rattle.txn_drive.proofs.TurnLemmas.{Rest, left_of}
 use Rattle.txn_drive.proofs.turn.Turn.take.Given as goal
 
--- The steps that are left may be taken. After them the turn is over.
+-- The remaining steps may be taken, and with them the turn is complete.
 abbrev pub invariant-steps : goal.invariant-steps
 invariant-steps g l =
     Rest (λ f s. goal.F-pre g f s) (λ f s answer e. goal.F-step g f s answer e) l.initial.step l.fn.self l.step l.next l.second

@@ -5,7 +5,8 @@ use Rattle.txn_words.specs.declared.refusal.Refusal.{Refusal}
 use Rattle.txn_words.specs.Seats.{first_of, unready_tests}
 use Rattle.txn_words.proofs.seat.Seat.refusal.Goals as goal
 
--- A test that is tried if no other test holds may instead be appended to the list of tests.
+-- Trying one more test after a list of tests gives the same refusal as appending the test to the
+-- list.
 one_more : (tests : List (Bool × Refusal)) (is_bad : Bool) (refusal : Refusal)
     → option_or (first_of tests) (then_some is_bad refusal) ≡ first_of (tests ++ (is_bad, refusal) ∷ [])
 one_more [] true refusal = refl
