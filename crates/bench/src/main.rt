@@ -4,11 +4,11 @@
 //!
 //! Each phase writes one line on standard error: what it did, the number of operations, the time,
 //! and the sum of the operations' answers. By its sum a phase can be compared with another program
-//! that does the same. Three kinds of lines have another number in place of the sum. The shared map
-//! writes the number of commits, the reading of a step file writes the number of bytes, and the
-//! words write the number of granted takes. The striped map writes the number of transactions in a
-//! second, the processor time of one transaction, and the outcomes. Nothing is written on standard
-//! output.
+//! that does the same. Four kinds of lines have another number in place of the sum. The shared map
+//! writes the number of commits, the reading of a step file writes the number of bytes, the words
+//! write the number of granted takes, and the line `nodes dummies` has the number of dummies. The
+//! striped map writes the number of transactions in a second, the processor time of one
+//! transaction, and the outcomes. Nothing is written on standard output.
 //!
 //! The first argument names the part to run: `nodes`, `maps`, `core`, `shared`, `words` or
 //! `striped`. The default, `all`, runs all parts. For all parts but `striped`, the second argument
