@@ -1,7 +1,7 @@
-//! Worked runs on the core: calls in tables, each with its answer, and the pairs and the history
-//! that they leave. A contract says what each answer means, and allows that a call is refused
-//! memory. These runs fail if a call is refused memory. `limits` plays its tables by the functions
-//! here.
+//! Worked runs on the core. Each run has a table of calls with their answers, the pairs at the end,
+//! and sometimes the history. The contracts say what each answer means, but allow a call to fail
+//! for lack of memory. These runs fail in that case. The module `limits` plays its tables with the
+//! functions here.
 mod limits;
 mod pairs;
 mod plain_map;
@@ -18,8 +18,8 @@ use std::process::Abort;
 use std::test::Fail;
 use txn_words::{Answer, Entry, Op, Refusal, Step};
 
-/// A step, by `step` or by `run`, or a plain call. A call for help that succeeds has the answer
-/// `Ready` here, like the step that finds the bucket initialised.
+/// A step that is taken with `step` or with `run`, or a plain call. If a call for help succeeds,
+/// its answer here is `Ready`, like the answer to a step that finds the bucket initialised.
 #[derive(Clone, Copy)]
 enum Call {
     Step(Step),
@@ -83,8 +83,8 @@ fn has_pairs(
     has_map(rt, alloc, core, wanted)
 }
 
-/// Returns twice to the first savepoint, and then to the beginning. In between, a return to the
-/// second savepoint is refused, because that savepoint is gone.
+/// Returns twice to the first savepoint, and then to the beginning. Before the last return, a
+/// return to the second savepoint is refused, because that savepoint no longer exists.
 const SAVEPOINTS: [(Call, Answer); 14] = [
     (Call::Run(Step::Begin(0)), Answer::Began(1)),
     (Call::Op(0, Op::Put(1, 10)), Answer::Done(None)),
@@ -130,7 +130,7 @@ const HISTORY_OF_SAVEPOINTS: [Entry; 25] = [
     Entry::Committed(0, 1),
 ];
 
-/// Each kind of step, by `step`, with the bucket steps of one helper.
+/// Takes each kind of step with `step`. One helper takes the bucket steps.
 const EACH_KIND: [(Call, Answer); 17] = [
     (Call::Step(Step::Begin(0)), Answer::Began(1)),
     (Call::Step(Step::Ask(0, Op::Put(3, 30))), Answer::Asked),
@@ -151,9 +151,9 @@ const EACH_KIND: [(Call, Answer); 17] = [
     (Call::Step(Step::Sweep), Answer::Clean),
 ];
 
-/// Plain aborts. An abort is refused if there is no transaction, if there is no such caller, and
-/// while the caller goes back to a level. If the caller already leaves to the end, after a busy
-/// operation or after a step `abort`, the plain abort takes the steps that are left.
+/// Plain aborts. An abort is refused if the caller has no transaction, if there is no such caller,
+/// and while the caller returns to a level. If the caller is already aborting, after a busy
+/// operation or after the step `Abort`, the plain abort takes the remaining steps.
 const ABORTS: [(Call, Answer); 15] = [
     (Call::Abort(0), Answer::Refused(Refusal::NotOpen)),
     (Call::Abort(3), Answer::Refused(Refusal::NoSuchCaller)),
@@ -198,8 +198,8 @@ const SWEEPS_AND_CURSORS: [(Call, Answer); 20] = [
     (Call::Run(Step::InitLink(0)), Answer::Linked),
 ];
 
-/// The transaction of `examples/keys_of_64_bits.json`, made by calls and committed. A `PutIf` that
-/// expects another value puts nothing.
+/// The transaction of `examples/keys_of_64_bits.json`, made with calls and committed. A `PutIf`
+/// that expects another value puts nothing.
 const WIDE_KEYS: [(Call, Answer); 9] = [
     (Call::Step(Step::Begin(0)), Answer::Began(1)),
     (
@@ -221,7 +221,7 @@ const WIDE_KEYS: [(Call, Answer); 9] = [
     (Call::Step(Step::Commit(0)), Answer::Committed(1)),
 ];
 
-/// The pairs that `WIDE_KEYS` leaves: keys that share a split key are in rising order.
+/// The pairs after `WIDE_KEYS`. Keys that share a split key are in rising order.
 const WIDE_PAIRS: [(u64, u64); 4] = [
     (2, 20),
     (1, 12),
@@ -229,7 +229,7 @@ const WIDE_PAIRS: [(u64, u64); 4] = [
     (18_446_744_073_709_551_615, 7),
 ];
 
-/// The transaction of `WIDE_KEYS`, made by steps and aborted by steps. Five changes are taken back.
+/// The transaction of `WIDE_KEYS`, made and aborted with steps. Five changes are taken back.
 const WIDE_KEYS_ABORTED: [(Call, Answer); 34] = [
     (Call::Step(Step::Begin(0)), Answer::Began(1)),
     (
@@ -285,7 +285,8 @@ const WIDE_KEYS_ABORTED: [(Call, Answer); 34] = [
     (Call::Step(Step::Act(0)), Answer::Aborted),
 ];
 
-/// With half keys, every operation and help refuse keys from 2^63 on.
+/// If a core takes only half keys, every operation and every call for help with a key of 2^63 or
+/// more is refused.
 const HALF_KEYS: [(Call, Answer); 8] = [
     (Call::Step(Step::Begin(0)), Answer::Began(1)),
     (
@@ -318,8 +319,8 @@ const HALF_KEYS: [(Call, Answer); 8] = [
     ),
 ];
 
-/// A run on a new core of two buckets: the number of callers, whether only half keys are taken, the
-/// calls, the pairs that are left, and the wanted history, if one is wanted.
+/// A run on a new core of two buckets: the number of callers, whether the core takes only half
+/// keys, the calls, the pairs at the end, and the expected history, if the run has one.
 #[derive(Drop)]
 struct Run {
     callers: u64,
@@ -392,7 +393,7 @@ fn core_in(rt: &impl Abort, alloc: Global, run: &Run) -> Core {
     core_with(rt, alloc, limits)
 }
 
-/// Checks that the history is the wanted one, if one is wanted.
+/// If a history is expected, checks that the core has this history.
 fn has_history(rt: &impl Abort, core: &Core, wanted: Option<&'static [Entry]>) {
     if let Some(history) = wanted {
         assert!(rt; is_history(core, history));
@@ -427,17 +428,17 @@ fn begin(rt: &impl Abort, core: &mut Core) -> Result<(), Fail> {
     step_is(rt, core, Step::Begin(0), Answer::Began(1))
 }
 
-/// A core of one caller, with 8 stripes and at most 8 buckets.
+/// A core for one caller, with 8 stripes and at most 8 buckets.
 fn small_core(rt: &impl Abort, alloc: Global) -> Core {
     core_of(rt, alloc, 1)
 }
 
-/// A core of one caller, with 64 stripes and at most 65,536 buckets.
+/// A core for one caller, with 64 stripes and at most 65,536 buckets.
 fn large_core(rt: &impl Abort, alloc: Global) -> Core {
     core_with(rt, alloc, limits_of(rt, 1, 64, 65_536))
 }
 
-/// Caller 0 takes back its newest change, the put of `key`: the lower keys are left.
+/// Caller 0 takes back its newest change, which is the put of `key`. Only the lower keys remain.
 fn undo_newest(rt: &impl Abort, alloc: Global, core: &mut Core, key: u64) -> Result<(), Fail> {
     step_is(rt, core, Step::Seek(0), Answer::Placed)?;
     step_is(rt, core, Step::Act(0), Answer::Undone)?;
@@ -481,17 +482,18 @@ fn put_and_undo_nine(rt: &impl Abort, alloc: Global, core: &mut Core) -> Result<
     has_pairs(rt, alloc, core, &[])
 }
 
-/// Takes back nine changes of one transaction. The caller's log itself has places for eight. Each
-/// step back takes the newest key out, and leaves the earlier keys.
+/// Takes back nine changes of one transaction. Eight of them fit into the caller's log without an
+/// allocation. Each change that is taken back removes the newest key, and the earlier keys remain.
 #[test]
 fn nine_undone_newest_first(rt: HostRuntime) -> Result<(), Fail> {
     let alloc = rt.alloc();
     put_and_undo_nine(&rt, alloc, &mut small_core(&rt, alloc))
 }
 
-/// Steps, each with the number of entries owed after it. Two are owed for an open transaction, and
-/// one for each change that stands. A put that waits owes two more, and a get that waits owes one
-/// more. On the way to a level one more is owed, and on the way to the end one less.
+/// Steps, each with the number of entries owed after it. A caller with an open transaction owes two
+/// entries, and one more for each change that it has not taken back. While a put is unfinished, its
+/// caller owes two more. While a get is unfinished, its caller owes one more. A caller owes one
+/// more while it returns to a level, and one less while it aborts.
 static OWED: [(Step, usize); 16] = [
     (Step::Begin(0), 2),
     (Step::Ask(0, Op::Put(1, 10)), 4),
@@ -524,9 +526,9 @@ fn owed_entries(rt: HostRuntime) -> Result<(), Fail> {
     owed_are(&rt, &mut core_of(&rt, rt.alloc(), 2), &OWED)
 }
 
-/// Each row has a key, the table's size after the call for help with the key, and the key's bucket.
-/// The call doubles a table with more than two keys for each bucket, and initialises the key's
-/// bucket.
+/// Each row has a key, the table's size after a call for help with this key, and the key's bucket.
+/// If the table has more than two keys for each bucket, the call doubles the table. Then it
+/// initialises the key's bucket.
 static HELPED: [(u64, u32, u64); 9] = [
     (0, 2, 0),
     (1, 2, 1),
@@ -539,7 +541,7 @@ static HELPED: [(u64, u32, u64); 9] = [
     (8, 8, 0),
 ];
 
-/// A caller helps for a key, with this result.
+/// A caller calls for help with a key, and the call must have this result.
 fn help_is(
     rt: &impl Abort,
     core: &mut Core,
@@ -550,8 +552,8 @@ fn help_is(
     assert_eq!(rt; helped, wanted, "for {caller_and_key:?}");
 }
 
-/// Caller 0 begins, puts keys, and helps after each put. Help by caller 1 is refused, since there
-/// is no helper 1.
+/// Caller 0 begins, puts keys, and calls for help after each put. A call for help by caller 1 is
+/// refused, since there is no helper 1.
 fn helped_are(rt: &impl Abort, core: &mut Core, rows: &[(u64, u32, u64)]) -> Result<(), Fail> {
     begin(rt, core)?;
     for (key, size, bucket) in rows {
@@ -564,7 +566,7 @@ fn helped_are(rt: &impl Abort, core: &mut Core, rows: &[(u64, u32, u64)]) -> Res
     Ok(())
 }
 
-/// Caller 0 puts this number of keys and helps before each.
+/// Caller 0 puts this number of keys, and calls for help before each put.
 fn put_helped(rt: &impl Abort, core: &mut Core, keys: u64) -> Result<(), Fail> {
     for key in 0..keys {
         help_is(rt, core, (0, key), Ok(()));
@@ -573,8 +575,8 @@ fn put_helped(rt: &impl Abort, core: &mut Core, keys: u64) -> Result<(), Fail> {
     Ok(())
 }
 
-/// Puts 30,000 keys, with help before each put, so that a seek begins at the bucket of its key.
-/// Without help each seek would walk over all keys.
+/// Puts 30,000 keys. A call for help before each put ensures that a seek begins at the bucket of
+/// its key. Without help, each seek would walk over all keys.
 fn helped_table_stays_fast(rt: &impl Abort, core: &mut Core) -> Result<(), Fail> {
     begin(rt, core)?;
     put_helped(rt, core, 30_000)?;
@@ -583,7 +585,7 @@ fn helped_table_stays_fast(rt: &impl Abort, core: &mut Core) -> Result<(), Fail>
     Ok(())
 }
 
-/// A core of few buckets that grows with help.
+/// Lets the table of a small core grow with help.
 fn grow_with_help(rt: &impl Abort, alloc: Global) -> Result<(), Fail> {
     helped_are(rt, &mut small_core(rt, alloc), &HELPED)
 }

@@ -1,30 +1,30 @@
-//! The calls of a core, each in a function without a contract, so that a test has only its own
-//! safety to prove. All modules that run a core share them, so each call is proved once. If the
-//! contract of a call excludes stripes that are words, its function first checks that the stripes
-//! are not words, and the test fails if they are.
+//! The calls of a core. Each call is made in a function without a contract, so that a test has only
+//! its own safety to prove. All modules that run a core share these functions, so each call is
+//! proved once. Some calls require that the stripes are not words. Their functions check this
+//! first, and the test fails if the stripes are words.
 use boost_core::Core;
 use std::alloc::{AllocError, Global};
 use std::process::Abort;
 use std::test::Fail;
 use txn_words::{Answer, Entry, Limits, Op, Refusal, SmallEntry, Step, Unpacked};
 
-/// Limits of these numbers that take every key.
+/// Limits with these numbers of callers, stripes and buckets. The limits take every key.
 pub(crate) fn limits_of(rt: &impl Abort, callers: u64, stripes: u64, buckets: u64) -> Limits {
     Limits::new(callers, stripes, buckets).expect(rt, "limits in range")
 }
 
-/// A core of this number of callers, with 8 stripes and at most 8 buckets.
+/// A core for this number of callers, with 8 stripes and at most 8 buckets.
 pub(crate) fn core_of(rt: &impl Abort, alloc: Global, callers: u64) -> Core {
     core_with(rt, alloc, limits_of(rt, callers, 8, 8))
 }
 
-/// A core of these limits.
+/// A core with these limits.
 pub(crate) fn core_with(rt: &impl Abort, alloc: Global, limits: Limits) -> Core {
     core_if_made(alloc, limits).expect(rt, "a core")
 }
 
-/// A core of these limits, made at a second try if memory is refused at the first. `None` if memory
-/// is refused twice.
+/// A core with these limits. If memory is refused, tries once more. Returns `None` if memory is
+/// refused twice.
 pub(crate) fn core_if_made(alloc: Global, limits: Limits) -> Option<Core> {
     match Core::new(alloc, limits) {
         Ok(core) => Some(core),
@@ -32,7 +32,7 @@ pub(crate) fn core_if_made(alloc: Global, limits: Limits) -> Option<Core> {
     }
 }
 
-/// Takes a step. If stripes are words, a step that asks for an operation fails the test.
+/// Takes a step. If the step asks for an operation and the stripes are words, the test fails.
 pub(crate) fn take_step(core: &mut Core, step: Step) -> Result<Answer, Fail> {
     if core.words() && matches!(step, Step::Ask(..)) {
         return Err("stripes are words".into());
@@ -81,7 +81,7 @@ pub(crate) fn abort(core: &mut Core, caller: u64) -> Answer {
     core.abort(caller)
 }
 
-/// Helps the table to grow for a key.
+/// A caller's call for help with a key, which may grow the table.
 pub(crate) fn help(core: &mut Core, caller: u64, key: u64) -> Result<(), Refusal> {
     core.help(caller, key)
 }
@@ -101,7 +101,7 @@ pub(crate) fn trace_of(core: &Core) -> &[SmallEntry] {
     core.trace()
 }
 
-/// Whether the history is this one.
+/// Returns true if the core's history is `wanted`.
 pub(crate) fn is_history(core: &Core, wanted: &[Entry]) -> bool {
     Unpacked::new(trace_of(core)).eq(wanted.iter().copied())
 }
@@ -111,7 +111,7 @@ pub(crate) fn pairs_of(alloc: Global, core: &Core) -> Result<Vec<(u64, u64)>, Al
     core.regular_list(alloc)
 }
 
-/// Checks that the map, too, has exactly these pairs.
+/// Checks that the core's map has exactly these pairs.
 pub(crate) fn has_map(
     rt: &impl Abort,
     alloc: Global,

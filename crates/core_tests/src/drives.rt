@@ -1,11 +1,13 @@
-//! Drives of calls, turn by turn, without a core: a row has the steps of a call, the answers that
-//! its drive is told, and its end. The contracts say that a drive follows `specs/Drives.antt` of
-//! `txn_drive`. The rows were made by hand and test what that definition means.
+//! Tests that run drives of calls turn by turn, without a core. A row has the steps of a call, the
+//! answers that the call's drive is given, and the drive's end. The contracts say that a drive
+//! follows `specs/Drives.antt` of `txn_drive`. The rows were made by hand and test what the
+//! definitions in that file mean.
 use std::process::Abort;
 use txn_drive::{Call, Drive, End, Turn};
 use txn_words::{Answer, Limits, Op, Refusal, Step};
 
-/// The drive of a caller's call, with limits that take every key or only half keys.
+/// A drive for this caller and this call. Its limits take only half keys if `takes_half_keys` is
+/// true, and every key otherwise.
 fn drive_of(rt: &impl Abort, caller: u64, call: Call, takes_half_keys: bool) -> Drive {
     let limits = Limits::new(64, 64, 64).expect(rt, "limits in range");
     if takes_half_keys {
@@ -15,38 +17,40 @@ fn drive_of(rt: &impl Abort, caller: u64, call: Call, takes_half_keys: bool) -> 
     }
 }
 
-/// The drive's next turn, at a size of the table.
+/// The drive's next turn, when the table has this size.
 fn turn_at(drive: &mut Drive, size: u32) -> Turn {
     drive.turn(size)
 }
 
-/// Tells the drive an answer.
+/// Gives the drive an answer.
 fn tell(drive: &mut Drive, answer: Answer) {
     drive.told(answer);
 }
 
-/// Turns of a drive, and the answers that it is told.
+/// Turns of a drive, and the answers that the drive is given. The size of the table is 4, unless
+/// the variant has a size.
 #[derive(Clone, Copy)]
 enum Turns {
-    /// A turn of this step, which has this answer.
+    /// A turn with only this step, and the answer to the step.
     One(Step, Answer),
-    /// A turn of this step at a size of the table that is not 4.
+    /// A turn with only this step, at this size of the table, and the answer to the step.
     At(u32, Step, Answer),
-    /// Two turns, this number of times. The first is a turn of the first step, a seek, which is
-    /// placed. The second is a turn of the second step, whose position no longer fits.
+    /// Two turns, repeated this number of times. The first turn has the first step, which is a seek
+    /// and has the answer `Placed`. The second turn has the second step, whose answer is `Again`.
     Again(u32, Step, Step),
-    /// A turn of two steps, this number of times, at this size of the table. The answer to the
-    /// first step is `placed`, and the second step has this answer.
+    /// A turn with both steps, repeated this number of times, at this size of the table. The answer
+    /// to the first step is `Placed`. The last field is the answer to the second step.
     Both(u32, u32, Step, Step, Answer),
 }
 
-/// The drive takes a turn of this one step and is told this answer.
+/// The drive takes a turn with only this step, and is given this answer.
 fn takes(rt: &impl Abort, drive: &mut Drive, size: u32, step: Step, answer: Answer) {
     assert_eq!(rt; turn_at(drive, size), Turn::One(step));
     tell(drive, answer);
 }
 
-/// The drive seeks this number of times, and each time the position does not fit.
+/// The drive takes the steps `seek` and `act` this number of times. Each time the position no
+/// longer fits when the drive acts.
 fn takes_again(rt: &impl Abort, drive: &mut Drive, times: u32, seek: Step, act: Step) {
     for _ in 0..times {
         takes(rt, drive, 4, seek, Answer::Placed);
@@ -54,7 +58,7 @@ fn takes_again(rt: &impl Abort, drive: &mut Drive, times: u32, seek: Step, act: 
     }
 }
 
-/// The drive takes this number of turns of two steps.
+/// The drive takes this number of turns with two steps each.
 fn takes_both(rt: &impl Abort, drive: &mut Drive, turns: (u32, u32), both: Turn, answer: Answer) {
     let (times, size) = turns;
     for _ in 0..times {
@@ -75,10 +79,12 @@ fn take_turns(rt: &impl Abort, drive: &mut Drive, turns: Turns) {
     }
 }
 
-/// A caller's call, whether the limits take only half keys, the turns of its drive, and its end.
+/// A caller, its call, whether the limits take only half keys, the turns of the call's drive, and
+/// the drive's end.
 type Row = (u64, Call, bool, &'static [Turns], End);
 
-/// Each drive takes its turns. Then it has ended: its next two turns, at two sizes, both say so.
+/// Each drive takes its turns. Then the drive has ended: the next two turns, at two sizes of the
+/// table, must both be the row's end.
 fn drive_rows(rt: &impl Abort, rows: &[Row]) {
     for (caller, call, takes_half_keys, turns, end) in rows {
         let mut drive = drive_of(rt, *caller, *call, *takes_half_keys);
@@ -171,14 +177,15 @@ const ONE_STEP: [Row; 10] = [
     ),
 ];
 
-/// A put that takes its last two steps in one turn, after 8 positions that did not fit.
+/// The drive of a put. Its position does not fit 8 times. Then its last two steps are taken in one
+/// turn.
 const DRIVE_OF_A_PUT: &[Turns] = &[
     Turns::One(Step::Ask(0, Op::Put(2, 20)), Answer::Asked),
     Turns::Again(8, Step::Seek(0), Step::Act(0)),
     Turns::Both(1, 4, Step::Seek(0), Step::Act(0), Answer::Done(None)),
 ];
 
-/// A turn of two steps that is told `again` is followed by another turn of two steps.
+/// If a turn with two steps has the answer `Again`, the next turn also has two steps.
 const TAKE: &[Turns] = &[
     Turns::One(Step::Ask(1, Op::Take(3)), Answer::Asked),
     Turns::Again(8, Step::Seek(1), Step::Act(1)),
@@ -206,7 +213,7 @@ const BACK: &[Turns] = &[
     Turns::One(Step::Act(2), Answer::Returned(1)),
 ];
 
-/// An abort counts `again` from 0 for each job.
+/// An abort counts the answers `Again` from 0 for each job.
 const ABORT: &[Turns] = &[
     Turns::One(Step::Abort(3), Answer::Leaving),
     Turns::Again(8, Step::Seek(3), Step::Act(3)),
@@ -218,13 +225,13 @@ const ABORT: &[Turns] = &[
     Turns::One(Step::Act(3), Answer::Aborted),
 ];
 
-/// "Nothing to seek" is no answer to the seek of an operation.
+/// The refusal `NothingToSeek` is not a possible answer to the seek of an operation.
 const LOST_GET: &[Turns] = &[
     Turns::One(Step::Ask(0, Op::Get(9)), Answer::Asked),
     Turns::One(Step::Seek(0), Answer::Refused(Refusal::NothingToSeek)),
 ];
 
-/// A return that arrives at another level.
+/// A return to level 2. Its last answer wrongly says that it has returned to level 1.
 const LOST_BACK: &[Turns] = &[
     Turns::One(Step::Back(0, 2), Answer::Leaving),
     Turns::One(Step::Seek(0), Answer::Refused(Refusal::NothingToSeek)),
@@ -298,15 +305,15 @@ const PAST_READY: &[Turns] = &[
     Turns::One(Step::InitSeek(0, 27), Answer::Ready),
 ];
 
-/// A helper goes to the bucket that its key has after its own doubling, although another caller
-/// doubles the table once more.
+/// The helper doubles the table, and another caller then doubles it once more. The helper still
+/// initialises the bucket that its key has after the helper's own doubling.
 const BY_ITS_SIZE: &[Turns] = &[
     Turns::At(2, Step::Double(2), Answer::Doubled(4)),
     Turns::At(8, Step::InitSeek(2, 1), Answer::Ready),
     Turns::At(8, Step::InitSeek(2, 3), Answer::Ready),
 ];
 
-/// A helper counts `again` from 0 for each bucket.
+/// A helper counts the answers `Again` from 0 for each bucket.
 const AGAIN_ANEW: &[Turns] = &[
     Turns::One(Step::Double(4), Answer::Moved(8)),
     Turns::Again(8, Step::InitSeek(1, 2), Step::InitLink(1)),
@@ -322,14 +329,15 @@ const AGAIN_ANEW: &[Turns] = &[
     Turns::One(Step::InitLink(1), Answer::Refused(Refusal::StampsUsedUp)),
 ];
 
-/// The buckets on the way to bucket 3 are ready.
+/// Bucket 3 and its parent, bucket 1, are ready.
 const TO_BUCKET_3: &[Turns] = &[
     Turns::One(Step::Double(4), Answer::AtLimit),
     Turns::One(Step::InitSeek(0, 1), Answer::Ready),
     Turns::One(Step::InitSeek(0, 3), Answer::Ready),
 ];
 
-/// A helper initialises parents first, so "parent missing" is no answer to its seek.
+/// A helper initialises the parent of a bucket first, so `ParentMissing` is not a possible answer
+/// to its seek.
 const LOST_HELP: &[Turns] = &[
     Turns::One(Step::Double(4), Answer::Light),
     Turns::One(
@@ -338,7 +346,8 @@ const LOST_HELP: &[Turns] = &[
     ),
 ];
 
-/// Helpers. With half keys, help with a key from 2^63 on is refused before any step.
+/// Calls for help. If only half keys are taken, a call with a key of 2^63 or more is refused before
+/// any step.
 const HELPERS: [Row; 10] = [
     (5, Call::Help(3), false, OVER_ANCESTORS, End::Helped),
     (0, Call::Help(0xb01b), false, PAST_READY, End::Helped),
@@ -387,7 +396,8 @@ fn drives_of_helpers(rt: HostRuntime) {
     drive_rows(&rt, &HELPERS);
 }
 
-/// The first two steps that a turn takes, each with this answer.
+/// Takes a turn, in which each step has this answer. Returns the first two steps that the turn
+/// takes.
 fn taken_of(turn: Turn, answer: Answer) -> [Option<Step>; 2] {
     let mut taken = [None, None];
     let mut count = 0;
@@ -401,7 +411,7 @@ fn taken_of(turn: Turn, answer: Answer) -> [Option<Step>; 2] {
     taken
 }
 
-/// A second step is taken only after `placed`.
+/// A turn takes its second step only if the answer to its first step is `Placed`.
 #[test]
 fn second_step_after_placed(rt: HostRuntime) {
     let (seek, act) = (Step::Seek(3), Step::Act(3));

@@ -1,6 +1,6 @@
-//! Histories that are judged by `history_check`, whole and entry by entry. The verdicts on the
-//! worked histories were found by hand. These verdicts, and those on the histories that `generated`
-//! draws from a thousand seeds, are compared with the verdicts of the slow program in `plain`.
+//! Histories that `history_check` judges, as a whole and entry by entry. The verdicts on the worked
+//! histories were found by hand. The module `generated` draws more histories from a thousand seeds.
+//! All verdicts are compared with those of the slow program in `plain`.
 mod generated;
 mod plain;
 
@@ -11,7 +11,7 @@ use std::process::Abort;
 use std::test::Fail;
 use txn_words::{Entry, Holder, Op};
 
-/// The answer of `check`.
+/// The verdict that `check` returns.
 fn checked(
     rt: &impl Abort,
     alloc: Global,
@@ -45,8 +45,8 @@ fn verdict_so_far(checker: &Checker) -> Verdict {
     checker.verdict()
 }
 
-/// The verdict of the plain program on the entries up to this place. `bad` is the first bad entry
-/// of all the entries, if there is one.
+/// The verdict of the plain program on the entries up to the one at `place`. If a rule is broken,
+/// `bad` is the first bad entry in all of the entries.
 fn plain_at(entries: &[Entry], place: usize, bad: Option<(usize, Rule)>) -> Verdict {
     match bad {
         Some(bad) if bad.0 <= place => plain::verdict(entries, Some(bad)),
@@ -89,8 +89,8 @@ fn feed_new(
     }
 }
 
-/// The verdict of the plain program, with which `check` and a checker that is fed entry by entry
-/// must agree.
+/// The verdict of the plain program. Checks that `check` gives the same verdict, and that a checker
+/// that is fed entry by entry agrees after each entry.
 fn judge_once(
     rt: &impl Abort,
     alloc: Global,
@@ -106,7 +106,7 @@ fn judge_once(
     Ok(expected)
 }
 
-/// The verdict, asked for once more if memory is refused.
+/// The verdict of `judge_once`. If memory is refused, tries once more.
 fn judge(
     rt: &impl Abort,
     alloc: Global,
@@ -120,7 +120,7 @@ fn judge(
     }
 }
 
-/// A commit, a change that aborts, and a reader.
+/// A transaction that commits, a transaction whose change is taken back by an abort, and a reader.
 const REPLIES: [Entry; 14] = [
     Entry::Began(0, 1),
     Entry::Asked(0, Op::Put(1, 10)),
@@ -141,7 +141,7 @@ const REPLIES: [Entry; 14] = [
 /// The reply that the reader of `REPLIES` would have if the change had not been taken back.
 const STALE_REPLY: Entry = Entry::Did(0, Some(99));
 
-/// An abort that leaves a change.
+/// An abort that does not take back its transaction's change.
 const NOT_UNDONE: [Entry; 9] = [
     Entry::Began(0, 1),
     Entry::Asked(0, Op::Put(1, 10)),
@@ -163,7 +163,7 @@ const ONE_STRIPE: [Entry; 4] = [
     Entry::Asked(1, Op::Get(9)),
 ];
 
-/// An operation on the stripe of a standing change.
+/// An operation on the stripe of another caller's standing change.
 const ON_A_CHANGE: [Entry; 5] = [
     Entry::Began(0, 1),
     Entry::Asked(0, Op::Put(1, 10)),
@@ -172,10 +172,10 @@ const ON_A_CHANGE: [Entry; 5] = [
     Entry::Asked(1, Op::Get(9)),
 ];
 
-/// A Busy that names a caller that has never begun.
+/// A Busy entry that names a caller that has never begun.
 const BUSY_BY_NOBODY: [Entry; 2] = [Entry::Began(0, 1), Entry::Busy(0, Op::Get(9), 1)];
 
-/// A Busy that names a caller whose transaction has ended.
+/// A Busy entry that names a caller whose transaction has ended.
 const HOLDER_HAS_BEGUN: [Entry; 6] = [
     Entry::Began(0, 1),
     Entry::Asked(0, Op::Put(1, 10)),
@@ -185,10 +185,10 @@ const HOLDER_HAS_BEGUN: [Entry; 6] = [
     Entry::Busy(1, Op::Get(9), 0),
 ];
 
-/// A Busy that names a caller without any entry.
+/// A Busy entry that names a caller without any entry.
 const BUSY_AT_FIRST: [Entry; 2] = [Entry::Began(1, 1), Entry::Busy(1, Op::Get(9), 0)];
 
-/// A reply that no map gives.
+/// A get whose reply is a value that was never put.
 const INVENTED: [Entry; 4] = [
     Entry::Began(0, 1),
     Entry::Asked(0, Op::Get(5)),
@@ -208,7 +208,7 @@ const PUT_IF: [Entry; 8] = [
     Entry::Aborted(0),
 ];
 
-/// `PUT_IF` with two changes taken back.
+/// The transaction of `PUT_IF`, but it takes two changes back, although it made only one.
 const PUT_IF_UNDONE_TWICE: [Entry; 9] = [
     Entry::Began(0, 1),
     Entry::Asked(0, Op::PutIf(1, None, 5)),
@@ -235,8 +235,8 @@ const ONE_SPLIT_KEY: [Entry; 10] = [
     Entry::Committed(0, 1),
 ];
 
-/// A transaction that goes back to its first savepoint, and then tries to go back to the second,
-/// which is gone.
+/// A transaction that goes back to its first savepoint. Then it tries to go back to its second
+/// savepoint, which no longer exists.
 const WITH_SAVEPOINTS: [Entry; 16] = [
     Entry::Began(0, 1),
     Entry::Asked(0, Op::Put(1, 10)),
@@ -259,7 +259,8 @@ const WITH_SAVEPOINTS: [Entry; 16] = [
 /// A history, an entry that replaces one of its entries, the number of stripes, and the verdict.
 type Row = (&'static [Entry], Option<(usize, Entry)>, u64, Verdict);
 
-/// The verdicts if a Busy must name a caller that holds the stripe at that moment (`Holder::Now`).
+/// The verdicts if a Busy entry must name a caller that holds the stripe at that moment
+/// (`Holder::Now`).
 static BY_HOLDERS_OF_NOW: [Row; 19] = [
     // Histories about replies, like `checker_replies` in `crates/txn_trace/proofs/Cases.antt`.
     (
@@ -308,8 +309,8 @@ static BY_HOLDERS_OF_NOW: [Row; 19] = [
             rule: Rule::Locks,
         },
     ),
-    // `holder_has_begun` of `crates/txn_trace/proofs/HolderCases.antt`: its Busy names a caller
-    // that no longer holds the stripe.
+    // `holder_has_begun` of `crates/txn_trace/proofs/HolderCases.antt`. Its Busy entry names a
+    // caller that no longer holds the stripe.
     (
         &HOLDER_HAS_BEGUN,
         None,
@@ -383,8 +384,8 @@ static BY_HOLDERS_OF_NOW: [Row; 19] = [
             running: 2,
         },
     ),
-    // `put_if_history` of `crates/txn_trace/proofs/WideCases.antt`; and a history with a reply that
-    // the map does not give.
+    // `put_if_history` of `crates/txn_trace/proofs/WideCases.antt`, the same history with a wrong
+    // reply, and the same history with two changes taken back.
     (
         &PUT_IF,
         None,
@@ -442,9 +443,10 @@ static BY_HOLDERS_OF_NOW: [Row; 19] = [
     ),
 ];
 
-/// The verdicts if a Busy may name a caller that has begun.
+/// The verdicts if a Busy entry may name any other caller that has begun (`Holder::Begun`).
 static BY_HOLDERS_THAT_HAVE_BEGUN: [Row; 5] = [
-    // `holder_has_begun`; and holders that are the caller itself, or no caller.
+    // `holder_has_begun`, and Busy entries that name the caller itself or a caller that has not
+    // begun.
     (
         &HOLDER_HAS_BEGUN,
         None,
@@ -527,7 +529,7 @@ fn back_at_1() -> &'static [Entry] {
     &WITH_SAVEPOINTS[..15]
 }
 
-/// Checks that the rules have their numbers.
+/// Checks the number of each rule.
 fn rules_have_numbers(rt: &impl Abort) {
     for (rule, number) in &[(Rule::Replies, 1), (Rule::Locks, 2), (Rule::Shape, 3)] {
         assert_eq!(rt; rule.number(), *number);
@@ -559,7 +561,7 @@ fn is_refused(alloc: Global) -> bool {
     Box::new(alloc, 0).is_err()
 }
 
-/// Makes a checker, at a second try if memory is refused at the first. `None` if memory is refused
+/// Makes a checker. If memory is refused, tries once more. Returns `None` if memory is refused
 /// twice.
 fn start_checker(rt: &impl Abort, alloc: Global) -> Option<Checker> {
     for _ in 0..2 {
@@ -571,8 +573,8 @@ fn start_checker(rt: &impl Abort, alloc: Global) -> Option<Checker> {
     None
 }
 
-/// Feeds a checker an entry, and feeds it once more if the entry is refused. Answers whether the
-/// checker took the entry. A refused entry changes nothing.
+/// Feeds a checker an entry. If the entry is refused, the verdict must be unchanged, and the entry
+/// is fed once more. Returns true if the checker accepted the entry.
 fn is_fed(rt: &impl Abort, checker: &mut Checker, entry: &Entry) -> bool {
     let before = verdict_so_far(checker);
     for _ in 0..2 {
@@ -588,9 +590,9 @@ fn is_fed(rt: &impl Abort, checker: &mut Checker, entry: &Entry) -> bool {
     false
 }
 
-/// Ends the feeding of a checker that has taken `taken` entries and was refused memory for the next
-/// entry. Instead of that entry, feeds an entry that no caller may add, which needs no memory. The
-/// verdict must be that this entry, number `taken`, is illegal.
+/// A checker has accepted `taken` entries, and was refused memory for the next entry. Instead of
+/// that entry, feeds the checker an entry that no caller may add, which needs no memory. The
+/// verdict must be that the new entry, which has number `taken`, is illegal.
 fn end_refused(rt: &impl Abort, alloc: Global, checker: &mut Checker, taken: usize) {
     assert!(rt; is_refused(alloc));
     assert!(rt; feed(rt, checker, &Entry::Undone(63)).is_ok());
@@ -612,8 +614,8 @@ fn verdict_at(rows: &[(usize, Verdict)], place: usize) -> Option<Verdict> {
     found
 }
 
-/// Feeds a checker each entry, once more if memory is refused, and compares its verdict after the
-/// entry.
+/// Feeds a checker the entries, and compares its verdict after each entry. An entry that is refused
+/// memory is fed once more. If it is refused again, the feeding ends with `end_refused`.
 fn feed_rows(
     rt: &impl Abort,
     alloc: Global,
@@ -630,7 +632,7 @@ fn feed_rows(
     }
 }
 
-/// Feeds a new checker the entries, if there is memory for one, and tests each verdict.
+/// If there is memory for a checker, feeds a new checker the entries and tests each verdict.
 fn feed_all(rt: &impl Abort, alloc: Global, entries: &[Entry], rows: &[(usize, Verdict)]) {
     if let Some(mut checker) = start_checker(rt, alloc) {
         feed_rows(rt, alloc, &mut checker, entries, rows);
@@ -684,7 +686,8 @@ const OF_STALE_REPLIES: [(usize, Verdict); 6] = [
     ),
 ];
 
-/// Meant to be run with allocations refused: a refused entry changes nothing, and is fed once more.
+/// This test is meant to be run with allocations refused. A refused entry changes nothing, and is
+/// fed once more.
 #[test]
 fn fed_entry_by_entry(rt: HostRuntime) {
     let mut stale = REPLIES;
@@ -710,7 +713,8 @@ const OF_SAVEPOINTS: [(usize, Verdict); 2] = [
     ),
 ];
 
-/// Meant to be run with allocations refused: a refused entry changes nothing, and is fed once more.
+/// This test is meant to be run with allocations refused. A refused entry changes nothing, and is
+/// fed once more.
 #[test]
 fn fed_with_savepoints(rt: HostRuntime) {
     feed_all(&rt, rt.alloc(), &WITH_SAVEPOINTS, &OF_SAVEPOINTS);
@@ -739,7 +743,7 @@ impl Tally {
     }
 }
 
-/// Judges a drawn history, which must be legal. Then spoils the history at one place, and answers
+/// Judges a drawn history, which must be legal. Then spoils the history at one place, and returns
 /// the verdict on the spoiled history.
 fn judge_history(
     rt: &impl Abort,
@@ -755,8 +759,8 @@ fn judge_history(
     judge_once(rt, alloc, history, stripes, holder)
 }
 
-/// Draws a history from the seed and judges it with `judge_history`, which answers the verdict on
-/// the spoiled history.
+/// Draws a history from the seed, and judges it with `judge_history`. Returns the verdict on the
+/// spoiled history.
 fn judge_seed(
     rt: &impl Abort,
     alloc: Global,
@@ -770,7 +774,7 @@ fn judge_seed(
     judge_history(rt, alloc, &mut draws, &mut history, stripes, holder)
 }
 
-/// Judges the history of a seed, once more if memory is refused.
+/// Draws and judges the history of a seed. If memory is refused, tries once more.
 fn judge_drawn(
     rt: &impl Abort,
     alloc: Global,

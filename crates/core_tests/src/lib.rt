@@ -1,4 +1,4 @@
-//! Tests of `txn_words` (the words of transactions), `txn_drive` (drives), `script_worker`
+//! Tests of `txn_words` (the vocabulary of transactions), `txn_drive` (drives), `script_worker`
 //! (workers), `history_check` (the checker that judges histories), `boost_core` (the core) and
 //! `script_mix` (mixes of scripts).
 //!

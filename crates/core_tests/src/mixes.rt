@@ -1,6 +1,7 @@
-//! Workers that take turns as a seed says: the history of each mix, compared with the turns of its
-//! workers. `workers` tests workers without a core or a seed. These tests draw the worker of each
-//! turn for themselves, from the words of the same generator. The turns were written by hand.
+//! Mixes of scripts, in which a seed decides which worker takes the next turn. The history of each
+//! mix is compared with the turns of its workers, which were written by hand. These tests draw the
+//! worker of each turn themselves, with the same generator. The module `workers` tests workers
+//! without a core or a seed.
 use rand_core::SeedableRng;
 use rand_core::utils::NextWord;
 use rand_pcg::Pcg32;
@@ -11,7 +12,7 @@ use std::test::Fail;
 use txn_files::read_scripts;
 use txn_words::{Entry, Unpacked};
 
-/// The generator of this seed.
+/// The generator with this seed.
 fn generator_of(seed: u64) -> Pcg32 {
     Pcg32::seed_from_u64(seed)
 }
@@ -21,7 +22,7 @@ fn next_word_below(words: &mut Pcg32, live: u64) -> u64 {
     u64::from(words.next_word()).checked_rem(live).unwrap_or(0)
 }
 
-/// A drawn place.
+/// Draws a place below `live`. Fails if `live` is 0.
 fn drawn(places: &mut Pcg32, live: u64) -> Result<u64, Fail> {
     if live == 0 {
         return Err("nobody is live".into());
@@ -42,11 +43,11 @@ fn draw_is_the_next_word(rt: HostRuntime) -> Result<(), Fail> {
     Ok(())
 }
 
-/// A worker's turns, one after the other: each has the name of the entry that the turn adds to the
-/// history, or `None` if it adds no entry.
+/// A worker's turns in their order. A turn is the name of the entry that it adds to the history, or
+/// `None` if it adds no entry.
 type Turns = &'static [Option<&'static str>];
 
-/// The turns of two empty scripts: begin, commit.
+/// The turns of two empty scripts. Each script has the turns begin and commit.
 const TWO_EMPTY: Turns = &[
     Some("began"),
     Some("committed"),
@@ -60,8 +61,8 @@ const ONE_EMPTY: Turns = &[Some("began"), Some("committed")];
 /// The turns of a script that aborts: begin, abort, seek, act.
 const ABORT: Turns = &[Some("began"), Some("leave"), None, Some("aborted")];
 
-/// The turns of two scripts that begin with a help with a bad key, which takes no turn: begin,
-/// abort, seek, act.
+/// The turns of two scripts that begin with a `help` action whose key is bad. This action takes no
+/// turn. The turns of each script are begin, abort, seek and act.
 const BAD_HELPS: Turns = &[
     Some("began"),
     Some("leave"),
@@ -73,8 +74,8 @@ const BAD_HELPS: Turns = &[
     Some("aborted"),
 ];
 
-/// The turns of a script that begins with a help with a bad key, and then of a script that is one
-/// put: begin, ask, seek, act, commit.
+/// The turns of two scripts. The first script begins with a `help` action whose key is bad. The
+/// second script is one put, whose turns are begin, ask, seek, act and commit.
 const BAD_HELP_AND_PUT: Turns = &[
     Some("began"),
     Some("leave"),
@@ -100,8 +101,8 @@ fn caller_and_name(entry: &Entry) -> (u64, &'static str) {
     }
 }
 
-/// Takes the turn of a worker drawn from those that have turns left. Answers its number, and the
-/// entry that the turn adds to the history.
+/// Draws one of the workers that still have turns, and takes its next turn. Returns the worker's
+/// number, and the entry that the turn adds to the history.
 fn take_turn(
     words: &mut Pcg32,
     live: &mut Vec<(u64, Turns)>,
@@ -118,7 +119,8 @@ fn take_turn(
     Ok((worker, *name))
 }
 
-/// Reads scripts from a file with this text, mixes them by the seed, and answers the history.
+/// Reads scripts from this text of a script file, mixes them with the seed, and returns the
+/// history.
 fn mixed_history(alloc: Global, seed: u64, scripts: &str) -> Result<Vec<Entry>, Fail> {
     let Ok(work) = read_scripts(alloc, scripts.as_bytes()) else {
         return Err("no scripts".into());
@@ -127,9 +129,9 @@ fn mixed_history(alloc: Global, seed: u64, scripts: &str) -> Result<Vec<Entry>, 
     Ok(Unpacked::new(trace.as_slice()).collect(alloc)?)
 }
 
-/// As long as workers have turns left, draws a place in the list of these workers, which is in
-/// rising order, and takes the turn of the worker at that place. Checks that the turns add exactly
-/// the entries of the history.
+/// Takes turns as long as a worker still has turns. For each turn, draws a place in the list of
+/// these workers, whose numbers rise, and takes the turn of the worker at that place. Checks that
+/// the turns add exactly the entries of the history.
 fn take_turns(
     rt: &impl Abort,
     history: &[Entry],
@@ -151,7 +153,7 @@ fn take_turns(
     Ok(())
 }
 
-/// Mixes scripts by a seed, and checks the turns of the workers.
+/// Mixes scripts with a seed, and checks the turns of the workers.
 fn mixes_so(
     rt: &impl Abort,
     alloc: Global,
@@ -164,7 +166,7 @@ fn mixes_so(
     take_turns(rt, &history, &mut generator_of(seed), &mut live)
 }
 
-/// Scripts, the number of seeds by which they are mixed, and each worker with its turns.
+/// Scripts, the number of seeds with which they are mixed, and each worker with its turns.
 #[derive(Drop)]
 struct Mix {
     scripts: &'static str,
@@ -172,7 +174,7 @@ struct Mix {
     workers: &'static [(u64, Turns)],
 }
 
-/// Two empty scripts beside one that aborts.
+/// Worker 0 runs two empty scripts, and worker 1 runs a script that aborts.
 const BESIDE_AN_ABORT: Mix = Mix {
     scripts: "{\"version\":1,\"workers\":2,\"stripes\":1,\"buckets\":2,\"tries\":0,\
         \"scripts\":[[],[[\"abort\"]],[]]}",
@@ -180,8 +182,8 @@ const BESIDE_AN_ABORT: Mix = Mix {
     workers: &[(0, TWO_EMPTY), (1, ABORT)],
 };
 
-/// The last of three workers has one script fewer than the others. By most seeds it ends first, and
-/// by some seeds it ends later.
+/// The last of three workers has one script fewer than the others. With most seeds this worker ends
+/// first, and with some seeds it ends later.
 const THREE_WORKERS: Mix = Mix {
     scripts: "{\"version\":1,\"workers\":3,\"stripes\":1,\"buckets\":2,\"tries\":0,\
         \"scripts\":[[],[],[],[],[]]}",
@@ -189,8 +191,7 @@ const THREE_WORKERS: Mix = Mix {
     workers: &[(0, TWO_EMPTY), (1, TWO_EMPTY), (2, ONE_EMPTY)],
 };
 
-/// The last of four workers has nothing to do. If the second is the first to end, workers 0 and 2
-/// are left.
+/// The last of four workers has nothing to do. If worker 1 ends first, workers 0 and 2 remain.
 const FOUR_WORKERS: Mix = Mix {
     scripts: "{\"version\":1,\"workers\":4,\"stripes\":8,\"buckets\":8,\"tries\":0,\
         \"scripts\":[[],[],[]]}",
@@ -198,7 +199,7 @@ const FOUR_WORKERS: Mix = Mix {
     workers: &[(0, ONE_EMPTY), (1, ONE_EMPTY), (2, ONE_EMPTY)],
 };
 
-/// An action `help` with a bad key takes no turn. Worker 0 has no other action. Its eight turns
+/// A `help` action whose key is bad takes no turn. Worker 0 has only such actions. Its eight turns
 /// begin and abort the transactions of its two scripts. Worker 1 also puts, and takes nine turns.
 const BAD_HELPS_BESIDE_A_PUT: Mix = Mix {
     scripts: "{\"version\":1,\"workers\":2,\"stripes\":1,\"buckets\":2,\"tries\":0,\
@@ -209,7 +210,7 @@ const BAD_HELPS_BESIDE_A_PUT: Mix = Mix {
     workers: &[(0, BAD_HELPS), (1, BAD_HELP_AND_PUT)],
 };
 
-/// Mixes the scripts by each seed, and checks the turns of the workers.
+/// Mixes the scripts with each seed, and checks the turns of the workers.
 fn mixes_by_each_seed(rt: &impl Abort, alloc: Global, mix: &Mix) -> Result<(), Fail> {
     for seed in 0..mix.seeds {
         mixes_so(rt, alloc, seed, mix.scripts, mix.workers)?;

@@ -1,7 +1,6 @@
 //! Tests of `txn_words`, the vocabulary of transactions: numbers, texts, limits and seats. The
-//! tables were written by hand and test what the definitions in its contracts mean. A contract
-//! allows that a seat is refused room for a savepoint. One test checks that the next try then makes
-//! the room.
+//! tables were written by hand and test what the definitions in its contracts mean. The contracts
+//! allow a seat to refuse room for a savepoint. One test checks that the next try succeeds.
 use std::alloc::{AllocError, Global};
 use std::process::Abort;
 use std::test::Fail;
@@ -110,8 +109,8 @@ fn numbers_and_texts(rt: HostRuntime) -> Result<(), Fail> {
     Ok(())
 }
 
-/// Makes limits of these numbers of callers, stripes and buckets, and answers the numbers that the
-/// limits have.
+/// Makes limits with these numbers of callers, stripes and buckets. Returns the numbers that the
+/// limits report.
 fn numbers_of(callers: u64, stripes: u64, buckets: u64) -> Result<(u64, u64, u64), Refusal> {
     let limits = Limits::new(callers, stripes, buckets)?;
     Ok((
@@ -138,7 +137,7 @@ const OUT_OF_RANGE: [(u64, u64, u64); 10] = [
     (1, 0x1_0000_0001, 8),
 ];
 
-/// A seat of an open transaction.
+/// A seat with an open transaction.
 fn open_seat(rt: &impl Abort, alloc: Global) -> Seat {
     let mut seat = Seat::new(alloc);
     assert!(rt; seat.standing() == 0);
@@ -146,8 +145,8 @@ fn open_seat(rt: &impl Abort, alloc: Global) -> Seat {
     seat
 }
 
-/// The refusals of a get of a key by a seat of an open transaction: by limits that take every key,
-/// and by those that take only half keys.
+/// How a seat with an open transaction refuses a get of this key. The first refusal is for limits
+/// that take every key, and the second for limits that take only half keys.
 fn refusals_of_key(seat: &Seat, key: u64) -> Result<(Option<Refusal>, Option<Refusal>), Refusal> {
     let every = Limits::new(2, 8, 8)?;
     let ask = Step::Ask(0, Op::Get(key));
@@ -157,7 +156,7 @@ fn refusals_of_key(seat: &Seat, key: u64) -> Result<(Option<Refusal>, Option<Ref
     ))
 }
 
-/// Whether the restriction to half keys makes different limits.
+/// Returns true if `half_keys` changes limits that take every key.
 fn are_half_keys_others() -> Result<bool, Refusal> {
     let every = Limits::new(2, 8, 8)?;
     Ok(every.half_keys() != every)
@@ -170,7 +169,8 @@ const KEYS: [(u64, Option<Refusal>); 3] = [
     (0xffff_ffff_ffff_ffff, Some(Refusal::BadKey)),
 ];
 
-/// Checks that limits may have these numbers, or that they may not.
+/// Checks that limits may have these numbers if `are_in_range` is true, and may not have them
+/// otherwise.
 fn limits_are(rt: &impl Abort, rows: &[(u64, u64, u64)], are_in_range: bool) {
     for (callers, stripes, buckets) in rows {
         let numbers = numbers_of(*callers, *stripes, *buckets);
@@ -201,13 +201,13 @@ fn limits_and_keys(rt: HostRuntime) -> Result<(), Fail> {
     Ok(())
 }
 
-/// The key of an operation, and whether it is a change if this is its reply.
+/// The key of an operation, and whether the operation is a change if it has this reply.
 fn key_and_change(op: Op, reply: Reply) -> (u64, bool) {
     (op.key(), op.changes(reply))
 }
 
 /// Operations, each with a reply, the operation's key, and whether the operation is a change if it
-/// has this reply: a `PutIf` is a change if the reply is the value that it expects.
+/// has this reply. A `PutIf` is a change if the reply is the value that it expects.
 const OPERATIONS: [(Op, Reply, u64, bool); 10] = [
     (Op::Put(1, 10), None, 1, true),
     (Op::Take(2), None, 2, false),
@@ -221,7 +221,7 @@ const OPERATIONS: [(Op, Reply, u64, bool); 10] = [
     (Op::PutIf(1, None, 6), Some(4), 1, false),
 ];
 
-/// An entry of each kind, of caller 7.
+/// One entry of each kind, with caller 7.
 const ENTRIES: [Entry; 10] = [
     Entry::Began(7, 1),
     Entry::Asked(7, Op::Get(3)),
@@ -268,8 +268,8 @@ fn save(rt: &impl Abort, seat: &mut Seat) -> Result<(), AllocError> {
     Ok(())
 }
 
-/// Meant to be run with each allocation refused in turn. A refusal leaves the seat unchanged, and
-/// the next try makes room.
+/// This test is meant to be run with each allocation refused in turn. A refusal leaves the seat
+/// unchanged, and the next try succeeds.
 #[test]
 fn savepoints_without_memory(rt: HostRuntime) -> Result<(), Fail> {
     save_nine(&rt, &mut open_seat(&rt, rt.alloc()))

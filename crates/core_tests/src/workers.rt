@@ -1,6 +1,7 @@
 //! Workers of `script_worker` that run scripts, step by step, without a core. The contracts say
-//! that a worker follows `specs/Workers.antt`; the cases were made by hand and test what that
-//! means. Each case is played twice: by `turn` and `told`, and by `take_turn`.
+//! that a worker follows `specs/Workers.antt`. The cases were made by hand and test what the
+//! definitions in that file mean. Each case is played twice: with `turn` and `told`, and with
+//! `take_turn`.
 use script_worker::{Finish, Stage, Worker};
 use std::alloc::{AllocError, Global};
 use std::process::Abort;
@@ -17,8 +18,8 @@ fn scripts_of(alloc: Global, scripts: &[&[Action]]) -> Result<Vec<Script>, Alloc
     Ok(all)
 }
 
-/// The worker with this number, if there are `workers` of them, with limits that take every key or
-/// only half keys.
+/// The worker with this number among `workers` workers. Its limits take only half keys if
+/// `takes_half_keys` is true, and every key otherwise.
 fn worker_of(
     number: usize,
     workers: u64,
@@ -37,7 +38,7 @@ fn worker_of(
     Ok(Worker::new(number, limits, scripts))
 }
 
-/// The script that a live worker is at.
+/// The script that the worker is running, or `None` if the worker is not live.
 fn script_at(worker: &Worker) -> Option<usize> {
     if !worker.is_live() {
         return None;
@@ -50,13 +51,14 @@ fn stage_of(worker: &Worker) -> Option<Stage> {
     worker.task().map(|task| task.attempt.stage)
 }
 
-/// Whether the worker has a turn, at size 2 of the table.
+/// Returns true if the worker has a turn when the size of the table is 2.
 fn has_turn(worker: &mut Worker) -> bool {
     worker.turn(2).is_some()
 }
 
-/// Tells the worker the answer to the one step of its next turn, with one further try allowed.
-/// Answers the step, and the outcome of the script if the script has ended.
+/// Takes the worker's next turn, which has one step, and gives the worker this answer to the step.
+/// A script may be tried once more. Returns the step, and the outcome of the script if the script
+/// has ended.
 fn tell(worker: &mut Worker, scripts: &[Script], answer: Answer) -> (Option<Step>, Option<Finish>) {
     let step = match worker.turn(2) {
         Some(Turn::One(step)) => Some(step),
@@ -65,7 +67,7 @@ fn tell(worker: &mut Worker, scripts: &[Script], answer: Answer) -> (Option<Step
     (step, worker.told(scripts, 1, answer))
 }
 
-/// Takes the worker's next turn, in which each step has this answer. Answers the last step that the
+/// Takes the worker's next turn, in which each step has this answer. Returns the last step that the
 /// worker takes, and the outcome of the script if the script has ended.
 fn take_turn(
     worker: &mut Worker,
@@ -84,12 +86,12 @@ fn take_turn(
     (taken, outcome)
 }
 
-/// A step that the worker takes, its answer, the outcome of the script if the step ends it, and the
-/// script that the worker is at after the step.
+/// A step that the worker takes, its answer, the outcome of the script if the step ends the script,
+/// and the script that the worker is running after the step.
 type Row = (Step, Answer, Option<Finish>, Option<usize>);
 
 /// A worker's number, the number of workers, whether the limits take only half keys, the actions of
-/// each script, the script that the worker is at first, and the worker's steps.
+/// each script, the script that the worker runs first, and the worker's steps.
 #[derive(Drop)]
 struct Case {
     number: usize,
@@ -105,7 +107,8 @@ fn worker_in(case: &Case, scripts: &[Script]) -> Result<Worker, Fail> {
     worker_of(case.number, case.workers, case.takes_half_keys, scripts)
 }
 
-/// The worker takes a step, by `take_turn` or by `turn` and `told`.
+/// The worker takes a step, with `take_turn` if `by_take_turn` is true, and otherwise with `turn`
+/// and `told`.
 fn takes(rt: &impl Abort, worker: &mut Worker, scripts: &[Script], row: &Row, by_take_turn: bool) {
     let (step, answer, ended, script) = *row;
     let (taken, outcome) = if by_take_turn {
@@ -118,7 +121,8 @@ fn takes(rt: &impl Abort, worker: &mut Worker, scripts: &[Script], row: &Row, by
     assert_eq!(rt; script_at(worker), script, "after {step:?}");
 }
 
-/// A worker takes the steps of a case. Then it has a turn exactly if it is still at a script.
+/// A worker takes the steps of a case. Afterwards it must have a turn exactly if it still has a
+/// script.
 fn takes_all(
     rt: &impl Abort,
     worker: &mut Worker,
@@ -192,7 +196,7 @@ static CASES: [Case; 9] = [
         first: None,
         rows: &[],
     },
-    // The first script is done; the commit of the second is refused.
+    // The first script succeeds. The commit of the second script is refused.
     Case {
         number: 0,
         workers: 1,
@@ -217,7 +221,8 @@ static CASES: [Case; 9] = [
             ),
         ],
     },
-    // A stripe is held: the script is attempted once more, and then the next one begins.
+    // The stripe is held by another caller. The script is tried once more, and then the next script
+    // begins.
     Case {
         number: 0,
         workers: 1,
@@ -235,8 +240,8 @@ static CASES: [Case; 9] = [
             (Step::Act(0), Answer::Aborted, Some(Finish::Busy), Some(1)),
         ],
     },
-    // The limits take every key, so a help with the key 2^63 takes steps. An action `put_if` is an
-    // operation.
+    // The limits take every key, so an action `help` with the key 2^63 takes steps. An action
+    // `put_if` is an operation.
     Case {
         number: 0,
         workers: 1,
@@ -265,7 +270,7 @@ static CASES: [Case; 9] = [
             ),
         ],
     },
-    // An abort ends the script: later actions are not taken.
+    // An abort ends the script, so later actions are not taken.
     Case {
         number: 0,
         workers: 1,
@@ -279,8 +284,8 @@ static CASES: [Case; 9] = [
             (Step::Act(0), Answer::Aborted, Some(Finish::Aborted), None),
         ],
     },
-    // A refused call aborts the transaction, and a refused begin ends the script; help with a bad
-    // key takes no step.
+    // A refused call aborts the transaction, and a refused begin ends the script. A `help` action
+    // whose key is bad takes no step.
     Case {
         number: 0,
         workers: 1,
@@ -319,8 +324,9 @@ static CASES: [Case; 9] = [
             ),
         ],
     },
-    // The first help with a bad key is refused without a step, and the transaction is given up. The
-    // other helps of the script and its put do not follow.
+    // The first `help` with a bad key is refused without a step, and the worker aborts the
+    // transaction. The later actions of the script, which are more `help`s and a put, are not
+    // taken.
     Case {
         number: 0,
         workers: 1,
@@ -354,8 +360,8 @@ static CASES: [Case; 9] = [
     },
 ];
 
-/// Checks that a worker whose first action is a help with a bad key is leaving as soon as it has
-/// begun, with the refusal of the help.
+/// Checks a worker whose first action is a `help` with a bad key. As soon as it has begun, its
+/// stage must be `Leaving`, with the refusal of the `help`.
 fn leaves_after_a_bad_help(rt: &impl Abort, alloc: Global) -> Result<(), Fail> {
     let scripts = scripts_of(alloc, &[&[Action::Help(1 << 63), Action::Save]])?;
     let mut worker = worker_of(0, 1, true, &scripts)?;

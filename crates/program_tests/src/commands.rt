@@ -1,7 +1,7 @@
-//! The program on a system in memory, with threads and without: both outputs and the status of each
-//! call. For seeds, the output is compared with the engine's; all other texts were written by hand.
-//! By contract `is_told` may be false although standard error took the whole line. These tests
-//! require that `is_told` is true if standard error took the whole line.
+//! These tests run the program on a system in memory, with threads and without. They compare both
+//! outputs and the status of each call. For seeds, the output is compared with the engine's. All
+//! other texts were written by hand. By contract, `is_told` may be false although standard error
+//! took the whole line. These tests require that `is_told` is then true.
 
 use crate::devices::{Desk, Ended, Narrow, compare_ended};
 use boostmap_engine::mix;
@@ -21,7 +21,7 @@ const STEPS: &str =
 
 const REPORT: &str = "began 1\nasked\nplaced\ndone none\ncommitted 1\nsize 2 count 1\n1 10\n";
 
-/// A transaction with a step in place 4 that has a text instead of a number.
+/// A transaction in which step 4, counted from 0, has a text instead of a number.
 const BAD_STEPS: &str =
     "{\"version\":1,\"callers\":2,\"stripes\":8,\"buckets\":8,\"steps\":[[\"begin\",0],[\"ask\",0,\
     \"put\",1,10],[\"seek\",0],[\"act\",0],[\"ask\",0,\"put\",\"1\",10],[\"commit\",0]]}";
@@ -52,7 +52,7 @@ const RUN_HISTORY: &str =
     "{\"entries\":[[\"began\",0,1],[\"asked\",0,\"put\",1,10],[\"did\",0,null],\
     [\"committed\",0,1]],\"stripes\":8,\"version\":3}\n";
 
-/// Two workers with one script of twelve gets each. Their history shows the order of the workers'
+/// Two workers, each with one script of twelve gets. Their history shows the order of the workers'
 /// turns.
 const TWO_WORKERS: &str =
     "{\"version\":1,\"workers\":2,\"stripes\":8,\"buckets\":8,\"tries\":0,\"scripts\":[[[\"get\",\
@@ -107,7 +107,7 @@ fn run_at<T: Threads + Wait + Sync>(
     }
 }
 
-/// Runs the program without threads on a system.
+/// Runs the program that has no threads on a system.
 fn run_unthreaded(alloc: Global, desk: &Desk<'_>) -> Ended {
     let (mut output, mut errors) = (Narrow::whole(), Narrow::whole());
     let Ending { status, is_told } = unthreaded_program::run(alloc, desk, &mut output, &mut errors);
@@ -162,7 +162,7 @@ const CALLS: &[Called] = &[
     ("bin/x check legal.json", LEGAL_LINE, "", 0),
 ];
 
-/// Words that are no call.
+/// Lines of words that are not a valid call.
 const NO_CALLS: &str = "boostmap
 boostmap steps.json
 boostmap replay
@@ -210,7 +210,7 @@ fn each_command_and_each_status(rt: HostRuntime) {
     }
 }
 
-/// Calls of the program without threads.
+/// Calls of the program that has no threads.
 const UNTHREADED_CALLS: &[Called] = &[
     ("boostmap ", "", USAGE, 2),
     ("boostmap run", "", USAGE, 2),
@@ -237,7 +237,7 @@ fn without_threads(rt: HostRuntime) {
     }
 }
 
-/// The output of the engine for two workers with this seed.
+/// The output of the engine of `mix` for `TWO_WORKERS` and this seed.
 fn mix_two(alloc: Global, seed: u64) -> Result<Narrow, Fail> {
     let mut output = Narrow::whole();
     mix(alloc, seed, &mut TWO_WORKERS.as_bytes(), &mut output)?;
@@ -268,8 +268,8 @@ fn seeds_of_mix(rt: HostRuntime) -> Result<(), Fail> {
     Ok(())
 }
 
-/// Two different seeds of `SEEDS` give different histories of `TWO_WORKERS`, also if the two seeds
-/// have the same high half or the same low half.
+/// Two different seeds of `SEEDS` give different histories of `TWO_WORKERS`, even if they have the
+/// same high half or the same low half.
 #[test]
 fn seeds_that_differ_in_one_half(rt: HostRuntime) -> Result<(), Fail> {
     for (_, first) in SEEDS {
@@ -283,9 +283,9 @@ fn seeds_that_differ_in_one_half(rt: HostRuntime) -> Result<(), Fail> {
     Ok(())
 }
 
-/// Each row has the kind of an error. The pair has the text of standard error and the status if
-/// reading the words fails with this kind. The last text is that of standard error if opening the
-/// file fails with this kind.
+/// Each row begins with the kind of an error. The pair is the text of standard error and the status
+/// if reading the words of the call fails with this kind. The last text is that of standard error
+/// if opening the file fails with this kind.
 const REFUSED: &[(ErrorKind, (&str, u8), &str)] = &[
     (ErrorKind::OutOfMemory, ("no memory\n", 4), "no memory\n"),
     (ErrorKind::InvalidData, (USAGE, 2), "read failed\n"),

@@ -1,6 +1,6 @@
-//! Shared parts of the tests: texts with gaps, readers and writers that fail at a given call, and a
-//! system in memory. The tests of the engines and those of the commands share them. A reader or a
-//! writer takes no memory, so a test that is refused memory can still compare all that was written.
+//! Parts that the tests of the engines and those of the commands share: texts with gaps, readers
+//! and writers that fail at a given call, and a system in memory. A reader or a writer takes no
+//! memory. So a test that is refused memory can still compare all that was written.
 
 use program_host::System;
 use std::alloc::{AllocError, Global};
@@ -71,8 +71,8 @@ impl Read for Endless {
 /// The number of bytes that a writer keeps.
 const PAGE: usize = 8192;
 
-/// A writer that takes one byte for each call, and fails or takes nothing at the call `fails_at`,
-/// counted from 0. It needs no memory.
+/// A writer that takes one byte for each call. At the call `fails_at`, counted from 0, it fails or
+/// takes nothing. It needs no memory.
 #[derive(Clone, Copy)]
 pub struct Narrow {
     page: [u8; PAGE],
@@ -80,7 +80,7 @@ pub struct Narrow {
     /// The number of calls so far.
     pub calls: usize,
     fails_at: usize,
-    /// The error with which it fails, or `None` if it takes nothing.
+    /// The error of the call `fails_at`. If it is `None`, this call succeeds but takes nothing.
     failure: Option<ErrorKind>,
 }
 
@@ -101,7 +101,7 @@ impl Narrow {
         Narrow::new(usize::MAX, None)
     }
 
-    /// The bytes that it has taken.
+    /// The bytes that the writer has taken.
     pub fn text(&self) -> &str {
         let taken = &self.page[..self.len.min(PAGE)];
         std::str::from_utf8(taken).unwrap_or("no text")
@@ -128,7 +128,7 @@ impl Write for Narrow {
     }
 }
 
-/// The end of a command.
+/// How a command ended.
 #[derive(Clone, Copy)]
 pub struct Ended {
     /// The bytes on standard output.
@@ -149,7 +149,7 @@ pub fn compare_ended(rt: &impl Abort, ended: &Ended, wanted: (&str, &str, u8), r
     assert!(rt; ended.status == status && ended.is_told, "{row}");
 }
 
-/// A system with these words, and with files in memory. Any other file is missing.
+/// A system in memory, with the words of a call and with files. Any other file is missing.
 #[derive(Clone, Copy)]
 pub struct Desk<'a> {
     /// The words of the call, with blanks between them.

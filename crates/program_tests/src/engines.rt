@@ -1,6 +1,7 @@
-//! Tests of the engines of the four commands. Here are the parts that they share: `run_on`, which
-//! runs a command as the program does, and `Files`, a row of similar files with one output. The one
-//! test here goes over the rows of the modules `replays`, `checks`, `mixes` and `runs`.
+//! Tests of the engines of the four commands. This file has the parts that the tests share:
+//! `run_on` runs a command as the program does, and `Files` is a row of similar files with the same
+//! output. The one test in this file goes through the rows of `replays`, `checks`, `mixes` and
+//! `runs`.
 
 mod checks;
 mod failing;
@@ -30,22 +31,22 @@ enum Command {
     Run,
 }
 
-/// Similar files of one command: one file for each pair of a line of `pieces` and a word of
+/// Similar files for one command. There is one file for each line of `pieces` and each word of
 /// `fillings`. Blanks separate the words. The file is the frame with the line in each gap `#`, and
-/// then with the word in each gap `@`.
+/// after that with the word in each gap `@`.
 #[derive(Clone, Copy)]
 struct Files {
     command: Command,
     frame: &'static str,
     pieces: &'static str,
     fillings: &'static str,
-    /// The output, or, if the status is that of a fault, the line of the fault.
+    /// The output. If the status is that of a fault, the fault's line instead.
     printed: &'static str,
     status: u8,
 }
 
-/// Runs the engine of a command. Without a fault, the answer is `false` if `check` finds the
-/// history illegal, and `true` otherwise.
+/// Runs the engine of a command. Without a fault, returns `false` if `check` finds the history
+/// illegal, and `true` otherwise.
 fn run_engine<T: Threads + Wait + Sync, R: Read>(
     rt: &T,
     alloc: Global,
@@ -85,8 +86,9 @@ fn run_on<T: Threads + Wait + Sync, R: Read>(
     }
 }
 
-/// Compares the output of a command for a file, and the status. If the command ends by a fault,
-/// standard error must have the fault's line, and nothing may be written to standard output.
+/// Compares the output and the status of a command for a file with `wanted`. If the command ends
+/// with a fault, standard error must have the fault's line, and nothing may be written to standard
+/// output.
 fn compare_file<T: Abort + Threads + Wait + Sync>(
     rt: &T,
     alloc: Global,
@@ -104,7 +106,7 @@ fn compare_file<T: Abort + Threads + Wait + Sync>(
     }
 }
 
-/// Compares the output of a command for the file with this piece and this filling.
+/// Compares the output and the status of a command for the file with this piece and this filling.
 fn compare_filled<T: Abort + Threads + Wait + Sync>(
     rt: &T,
     alloc: Global,
@@ -118,7 +120,7 @@ fn compare_filled<T: Abort + Threads + Wait + Sync>(
     Ok(())
 }
 
-/// Compares the output of a command for similar files.
+/// Compares the output and the status of a command for each of these files.
 fn compare_files<T: Abort + Threads + Wait + Sync>(
     rt: &T,
     alloc: Global,

@@ -1,6 +1,7 @@
-//! Tests of files of steps, of scripts and of histories: their content, and the first fault of each
-//! file that is refused. Each kind of file has a module for its table and its contents. The tests
-//! of faults, of large files, of cut files and of refused memory are here.
+//! Tests of step files, script files and history files. They compare the content of each good file,
+//! and the first fault of each file that is refused. Each kind of file has a module with its table
+//! and its contents. The tests of faults, of large files, of cut files and of refused memory are in
+//! this file.
 
 mod histories;
 mod scripts;
@@ -22,20 +23,20 @@ enum Kind {
     History,
 }
 
-/// Similar files: one file for each pair of a line of `pieces` and a word of `fillings`. Blanks
-/// separate the words. The file is the frame with the line in each gap `#`, and then with the word
-/// in each gap `@`.
+/// Similar files. There is one file for each line of `pieces` and each word of `fillings`. Blanks
+/// separate the words. The file is the frame with the line in each gap `#`, and after that with the
+/// word in each gap `@`.
 #[derive(Clone, Copy)]
 struct Files {
     kind: Kind,
     frame: &'static str,
     pieces: &'static str,
     fillings: &'static str,
-    /// The fault with which they are refused, or `None` if they are not.
+    /// The fault with which the files are refused, or `None` if they are good.
     fault: Option<FileFault>,
 }
 
-/// The fault with which a file is refused, or `None` if it is not.
+/// The fault with which a file is refused, or `None` if the file is good.
 fn fault_of(alloc: Global, kind: Kind, bytes: &[u8]) -> Option<FileFault> {
     match kind {
         Kind::Steps => read_steps(alloc, bytes).err(),
@@ -49,12 +50,12 @@ fn same_fault(rt: &impl Abort, found: Option<FileFault>, wanted: Option<FileFaul
     assert_eq!(rt; found, wanted, "{row}");
 }
 
-/// Compares the fault of a file with this text.
+/// Checks that a file with this text has the fault `wanted`.
 fn has_fault(rt: &impl Abort, alloc: Global, kind: Kind, text: &str, wanted: Option<FileFault>) {
     same_fault(rt, fault_of(alloc, kind, text.as_bytes()), wanted, text);
 }
 
-/// Compares the fault of the file with this piece and this filling.
+/// Checks the fault of the file with this piece and this filling.
 fn compare_filled(
     rt: &impl Abort,
     alloc: Global,
@@ -67,7 +68,7 @@ fn compare_filled(
     Ok(())
 }
 
-/// Compares the faults of similar files.
+/// Checks the fault of each of these files.
 fn compare_files(rt: &impl Abort, alloc: Global, files: Files) -> Result<(), Fail> {
     for piece in files.pieces.split('\n') {
         for filling in files.fillings.split(' ') {
@@ -77,8 +78,8 @@ fn compare_files(rt: &impl Abort, alloc: Global, files: Files) -> Result<(), Fai
     Ok(())
 }
 
-/// The first fault of files of each kind. Faults come in this order: length, JSON, members, pieces,
-/// limits.
+/// Checks the first fault of files of each kind. Faults are found in this order: length, JSON,
+/// members, pieces, limits.
 #[test]
 fn faults_of_files(rt: HostRuntime) -> Result<(), Fail> {
     for table in [steps::FILES, scripts::FILES, histories::FILES] {
@@ -89,9 +90,9 @@ fn faults_of_files(rt: HostRuntime) -> Result<(), Fail> {
     Ok(())
 }
 
-/// A file that grows: its kind, its frame, a number, three texts, and its fault. The gap `#` of the
-/// frame is filled with the first text this number of times, then with the second text once, and
-/// then with the third text this number of times.
+/// A large file: its kind, its frame, a number, three texts, and its fault. The gap `#` of the
+/// frame gets the first text as often as the number says. Then it gets the second text once, and
+/// then the third text as often as the first.
 type Grown = (
     Kind,
     &'static str,
@@ -104,10 +105,10 @@ const NOT_JSON: Option<FileFault> = Some(FileFault::NotJson);
 
 const WRONG_STEP: Option<FileFault> = Some(FileFault::Piece(Part::Step, 0));
 
-/// The first rows have nested values. A file may have at most 127 levels: the object of the file is
-/// one of them, and the array of its steps is another. The other rows have many scripts or actions.
-/// A file may have at most 10,000 scripts, and a script may have at most 10,000 actions. If a wrong
-/// script is behind too many scripts or actions, the fault is the wrong script.
+/// The first rows have nested values. A file may have at most 127 levels. The object of the file is
+/// one of these levels, and the array of its steps is another. The other rows have many scripts or
+/// actions. A file may have at most 10,000 scripts, and a script may have at most 10,000 actions.
+/// If a wrong script comes after too many scripts or actions, the fault is the wrong script.
 const GROWN: &[Grown] = &[
     (Kind::Steps, "#", 200, ["[", "", "]"], NOT_JSON),
     (Kind::Steps, BEYOND_STEPS, 125, ["[", "0", "]"], None),
@@ -166,7 +167,7 @@ const GROWN: &[Grown] = &[
     ),
 ];
 
-/// Adds a text this number of times.
+/// Adds a text `count` times.
 fn add_often(text: &mut String, count: usize, added: &str) -> Result<(), AllocError> {
     for _ in 0..count {
         text.push_str(added)?;
@@ -174,21 +175,21 @@ fn add_often(text: &mut String, count: usize, added: &str) -> Result<(), AllocEr
     Ok(())
 }
 
-/// Adds the first text this number of times, the second once, and the third this number of times.
+/// Adds the first text `count` times, the second text once, and the third text `count` times.
 fn grow(text: &mut String, count: usize, texts: [&str; 3]) -> Result<(), AllocError> {
     add_often(text, count, texts[0])?;
     text.push_str(texts[1])?;
     add_often(text, count, texts[2])
 }
 
-/// The text of a file that grows.
+/// The text of a large file.
 fn grown(alloc: Global, frame: &str, count: usize, texts: [&str; 3]) -> Result<String, AllocError> {
     let mut piece = String::new(alloc);
     grow(&mut piece, count, texts)?;
     frame.replace(alloc, "#", &piece)
 }
 
-/// Compares the fault of a file that grows.
+/// Checks the fault of a large file.
 fn compare_grown(rt: &impl Abort, alloc: Global, row: Grown) -> Result<(), Fail> {
     let (kind, frame, count, texts, wanted) = row;
     let text = grown(alloc, frame, count, texts)?;
@@ -227,7 +228,7 @@ fn is_no_json(rt: &impl Abort, alloc: Global, bytes: &[u8], row: &str) {
     same_fault(rt, fault_of(alloc, Kind::Steps, bytes), NOT_JSON, row);
 }
 
-/// Checks that these bytes are no JSON if they end too early.
+/// Checks that no proper beginning of these bytes is JSON.
 fn compare_cut(rt: &impl Abort, alloc: Global, bytes: &[u8]) -> Result<(), Fail> {
     for length in 0..bytes.len() {
         let cut = bytes.get(..length).ok_or("short")?;
@@ -249,7 +250,7 @@ fn cut_files(rt: HostRuntime) -> Result<(), Fail> {
     Ok(())
 }
 
-/// A file of each kind; the step file has texts that are written with escapes.
+/// A file of each kind. The step file has texts that are written with escapes.
 const OF_EACH_KIND: [(Kind, &str); 3] = [
     (
         Kind::Steps,
@@ -269,7 +270,8 @@ const OF_EACH_KIND: [(Kind, &str); 3] = [
     ),
 ];
 
-/// Memory may be refused anywhere. If it is, the fault is `NoMemory` and no other.
+/// Memory may be refused at any point. If it is refused, the fault is `NoMemory`. Otherwise there
+/// is no fault.
 #[test]
 fn memory_refused(rt: HostRuntime) {
     for (kind, text) in OF_EACH_KIND {

@@ -101,9 +101,10 @@ fn drawing_in(alloc: Global, text: &str) -> Result<(u64, Vec<(u64, u64)>), FileF
 /// A drawing with gaps for its points and its version.
 const IN_VERSION: &str = r#"{"points":#,"version":@,"width":7}"#;
 
-/// Drawings, and the content or the fault of each. The last rows have points that version 1 does
-/// not have. In version 1 such a point is a wrong piece, even if it is behind more than three
-/// points. In version 2 and in version 4, which is not read, such a point is not a wrong piece.
+/// Drawings, each with its content or its fault. The last rows have points that version 1 does not
+/// allow. In version 1, such a point is a wrong piece, even if it comes after more than three
+/// points. In version 2 it is not a wrong piece, nor in version 4, which is not a supported
+/// version.
 const DRAWINGS: &[Drawings] = &[
     Drawings {
         frame: r#"{"version":1,"width":7,"points":[]}"#,
@@ -430,11 +431,12 @@ fn contents_of_drawings(rt: HostRuntime) -> Result<(), Fail> {
     Ok(())
 }
 
-/// The text and the number with which elements begin, and the number of elements behind them.
+/// The text and the number with which an array begins, and how many elements follow them. `None` if
+/// the array does not begin with a text and a number.
 type Leading = Option<(&'static str, u64, usize)>;
 
-/// The elements read in four ways: as one number, as two numbers, as one number or null, and as no
-/// elements. A reading that does not fit the elements is `None`.
+/// Elements that are read in four ways: as one number, as two numbers, as one number or null, and
+/// as no elements. A result is `None` if the elements cannot be read in this way.
 type Shapes = (
     Option<u64>,
     Option<(u64, u64)>,
@@ -442,7 +444,8 @@ type Shapes = (
     Option<()>,
 );
 
-/// The leading elements of each array, and the shapes of the elements behind them.
+/// For each array, the text and the number with which it begins, and the shapes of the elements
+/// after them. Without such a beginning, the shapes of all its elements.
 const ELEMENTS: &[(Leading, Shapes)] = &[
     (Some(("put", 1, 2)), (None, None, None, None)),
     (None, (None, Some((8, 9)), None, None)),
@@ -451,7 +454,7 @@ const ELEMENTS: &[(Leading, Shapes)] = &[
     (None, (None, None, None, Some(()))),
 ];
 
-/// The text and the number with which elements begin, and the elements behind them.
+/// The text and the number with which elements begin, and the elements that follow them.
 fn leading_in<'v, 'a>(values: &'v [Plain<'a>]) -> Option<(&'a str, u64, &'v [Plain<'a>])> {
     let (name, rest) = word_in(values)?;
     let (number, rest) = number_in(rest)?;
@@ -490,7 +493,7 @@ fn compare_next(rt: &impl Abort, reader: &mut Reader<'_>, leading: Leading, shap
     }
 }
 
-/// Compares the elements of all arrays of an array.
+/// Checks the elements of each array in an array of arrays.
 fn compare_each(rt: &impl Abort, reader: &mut Reader<'_>) {
     assert!(rt; begin(reader));
     for (leading, shapes) in ELEMENTS {
@@ -534,7 +537,7 @@ fn compare_points(rt: &impl Abort, alloc: Global, reader: &mut Reader<'_>) -> Re
     Ok(())
 }
 
-/// Skips the first value of an array, and compares the points of the array behind it.
+/// Skips the first value of an array. Checks the points of the array that is the second value.
 fn compare_row(rt: &impl Abort, alloc: Global, reader: &mut Reader<'_>) -> Result<(), Fail> {
     assert!(rt; begin(reader));
     pass(reader)?;
@@ -548,8 +551,9 @@ fn values_in_a_row(rt: HostRuntime) -> Result<(), Fail> {
     compare_row(&rt, rt.alloc(), &mut reader)
 }
 
-/// Texts behind an opening bracket, each with the place behind the array's closing bracket. The
-/// place is `None` if the text is not the rest of an array of one or two plain elements.
+/// Texts that follow the bracket that opens an array. With each text comes the place just after the
+/// closing bracket of the array. It is `None` if the text is not the rest of an array of one or two
+/// plain elements.
 const PLAIN: &[(&str, Option<usize>)] = &[
     ("1,2],3", Some(4)),
     ("null]", Some(5)),

@@ -1,6 +1,7 @@
-//! Worked histories, judged by locks and by the order of commits. Both verdicts were found by hand;
-//! they differ for each history but the last. The checker of `serial_check` is also fed entry by
-//! entry: its verdict is legal up to the first bad entry, and names that entry from there on.
+//! Worked histories that are judged by locks and by the order of commits. Both verdicts were found
+//! by hand. They differ for every history except the last. The checker of `serial_check` is also
+//! fed entry by entry. Its verdict must be legal before the first bad entry, and must name that
+//! entry from then on.
 
 use history_check::{Rule, Verdict};
 use serial_check::Checker;
@@ -9,7 +10,7 @@ use std::process::Abort;
 use std::test::Fail;
 use txn_words::{Entry, Holder, Op};
 
-/// Two transactions touch key 1, each as if the other were not there; the reader commits first.
+/// Two transactions use key 1, each as if the other did not exist. The reader commits first.
 const READS_BESIDE: [Entry; 8] = [
     Entry::Began(0, 1),
     Entry::Began(1, 2),
@@ -21,7 +22,7 @@ const READS_BESIDE: [Entry; 8] = [
     Entry::Committed(1, 2),
 ];
 
-/// Two transactions touch key 1, and the writer commits first: the reader's value is old.
+/// Two transactions use key 1. The writer commits first, so the value that the reader got is old.
 const READS_STALE: [Entry; 8] = [
     Entry::Began(0, 1),
     Entry::Began(1, 2),
@@ -53,7 +54,7 @@ const WRITE_SKEW: [Entry; 16] = [
     Entry::Committed(1, 2),
 ];
 
-/// Two transactions get a wrong reply: one aborts, the other stays open.
+/// Two transactions get a wrong reply. One of them aborts, and the other stays open.
 const WRONG_BUT_ABORTED: [Entry; 8] = [
     Entry::Began(0, 1),
     Entry::Asked(0, Op::Get(1)),
@@ -65,8 +66,8 @@ const WRONG_BUT_ABORTED: [Entry; 8] = [
     Entry::Did(1, Some(7)),
 ];
 
-/// A transaction reads a value that is not committed yet. When the transaction commits, the value
-/// has been committed.
+/// A transaction reads a value that is not committed yet. By the time this transaction commits, the
+/// value has been committed.
 const RIGHT_LATER: [Entry; 8] = [
     Entry::Began(0, 1),
     Entry::Began(1, 2),
@@ -78,7 +79,7 @@ const RIGHT_LATER: [Entry; 8] = [
     Entry::Committed(0, 2),
 ];
 
-/// A wrong reply above a savepoint. Its transaction goes back to the savepoint.
+/// A transaction gets a wrong reply after a savepoint, and then goes back to the savepoint.
 const WRONG_BUT_TAKEN_BACK: [Entry; 9] = [
     Entry::Began(0, 1),
     Entry::Asked(0, Op::Put(1, 10)),
@@ -91,7 +92,8 @@ const WRONG_BUT_TAKEN_BACK: [Entry; 9] = [
     Entry::Committed(0, 1),
 ];
 
-/// A transaction goes back to a savepoint and commits. Another one writes beside it, and aborts.
+/// A transaction goes back to a savepoint and commits. Meanwhile another transaction writes and
+/// aborts.
 const BACK_TO_A_SAVEPOINT: [Entry; 20] = [
     Entry::Began(0, 1),
     Entry::Asked(0, Op::Put(1, 10)),
@@ -142,15 +144,15 @@ const NEW_KEYS: [Entry; 22] = [
     Entry::Committed(0, 3),
 ];
 
-/// A first commit with number 2.
+/// A history whose first commit has the number 2.
 const NUMBERED_WRONG: [Entry; 2] = [Entry::Began(0, 1), Entry::Committed(0, 2)];
 
-/// The verdict legal, with these numbers of commits and of open transactions.
+/// The verdict that a history is legal, with these numbers of commits and of open transactions.
 fn legal(commits: u64, running: u64) -> Verdict {
     Verdict::Legal { commits, running }
 }
 
-/// The verdict that names a bad entry and its rule.
+/// The verdict that a history is illegal, with the first bad entry and the rule that it breaks.
 fn illegal(entry: u64, rule: Rule) -> Verdict {
     Verdict::Illegal { entry, rule }
 }
@@ -178,8 +180,8 @@ fn feed(rt: &impl Abort, checker: &mut Checker, entry: &Entry) -> Result<(), All
     }
 }
 
-/// Feeds a checker the history entry by entry, and checks its verdict after each: legal before the
-/// first bad entry, and from that entry on the row's verdict.
+/// Feeds a checker the history entry by entry, and checks its verdict after each entry. The verdict
+/// must be legal before the first bad entry. From that entry on, it must be the row's verdict.
 fn feed_each(rt: &impl Abort, alloc: Global, row: &Row) -> Result<(), AllocError> {
     match checker_again(alloc) {
         Ok(mut checker) => feed_to(rt, &mut checker, row.0, row.2),
@@ -195,7 +197,7 @@ fn checker_again(alloc: Global) -> Result<Checker, AllocError> {
     }
 }
 
-/// Feeds a checker entry by entry, and looks at its verdict after each.
+/// Feeds a checker entry by entry, and checks its verdict after each entry.
 fn feed_to(
     rt: &impl Abort,
     checker: &mut Checker,
@@ -213,8 +215,8 @@ fn feed_to(
     Ok(())
 }
 
-/// Whether `found` is right after the entry at `place`, if the verdict on the whole history is
-/// `wanted`: `found` is legal before the first bad entry, and from that entry on it is `wanted`.
+/// Returns true if `found` is right after the entry at `place`, where `wanted` is the verdict on
+/// the whole history. It must be legal before the first bad entry, and `wanted` from that entry on.
 fn may_be(found: Verdict, place: usize, wanted: Verdict) -> bool {
     match wanted {
         Verdict::Illegal { entry, .. } if entry <= place as u64 => found == wanted,

@@ -1,6 +1,6 @@
-//! The outcomes of scripts: files of scripts and of histories, with the outcome of each script
-//! found by hand. Nothing is judged here, unlike in `histories`, and the files are read as the
-//! program reads them. A row that is refused memory is tried once more.
+//! The outcomes of scripts. A row has a script file, a history file, and the outcome of each
+//! script, which was found by hand. No history is judged here, unlike in `histories`. The files are
+//! read as the program reads them. If a row is refused memory, it is tried once more.
 
 use script_outcomes::{Outcome, outcomes};
 use std::alloc::{AllocError, Global};
@@ -10,7 +10,8 @@ use txn_files::{read_packed_history, read_scripts};
 /// A script file, a history file, and the outcomes, separated by commas.
 type Row = (&'static str, &'static str, &'static str);
 
-/// Two workers meet: the second finds the stripe held, and tries its script again.
+/// Two workers use the same stripe. The second worker finds the stripe held, and tries its script
+/// again.
 const MEET: Row = (
     r#"{"version":1,"workers":2,"stripes":8,"buckets":8,"tries":3,
         "scripts":[[["put",1,10]],[["put",1,11]]]}"#,
@@ -20,8 +21,8 @@ const MEET: Row = (
     "committed 1 entry 6, committed 2 entry 10",
 );
 
-/// Two workers meet, and there are no tries: the second goes on with its next script, and the first
-/// worker's next script is not begun.
+/// Two workers use the same stripe, and no script may be tried again. The second worker continues
+/// with its next script. The first worker's next script is not begun.
 const USED_UP: Row = (
     r#"{"version":1,"workers":2,"stripes":8,"buckets":8,"tries":0,
         "scripts":[[["put",1,10]],[["put",1,11]],[["get",2]],[["get",5]]]}"#,
@@ -54,8 +55,8 @@ const SAVEPOINT: Row = (
     "committed 1 entry 15, aborted entry 21, committed 2 entry 23",
 );
 
-/// A script that is refused has the entries of an abort. The last action of the next script is an
-/// abort.
+/// If a script is refused, its transaction has the entries of an abort. The last action of the next
+/// script is an abort.
 const REFUSED: Row = (
     r#"{"version":1,"workers":1,"stripes":8,"buckets":8,"tries":3,
         "scripts":[[["put",1,1],["back",7]],[["put",1,1],["abort"]]]}"#,
@@ -65,8 +66,8 @@ const REFUSED: Row = (
     "given up, aborted entry 11",
 );
 
-/// Two scripts of one worker are equal, and one transaction plays both: it is counted for the
-/// first.
+/// Two scripts of one worker are equal. One transaction plays both scripts, and it is counted for
+/// the first script.
 const ALIKE: Row = (
     r#"{"version":2,"workers":1,"stripes":8,"buckets":8,"tries":3,
         "scripts":[[["put_if",1,null,5]],[["put_if",1,null,5]],[["put_if",1,5,6]]]}"#,
@@ -76,8 +77,8 @@ const ALIKE: Row = (
     "committed 1 entry 3, given up, committed 2 entry 7",
 );
 
-/// No transaction plays a script of its caller: one plays the other worker's script, one is of a
-/// caller that is no worker, and one puts another value.
+/// No transaction plays a script of its own caller. One transaction plays the other worker's
+/// script, one belongs to a caller that is not a worker, and one puts another value.
 const OF_OTHERS: Row = (
     r#"{"version":1,"workers":2,"stripes":8,"buckets":8,"tries":3,
         "scripts":[[["put",1,10]],[["put",2,20]]]}"#,
@@ -106,7 +107,7 @@ fn text_of(alloc: Global, found: &[Outcome]) -> Result<String, AllocError> {
     Ok(text)
 }
 
-/// The outcomes of a row as text, unless a file or memory is refused.
+/// The outcomes of a row as text, or `None` if a file or memory is refused.
 fn told(alloc: Global, row: &Row) -> Option<String> {
     let (scripts, history, _) = *row;
     let work = read_scripts(alloc, scripts.as_bytes()).ok()?;

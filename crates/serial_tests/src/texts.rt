@@ -1,6 +1,6 @@
-//! The texts of a verdict and of a rule, also as errors, and those of the reasons why a call on a
-//! map stopped, as errors. No history is judged here: each value is made by hand beside its text.
-//! Contracts fix these texts by definitions; each row of the tests has a text word for word, as the
+//! The texts of verdicts and rules, also as errors, and the texts of the errors that say why a call
+//! on a map stopped. No history is judged here. Each value is made by hand beside its text. The
+//! contracts fix these texts by definitions. Each row of the tests has a text word for word, as the
 //! programs print it.
 
 use anyhow::Result;
@@ -43,7 +43,7 @@ fn are_those_of_the_programs(rt: HostRuntime) -> Result<(), Fail> {
     Ok(())
 }
 
-/// Returns a verdict as an error if it is not legal.
+/// If the verdict is not legal, returns it as an error.
 fn only_legal(verdict: Verdict) -> Result<()> {
     match verdict {
         Verdict::Legal { .. } => Ok(()),

@@ -1,6 +1,6 @@
-//! Requests to a caller (`Ask`), their answers (`Told`), tables of both, and the functions that
-//! play a table. All other modules use them; this module has no tests. The functions have no
-//! contracts, so a test that plays a table is proved within seconds.
+//! This module defines requests to a caller (`Ask`), their answers (`Told`), and functions that
+//! play a table of requests with their answers. All other modules of this crate use them. The
+//! functions have no contracts, so a test that plays a table is proved within seconds.
 use std::alloc::Global;
 use std::process::Abort;
 use striped_map::{Caller, Host, Stop, open_map};
@@ -29,7 +29,7 @@ pub(crate) enum Told {
     Refused(Refusal),
 }
 
-/// The place of a caller, what it is asked for, and what it must answer.
+/// The place of a caller, the request that the caller gets, and the answer that it must give.
 pub(crate) type Row = (usize, Ask, Told);
 
 /// The reply to an operation on a key that had no value.
@@ -59,7 +59,7 @@ fn call(caller: &mut Caller, what: Ask) -> Result<Told, Stop> {
     Ok(Told::Done)
 }
 
-/// Asks a caller.
+/// Makes a request to a caller, and returns the answer.
 pub(crate) fn answer(caller: &mut Caller, what: Ask) -> Told {
     match call(caller, what) {
         Ok(told) => told,
@@ -106,19 +106,19 @@ pub(crate) fn reads(host: &mut Host, left: &[(u64, u64)]) -> Result<bool, Stop> 
     Ok(host.pairs()?.as_slice() == left)
 }
 
-/// The committed pairs are exactly these, in this order, and no stripe is held.
+/// Checks that the committed pairs are exactly `left`, in this order, and that no stripe is held.
 pub(crate) fn has_left<R: Abort>(rt: &R, host: &mut Host, left: &[(u64, u64)]) {
     assert!(rt; matches!(reads(host, left), Ok(true)));
 }
 
-/// All callers are dropped, and these pairs are left.
+/// Drops all callers, and checks that the committed pairs are then exactly `left`.
 pub(crate) fn leaves<R: Abort>(rt: &R, home: &mut Home, left: &[(u64, u64)]) {
     home.callers.clear();
     has_left(rt, &mut home.host, left);
 }
 
-/// A run on a new map: the numbers of its stripes and of its callers, the calls, and the pairs that
-/// are left when the callers are dropped.
+/// A run on a new map: how many stripes and callers the map has, the calls with their answers, and
+/// the pairs that remain once the callers are dropped.
 #[derive(Clone, Copy)]
 pub(crate) struct Worked<'a> {
     pub(crate) stripes: usize,

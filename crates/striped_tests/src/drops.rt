@@ -1,11 +1,11 @@
-//! Drops of a caller: before the first call of a transaction, and after each of its calls. No
-//! contract says that another caller is then granted the stripes. Here caller 2 takes all of them,
-//! and finds only the pairs from before the transaction.
+//! These tests drop a caller before the first call of a transaction, and after each of its calls.
+//! No contract says that another caller then gets the stripes. Here caller 2 gets all stripes after
+//! the drop, and finds only the pairs from before the transaction.
 use crate::calls::{Ask, Home, NEW, Row, Told, has_left, open, play};
 use std::process::Abort;
 use txn_words::Op;
 
-/// Caller 2 leaves two pairs.
+/// Caller 2 commits two pairs.
 const BEFORE: &[Row] = &[
     (1, Ask::Begin, Told::Done),
     (1, Ask::Do(Op::Put(1, 5)), NEW),
@@ -33,7 +33,7 @@ const CALLS: &[Row] = &[
     (0, Ask::Do(Op::Put(3, 30)), NEW),
 ];
 
-/// Caller 2, which now has the first place, finds the two pairs. No stripe is held.
+/// Caller 2, which is now at place 0, finds the two pairs of `BEFORE`. No stripe is held.
 const AFTER: &[Row] = &[
     (0, Ask::Begin, Told::Done),
     (0, Ask::Len, Told::Number(2)),

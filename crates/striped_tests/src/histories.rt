@@ -1,13 +1,17 @@
-//! Callers in threads, whose calls are recorded, merged into one history and judged.
+//! These tests run callers in threads, record their calls, merge the calls into one history, and
+//! judge the history.
 //!
-//! All callers share one counter. Each caller notes its calls. It takes a first stamp from the
-//! counter before each call, and a second stamp after it. The entries of an operation are put at
-//! its second stamp, when the stripe is held. The entries of an abort are put at its first stamp,
-//! since an abort gives stripes back. A commit gives stripes back too, and commits must be in the
-//! order of their places. So a commit is put at the greatest first stamp of this commit and of the
-//! commits with lower places. All these stamps were taken before the atomic step of this commit. A
-//! Busy is put at the first stamp of its call, but not before the first beginning of the caller
-//! that the Busy names.
+//! All callers share one counter. A caller takes a first stamp from the counter before each of its
+//! calls, and a second stamp after the call. The stamps decide where the entries of a call stand in
+//! the history:
+//!
+//! - Operation: at its second stamp, since the stripe is then held.
+//! - Abort: at its first stamp, since an abort gives stripes back.
+//! - Commit: at the greatest first stamp of this commit and of all commits with lower places. The
+//!   reasons are that a commit gives stripes back too, and that commits must be in the order of
+//!   their places. All these stamps were taken before the atomic step of this commit.
+//! - Busy: at the later one of two stamps. One is the first stamp of its call, and the other is the
+//!   stamp of the first begin of the caller that the Busy names.
 use crate::calls::{Ask, Home, NEW, Row, Told, answer, open};
 use crate::threads::{Work, in_threads, must_start};
 use history_check::{Checker, Verdict};
@@ -23,10 +27,10 @@ use txn_words::{Entry, Holder, Op};
 /// The transactions that the callers run in their threads.
 #[derive(Clone, Copy)]
 enum Plan {
-    /// Each runs four transactions that look random.
+    /// Each caller runs four transactions that look random.
     Drawn,
-    /// Each has a hundred keys that no other caller has. For each key it runs one transaction,
-    /// which puts the key, takes it and puts it again.
+    /// Each caller has a hundred keys that no other caller has. For each key the caller runs one
+    /// transaction, which puts the key, takes it and puts it again.
     Scripts,
 }
 
@@ -77,7 +81,7 @@ impl Recorder {
         (self.dice >> 33).checked_rem(sides).unwrap_or(0)
     }
 
-    /// A call within a transaction: most are operations on one of few keys.
+    /// Draws a call within a transaction. Most calls are operations on one of 24 keys.
     fn draw(&mut self) -> Ask {
         let (key, value) = (self.roll(24), self.roll(3));
         match self.roll(9) {
@@ -91,7 +95,7 @@ impl Recorder {
         }
     }
 
-    /// Makes a call and notes it. Answers false if the call was busy, which ends the transaction.
+    /// Makes a call and notes it. Returns false if the call was busy, which ends the transaction.
     fn ask(&mut self, clock: &AtomicU64, what: Ask) -> Result<bool, AllocError> {
         let before = clock.fetch_add(1, Ordering::SeqCst);
         let told = answer(&mut self.caller, what);
@@ -143,7 +147,7 @@ impl Recorder {
         Ok(())
     }
 
-    /// Runs one transaction of the plan: the one at this place among the caller's transactions.
+    /// Runs the caller's transaction at this place in the plan.
     fn run_one(&mut self, clock: &AtomicU64, plan: Plan, place: u64) -> Result<(), AllocError> {
         match plan {
             Plan::Drawn => self.transact(clock),
@@ -203,8 +207,8 @@ fn note_commits(commits: &mut Vec<(u64, u64)>, one: &Recorder) -> Result<(), All
     Ok(())
 }
 
-/// Sorts commits by their places. The stamp of each commit becomes the latest stamp of this commit
-/// and of the commits before it.
+/// Sorts commits by their places. Then each commit gets the greatest stamp among itself and the
+/// commits before it.
 fn raise_stamps(commits: &mut Vec<(u64, u64)>) {
     commits.sort_unstable_by_key(|commit| commit.0);
     let mut latest = 0u64;
@@ -214,8 +218,8 @@ fn raise_stamps(commits: &mut Vec<(u64, u64)>) {
     }
 }
 
-/// An entry with its place in the history: a stamp, then an order among the entries of one stamp,
-/// then the number of lines that were put before it.
+/// An entry with its sort key: a stamp, then an order among the entries with the same stamp, then
+/// the number of lines that were put before it.
 type Line = ((u64, u64, usize), Entry);
 
 /// Turns the callers' calls into entries, one caller after the other.
@@ -256,7 +260,8 @@ impl Merge {
     }
 
     /// Puts the entry `first`, then the Undones, then the entry `last`. `left` is the number of
-    /// standing changes that stay. Each other standing change gets an Undone.
+    /// changes that the transaction keeps. Each of its other changes gets an Undone, unless it was
+    /// undone before.
     fn put_undone(
         &mut self,
         stamp: u64,
@@ -292,7 +297,7 @@ impl Merge {
         }
     }
 
-    /// Puts the entries of a savepoint, or of a return to one.
+    /// Puts the entries of a savepoint, or of a return to `level`.
     fn put_level(&mut self, noted: &Noted, level: Option<u64>) -> Result<(), AllocError> {
         let caller = self.caller;
         let Some(level) = level else {
@@ -382,7 +387,7 @@ impl Merge {
         Ok(())
     }
 
-    /// Merges the entries of all callers, in the order of their places.
+    /// Puts the entries of all callers, and sorts them into one history.
     fn merge(&mut self, all: &[Recorder]) -> Result<(), AllocError> {
         self.note_all(all)?;
         for one in all {
@@ -393,8 +398,8 @@ impl Merge {
     }
 }
 
-/// Numbers the transactions, and feeds the entries to the checker. If an entry's caller is not
-/// below 64, it stops there and answers false.
+/// Numbers the transactions, and feeds the entries to the checker. Stops and returns false at the
+/// first entry whose caller has a number of 64 or more.
 fn feed_all(checker: &mut Checker, lines: &[Line]) -> Result<bool, AllocError> {
     let mut begun = 0u64;
     for line in lines {
@@ -411,8 +416,8 @@ fn feed_all(checker: &mut Checker, lines: &[Line]) -> Result<bool, AllocError> {
     Ok(true)
 }
 
-/// How many transactions a history commits. Answers `None` if the history is not legal, if it names
-/// a caller that is not below 64, or if a transaction is open at its end.
+/// Returns how many transactions a history commits. Returns `None` if the history is not legal, if
+/// it names a caller with a number of 64 or more, or if a transaction is open at its end.
 fn commits_fed(checker: &mut Checker, lines: &[Line]) -> Result<Option<u64>, AllocError> {
     if !feed_all(checker, lines)? {
         return Ok(None);
@@ -426,7 +431,7 @@ fn commits_fed(checker: &mut Checker, lines: &[Line]) -> Result<Option<u64>, All
     }
 }
 
-/// How many transactions a history commits. Makes the checker, and answers as `commits_fed` does.
+/// Makes a checker, and returns what `commits_fed` returns. Returns `None` if there are no stripes.
 fn commits_in(alloc: Global, stripes: u64, lines: &[Line]) -> Result<Option<u64>, AllocError> {
     if stripes == 0 {
         return Ok(None);
@@ -435,7 +440,7 @@ fn commits_in(alloc: Global, stripes: u64, lines: &[Line]) -> Result<Option<u64>
     commits_fed(&mut checker, lines)
 }
 
-/// How many transactions the history of these callers commits, if it is legal.
+/// If the history of these callers is legal, returns how many transactions it commits.
 fn commits_by(
     alloc: Global,
     stripes: u64,
@@ -446,7 +451,7 @@ fn commits_by(
     commits_in(alloc, stripes, merge.lines.as_slice())
 }
 
-/// Runs the callers, and answers how many transactions their history commits, if it is legal.
+/// Runs the callers. If their history is legal, returns how many transactions it commits.
 fn run_and_judge<R: Threads + Wait + Abort + Sync>(
     rt: &R,
     alloc: Global,
@@ -459,7 +464,7 @@ fn run_and_judge<R: Threads + Wait + Abort + Sync>(
     commits.expect(rt, "memory")
 }
 
-/// Runs the callers of a new map as the plan says. Answers as `run_and_judge` does.
+/// Runs the callers of a new map as the plan says. Returns what `run_and_judge` returns.
 fn commits_of<R: Threads + Wait + Abort + Sync>(
     rt: &R,
     alloc: Global,
@@ -473,8 +478,8 @@ fn commits_of<R: Threads + Wait + Abort + Sync>(
     run_and_judge(rt, alloc, stripes, all.as_mut_slice(), plan)
 }
 
-/// Makes a quarter of the thousand runs, on 8 stripes. The seed gives the number of callers, 2 to
-/// 16. Each history must be legal.
+/// Makes a quarter of the thousand runs, on 8 stripes. The seed determines the number of callers,
+/// which is 2 to 16. Each history must be legal.
 fn run_quarter<R: Threads + Wait + Abort + Sync>(rt: &R, alloc: Global, quarter: u64) {
     for run in 0..250u64 {
         let seed = quarter.wrapping_mul(250).wrapping_add(run);
@@ -506,8 +511,8 @@ fn runs_750_to_999(rt: HostRuntime) {
     run_quarter(&rt, rt.alloc(), 3);
 }
 
-/// Four callers commit a hundred transactions each: none finds a stripe held, and the places are 1
-/// to 400.
+/// Four callers commit a hundred transactions each. No caller finds a stripe held, and the places
+/// of the commits are 1 to 400.
 #[test]
 fn four_hundred_scripts(rt: HostRuntime) {
     let commits = commits_of(&rt, rt.alloc(), 4096, 4, 0, Plan::Scripts);

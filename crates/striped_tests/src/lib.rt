@@ -1,9 +1,9 @@
 //! Tests of `striped_map` and `sided_caller`, and of `transfer` of `accounts`. They test what no
-//! contract says: that each call succeeds while there is memory. A worked run names each call with
-//! its answer, and the pairs that are left.
+//! contract says: as long as there is memory, each call succeeds. A worked run lists each call with
+//! its answer, and the pairs that remain at the end.
 //!
-//! They are a separate crate, since a crate with tests is proved twice. Most functions that make
-//! calls have no contract; `calls` says why.
+//! The tests are a separate crate, since a crate with tests is proved twice. Most functions that
+//! make calls have no contract; `calls` says why.
 #![tactic(auto)]
 
 #[cfg(test)]

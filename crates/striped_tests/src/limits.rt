@@ -1,7 +1,7 @@
 //! Tests at the limits of the map: stripes, callers, keys, values, savepoints and changes. They
-//! also test the order of the pairs. Unlike in `runs`, loops make most rows, up to a hundred
-//! thousand of them. The contracts let a call be refused memory. Here a call is refused only if its
-//! row says so.
+//! also test the order of the pairs. Unlike in the module `runs`, loops make most rows, up to a
+//! hundred thousand of them. By the contracts, any call may be refused memory. Here a call is
+//! refused only if its row says so.
 use crate::calls::{
     Ask, Home, NEW, Row, Told, Worked, has_left, leaves, must, open, play, play_worked,
 };
@@ -11,7 +11,7 @@ use std::test::Fail;
 use striped_map::{open_map, open_map_with_capacity};
 use txn_words::{Op, Refusal};
 
-/// Opens a map with these numbers, and answers how many callers it has. Answers `None` if the
+/// Opens a map with these numbers, and returns how many callers it has. Returns `None` if the
 /// numbers are refused with `Limit`.
 fn callers_in(alloc: Global, stripes: usize, callers: usize) -> Result<Option<usize>, AllocError> {
     match open_map(alloc, stripes, callers) {
@@ -47,7 +47,7 @@ fn stripes_and_callers(rt: HostRuntime) -> Result<(), Fail> {
     Ok(())
 }
 
-/// Opens a map with these numbers of stripes and callers, and room for this number of keys. Answers
+/// Opens a map with these numbers of stripes and callers, and room for this number of keys. Returns
 /// the refusal, or `None` if the map is opened.
 fn why_not(alloc: Global, stripes: usize, callers: usize, keys: usize) -> Option<Refusal> {
     open_map_with_capacity(alloc, stripes, callers, keys).err()
@@ -77,7 +77,7 @@ fn room_for_keys(rt: HostRuntime) {
     }
 }
 
-/// A map of one caller that has room for a thousand keys.
+/// A map with one caller and room for a thousand keys.
 fn open_roomy<R: Abort>(rt: &R, alloc: Global, stripes: usize) -> Home {
     let (host, callers) = open_map_with_capacity(alloc, stripes, 1, 1_000).expect(rt, "a map");
     Home { host, callers }
@@ -120,7 +120,7 @@ fn selves(alloc: Global, keys: u64) -> Result<Vec<(u64, u64)>, AllocError> {
     Ok(pairs)
 }
 
-/// Plays in a map with room for a thousand keys.
+/// Plays `NO_KEYS`, puts 1,500 keys, and checks the committed pairs.
 fn play_roomy<R: Abort>(rt: &R, home: &mut Home, wanted: &[(u64, u64)]) {
     play(rt, home, NO_KEYS);
     put_a_thousand(rt, home);
@@ -178,7 +178,7 @@ fn each_operation(key: u64) -> [Row; 11] {
     ]
 }
 
-/// Each operation on these keys, in one transaction.
+/// Does each operation on each of these keys, in one transaction.
 fn play_keys<R: Abort>(rt: &R, home: &mut Home, keys: &[u64]) {
     play(rt, home, &[(0, Ask::Begin, Told::Done)]);
     for key in keys {
@@ -212,7 +212,7 @@ fn widest_keys(rt: HostRuntime) {
     }
 }
 
-/// Sets a thousand savepoints. Before each it puts the savepoint's level at key 1.
+/// Sets a thousand savepoints. Before each savepoint, puts the savepoint's level at key 1.
 fn save_a_thousand<R: Abort>(rt: &R, home: &mut Home) {
     for level in 1..1001u64 {
         let had = (level > 1).then_some(level - 1);
@@ -276,7 +276,7 @@ fn put_100_000<R: Abort>(rt: &R, home: &mut Home) {
     }
 }
 
-/// An abort of all these puts, after which only the first pairs are there.
+/// Aborts the puts of `put_100_000`. After the abort, only the pairs of `FEW` are there.
 const PUTS_TAKEN_BACK: &[Row] = &[
     (0, Ask::Len, Told::Number(100_000)),
     (0, Ask::Abort, Told::Done),
@@ -288,7 +288,7 @@ const PUTS_TAKEN_BACK: &[Row] = &[
     (0, Ask::Abort, Told::Done),
 ];
 
-/// A commit of all these puts, after which all keys are there.
+/// Commits the puts of `put_100_000`. After the commit, all keys are there.
 const PUTS_COMMITTED: &[Row] = &[
     (0, Ask::Commit, Told::Number(2)),
     (0, Ask::Begin, Told::Done),
@@ -321,7 +321,7 @@ fn a_hundred_thousand_puts(rt: HostRuntime) {
 }
 
 /// Puts 202 keys in an order that looks random: the lowest 101 and the highest 101. The value of
-/// each low key is its double.
+/// each low key is twice the key.
 fn put_scattered<R: Abort>(rt: &R, home: &mut Home) {
     play(rt, home, &[(0, Ask::Begin, Told::Done)]);
     for place in 0..101u64 {
@@ -346,7 +346,7 @@ fn rising(alloc: Global) -> Result<Vec<(u64, u64)>, AllocError> {
     Ok(pairs)
 }
 
-/// The first caller sees these pairs, in this order.
+/// Checks that the first caller reads exactly the pairs `wanted`, in this order.
 fn sees<R: Abort>(rt: &R, home: &mut Home, wanted: &[(u64, u64)]) {
     assert!(rt; 0 < home.callers.len());
     let is_seen = match home.callers[0].pairs() {

@@ -1,6 +1,7 @@
-//! Callers that catch up with one another, on one thread and after they ran in threads. `catch_up`
-//! requires that both are of one map, so the functions here have clauses that say so. The balances
-//! were worked out by hand; the order of the threads does not change them.
+//! Callers catch up with one another here: on one thread, and after they ran in threads. `catch_up`
+//! requires that both callers belong to the same map, so the functions of this module have clauses
+//! that say so. The balances were worked out by hand, and do not depend on the order of the
+//! threads.
 ghost use Rattle.std.specs.Prelude.{◌≡◌};
 
 use crate::calls::{Home, leaves, play};
@@ -12,7 +13,8 @@ use std::thread;
 use std::thread::Threads;
 use striped_map::{Caller, Stop, open_map};
 
-/// A new map with its first caller, and two other callers of it.
+/// Opens a map with three callers. Returns the map with its first caller, then the other two
+/// callers.
 pub(crate) fn three<R: Abort>(rt: &R, alloc: Global) -> (Home, Caller, Caller)
     ensures same_map { result.1.map.value ≡ result.2.map.value }
 {
@@ -27,7 +29,8 @@ fn both_moved<R: Abort>(rt: &R, told: Result<(bool, bool), Stop>) {
     assert!(rt; matches!(told, Ok((true, true))));
 }
 
-/// One caller moves 10 from account 1 to account 2; the other catches up, and moves 4 back.
+/// `one` moves 10 from account 1 to account 2. Then `other` catches up with `one`, and moves 4
+/// back.
 fn there_and_back(one: &mut Caller, other: &mut Caller) -> Result<(bool, bool), Stop>
     requires same_map { one.old.map.value ≡ other.old.map.value }
 {
@@ -52,7 +55,7 @@ fn a_commit_is_seen(rt: HostRuntime) {
     leaves(&rt, &mut home, &[(1, 4), (2, 6), (3, u64::MAX)]);
 }
 
-/// Moves 3 from account 1 to account 2, with as many tries as it takes, and hands the caller back.
+/// Moves 3 from account 1 to account 2, with as many tries as it takes. Returns the caller.
 fn moves_three(mut caller: Caller) -> Caller
     ensures same_map { result.map.value ≡ caller.map.value }
 {
@@ -60,7 +63,7 @@ fn moves_three(mut caller: Caller) -> Caller
     caller
 }
 
-/// Two callers move three, each in its own thread, and are handed back.
+/// Does `moves_three` with each caller in its own thread, and returns both callers.
 fn from_threads<R: Threads>(rt: &R, one: Caller, other: Caller) -> (Caller, Caller)
     requires same_map { one.map.value ≡ other.map.value }
     ensures same_map { result.0.map.value ≡ result.1.map.value }
@@ -76,7 +79,7 @@ fn from_threads<R: Threads>(rt: &R, one: Caller, other: Caller) -> (Caller, Call
     )
 }
 
-/// Two callers catch up with each other, once each way, and each moves 1 back.
+/// Each caller catches up with the other one. Then each caller moves 1 from account 2 to account 1.
 fn meet(one: &mut Caller, other: &mut Caller) -> Result<(bool, bool), Stop>
     requires same_map { one.old.map.value ≡ other.old.map.value }
 {
@@ -85,7 +88,7 @@ fn meet(one: &mut Caller, other: &mut Caller) -> Result<(bool, bool), Stop>
     Ok((transfer(one, 0, 2, 1, 1)?, transfer(other, 0, 2, 1, 1)?))
 }
 
-/// Two callers move in threads, then meet, and are dropped.
+/// Does `from_threads` and then `meet`, and drops both callers.
 fn move_and_meet<R: Threads>(rt: &R, one: Caller, other: Caller) -> Result<(bool, bool), Stop>
     requires same_map { one.map.value ≡ other.map.value }
 {

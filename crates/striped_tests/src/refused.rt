@@ -1,6 +1,7 @@
-//! Calls that are refused memory: each is made once more, and must then answer as if nothing was
-//! refused. A call that is refused twice ends the test with that error. `docs/tests/refused.sh`
-//! refuses the memory; without it, the tests are plain worked runs.
+//! In these tests memory is refused to calls. A refused call is made once more, and must then
+//! answer as if nothing had been refused. A call that is refused twice ends the test with that
+//! error. `docs/tests/refused.sh` refuses the memory. Without this script, the tests are plain
+//! worked runs.
 use crate::calls::{Ask, Home, NEW, Row, Told, answer, must, reads};
 use std::alloc::Global;
 use std::process::Abort;
@@ -8,8 +9,8 @@ use std::test::Fail;
 use striped_map::{Caller, Host, Stop, open_map_with_capacity};
 use txn_words::{Op, Refusal};
 
-/// Opens a map of one stripe and one caller with room for this number of keys, and tries once more
-/// if memory is refused.
+/// Opens a map with one stripe, one caller, and room for this number of keys. Tries once more if
+/// memory is refused.
 fn open_again(alloc: Global, keys: usize) -> Result<Home, Refusal> {
     for _ in 0..2u64 {
         match open_map_with_capacity(alloc, 1, 1, keys) {
@@ -70,8 +71,8 @@ const CALLS: &[Row] = &[
     (0, Ask::Commit, Told::Number(1)),
 ];
 
-/// Puts twenty keys, and takes half of them. Parts of the map that have no room at first grow
-/// meanwhile.
+/// Puts twenty keys, and takes half of them. The parts of the map that have no room at first must
+/// grow for this.
 const GROWS: &[Row] = &[
     (0, Ask::Begin, Told::Done),
     (0, Ask::Do(Op::Put(10, 10)), NEW),
@@ -107,8 +108,8 @@ const GROWS: &[Row] = &[
     (0, Ask::Len, Told::Number(11)),
 ];
 
-/// Makes the calls of `CALLS` in one transaction, and those of `GROWS` in another. The drop of the
-/// caller takes the second transaction back.
+/// Makes the calls of `CALLS` in one transaction, and those of `GROWS` in another. Then drops the
+/// caller, which takes the second transaction back.
 fn call_and_grow<R: Abort>(rt: &R, home: &mut Home) -> Result<(), Refusal> {
     play_again(rt, home, CALLS)?;
     play_again(rt, home, GROWS)?;
@@ -116,7 +117,7 @@ fn call_and_grow<R: Abort>(rt: &R, home: &mut Home) -> Result<(), Refusal> {
     has_left_again(rt, &mut home.host, &[(1, 10)])
 }
 
-/// Makes the same calls in a map with room for this number of keys.
+/// Does `call_and_grow` in a map with room for this number of keys.
 fn play_with_room<R: Abort>(rt: &R, alloc: Global, keys: usize) -> Result<(), Refusal> {
     call_and_grow(rt, &mut open_again(alloc, keys)?)
 }

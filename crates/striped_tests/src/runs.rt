@@ -1,6 +1,7 @@
-//! Worked runs of one or two callers on one thread: each call with its answer, and the pairs that
-//! are left. All values were worked out by hand. The contracts let a call be refused memory, or be
-//! busy though the stripe is free. Here it is refused or busy only if its row says so.
+//! Worked runs of one or two callers on one thread. A run lists each call with its answer, and the
+//! pairs that remain at the end. All values were worked out by hand. By the contracts, any call may
+//! be refused memory, or be busy although the stripe is free. Here a call is refused or busy only
+//! if its row says so.
 use crate::calls::{Ask, NEW, Told, Worked, play_worked};
 use txn_words::{Op, Refusal};
 
@@ -68,7 +69,7 @@ static BUSY_BETWEEN_CALLERS: Worked<'static> = Worked {
     left: &[(1, 10)],
 };
 
-/// Keys on both sides of 2^63, and puts under a condition.
+/// Keys on both sides of 2^63, and conditional puts.
 static KEYS_OF_64_BITS: Worked<'static> = Worked {
     stripes: 8,
     callers: 2,
@@ -91,9 +92,9 @@ static KEYS_OF_64_BITS: Worked<'static> = Worked {
     ],
 };
 
-/// A transaction gives its stripes back at its end and not before. Keys 1, 9 and 17 are of one
-/// stripe, which caller 1 still holds after a savepoint and a return to it. An abort, a commit and
-/// a busy stripe each give all stripes of the caller back.
+/// A transaction gives its stripes back at its end and not before. Keys 1, 9 and 17 are in one
+/// stripe. Caller 1 still holds this stripe after it sets a savepoint and returns to it. An abort,
+/// a commit and a busy call each give back all stripes of the caller.
 static RIGHTS_COME_BACK: Worked<'static> = Worked {
     stripes: 8,
     callers: 2,
@@ -188,8 +189,8 @@ static NINE_UNDONE: Worked<'static> = Worked {
     left: &[],
 };
 
-/// The refusals of a caller in each phase. A busy stripe ends the transaction. No call finds a
-/// stripe busy that its own caller holds.
+/// The refusals of a caller in each phase. A call that finds a stripe busy ends its transaction. A
+/// stripe is never busy for the caller that holds it.
 static REFUSALS_IN_ORDER: Worked<'static> = Worked {
     stripes: 4,
     callers: 2,

@@ -1,7 +1,7 @@
-//! Callers with a side value of four words: their calls as values, tables that also name the side
-//! value after each call, and a test of each call. `sided_limits` uses this module to play its
-//! tables. The tables here were made by hand. No contract says that a call succeeds while there is
-//! memory.
+//! Callers with a side value of four words. The module has their calls as values, tables that also
+//! list the side value after each call, and a test of each call. `sided_limits` uses this module to
+//! play its tables. The tables of this module were made by hand. No contract says that a call
+//! succeeds while there is memory.
 ghost use Rattle.std.specs.Prelude.{◌≡◌, OnOk};
 
 use crate::calls::{self, Ask, Home, NEW, Told, has_left, must, open};
@@ -19,7 +19,7 @@ pub(crate) struct Register {
     words: [u64; 4],
 }
 
-/// The job of a change of the words.
+/// The job of changing the words from `before` to `after`.
 #[derive(Drop)]
 pub(crate) struct WordsJob {
     before: [u64; 4],
@@ -54,7 +54,7 @@ fn a_register(words: [u64; 4]) -> Register
     Register { words }
 }
 
-/// The words of a count.
+/// The four words that stand for a count.
 fn of_count(count: u64) -> [u64; 4] {
     [count, 0, !count, u64::MAX]
 }
@@ -67,7 +67,7 @@ pub(crate) type Sided = SidedCaller<Register>;
 pub(crate) enum Call {
     Begin,
     Do(Op),
-    /// Gives the side value the words of a count.
+    /// Sets the side value to the words of this count.
     Set(u64),
     Save,
     Back(u64),
@@ -75,8 +75,8 @@ pub(crate) enum Call {
     Abort,
 }
 
-/// The place of a caller, what it is asked for, what it must answer, and the count of its side
-/// value afterwards.
+/// The place of a caller, the request that the caller gets, the answer that it must give, and the
+/// count of its side value afterwards.
 pub(crate) type Row = (usize, Call, Told, u64);
 
 /// Does an operation.
@@ -89,7 +89,7 @@ fn operate(caller: &mut Sided, op: Op) -> Result<Told, Stop> {
     }))
 }
 
-/// Gives the side value the words of a count.
+/// Sets the side value to the words of this count.
 fn set(caller: &mut Sided, count: u64) -> Told
     ensures caller { caller.new.caller ≡ caller.old.caller }
 {
@@ -116,7 +116,7 @@ fn make_call(caller: &mut Sided, what: Call) -> Result<Told, Stop> {
     Ok(Told::Done)
 }
 
-/// Asks a caller.
+/// Makes a request to a caller, and returns the answer.
 pub(crate) fn answer(caller: &mut Sided, what: Call) -> Told {
     match make_call(caller, what) {
         Ok(told) => told,
@@ -137,8 +137,8 @@ pub(crate) struct SidedHome {
     pub(crate) callers: Vec<Sided>,
 }
 
-/// Asks a caller. Answers whether its answer is as wanted and its side value then has the words of
-/// the count.
+/// Makes a request to a caller. Returns true if the answer is `wanted` and the side value then has
+/// the words of `count`.
 fn is_so(caller: &mut Sided, what: Call, wanted: Told, count: u64) -> bool {
     answer(caller, what) == wanted && has_count(caller, count)
 }
@@ -156,7 +156,7 @@ pub(crate) fn play<R: Abort>(rt: &R, home: &mut SidedHome, rows: &[Row]) {
     }
 }
 
-/// All callers are dropped, and these pairs are left.
+/// Drops all callers, and checks that the committed pairs are then exactly `left`.
 pub(crate) fn leaves<R: Abort>(rt: &R, home: &mut SidedHome, left: &[(u64, u64)]) {
     home.callers.clear();
     has_left(rt, &mut home.host, left);
@@ -197,8 +197,8 @@ pub(crate) fn open_sided<R: Abort>(
     SidedHome { host, callers }
 }
 
-/// A run of callers of a new map of four stripes: the calls, and the pairs that are left when the
-/// callers are dropped.
+/// A run on a new map with four stripes: the number of callers, the calls with their answers, and
+/// the pairs that remain once the callers are dropped.
 #[derive(Clone, Copy)]
 struct Worked<'a> {
     callers: usize,
@@ -222,9 +222,9 @@ const TEN: Told = Told::Replied(Some(10));
 
 const ELEVEN: Told = Told::Replied(Some(11));
 
-/// Savepoints and returns to them, a return to the beginning, a commit and an abort. Then the side
-/// value is changed outside of a transaction, and the next transaction does not take this change
-/// back.
+/// A transaction sets savepoints, returns to them and to the beginning, and commits. The next
+/// transaction aborts. Then the side value is changed outside of a transaction, and a third
+/// transaction does not take this change back.
 static EACH_CALL: Worked<'static> = Worked {
     callers: 1,
     rows: &[
@@ -351,7 +351,7 @@ const OPS: &[Op] = &[
     Op::PutIf(5, None, 50),
 ];
 
-/// Each of these operations is busy.
+/// Plays `finds_busy` for each operation of `OPS`, and checks that no pair is committed.
 fn play_busy<R: Abort>(rt: &R, home: &mut SidedHome) {
     for &op in OPS {
         play(rt, home, &finds_busy(op));
@@ -359,13 +359,13 @@ fn play_busy<R: Abort>(rt: &R, home: &mut SidedHome) {
     has_left(rt, &mut home.host, &[]);
 }
 
-/// A busy operation of any kind takes the side value back to its value before the transaction.
+/// A busy operation of any kind resets the side value to what it was before the transaction.
 #[test]
 fn busy(rt: HostRuntime) {
     play_busy(&rt, &mut open_sided(&rt, rt.alloc(), 4, 2));
 }
 
-/// Caller 2 leaves a pair, and caller 1 a side value.
+/// Caller 2 commits a pair, and caller 1 sets its side value.
 const BEFORE: &[Row] = &[
     (1, Call::Begin, Told::Done, 0),
     (1, Call::Do(Op::Put(1, 5)), NEW, 0),
@@ -387,8 +387,8 @@ const CALLS: &[Row] = &[
     (0, Call::Do(Op::Put(1, 6)), Told::Replied(Some(5)), 2),
 ];
 
-/// Caller 2, which now has the first place, finds the pair and no stripe held. Its side value is
-/// unchanged.
+/// Caller 2, which is now at the first place, finds only the pair that it committed, and no stripe
+/// held. Its side value is unchanged.
 const AFTER: &[Row] = &[
     (0, Call::Begin, Told::Done, 0),
     (0, Call::Do(Op::Get(1)), Told::Replied(Some(5)), 0),
@@ -420,8 +420,8 @@ fn dropped_at_every_point(rt: HostRuntime) {
     }
 }
 
-/// Tries to give a side value to the caller, which is in a transaction: `new` must hand back both.
-/// Answers the caller.
+/// Tries to give a side value to the caller, which is in a transaction. `new` must fail and return
+/// both the caller and the value. Returns the caller.
 fn handed_back<R: Abort>(rt: &R, alloc: Global, caller: Caller) -> Caller {
     let made = SidedCaller::new(alloc, caller, a_register(of_count(7)));
     let (caller, value) = made.err().expect(rt, "a caller that is handed back");
@@ -429,22 +429,22 @@ fn handed_back<R: Abort>(rt: &R, alloc: Global, caller: Caller) -> Caller {
     caller
 }
 
-/// Puts 20 at key 2 in an open transaction.
+/// Begins a transaction, puts 20 at key 2, and leaves the transaction open.
 fn put_second<R: Abort>(rt: &R, sided: &mut Sided) {
     let begun = answer(sided, Call::Begin);
     let told = answer(sided, Call::Do(Op::Put(2, 20)));
     assert!(rt; begun == Told::Done && told == NEW);
 }
 
-/// Gives the caller a side value, calls `put_second`, and takes the side value off. Answers the
-/// caller, whose transaction is open.
+/// Gives the caller a side value, calls `put_second`, and takes the side value off. Returns the
+/// caller with its open transaction.
 fn without_side<R: Abort>(rt: &R, alloc: Global, caller: Caller) -> Caller {
     let mut sided = with_side(rt, alloc, caller);
     put_second(rt, &mut sided);
     sided.into_caller()
 }
 
-/// The last caller of a map.
+/// Removes and returns the last caller of a map.
 fn take_out<R: Abort>(rt: &R, home: &mut Home) -> Caller {
     home.callers.pop().expect(rt, "a caller")
 }
@@ -455,8 +455,9 @@ fn put_back<R: Abort>(rt: &R, home: &mut Home, caller: Caller) {
     assert!(rt; added.is_ok());
 }
 
-/// A caller that has put key 1 in a transaction is handed back, and its transaction goes on. After
-/// the commit it gets a side value. A transaction goes on too when the side value is taken off.
+/// A caller that has put key 1 in a transaction cannot get a side value. Its transaction continues
+/// and commits. After the commit it gets a side value, which is taken off again in another
+/// transaction. This transaction also continues and commits.
 fn play_handed_back<R: Abort>(rt: &R, alloc: Global, home: &mut Home) {
     let begins = [
         (0, Ask::Begin, Told::Done),
@@ -487,7 +488,7 @@ fn begins(caller: &mut Sided, key: u64) -> Result<(), Stop>
     Ok(())
 }
 
-/// Each caller puts a key, and `one` commits. Then both catch up with each other.
+/// Each caller puts a key, and `one` commits. Then each caller catches up with the other.
 fn meet(one: &mut Sided, other: &mut Sided) -> Result<(), Stop>
     requires same_map { one.old.caller.map.value ≡ other.old.caller.map.value }
 {
@@ -507,7 +508,7 @@ fn listed<R: Abort>(rt: &R, alloc: Global, one: Sided, other: Sided) -> Vec<Side
     all
 }
 
-/// Gives both callers a side value, and lets them meet.
+/// Gives each caller a side value, and calls `meet` with both.
 fn met<R: Abort>(rt: &R, alloc: Global, one: Caller, other: Caller) -> Vec<Sided>
     requires same_map { one.map.value ≡ other.map.value }
 {
@@ -518,7 +519,8 @@ fn met<R: Abort>(rt: &R, alloc: Global, one: Caller, other: Caller) -> Vec<Sided
     listed(rt, alloc, one, other)
 }
 
-/// The meeting changed neither the side values of callers 2 and 3 nor the transaction of caller 3.
+/// Calls after `meet`. They show that `meet` changed neither the side values of callers 2 and 3 nor
+/// the transaction of caller 3.
 const MET: &[Row] = &[
     (0, Call::Begin, Told::Done, 1),
     (0, Call::Do(Op::Get(2)), Told::Busy(3), 1),

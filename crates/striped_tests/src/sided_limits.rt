@@ -1,6 +1,6 @@
-//! Callers with a side value at the limits: keys, values, changes of the side value, savepoints,
-//! and two callers in threads. `limits` tests the map itself; a row here also names the side value
-//! after its call. With two threads only the counts at the end are known.
+//! Tests of callers with a side value at the limits: keys, values, changes of the side value,
+//! savepoints, and two callers in threads. `limits` tests the map itself. A row here also lists the
+//! side value after its call. With two threads, only the counts at the end are known.
 use crate::calls::{NEW, Told, has_left};
 use crate::sided::{Call, Row, Sided, SidedHome, answer, has_count, leaves, open_sided, play};
 use crate::threads::must_start;
@@ -36,7 +36,7 @@ const WIDEST: [(u64, u64); 4] = [
     (18_446_744_073_709_551_615, 9_223_372_036_854_775_808),
 ];
 
-/// Each operation on these keys, in one transaction.
+/// Does each operation on each of the widest keys, in one transaction.
 fn play_widest<R: Abort>(rt: &R, home: &mut SidedHome) {
     play(rt, home, &[(0, Call::Begin, Told::Done, 0)]);
     for (key, before) in WIDEST {
@@ -54,8 +54,8 @@ fn widest_keys(rt: HostRuntime) {
     }
 }
 
-/// Begins when the side value is 7 and key 1 has 10. Then it changes the side value and puts a key,
-/// a thousand times.
+/// Begins a transaction when the side value is 7 and key 1 has the value 10. Then changes the side
+/// value and puts a key, a thousand times.
 fn change_a_thousand<R: Abort>(rt: &R, home: &mut SidedHome) {
     play(rt, home, &[(0, Call::Begin, Told::Done, 7)]);
     for count in 0..1000u64 {
@@ -73,7 +73,7 @@ fn change_a_thousand<R: Abort>(rt: &R, home: &mut SidedHome) {
     }
 }
 
-/// Puts 10 at key 1 and 7 in the side value.
+/// Puts 10 at key 1, sets the side value to 7, and commits.
 const FIRST: &[Row] = &[
     (0, Call::Begin, Told::Done, 0),
     (0, Call::Do(Op::Put(1, 10)), NEW, 0),
@@ -81,8 +81,8 @@ const FIRST: &[Row] = &[
     (0, Call::Commit, Told::Number(1), 7),
 ];
 
-/// Commits the thousand changes, and goes on: neither a return to level 0 nor an abort takes them
-/// back.
+/// Commits the thousand changes. In the next transaction, neither a return to level 0 nor an abort
+/// takes these changes back.
 const KEPT: &[Row] = &[
     (0, Call::Commit, Told::Number(2), 999),
     (0, Call::Begin, Told::Done, 999),
@@ -109,8 +109,8 @@ fn a_thousand_changes(rt: HostRuntime) {
     play_changes(&rt, &mut open_sided(&rt, rt.alloc(), 16, 1));
 }
 
-/// Sets a hundred savepoints. Before each it gives the savepoint's level to the side value and to
-/// key 1.
+/// Sets a hundred savepoints. Before each savepoint, sets the side value to the savepoint's level,
+/// and puts the level at key 1.
 fn save_a_hundred<R: Abort>(rt: &R, home: &mut SidedHome) {
     for level in 1..101u64 {
         let had = (level > 1).then_some(level - 1);
@@ -164,15 +164,14 @@ fn a_hundred_savepoints(rt: HostRuntime) {
     play_savepoints(&rt, &mut open_sided(&rt, rt.alloc(), 4, 1));
 }
 
-/// Makes a call, which must not be refused. Answers whether it was not busy.
+/// Makes a call, which must not be refused. Returns false if it was busy.
 fn is_made<R: Abort>(rt: &R, caller: &mut Sided, what: Call) -> bool {
     let told = answer(caller, what);
     assert!(rt; !matches!(told, Told::Refused(_)));
     !matches!(told, Told::Busy(_))
 }
 
-/// Adds one to the value of a key, or to 0 if the key is not there. Answers whether no stripe was
-/// busy.
+/// Adds one to the value of a key. An absent key counts as 0. Returns false if a stripe was busy.
 fn adds_one<R: Abort>(rt: &R, caller: &mut Sided, key: u64) -> bool {
     let Told::Replied(had) = answer(caller, Call::Do(Op::Get(key))) else {
         return false;
@@ -182,8 +181,9 @@ fn adds_one<R: Abort>(rt: &R, caller: &mut Sided, key: u64) -> bool {
     is_made(rt, caller, Call::Do(Op::Put(key, more)))
 }
 
-/// Adds one to the key that all share, gives the side value the next count, adds one to the
-/// caller's own key, and ends the transaction with `end`. Answers whether no stripe was busy.
+/// Runs one transaction. It adds one to the key that all callers share, sets the side value to
+/// `next`, adds one to the caller's own key, and ends with `end`. Returns false if a stripe was
+/// busy.
 fn counts<R: Abort>(rt: &R, caller: &mut Sided, own: u64, next: u64, end: Call) -> bool {
     is_made(rt, caller, Call::Begin)
         && adds_one(rt, caller, 1)
@@ -192,9 +192,9 @@ fn counts<R: Abort>(rt: &R, caller: &mut Sided, own: u64, next: u64, end: Call) 
         && is_made(rt, caller, end)
 }
 
-/// Runs transactions until 300 are committed; every third ends with an abort. After each, whether
-/// it was committed, aborted or busy, the side value is the number of transactions committed so
-/// far.
+/// Runs transactions until 300 are committed. Every third transaction ends with an abort. After
+/// each transaction, the side value must be the number of transactions committed so far. This holds
+/// whether the transaction was committed, aborted or busy.
 fn count_to_300<R: Abort>(rt: &R, caller: &mut Sided, own: u64) {
     let mut count = 0u64;
     for round in 0..u64::MAX {
@@ -212,7 +212,7 @@ fn count_to_300<R: Abort>(rt: &R, caller: &mut Sided, own: u64) {
     }
 }
 
-/// Each caller counts in its own thread.
+/// Runs `count_to_300` for each caller in its own thread.
 fn count_all<R: Threads + Wait + Abort + Sync>(rt: &R, callers: &mut [Sided]) {
     thread::scope(thread::scope_env(), rt, |scope| {
         for (place, caller) in callers.iter_mut().enumerate() {
@@ -223,15 +223,16 @@ fn count_all<R: Threads + Wait + Abort + Sync>(rt: &R, callers: &mut [Sided]) {
     });
 }
 
-/// Each caller has this count.
+/// Checks that each caller's side value has this count.
 fn have_count<R: Abort>(rt: &R, callers: &[Sided], count: u64) {
     for caller in callers {
         assert!(rt; has_count(caller, count));
     }
 }
 
-/// Two threads count in their side values exactly the transactions that they commit. Each caller's
-/// own key then has the caller's count, and the key that both share has the sum of the counts.
+/// Two callers in threads count in their side values exactly the transactions that they commit. At
+/// the end, each caller's own key has the caller's count as its value, and the key that both share
+/// has the sum of the counts.
 fn play_counts<R: Threads + Wait + Abort + Sync>(rt: &R, home: &mut SidedHome) {
     count_all(rt, home.callers.as_mut_slice());
     have_count(rt, home.callers.as_slice(), 300);

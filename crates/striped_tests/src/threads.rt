@@ -1,6 +1,6 @@
-//! Threads for callers: `in_threads` runs each caller in its own thread. The `Work` that it is
-//! given says what the callers do there. This module has no tests; `histories` and `transfers` call
-//! `in_threads`. The closure of a thread scope has no `assert!`, which would be slow to prove
+//! Threads for callers: `in_threads` runs each caller in its own thread. Its argument of type
+//! `Work` says what the callers do there. This module has no tests. `histories` and `transfers`
+//! call `in_threads`. The closure of a thread scope has no `assert!`, which would be slow to prove
 //! there.
 use crate::calls::{Row, ask_row};
 use crate::transfers::{move_many, take_part};

@@ -11,7 +11,7 @@ use std::thread::Threads;
 use striped_map::{Caller, Host, Stop};
 use txn_words::Op;
 
-/// Asks for a transfer. Answers false if both accounts are the same.
+/// Calls `transfer`, and returns what it returns. Returns false if both accounts are the same.
 fn moved(caller: &mut Caller, tries: u64, from: u64, to: u64, sum: u64) -> Result<bool, Stop> {
     if from == to {
         return Ok(false);
@@ -19,7 +19,8 @@ fn moved(caller: &mut Caller, tries: u64, from: u64, to: u64, sum: u64) -> Resul
     transfer(caller, tries, from, to, sum)
 }
 
-/// Asks for a transfer, with as many tries as it takes. The answer must be as the row says.
+/// Calls `transfer` with as many tries as it takes. Checks that the transfer is made exactly if the
+/// last part of `what` is true.
 fn must_move<R: Abort>(rt: &R, caller: &mut Caller, row: usize, what: (u64, u64, u64, bool)) {
     let (from, to, sum, wanted) = what;
     let is_moved = moved(caller, u64::MAX, from, to, sum);
@@ -33,7 +34,7 @@ fn asks<R: Abort>(rt: &R, home: &mut Home, wanted: Result<bool, Stop>) {
     assert!(rt; is_moved == wanted);
 }
 
-/// Account 1 has 10, and account 3 all that an account can have.
+/// Account 1 gets 10, and account 3 gets the largest sum that an account can have.
 pub(crate) const FILLED: &[Row] = &[
     (0, Ask::Begin, Told::Done),
     (0, Ask::Do(Op::Put(1, 10)), NEW),
@@ -62,7 +63,7 @@ fn transfer_all<R: Abort>(rt: &R, home: &mut Home) {
     }
 }
 
-/// Makes the transfers, and looks at the balances that are left.
+/// Makes the transfers, and checks the balances at the end.
 fn play_transfers<R: Abort>(rt: &R, home: &mut Home) {
     play(rt, home, FILLED);
     transfer_all(rt, home);
@@ -74,7 +75,7 @@ fn too_little_and_too_much(rt: HostRuntime) {
     play_transfers(&rt, &mut open(&rt, rt.alloc(), 4, 1));
 }
 
-/// A caller puts 15 in account 1, and holds its stripe.
+/// A caller puts 15 in account 1 and does not commit, so it holds the stripe of this account.
 fn holds<R: Abort>(rt: &R, home: &mut Home, place: usize) {
     play(
         rt,
@@ -119,18 +120,19 @@ fn play_waiting<R: Threads + Wait + Abort + Sync>(rt: &R, home: &mut Home) {
     leaves(rt, home, &[(1, 5), (2, 10)]);
 }
 
-/// A transfer that is busy gives way and begins again until the stripe is free.
+/// A transfer that finds a stripe busy ends its transaction, and begins again until the stripe is
+/// free.
 #[test]
 fn busy_tries_again(rt: HostRuntime) {
     play_waiting(&rt, &mut open(&rt, rt.alloc(), 4, 2));
 }
 
-/// How many accounts the threads share, and what each has at first.
+/// How many accounts the threads share. `FIRST` is what each account has at first.
 const ACCOUNTS: u64 = 8;
 
 const FIRST: u64 = 100;
 
-/// Gives each account what it has at first.
+/// Puts `FIRST` in each account.
 fn fill<R: Abort>(rt: &R, home: &mut Home) {
     play(rt, home, &[(0, Ask::Begin, Told::Done)]);
     for account in 0..ACCOUNTS {
@@ -150,7 +152,7 @@ pub(crate) fn move_many<R: Abort>(rt: &R, caller: &mut Caller, seed: u64) {
     }
 }
 
-/// The sum of all accounts, if it can be read and added up.
+/// The sum of all accounts, or `None` if it cannot be read or is 2^64 or more.
 fn total(host: &mut Host) -> Option<u64> {
     let mut sum = 0u64;
     for (_, has) in host.pairs().ok()? {

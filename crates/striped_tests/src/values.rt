@@ -1,7 +1,7 @@
 //! Tests of `Transaction`: each call, each way to end a transaction, and a drop after any number of
-//! calls. `Call` names the calls of a transaction, since `Ask` lacks four of them: `contains_key`,
-//! `swap`, `is_empty` and `pairs`. The first three of the four are also tested on a caller. The
-//! values of each row were worked out by hand.
+//! calls. `Call` lists the calls of a transaction. `Ask` lacks four of them: `contains_key`,
+//! `swap`, `is_empty` and `pairs`. The first three are also tested on a caller. The values of each
+//! row were worked out by hand.
 use crate::calls::{Ask, Home, NEW, Row, Told, leaves, must, open, play};
 use std::process::Abort;
 use striped_map::{Caller, Stop, Transaction};
@@ -61,7 +61,7 @@ fn make_call(t: &mut Transaction<'_>, what: Call) -> Result<Answer, Stop> {
 /// A call, and what it must answer.
 type Line = (Call, Answer);
 
-/// The answer to an operation on a key that was not there.
+/// The answer to an operation on an absent key.
 const NONE: Answer = Answer::Replied(None);
 
 /// Each kind of call, on a map that has the pair (1, 5). `Empty`, `Len` and `Pairs` take every
@@ -99,7 +99,7 @@ enum End {
     IsDropped,
 }
 
-/// Makes a call of a transaction, and tells its answer.
+/// Makes a call of a transaction, and returns its answer.
 fn told_by(t: &mut Transaction<'_>, what: Call) -> Answer {
     match make_call(t, what) {
         Ok(told) => told,
@@ -107,14 +107,15 @@ fn told_by(t: &mut Transaction<'_>, what: Call) -> Answer {
     }
 }
 
-/// Asks a transaction as the table says.
+/// Makes the calls of the table on a transaction. Each must get the answer of its line.
 fn ask_all<R: Abort>(rt: &R, t: &mut Transaction<'_>, lines: &[Line]) {
     for (line, &(what, wanted)) in lines.iter().enumerate() {
         must(rt, line, told_by(t, what) == wanted);
     }
 }
 
-/// Ends a transaction. Answers the place of its commit, or 0 if it is aborted or dropped.
+/// Ends a transaction. Returns the place of its commit, or 0 if the transaction is aborted or
+/// dropped.
 fn end_so(t: Transaction<'_>, end: End) -> Result<u64, Stop> {
     match end {
         End::Commits => return t.commit(),
@@ -124,7 +125,7 @@ fn end_so(t: Transaction<'_>, end: End) -> Result<u64, Stop> {
     Ok(0)
 }
 
-/// Asks a transaction as the table says, and ends it.
+/// Makes the calls of the table on a transaction, and ends the transaction.
 fn ask_and_end<R: Abort>(
     rt: &R,
     mut t: Transaction<'_>,
@@ -135,7 +136,7 @@ fn ask_and_end<R: Abort>(
     end_so(t, end)
 }
 
-/// Begins a transaction, asks it as the table says, and ends it.
+/// Begins a transaction, makes the calls of the table, and ends the transaction.
 fn play_value<R: Abort>(
     rt: &R,
     caller: &mut Caller,
@@ -151,10 +152,10 @@ const HOLDS: &[Row] = &[
     (1, Ask::Do(Op::Put(1, 5)), NEW),
 ];
 
-/// Caller 2 commits, which leaves the pair.
+/// Caller 2 commits the pair, which frees the stripe.
 const LETS_GO: &[Row] = &[(1, Ask::Commit, Told::Number(1))];
 
-/// Caller 2 then finds no stripe held, and only the one pair.
+/// Caller 2 then finds no stripe held, and (1, 5) as the only pair.
 const AFTER: &[Row] = &[
     (1, Ask::Begin, Told::Done),
     (1, Ask::Len, Told::Number(1)),
@@ -162,7 +163,7 @@ const AFTER: &[Row] = &[
     (1, Ask::Commit, Told::Number(2)),
 ];
 
-/// Plays a transaction of caller 1. The answer at its end must be `wanted`.
+/// Plays a transaction of caller 1. Its end must return `wanted`.
 fn play_first<R: Abort>(
     rt: &R,
     home: &mut Home,
@@ -175,7 +176,8 @@ fn play_first<R: Abort>(
     assert!(rt; ended == wanted);
 }
 
-/// Caller 1 makes this number of calls, and the end of its transaction takes them back.
+/// Caller 1 makes the first `calls` of the calls in `CALLS`. The end of its transaction takes their
+/// changes back.
 fn taken_back<R: Abort>(rt: &R, home: &mut Home, calls: usize, end: End) {
     play(rt, home, HOLDS);
     play(rt, home, LETS_GO);
@@ -221,7 +223,7 @@ const BUSY: &[Line] = &[
     ),
 ];
 
-/// Caller 2 holds the stripe meanwhile, and then commits.
+/// Caller 2 holds the stripe of key 1 while caller 1 plays `BUSY`, and commits after that.
 fn play_busy<R: Abort>(rt: &R, home: &mut Home) {
     let not_open = Err(Stop::Refused(Refusal::NotOpen));
     play(rt, home, HOLDS);
@@ -237,7 +239,7 @@ fn over_once_busy(rt: HostRuntime) {
     play_busy(&rt, &mut open(&rt, rt.alloc(), 4, 2));
 }
 
-/// Caller 1 begins a transaction by `Caller::begin`, not as a value.
+/// Caller 1 begins a transaction with `Caller::begin`, so there is no `Transaction` for it.
 const BEGINS: &[Row] = &[
     (0, Ask::Begin, Told::Done),
     (0, Ask::Do(Op::Put(1, 5)), NEW),
@@ -246,7 +248,8 @@ const BEGINS: &[Row] = &[
 /// Caller 1 commits the transaction of `BEGINS`.
 const GOES_ON: &[Row] = &[(0, Ask::Commit, Told::Number(1))];
 
-/// `Transaction::begin` is refused, since the caller has an open transaction, which goes on.
+/// `Transaction::begin` is refused, since the caller has an open transaction. The open transaction
+/// continues.
 fn play_begun<R: Abort>(rt: &R, home: &mut Home) {
     let already_open = Err(Stop::Refused(Refusal::AlreadyOpen));
     play(rt, home, BEGINS);
@@ -268,7 +271,7 @@ fn goes_too_far(caller: &mut Caller) -> Result<u64, Stop> {
     t.commit()
 }
 
-/// Each caller returns early.
+/// Each caller calls `goes_too_far`, which must return early.
 fn go_too_far<R: Abort>(rt: &R, home: &mut Home) {
     for (place, caller) in home.callers.iter_mut().enumerate() {
         let too_far = Err(Stop::Refused(Refusal::NoSuchLevel));

@@ -1,6 +1,6 @@
 //! Tests of `bucket_table`: worked runs, and refused allocations. The contracts say what each call
-//! answers, but not that it is given memory while there is some. The answers and the nodes of
-//! the list were worked out by hand. All calls are made by `home`.
+//! returns, but not that a call gets memory while memory is free. The expected answers and nodes
+//! were worked out by hand. The module `home` makes all calls.
 mod home;
 
 use bucket_table::{Double, InitLink, InitRefusal, InitSeek};
@@ -22,8 +22,8 @@ fn is_refused(alloc: Global) -> bool {
     Box::new(alloc, 0).is_err()
 }
 
-/// Makes a list and buckets on it, and tries once more if memory is refused. Answers `None` if
-/// memory is refused both times.
+/// Makes a list with its buckets. If memory is refused, tries once more. Returns `None` if memory
+/// is refused both times.
 fn home_again(alloc: Global, max: u32, helpers: u32) -> Option<Home> {
     match Home::new(alloc, 0, max, helpers) {
         Some(home) => Some(home),
@@ -31,8 +31,8 @@ fn home_again(alloc: Global, max: u32, helpers: u32) -> Option<Home> {
     }
 }
 
-/// Puts a key, and tries once more if memory is refused; the refusal must leave the list unchanged.
-/// Answers whether the key is there now.
+/// Puts a key. If memory is refused, the list must be unchanged, and the put is tried once more.
+/// Returns true if the key was put.
 fn has_put(rt: &impl Abort, home: &mut Home, number: u64) -> bool {
     let before = home.figures();
     for _ in 0..2 {
@@ -44,7 +44,8 @@ fn has_put(rt: &impl Abort, home: &mut Home, number: u64) -> bool {
     false
 }
 
-/// Puts keys in turn, up to the first that is refused. Answers whether all are there.
+/// Puts the keys in turn, and stops if `has_put` fails for a key. Returns true if all keys were
+/// put.
 fn has_put_all(rt: &impl Abort, home: &mut Home, numbers: &[u64]) -> bool {
     for number in numbers {
         if !has_put(rt, home, *number) {
@@ -54,20 +55,20 @@ fn has_put_all(rt: &impl Abort, home: &mut Home, numbers: &[u64]) -> bool {
     true
 }
 
-/// The calls of `help_few_keys` before its link.
+/// The calls that `help_few_keys` makes before it links a dummy.
 const FEW_KEYS: [(Call, Answer); 2] = [
     (Call::Double(2), Answer::Double(Double::Light)),
     (Call::Seek(0, 1), Answer::Seek(Ok(InitSeek::Placed))),
 ];
 
-/// The calls of `help_few_keys` after its first link, if that link is not refused memory.
+/// The calls that `help_few_keys` makes after its first link, if that link is not refused memory.
 const STORED: [(Call, Answer); 2] = [
     (Call::Store(0), Answer::Store(Ok(()))),
     (Call::Seek(0, 1), Answer::Seek(Ok(InitSeek::Ready))),
 ];
 
-/// With fewer than five keys the table does not double, but helpers go on: a helper that is refused
-/// memory keeps its cursor.
+/// With fewer than five keys the table does not double, but helper 0 can still initialise bucket 1.
+/// If the helper's link is refused memory, the helper keeps its cursor.
 fn help_few_keys(rt: &impl Abort, home: &mut Home) {
     make_all(rt, home, &FEW_KEYS);
     let refused = Answer::Link(Err(InitRefusal::NoMemory));
@@ -80,15 +81,15 @@ fn help_few_keys(rt: &impl Abort, home: &mut Home) {
     }
 }
 
-/// The doublings with five keys.
+/// The doublings while the table has five keys.
 const DOUBLINGS: [(Call, Answer); 3] = [
     (Call::Double(2), Answer::Double(Double::Doubled(4))),
     (Call::Double(2), Answer::Double(Double::Moved(4))),
     (Call::Double(4), Answer::Double(Double::Light)),
 ];
 
-/// Puts keys 1 to 5 and doubles the size to 4. Answers false if memory is refused twice for a key;
-/// there are then fewer keys.
+/// Puts keys 1 to 5 and doubles the size to 4. If memory is refused twice for a key, returns false.
+/// There are then fewer keys.
 fn has_five_keys(rt: &impl Abort, home: &mut Home) -> bool {
     if !has_put_all(rt, home, &[1, 2, 3, 4]) {
         help_few_keys(rt, home);
@@ -103,8 +104,8 @@ fn has_five_keys(rt: &impl Abort, home: &mut Home) -> bool {
     true
 }
 
-/// Four refused calls; then helper 0 initialises bucket 1, and both helpers initialise bucket 3 in
-/// turn.
+/// Four calls that are refused. Then helper 0 initialises bucket 1. Then both helpers initialise
+/// bucket 3, and their calls are interleaved.
 const INITIALISED: [(Call, Answer); 16] = [
     (
         Call::Seek(0, 3),
@@ -136,8 +137,8 @@ const INITIALISED: [(Call, Answer); 16] = [
     (Call::Seek(1, 3), Answer::Seek(Ok(InitSeek::Ready))),
 ];
 
-/// Puts the five keys, and initialises buckets 1 and 3. Answers false if memory is refused twice
-/// for a key; there are then fewer keys.
+/// Puts the five keys, and initialises buckets 1 and 3. If memory is refused twice for a key,
+/// returns false. There are then fewer keys.
 fn is_initialised(rt: &impl Abort, home: &mut Home) -> bool {
     if !has_five_keys(rt, home) {
         return false;
@@ -147,12 +148,12 @@ fn is_initialised(rt: &impl Abort, home: &mut Home) -> bool {
     true
 }
 
-/// A table of largest size 8 for two helpers, if there is memory for it.
+/// A table for two helpers that can grow to size 8, if there is memory for it.
 fn home_for_two(alloc: Global) -> Option<Home> {
     home_again(alloc, 8, 2)
 }
 
-/// Whether there is memory for a table, and for its keys and buckets.
+/// Returns true if there was memory for a table and for its five keys.
 fn is_filled(rt: &impl Abort, alloc: Global) -> bool {
     match home_for_two(alloc) {
         Some(mut home) => is_initialised(rt, &mut home),
@@ -160,8 +161,8 @@ fn is_filled(rt: &impl Abort, alloc: Global) -> bool {
     }
 }
 
-/// Meant to be run with allocations refused. The table or a key may be missing only if memory is
-/// still refused at the end of the test.
+/// This test is meant to be run with allocations refused. The table or a key may be missing only if
+/// memory is still refused at the end of the test.
 #[test]
 fn bucket_initialisation(rt: HostRuntime) {
     assert!(rt; is_filled(&rt, rt.alloc()) || is_refused(rt.alloc()));
@@ -277,8 +278,8 @@ fn keep_spares(home: &mut Home, spares: u32) -> Result<(), SpareFault> {
     Ok(())
 }
 
-/// Initialises bucket 1. If the link is refused memory, buckets and list must be unchanged, and the
-/// link is tried once more. If it is refused memory again, the test fails.
+/// Initialises bucket 1. If the link is refused memory, the buckets and the list must be unchanged,
+/// and the link is tried once more. If the second link is also refused memory, the test fails.
 fn initialise_1(rt: &impl Abort, home: &mut Home) -> Result<(), Fail> {
     let seen = home.figures();
     assert!(rt; home.make(Call::Seek(0, 1)) == Answer::Seek(Ok(InitSeek::Placed)));

@@ -1,13 +1,13 @@
-//! Numbers that look random. They are the same in each run, so a failure can be repeated. The tests
-//! `probe_map_tests` and `stripe_part_tests` share them; no test is here. A draw takes the upper 31
-//! bits, since the lower bits of such a generator repeat after few numbers.
+//! Pseudorandom numbers. They are the same in each run, so a failure can be repeated. The tests
+//! `probe_map_tests` and `stripe_part_tests` use them. A draw uses only the upper 31 bits of the
+//! state, since the lower bits of a linear congruential generator repeat after few numbers.
 
-/// Drawn numbers, by a linear congruence (Knuth, "The Art of Computer Programming", volume 2,
-/// section 3.3.4, table 1, line 26).
+/// A linear congruential generator (Knuth, "The Art of Computer Programming", volume 2, section
+/// 3.3.4, table 1, line 26).
 #[derive(Drop)]
 pub(crate) struct Draws(pub(crate) u64);
 
-/// The next number, below a limit.
+/// The next number, which is below `limit`, or 0 if `limit` is 0.
 pub(crate) fn draw(draws: &mut Draws, limit: u64) -> u64 {
     draws.0 = draws
         .0

@@ -1,10 +1,11 @@
-//! Tests of the crates of the table: `split_key`, `node_list`, `list_steps`, `bucket_table`,
-//! `undo_log`, `map_ops`, `probe_map` and `stripe_part`, one module for each.
+//! Tests of the crates that make up the table. Each of these crates has one module here:
+//! `split_key`, `node_list`, `list_steps`, `bucket_table`, `undo_log`, `map_ops`, `probe_map` and
+//! `stripe_part`.
 //!
-//! They test what no contract says: that each call succeeds while there is memory, the state after
-//! a refused allocation, and worked runs with their values. All of these tests are one crate, since
-//! each crate with tests is proved twice. Many calls of a library are made by functions without
-//! clauses, which return the answers. So the tests that call these functions have little to prove.
+//! The tests cover what no contract says: that each call succeeds while memory is free, the state
+//! after a refused allocation, and the values in worked runs. All of these tests are in one crate,
+//! since each crate with tests is proved twice. Many library calls are made by functions that have
+//! no contract and return the answers. So the tests that call these functions have little to prove.
 #![tactic(auto)]
 
 #[cfg(test)]

@@ -1,6 +1,6 @@
-//! Tests of `list_steps`: worked runs, and five hundred drawn steps compared with a plain list of
-//! eight keys. No contract says that a spare is given while there is memory. A step requires that
-//! its cursor is placed, so the functions that are given a cursor have clauses.
+//! Tests of `list_steps`: worked runs, and five hundred drawn steps that are compared with a plain
+//! list of eight keys. No contract says that the list gives a spare while memory is free. Each step
+//! requires that its cursor is placed, so the functions that take a cursor have contracts.
 ghost use Rattle.std.specs.Prelude.{◌≡◌, ℕ, IfOk, IsTrue};
 ghost use Rattle.split_key.specs.Sort.{IsBefore, dummy_at, regular_at};
 ghost use Rattle.node_list.specs.Nodes.{IsOut, IsRegularAt, out_at};
@@ -24,7 +24,7 @@ fn at(number: u64) -> SortKey
     SortKey::regular(Key::new(number))
 }
 
-/// A spare that is filled as a regular node.
+/// Takes a spare from the list and fills it as a regular node.
 fn regular_spare(list: &mut NodeList, at: SortKey, value: u64) -> Result<Spare, SpareFault>
     ensures out { IfOk result (IsOut list.new) }
     ensures at { IfOk result (λ spare. spare.at ≡ at) }
@@ -47,7 +47,7 @@ fn seek_from_head(list: &mut NodeList, at: SortKey) -> Cursor
     seek(list, head, at)
 }
 
-/// Whether a regular node of the sort key sought is there.
+/// Returns true if the cursor fits and a regular node with the cursor's sort key is there.
 fn is_key_there(list: &NodeList, cursor: &Cursor) -> bool
     requires { IsPlaced list.now cursor.now }
     ensures { IsTrue result → IsKeyThere list.now cursor.now }
@@ -58,7 +58,7 @@ fn is_key_there(list: &NodeList, cursor: &Cursor) -> bool
     }
 }
 
-/// The regular node of the sort key sought, which must be there.
+/// The regular node with the cursor's sort key. Fails if there is no such node.
 fn regular_there(list: &NodeList, cursor: &Cursor) -> Result<NodeRef, Fail>
     requires { IsPlaced list.now cursor.now }
     ensures { IfOk result (IsRegularAt list.now.nodes) }
@@ -71,7 +71,8 @@ fn regular_there(list: &NodeList, cursor: &Cursor) -> Result<NodeRef, Fail>
     Err("the key is not there".into())
 }
 
-/// Links a spare at the position of its sort key, which must be vacant.
+/// Links a spare at a cursor. Fails if the cursor does not fit, or if its sort key is already
+/// there.
 fn link_here(list: &mut NodeList, cursor: &Cursor, spare: Spare) -> Result<NodeRef, Fail>
     requires placed { IsPlaced list.old cursor.now }
     requires out { IsOut list.old spare }
@@ -99,7 +100,7 @@ fn put(list: &mut NodeList, number: u64, value: u64) -> Result<Answer, Fail> {
     Ok(Answer::Done)
 }
 
-/// Marks the node of a key that is there, and answers its value.
+/// Marks the node of a key that is there, and returns the key's value.
 fn take(list: &mut NodeList, number: u64) -> Result<Answer, Fail> {
     let at = at(number);
     let cursor = seek_from_head(list, at);
@@ -107,7 +108,7 @@ fn take(list: &mut NodeList, number: u64) -> Result<Answer, Fail> {
     Ok(Answer::Value(mark_at(list, node)))
 }
 
-/// Writes the value of a key that is there, and answers the value before the write.
+/// Writes the value of a key that is there, and returns the value before the write.
 fn write(list: &mut NodeList, number: u64, value: u64) -> Result<Answer, Fail> {
     let at = at(number);
     let cursor = seek_from_head(list, at);
@@ -115,14 +116,14 @@ fn write(list: &mut NodeList, number: u64, value: u64) -> Result<Answer, Fail> {
     Ok(Answer::Value(swap_at(list, node, value)))
 }
 
-/// Whether a key is found to be absent, at a cursor that fits.
+/// Seeks a key. Returns true if the cursor fits and the key is absent.
 fn is_absent(list: &mut NodeList, number: u64) -> bool {
     let at = at(number);
     let cursor = seek_from_head(list, at);
     look(list, &cursor) == Ok(None)
 }
 
-/// Kind, key and mark of the first nodes of a list.
+/// The kind, the key and the mark of the first twelve nodes of a list.
 fn nodes(alloc: Global, list: &NodeList) -> Result<Vec<(Kind, u64, bool)>, AllocError> {
     let mut nodes = Vec::new(alloc);
     let mut next = Some(list.head());
@@ -136,7 +137,7 @@ fn nodes(alloc: Global, list: &NodeList) -> Result<Vec<(Kind, u64, bool)>, Alloc
     Ok(nodes)
 }
 
-/// Links a spare of a key at a cursor that fits.
+/// Links a spare for a key at a cursor. Fails if the cursor does not fit or the key is there.
 fn link_fitting(
     list: &mut NodeList,
     cursor: Cursor,
@@ -157,8 +158,8 @@ fn link_fitting(
     }
 }
 
-/// Tries to link a spare of a key at a cursor that does not fit: `link` returns the spare. Then
-/// links it at a new cursor, which is behind the last node.
+/// Tries to link a spare for a key at a cursor that does not fit, so `link` must return the spare.
+/// Then links the spare at a new cursor, which must be after the last node.
 fn link_stale(
     list: &mut NodeList,
     cursor: Cursor,
@@ -189,7 +190,7 @@ fn link_stale(
     Ok(Answer::Done)
 }
 
-/// Whether there is a node behind this one.
+/// Whether there is a node after this one.
 fn is_followed(list: &NodeList, node: NodeRef) -> bool {
     list.linked_node(node)
         .and_then(|node| node.next())
@@ -206,7 +207,7 @@ fn put_both(list: &mut NodeList) -> Result<Answer, Fail> {
     link_stale(list, early, at_two, 20, four)
 }
 
-/// Marks the node of a key that is there, at a cursor, and answers its value.
+/// Seeks a key that is there, marks its node at the cursor, and returns the key's value.
 fn take_there(list: &mut NodeList, number: u64) -> Result<Answer, Fail> {
     let at = at(number);
     let cursor = seek_from_head(list, at);
@@ -219,9 +220,9 @@ fn take_there(list: &mut NodeList, number: u64) -> Result<Answer, Fail> {
     }
 }
 
-/// Writes the value of a key, and then marks the key's node. The key must be there. One cursor is
-/// used for both calls: it must fit until the mark, and must not fit after the mark. Answers the
-/// value before the write, the value after the write, and the value that the mark answers.
+/// Writes the value of a key, and then marks the key's node. The key must be there. Both calls use
+/// one cursor, which must fit until the mark, and must not fit after the mark. Returns the value
+/// before the write, the value after the write, and the value that the mark returns.
 fn write_and_take(list: &mut NodeList, number: u64, value: u64) -> Result<Answer, Fail> {
     let at = at(number);
     let cursor = seek_from_head(list, at);
@@ -250,7 +251,8 @@ fn value_of(list: &NodeList, node: NodeRef) -> Result<u64, Fail> {
     Ok(list.linked_node(node).ok_or("no node")?.value)
 }
 
-/// Whether a seek to the end of the list ends at its first node, which has no node behind it.
+/// Seeks the end of the list. Returns true if the cursor is at the first node, and no node follows
+/// that node.
 fn ends_at_the_head(list: &mut NodeList) -> bool {
     let at = at(u64::MAX);
     let cursor = seek_from_head(list, at);
@@ -277,10 +279,10 @@ enum Call {
     WriteAndTake(u64, u64),
     /// Tests whether a key is absent.
     Look(u64),
-    /// Tests whether a seek to the end stays at the first node.
+    /// Tests whether a seek to the end of the list stops at the first node.
     LookAtTheEnd,
     Sweep,
-    /// Looks at the node of a rank.
+    /// Looks at the node with this rank.
     Node(usize),
     /// Reads the count of marked nodes and the change number.
     Read,
@@ -301,7 +303,7 @@ enum Answer {
     Figures(u64, u64),
 }
 
-/// The node of a rank.
+/// The node with this rank.
 fn node_of_rank(alloc: Global, list: &NodeList, rank: usize) -> Result<Answer, Fail> {
     Ok(match nodes(alloc, list)?.get(rank) {
         Some((Kind::Dummy, _, _)) => Answer::Dummy,
@@ -341,8 +343,9 @@ const HALF: u64 = 1 << 63;
 /// begin after the call, or `None` if no node is marked.
 ///
 /// The split keys of 3, 2, 5 and 2^52 begin with 0xc, 0x4, 0xa and 0x0. Each seek begins at the
-/// head, and unlinks the marked nodes that it passes. The seek of key 5 unlinks the marked node of
-/// key 2. Two keys that differ by 2^63 share their split key, and are found by their sort keys.
+/// head, and unlinks the marked nodes that it passes. For example, the seek of key 5 unlinks the
+/// marked node of key 2. Two keys that differ by 2^63 have the same split key. Their sort keys
+/// distinguish them.
 const CALLS: [(Call, Answer, Option<u64>); 58] = [
     (Call::PutBoth, Answer::Done, None),
     (Call::Node(0), Answer::Dummy, None),
@@ -479,11 +482,12 @@ enum Plain {
     Marked,
 }
 
-/// The keys below 8 in the order of the list. The dummy of bucket 1 is before the fifth.
+/// The keys below 8 in the order of the list. The dummy of bucket 1 is before the fifth key.
 const ORDER: [u64; 8] = [0, 4, 2, 6, 1, 5, 3, 7];
 
-/// Unlinks the nodes that a seek of the key at a rank unlinks: the marked nodes before the first
-/// unmarked node that is not below the key. That node may be the dummy of bucket 1.
+/// Does on a plain list what a seek of the key at `rank` does. The seek unlinks the marked nodes
+/// before the first unmarked node that is not below the key. That unmarked node may be the dummy of
+/// bucket 1.
 fn seek_plainly(plain: &mut [Plain; 8], rank: usize) {
     for (at, state) in plain.iter_mut().enumerate() {
         if (at >= rank && *state == Plain::Live) || (at == 4 && rank < 4) {
@@ -506,7 +510,7 @@ fn sweep_plainly(plain: &mut [Plain; 8]) -> SweepOutcome {
     SweepOutcome::Clean
 }
 
-/// The nodes of a plain list: the kind, the key and the mark of each.
+/// The kind, the key and the mark of each node of a plain list.
 fn plain_nodes(alloc: Global, plain: &[Plain; 8]) -> Result<Vec<(Kind, u64, bool)>, AllocError> {
     let mut nodes = Vec::new(alloc);
     nodes.push((Kind::Dummy, 0, false))?;
@@ -523,8 +527,8 @@ fn plain_nodes(alloc: Global, plain: &[Plain; 8]) -> Result<Vec<(Kind, u64, bool
     Ok(nodes)
 }
 
-/// The split key at which the marked nodes of a plain list begin. Marks are counted by region of
-/// 2^52 split keys, and keys below 8 are in different regions.
+/// The split key at which the marked nodes of a plain list begin. A list counts its marks for each
+/// region of 2^52 split keys. The keys below 8 are in different regions.
 fn plain_marks_begin(plain: &[Plain; 8]) -> Option<u64> {
     for (rank, state) in plain.iter().enumerate() {
         if *state == Plain::Marked {
@@ -559,7 +563,7 @@ fn sweep_from_dummy(list: &mut NodeList, dummy: NodeRef) -> SweepOutcome {
     sweep(list)
 }
 
-/// Takes the key of a rank if it is live in the plain list. Otherwise puts the key.
+/// Takes the key at a rank if the key is live in the plain list. Otherwise puts the key.
 fn take_or_put(list: &mut NodeList, plain: &mut [Plain; 8], rank: usize) -> Result<(), Fail> {
     seek_plainly(plain, rank);
     let key = *ORDER.get(rank).ok_or("no such rank")?;
@@ -592,7 +596,8 @@ fn take_step(
     Ok(())
 }
 
-/// Whether a list is equal to a plain one.
+/// Returns true if a list has the nodes of a plain list, and its marked nodes begin at the same
+/// split key.
 fn is_as_plain(alloc: Global, list: &NodeList, plain: &[Plain; 8]) -> Result<bool, AllocError> {
     let found = nodes(alloc, list)?;
     let wanted = plain_nodes(alloc, plain)?;

@@ -1,6 +1,6 @@
-//! Tests of `map_ops`. This file has the calls of a table that several of the modules share. `runs`
-//! has worked runs, `split_keys` has keys that share a split key, and `refused` has refused memory.
-//! By contract a call may be refused memory even if there is some.
+//! Tests of `map_ops`. This file has the table calls that several of the modules share. The module
+//! `runs` has worked runs, `split_keys` has keys that share a split key, and `refused` has refused
+//! allocations. The contracts allow a call to fail for lack of memory even while memory is free.
 ghost use Rattle.std.specs.Prelude.{IfOk, IfSome};
 ghost use Rattle.map_ops.specs.Changes.{OwnsIf, ShowsAfter};
 
@@ -23,7 +23,7 @@ fn small_table(alloc: Global) -> Result<Table, AllocError> {
     Table::new(alloc, 2, 1)
 }
 
-/// The figures of a table, which take no memory.
+/// The size, the count and the change number of a table. This call needs no memory.
 fn figures(table: &Table) -> (u32, u64, u64) {
     (table.size(), table.count(), table.changes())
 }
@@ -50,7 +50,7 @@ fn there_and_back(table: &mut Table, op: Op) -> Result<Reply, Refusal> {
     Ok(reply)
 }
 
-/// The pairs of a table, asked for once more if memory is refused.
+/// The pairs of a table. If memory is refused, tries once more.
 fn pairs_of(alloc: Global, table: &Table) -> Result<Vec<(u64, u64)>, AllocError> {
     match table.regular_list(alloc) {
         Ok(pairs) => Ok(pairs),
@@ -58,7 +58,7 @@ fn pairs_of(alloc: Global, table: &Table) -> Result<Vec<(u64, u64)>, AllocError>
     }
 }
 
-/// The content of a table, asked for once more if memory is refused.
+/// The content of a table. If memory is refused, tries once more.
 fn content_of(alloc: Global, table: &Table) -> Result<BTreeMap<u64, u64>, AllocError> {
     match table.content(alloc) {
         Ok(content) => Ok(content),
@@ -76,8 +76,8 @@ fn has_each(content: &BTreeMap<u64, u64>, wanted: &[(u64, u64)]) -> bool {
     content.len() == wanted.len()
 }
 
-/// Whether these are the pairs of a table, in their order. The table's content must be the same
-/// pairs, and its count must be their number.
+/// Returns true if the table's list of pairs is `wanted`, its content has the same pairs, and its
+/// count is their number.
 fn has_pairs(alloc: Global, table: &Table, wanted: &[(u64, u64)]) -> Result<bool, AllocError> {
     let is_whole = has_each(&content_of(alloc, table)?, wanted);
     let is_counted = figures(table).1 == wanted.len() as u64;

@@ -1,14 +1,15 @@
-//! Tests of `node_list`: that each call succeeds, and the list after a refused allocation. By
-//! contract a spare may be refused even if there is memory. The lists have at most two linked
-//! nodes, so a function here can test what a call requires before it makes the call.
+//! Tests of `node_list`: that each call succeeds, and that a refused allocation leaves the list
+//! unchanged. The contracts allow the list to refuse a spare even while memory is free. The lists
+//! have at most two linked nodes, so a function here can test what a call requires before it makes
+//! the call.
 use node_list::{Kind, NodeList, NodeRef, SpareFault};
 use split_key::{Key, SortKey};
 use std::alloc::{AllocError, Global};
 use std::process::Abort;
 use std::test::Fail;
 
-/// A list whose first node has this stamp, taken modulo 2^64 - 1: `NodeList::new` requires a stamp
-/// below 2^64 - 1. Tries once more if memory is refused.
+/// Makes a list. The stamp of its first node is `first_stamp` modulo 2^64 - 1, since
+/// `NodeList::new` requires a stamp below 2^64 - 1. If memory is refused, tries once more.
 fn list_again(alloc: Global, first_stamp: u64) -> Result<NodeList, AllocError> {
     let first_stamp = first_stamp % u64::MAX;
     match NodeList::new(alloc, first_stamp) {
@@ -17,12 +18,12 @@ fn list_again(alloc: Global, first_stamp: u64) -> Result<NodeList, AllocError> {
     }
 }
 
-/// The stamp of a spare that is not given back, so that its place stays reserved.
+/// Takes a spare and returns its stamp. The spare is not given back, so its place stays reserved.
 fn stamp_of_spare(list: &mut NodeList) -> Result<u64, SpareFault> {
     Ok(list.spare()?.stamp())
 }
 
-/// The stamp of a spare that is given back.
+/// Takes a spare, gives it back, and returns its stamp.
 fn stamp_given_back(list: &mut NodeList) -> Result<u64, SpareFault> {
     let spare = list.spare()?;
     let stamp = spare.stamp();
@@ -38,7 +39,7 @@ fn figures(list: &NodeList) -> (u64, u64, u64) {
 /// A call on a list.
 #[derive(Clone, Copy)]
 enum Call {
-    /// Links the node of a key, with this value, behind the first.
+    /// Links the node of a key, with this value, after the first node.
     Link(u64, u64),
     /// Writes the value of the second node.
     Write(u64),
@@ -48,7 +49,7 @@ enum Call {
     Unlink,
 }
 
-/// Links the node of a key behind the first, which must be the last.
+/// Links the node of a key after the first node. Fails if the first node is not the last node.
 fn link(list: &mut NodeList, number: u64, value: u64) -> Result<(), Fail> {
     let head = list.head();
     let mut spare = list.spare()?;
@@ -134,7 +135,7 @@ fn write(list: &mut NodeList, place: NodeRef, value: u64) -> Result<(), Fail> {
     Ok(())
 }
 
-/// Marks a regular node.
+/// Marks a node. Fails if the node is not an unmarked regular node.
 fn mark(list: &mut NodeList, place: NodeRef) -> Result<(), Fail> {
     match list.linked_node(place) {
         Some(node) => {
@@ -148,7 +149,7 @@ fn mark(list: &mut NodeList, place: NodeRef) -> Result<(), Fail> {
     Ok(())
 }
 
-/// Unlinks the second node, which must be marked, and tests that it is gone.
+/// Unlinks the second node, which must be marked, and tests that it is no longer linked.
 fn unlink_second(list: &mut NodeList) -> Result<(), Fail> {
     let head = list.head();
     let Some(next) = list.node(head).next() else {
@@ -186,7 +187,7 @@ const LINKED: Entry = Entry {
     marked: false,
 };
 
-/// The node of key 3, written.
+/// The node of key 3 after its value was written.
 const WRITTEN: Entry = Entry {
     key: 3,
     value: 31,
@@ -195,7 +196,7 @@ const WRITTEN: Entry = Entry {
     marked: false,
 };
 
-/// The node of key 3, written and marked.
+/// The node of key 3 after its value was written and the node was marked.
 const MARKED: Entry = Entry {
     key: 3,
     value: 31,
@@ -204,7 +205,7 @@ const MARKED: Entry = Entry {
     marked: true,
 };
 
-/// Calls with the visible state after each.
+/// Calls, each with the list's visible state after it.
 const CALLS: [(Call, Seen); 4] = [
     (
         Call::Link(3, 30),
@@ -264,10 +265,10 @@ fn calls_in_turn(rt: HostRuntime) -> Result<(), Fail> {
     make_all(&rt, &mut list_again(rt.alloc(), 6).expect(&rt, "a list"))
 }
 
-/// The texts of the faults of a list.
+/// The texts of both kinds of `SpareFault`.
 const FAULTS: &str = "the list has no stamp left for a spare; the list got no memory for a spare";
 
-/// Uses up the stamps of a list that has one left.
+/// Uses up the stamps of a list that has one stamp left.
 fn use_stamps_up(rt: &impl Abort, list: &mut NodeList) {
     assert!(rt; stamp_of_spare(list) == Ok(18446744073709551614));
     assert!(rt; stamp_of_spare(list) == Err(SpareFault::Worn));
@@ -286,7 +287,7 @@ fn stamps_used_up(rt: HostRuntime) -> Result<(), Fail> {
 }
 
 /// This test is also run with each allocation refused in turn. After a refusal the list is
-/// unchanged, and gives the spare at the next call.
+/// unchanged, and the next call returns the spare.
 #[test]
 fn refused_allocations(rt: HostRuntime) -> Result<(), Fail> {
     keep_nine(&rt, &mut list_again(rt.alloc(), 0).expect(&rt, "a list"))

@@ -1,15 +1,17 @@
-//! Tests of `probe_map`: drawn calls compared with a plain list, keys that share a home, growth,
-//! removed keys, and refused allocations. By contract room may be refused even if there is memory.
-//! Contracts hide the slots, so the tests cannot look at a slot. To test the first slot and the
-//! last, they choose keys whose homes (the slots at which a probe begins) are these two slots.
+//! Tests of `probe_map`: drawn calls that are compared with a plain list, keys that share a home,
+//! growth, removed keys, and refused allocations. The contracts allow the map to refuse room even
+//! while memory is free. The slots are private, so no test can look at a slot. A key's home is the
+//! slot at which a probe for the key begins. To test the first and the last slot, the tests use
+//! keys whose homes are these slots.
 use crate::draws::{Draws, draw};
 use probe_map::ProbeMap;
 use std::alloc::{AllocError, Global};
 use std::process::Abort;
 use std::test::Fail;
 
-/// A key whose product with the map's multiplier is 1, modulo 2^64. So the home of a small multiple
-/// of it is the first slot, and the home of the negative of a small multiple is the last slot.
+/// The product of this key and the map's multiplier is 1, modulo 2^64. So the home of a small
+/// multiple of this key is the first slot, and the home of the negative of a small multiple is the
+/// last slot.
 const APART: u64 = 0xf1de_83e1_9937_733d;
 
 /// Makes room for a key. If memory is refused, the map must be unchanged, and the call is made once
@@ -31,7 +33,7 @@ fn put(rt: &impl Abort, map: &mut ProbeMap, key: u64, value: u64) -> Result<Opti
     put_reserved(map, key, value)
 }
 
-/// Makes room for a key, and puts a value at it. Fails if memory is refused.
+/// Makes room for a key, and puts a value at the key. Fails if memory is refused.
 fn put_reserved(map: &mut ProbeMap, key: u64, value: u64) -> Result<Option<u64>, Fail> {
     map.reserve(1)?;
     Ok(map.insert(key, value))
@@ -41,7 +43,7 @@ fn take(map: &mut ProbeMap, key: u64) -> Option<u64> {
     map.remove(key)
 }
 
-/// The pairs by rising keys, asked for once more if memory is refused.
+/// The pairs in the order of their keys. If memory is refused, tries once more.
 fn rows_of(alloc: Global, map: &ProbeMap) -> Result<Vec<(u64, u64)>, Fail> {
     let mut pairs = match map.pairs(alloc) {
         Ok(pairs) => pairs,
@@ -112,7 +114,8 @@ fn is_alike(
     Ok(())
 }
 
-/// A key drawn from a few: small ones, ones that share the first home or the last, and high ones.
+/// Draws one of a few keys: a low key, a key whose home is the first or the last slot, or a high
+/// key.
 fn draw_key(draws: &mut Draws, keys: u64) -> u64 {
     let number = draw(draws, keys);
     match draw(draws, 4) {
@@ -185,7 +188,7 @@ fn has_rows(
     Ok(())
 }
 
-/// Puts the outermost keys.
+/// Puts the lowest key, the highest key and a key in the middle.
 fn put_outermost(rt: &impl Abort, alloc: Global, map: &mut ProbeMap) -> Result<(), Fail> {
     for (count, key) in [(1, 0), (2, 1 << 63), (3, u64::MAX)] {
         put_anew(rt, map, key)?;
@@ -195,7 +198,7 @@ fn put_outermost(rt: &impl Abort, alloc: Global, map: &mut ProbeMap) -> Result<(
     has_rows(rt, alloc, map, wanted.as_slice())
 }
 
-/// The first key, the last key and one in the middle are put, replaced, taken, and put again.
+/// The lowest key, the highest key and a key in the middle are put, replaced, taken, and put again.
 #[test]
 fn outermost_keys(rt: HostRuntime) -> Result<(), Fail> {
     put_outermost(&rt, rt.alloc(), &mut ProbeMap::new(rt.alloc()))
@@ -227,7 +230,7 @@ fn put_and_take(rt: &impl Abort, map: &mut ProbeMap) -> Result<(), Fail> {
     Ok(())
 }
 
-/// Checks that these are the fifty pairs that `put_and_take` leaves.
+/// Checks that these are the fifty pairs that remain after `put_and_take`.
 fn are_left(rt: &impl Abort, rows: &[(u64, u64)]) {
     assert!(rt; rows.len() == 50);
     for (place, pair) in rows.iter().enumerate() {
@@ -260,8 +263,9 @@ fn put_and_remove(rt: &impl Abort, map: &mut ProbeMap) -> Result<(), Fail> {
     Ok(())
 }
 
-/// The room of removed keys is used again: of 100,000 keys at most eleven are in the map at a time.
-/// docs/tests/refused.py checks that the largest allocation is that of 64 slots.
+/// The map uses the room of removed keys again. The test puts 100,000 keys, but at most eleven of
+/// them are in the map at a time. docs/tests/refused.py checks that the largest allocation is one
+/// for 64 slots.
 #[test]
 fn removed_keys(rt: HostRuntime) -> Result<(), Fail> {
     put_and_remove(&rt, &mut ProbeMap::new(rt.alloc()))

@@ -1,6 +1,6 @@
 //! Tests of `split_key`: numbers that were worked out by hand. The contracts say how split keys,
-//! buckets and parents are ordered; the rows test the numbers themselves, also at the least and
-//! greatest keys. No call here takes memory, except for the text of `BadKey`.
+//! buckets and parents are ordered. The rows test the numbers themselves, also for the lowest and
+//! highest keys. Only the text of `BadKey` needs memory.
 use split_key::{BadKey, Key, SortKey, bucket_at, bucket_of, dummy, parent, regular, reverse};
 use std::process::Abort;
 use std::test::Fail;
@@ -17,12 +17,13 @@ enum Call {
     Parent(u32),
     /// The bucket of a key, in a table of this size.
     BucketOf(u64, u32),
-    /// The bucket to which a position of the split order belongs, in a table of this size.
+    /// The bucket of a position in the split order, in a table of this size.
     BucketAt(u64, u32),
     Reverse(u64),
 }
 
-/// The answer to a call, or `None` for a number that is no half key.
+/// Makes a call and returns its answer. The answer is `None` if `Half` is given a number that is
+/// not a half key.
 fn answer(call: Call) -> Result<Option<u64>, Fail> {
     match call {
         Call::Dummy(bucket) => Ok(Some(dummy(bucket))),
@@ -39,7 +40,7 @@ fn answer(call: Call) -> Result<Option<u64>, Fail> {
     }
 }
 
-/// The split key of the key with this number. Fails if the key answers another `number`.
+/// The split key of the key with this number. Fails if `Key::number` returns another number.
 fn split_of_number(number: u64) -> Result<u64, Fail> {
     let key = Key::new(number);
     if key.number() != number {
@@ -48,7 +49,7 @@ fn split_of_number(number: u64) -> Result<u64, Fail> {
     Ok(regular(key))
 }
 
-/// The bucket of a key in a table of one of these sizes.
+/// The bucket of a key in a table of this size. Fails for sizes other than 2, 4, 8 and 2^31.
 fn bucket_of_number(number: u64, size: u32) -> Result<u32, Fail> {
     let key = Key::new(number);
     match size {
@@ -60,7 +61,8 @@ fn bucket_of_number(number: u64, size: u32) -> Result<u32, Fail> {
     }
 }
 
-/// The bucket to which a position of the split order belongs, in a table of one of these sizes.
+/// The bucket of a position in the split order, in a table of this size. Fails for sizes other than
+/// 1, 2, 8 and 2^31.
 fn bucket_at_split(split: u64, size: u32) -> Result<u32, Fail> {
     match size {
         1 => Ok(bucket_at(split, 1)),

@@ -1,7 +1,7 @@
-//! Tests of `stripe_part`: drawn operations compared with std's map, growth, and refused
-//! allocations. A part has no log, so the test keeps a log of the part and a log of the plain map,
-//! and takes changes back by these logs. A refused operation leaves the part unchanged, and is made
-//! again.
+//! Tests of `stripe_part`: drawn operations that are compared with std's map, growth, and refused
+//! allocations. A part has no log, so the tests keep a log for the part and a log for the plain
+//! map, and use these logs to take changes back. A refused operation must leave the part unchanged,
+//! and is made again.
 use crate::draws::{Draws, draw};
 use std::alloc::{AllocError, Global};
 use std::collections::BTreeMap;
@@ -10,7 +10,8 @@ use std::test::Fail;
 use stripe_part::Part;
 use txn_words::{Op, Refusal, Reply};
 
-/// A part, with the changes that it can take back: each key with the value before, the newest last.
+/// A part, and a log of the changes that can be taken back. The log has the key of each change and
+/// the value before it, the newest change last.
 #[derive(Drop)]
 struct Logged {
     part: Part,
@@ -24,7 +25,7 @@ fn fresh(alloc: Global) -> Logged {
     }
 }
 
-/// A plain map with the changes that can be taken back.
+/// A plain map, and a log of the changes that can be taken back.
 #[derive(Drop)]
 struct Plain {
     map: BTreeMap<u64, u64>,
@@ -61,7 +62,7 @@ fn setting(op: Op, was: Option<u64>) -> Option<Option<u64>> {
     }
 }
 
-/// Does an operation.
+/// Does an operation on a plain map, and logs its change.
 fn do_plain(plain: &mut Plain, op: Op) -> Result<Reply, Fail> {
     let key = op.key();
     let was = plain.map.get(&key).copied();
@@ -86,8 +87,8 @@ fn draw_op(draws: &mut Draws, keys: u64) -> Op {
     }
 }
 
-/// Does an operation. If memory is refused, the part is unchanged, and the operation is tried once
-/// more.
+/// Does an operation. If memory is refused, the part must be unchanged, and the operation is tried
+/// once more.
 fn try_again(rt: &impl Abort, alloc: Global, part: &mut Part, op: Op) -> Result<Reply, Fail> {
     let seen = (part.len(), part.changes());
     match part.apply(alloc, op) {
@@ -103,8 +104,8 @@ fn try_again(rt: &impl Abort, alloc: Global, part: &mut Part, op: Op) -> Result<
     }
 }
 
-/// Does an operation by `try_again`, and logs its change. Reserves the place in the log first, and
-/// tries that once more if memory is refused.
+/// Does an operation with `try_again`, and logs its change. First reserves a place in the log. If
+/// memory is refused for this place, tries once more.
 fn apply_again(rt: &impl Abort, alloc: Global, one: &mut Logged, op: Op) -> Result<Reply, Fail> {
     if one.log.reserve(1).is_err() {
         one.log.reserve(1)?;
@@ -116,7 +117,7 @@ fn apply_again(rt: &impl Abort, alloc: Global, one: &mut Logged, op: Op) -> Resu
     Ok(reply)
 }
 
-/// The pairs of a part, asked for once more if memory is refused.
+/// The pairs of a part. If memory is refused, tries once more.
 fn pairs_of(alloc: Global, part: &Part) -> Result<Vec<(u64, u64)>, AllocError> {
     match part.pairs(alloc) {
         Ok(pairs) => Ok(pairs),
@@ -132,8 +133,8 @@ fn are_plain(rt: &impl Abort, pairs: &[(u64, u64)], plain: &Plain) {
     }
 }
 
-/// Checks that the part has the pairs of the plain map, and as many changes to take back as the
-/// plain map.
+/// Checks that the part has the same pairs as the plain map, and the same number of changes to take
+/// back.
 fn is_alike(rt: &impl Abort, alloc: Global, one: &Logged, plain: &Plain) -> Result<(), Fail> {
     assert!(rt; one.part.changes() == plain.log.len());
     assert!(rt; one.part.len() == plain.map.len() as u64);
@@ -150,7 +151,7 @@ fn undo_one(one: &mut Logged) {
     }
 }
 
-/// Takes back the newest change on both, if there is one.
+/// Takes back the newest change of the part and of the plain map, if there is one.
 fn undo_both(one: &mut Logged, plain: &mut Plain) -> Result<(), Fail> {
     undo_one(one);
     if let Some((key, before)) = plain.log.pop() {
@@ -159,7 +160,7 @@ fn undo_both(one: &mut Logged, plain: &mut Plain) -> Result<(), Fail> {
     Ok(())
 }
 
-/// A drawn step on both: an operation, a take-back or a settlement.
+/// Takes a drawn step on the part and on the plain map: an operation, a take-back or a settlement.
 fn step_both(
     rt: &impl Abort,
     alloc: Global,
@@ -229,7 +230,7 @@ fn drawn_steps_beside_a_plain_map(rt: HostRuntime) -> Result<(), Fail> {
     Ok(())
 }
 
-/// Puts the keys from 0 on.
+/// Puts the keys below `keys`, in rising order.
 fn put_keys(rt: &impl Abort, alloc: Global, one: &mut Logged, keys: u64) -> Result<(), Fail> {
     for key in 0..keys {
         let reply = apply_again(rt, alloc, one, Op::Put(key, key))?;
@@ -260,7 +261,7 @@ fn undo_keys(one: &mut Logged, changes: u64) {
     }
 }
 
-/// Checks that these are the keys below 100.
+/// Checks that these are the pairs of the keys below 100.
 fn are_first(rt: &impl Abort, pairs: &[(u64, u64)]) {
     assert!(rt; pairs.len() == 100);
     for pair in pairs {
@@ -302,7 +303,7 @@ fn empty(rt: HostRuntime) -> Result<(), Fail> {
     change_nothing(&rt, rt.alloc(), &mut Part::new())
 }
 
-/// Puts rising keys, which are then settled.
+/// Puts the keys below `keys` in rising order, and then settles the part.
 fn put_rising(rt: &impl Abort, alloc: Global, part: &mut Part, keys: u64) {
     for key in 0..keys {
         let reply = part.apply(alloc, Op::Put(key, key));
@@ -311,7 +312,7 @@ fn put_rising(rt: &impl Abort, alloc: Global, part: &mut Part, keys: u64) {
     part.settle();
 }
 
-/// Puts 100,000 keys and settles them, takes them all, and then takes back these takes.
+/// Puts 100,000 keys and settles the part. Then takes all keys, and takes these changes back.
 fn rise_and_fall(rt: &impl Abort, alloc: Global, one: &mut Logged) -> Result<(), Fail> {
     put_rising(rt, alloc, &mut one.part, 100_000);
     take_keys(rt, alloc, one, 0, 100_000)?;
@@ -321,8 +322,8 @@ fn rise_and_fall(rt: &impl Abort, alloc: Global, one: &mut Logged) -> Result<(),
     Ok(())
 }
 
-/// A part that has grown by rising keys has all of them: each is taken, and then these takes are
-/// taken back. The test ends in time only if the part grows.
+/// A part still has all its keys after rising keys made it grow. The test takes each key, and then
+/// takes these changes back. It ends in time only if the part grows.
 #[test]
 fn rising_keys(rt: HostRuntime) -> Result<(), Fail> {
     rise_and_fall(&rt, rt.alloc(), &mut fresh(rt.alloc()))

@@ -1,7 +1,7 @@
-//! Tests of `undo_log`: jobs of a count, a side value of four words, and refused allocations. By
-//! contract room may be refused even if there is memory. The first eight jobs of a log are never
-//! refused, and the ninth may be. No log here has more than nine jobs. The values were worked out
-//! by hand.
+//! Tests of `undo_log`: jobs of a count, a side value of four words, and refused allocations. The
+//! contracts allow a log to refuse room even while memory is free. Room for the first eight jobs of
+//! a log is never refused. Room for the ninth job may be refused. No log here has more than nine
+//! jobs. The values were worked out by hand.
 ghost use Rattle.std.specs.Prelude.{◌≡◌, length};
 
 use std::alloc::{AllocError, Global};
@@ -9,7 +9,7 @@ use std::process::Abort;
 use std::test::Fail;
 use undo_log::{Side, SideJob, SideValue, UndoJob, UndoLog};
 
-/// The job of the change that raised a count to this number.
+/// The job that undoes a change of a count. The change raised the count to this number.
 #[derive(Drop)]
 struct Raised(u64);
 
@@ -34,8 +34,8 @@ fn is_refused(alloc: Global) -> bool {
     Box::new(alloc, 0).is_err()
 }
 
-/// Pushes the job of this number, and asks for room twice if memory is refused once. Answers
-/// whether the job was pushed.
+/// Pushes the job with this number. If room for it is refused, asks once more. Returns true if the
+/// job was pushed.
 fn is_pushed(rt: &impl Abort, log: &mut UndoLog<Raised>, number: u64) -> bool {
     let jobs = log.len();
     if log.reserve_one().is_err() {
@@ -49,7 +49,7 @@ fn is_pushed(rt: &impl Abort, log: &mut UndoLog<Raised>, number: u64) -> bool {
     true
 }
 
-/// Makes a savepoint, trying twice if memory is refused once.
+/// Makes a savepoint. If memory is refused, tries once more.
 fn save(rt: &impl Abort, log: &mut UndoLog<Raised>) -> Option<usize> {
     let level = log.level();
     if let Ok(saved) = log.save() {
@@ -60,8 +60,8 @@ fn save(rt: &impl Abort, log: &mut UndoLog<Raised>) -> Option<usize> {
     log.save().ok()
 }
 
-/// Takes out the newest job above a level and runs it on `count`, which lowers the count by one.
-/// Answers `None` if there is no such job, or if the job's number is not `count`.
+/// Removes the newest job above a level and runs it on `count`, which lowers the count by one.
+/// Returns `None` if there is no such job, if the job's number is not `count`, or if `count` is 0.
 fn run_newest(log: &mut UndoLog<Raised>, level: usize, count: u64) -> Option<u64> {
     if level > log.level() {
         return None;
@@ -84,8 +84,8 @@ fn newest_above(log: &UndoLog<Raised>, level: usize) -> Option<u64> {
     }
 }
 
-/// Drops the savepoints above a level. Fails if there is no such level, or if a job is left above
-/// it.
+/// Drops the savepoints above a level. Fails if there is no such level, or if there is still a job
+/// above it.
 fn cut(log: &mut UndoLog<Raised>, level: usize) -> Result<(), Fail> {
     if level > log.level() || log.len() > log.kept(level) {
         return Err("jobs are left".into());
@@ -94,7 +94,7 @@ fn cut(log: &mut UndoLog<Raised>, level: usize) -> Result<(), Fail> {
     Ok(())
 }
 
-/// How many jobs a level keeps.
+/// The number of jobs that a level keeps, or `None` if there is no such level.
 fn kept(log: &UndoLog<Raised>, level: usize) -> Option<usize> {
     if level > log.level() {
         return None;
@@ -107,7 +107,7 @@ fn figures(log: &UndoLog<Raised>) -> (usize, usize, bool) {
     (log.level(), log.len(), log.is_empty())
 }
 
-/// Checks the number of jobs, and takes all jobs back, newest first. Needs no memory.
+/// Checks the number of jobs, and runs all jobs, newest first. Needs no memory.
 fn take_back(rt: &impl Abort, log: &mut UndoLog<Raised>, jobs: u64) -> Result<(), Fail> {
     assert!(rt; log.len() as u64 == jobs);
     for expected in [9, 8, 7, 6, 5, 4, 3, 2, 1] {
@@ -140,18 +140,18 @@ fn eight_jobs(alloc: Global) -> UndoLog<Raised>
     log
 }
 
-/// Answers the log of `eight_jobs`. Unlike `eight_jobs`, this function has no contract.
+/// Returns the log of `eight_jobs`. Unlike `eight_jobs`, this function has no contract.
 fn log_of_eight(alloc: Global) -> UndoLog<Raised> {
     eight_jobs(alloc)
 }
 
-/// This test is also run with allocations refused. The first allocation is that of the ninth job.
+/// This test is also run with allocations refused. The first allocation is for the ninth job.
 #[test]
 fn nine_undone_newest_first(rt: HostRuntime) -> Result<(), Fail> {
     undo_nine(&rt, rt.alloc(), &mut log_of_eight(rt.alloc()))
 }
 
-/// Pushes the ninth job, if memory is not refused, and takes all jobs back.
+/// Pushes the ninth job, if memory is not refused. Then runs all jobs.
 fn undo_nine(rt: &impl Abort, alloc: Global, log: &mut UndoLog<Raised>) -> Result<(), Fail> {
     if !is_pushed(rt, log, 9) {
         assert!(rt; is_refused(alloc));
@@ -165,8 +165,8 @@ fn empty_log(alloc: Global) -> UndoLog<Raised> {
     UndoLog::new(alloc)
 }
 
-/// Makes savepoints 1 and 2, if memory is not refused. Each raises the level by one. Answers the
-/// number of savepoints that were made.
+/// Makes savepoints 1 and 2, if memory is not refused. Each savepoint raises the level by one.
+/// Returns the number of savepoints that were made.
 fn savepoints(rt: &impl Abort, alloc: Global, log: &mut UndoLog<Raised>) -> usize {
     for (before, number) in [(0, 1), (1, 2)] {
         match save(rt, log) {
@@ -181,7 +181,8 @@ fn savepoints(rt: &impl Abort, alloc: Global, log: &mut UndoLog<Raised>) -> usiz
     2
 }
 
-/// Returns from level 2 to level 1. The log has one job below the savepoints and one above them.
+/// Returns from level 2 to level 1. One job was pushed before the two savepoints, and one after
+/// them.
 fn return_to_1(rt: &impl Abort, log: &mut UndoLog<Raised>) -> Result<(), Fail> {
     assert!(rt; figures(log) == (2, 2, false));
     assert!(rt; [kept(log, 0), kept(log, 1), kept(log, 2)] == [Some(0), Some(1), Some(1)]);
@@ -209,7 +210,8 @@ fn save_and_return(rt: &impl Abort, alloc: Global, log: &mut UndoLog<Raised>) ->
     return_to_1(rt, log)
 }
 
-/// The number of a savepoint that is made in reserved room, in a log with no job.
+/// Reserves room for a savepoint in a log without jobs, and makes the savepoint. Returns its
+/// number.
 fn first_savepoint(alloc: Global) -> Result<usize, AllocError> {
     let mut log = UndoLog::<Raised>::new(alloc);
     if log.save_room().is_err() {
@@ -218,7 +220,8 @@ fn first_savepoint(alloc: Global) -> Result<usize, AllocError> {
     log.save()
 }
 
-/// The number of a savepoint of a side value with no change.
+/// Reserves room for a savepoint of a side value without changes, and makes the savepoint. Returns
+/// its number.
 fn first_savepoint_of_side(alloc: Global) -> Result<usize, AllocError> {
     let mut side = SideValue::new(alloc, a_register([0, 0, 0, 0]));
     if side.save_room().is_err() {
@@ -227,7 +230,7 @@ fn first_savepoint_of_side(alloc: Global) -> Result<usize, AllocError> {
     side.save()
 }
 
-/// The numbers of jobs of three logs; one job is pushed to the second log.
+/// The numbers of jobs in three logs, after one job was pushed to the second log.
 fn jobs_of_three(rt: &impl Abort, alloc: Global) -> [usize; 3] {
     let first = empty_log(alloc);
     let mut second = empty_log(alloc);
@@ -250,7 +253,7 @@ struct Register {
     words: [u64; 4],
 }
 
-/// The job of a change of the words.
+/// The job that undoes a change of the words.
 #[derive(Drop)]
 struct WordsJob {
     before: [u64; 4],
@@ -285,7 +288,7 @@ fn a_register(words: [u64; 4]) -> Register
     Register { words }
 }
 
-/// Sets the words, trying twice if memory is refused once. Answers `None` if memory is refused
+/// Sets the words. If memory is refused, tries once more. Returns `None` if memory is refused
 /// again.
 fn set(rt: &impl Abort, side: &mut SideValue<Register>, words: [u64; 4]) -> Option<()> {
     let before = side.words();
@@ -301,7 +304,7 @@ fn set(rt: &impl Abort, side: &mut SideValue<Register>, words: [u64; 4]) -> Opti
     side.change(change, job).ok()
 }
 
-/// Makes a savepoint, trying twice if memory is refused once.
+/// Makes a savepoint. If memory is refused, tries once more.
 fn save_side(rt: &impl Abort, side: &mut SideValue<Register>) -> Option<usize> {
     let level = side.level();
     if let Ok(saved) = side.save() {
@@ -312,7 +315,7 @@ fn save_side(rt: &impl Abort, side: &mut SideValue<Register>) -> Option<usize> {
     side.save().ok()
 }
 
-/// Goes back to a level, and answers the words there.
+/// Goes back to a level, and returns the words at that level.
 fn words_back(rt: &impl Abort, side: &mut SideValue<Register>, level: usize) -> [u64; 4] {
     assert!(rt; level <= side.level());
     side.back(level);
@@ -320,7 +323,7 @@ fn words_back(rt: &impl Abort, side: &mut SideValue<Register>, level: usize) -> 
     side.words()
 }
 
-/// Makes a change, a savepoint and two more changes, and goes back to the savepoint. Answers the
+/// Makes a change, a savepoint and two more changes, and goes back to the savepoint. Returns the
 /// words before and after going back, or `None` if a change or the savepoint is refused memory
 /// twice.
 fn words_there(rt: &impl Abort, side: &mut SideValue<Register>) -> Option<[[u64; 4]; 2]> {
@@ -354,14 +357,14 @@ fn go_and_return(rt: &impl Abort, alloc: Global, side: &mut SideValue<Register>)
     assert!(rt; words_back(rt, side, 0) == [0, 0, 0, 0]);
 }
 
-/// Sets the first word to 1, and then makes a savepoint. Answers whether both were done.
+/// Sets the first word to 1, and then makes a savepoint. Returns true if both succeeded.
 fn is_saved_at_1(rt: &impl Abort, side: &mut SideValue<Register>) -> bool {
     set(rt, side, [1, 0, 0, 0]).is_some() && save_side(rt, side).is_some()
 }
 
-/// Makes a change and a savepoint, settles the value if `settles`, and goes back to level 0, where
-/// the words must be `left`. If the change or the savepoint is refused memory, the words must be
-/// those at the beginning.
+/// Makes a change and a savepoint, and settles the value if `settles` is true. Then goes back to
+/// level 0, where the words must be `left`. If the change or the savepoint is refused memory, the
+/// words at level 0 must be the initial words.
 fn return_to_0(
     rt: &impl Abort,
     alloc: Global,

@@ -1,4 +1,4 @@
--- Seats that are taken out of their list, the last one first.
+-- Proofs about a list of seats from which the last seat is taken out.
 use Rattle.std.proofs.Common.{◌≡◌, ◌+◌, List, [], ◌∷◌, ◌++◌, length, get_or, refl, ap, subst, ◌∙◌, arith}
 use Rattle.std.proofs.lemmas.List.{length_push, get_or_push}
 use Rattle.std.proofs.Math.ListN.{get_or-append}
@@ -6,8 +6,9 @@ use Rattle.key_words.specs.declared.seat.KeySeat.{KeySeat}
 use Rattle.key_words.specs.declared.words.KeyWords.{KeyWords}
 use Rattle.key_words.specs.Seats.{AreSeats, IsFresh}
 
--- Without its last seat, the list has the seats of the lower numbers. The last seat has the next
--- number.
+-- If each seat of a list is fresh and has its position as its number, then the same holds of the
+-- list without its last seat. The last seat is fresh, and its number is the length of the rest of
+-- the list.
 pub without_last : (words : KeyWords) (seats rest : List KeySeat) (seat : KeySeat) → seats ≡ rest ++ seat ∷ [] → AreSeats words (length seats) seats
     → AreSeats words (length rest) rest × IsFresh words (length rest) seat
 without_last words seats rest seat is all =

@@ -1,7 +1,7 @@
-//! Functions that the tests share: each opens a map under its own ledger, makes a call of the map,
-//! or closes it. `Shared` keeps the number of its ledger's parts, which `SharedMap::close`
-//! requires. So a test closes a map without a clause of its own. The functions for tests with
-//! refused memory ask for memory again, `TRIES` times in all or twice.
+//! Functions that the tests share. They open a map under its own ledger, make calls of the map, and
+//! close it. `Shared` keeps the number of its ledger's parts, which `SharedMap::close` requires. So
+//! a test closes a map without a clause of its own. Some functions are for tests with refused
+//! memory. These functions ask for memory twice, or `TRIES` times.
 ghost use Rattle.std.specs.Prelude.{◌≡◌, ◌<◌, true, All};
 ghost use Rattle.txn_words.specs.Kinds.{caller_of};
 
@@ -34,7 +34,7 @@ pub(crate) struct Shared<L: Ledger> {
     parts: Parts<L>,
 }
 
-/// A new map, and the passes of its callers, or `None` if memory is refused.
+/// Opens a map. Returns the map and the passes of its callers, or `None` if memory is refused.
 pub(crate) fn open<L: Ledger>(
     alloc: Global,
     blank: Blank,
@@ -47,7 +47,7 @@ pub(crate) fn open<L: Ledger>(
     open_with::<L>(alloc, blank, limits, Room::default())
 }
 
-/// `open` with this room.
+/// Like `open`, with this room.
 fn open_with<L: Ledger>(
     alloc: Global,
     blank: Blank,
@@ -68,7 +68,7 @@ fn open_with<L: Ledger>(
     }
 }
 
-/// A test's use of a new map.
+/// A test that runs on a new map.
 pub(crate) trait Play {
     /// Runs the test on the map.
     fn play<L: Ledger, R: Wait + Abort>(
@@ -90,7 +90,7 @@ pub(crate) fn play_with<P: Play, R: Wait + Abort>(
     play_with_room(rt, alloc, callers, Room::default(), what)
 }
 
-/// Runs the test on such a map with this room.
+/// Like `play_with`, with this room.
 pub(crate) fn play_with_room<P: Play, R: Wait + Abort>(
     rt: &R,
     alloc: Global,
@@ -104,8 +104,8 @@ pub(crate) fn play_with_room<P: Play, R: Wait + Abort>(
     Err("no memory for a map".into())
 }
 
-/// Like `play_with`, but asks again while memory for the map is refused. If it is refused for good, the
-/// test does not run.
+/// Like `play_with`, but asks again if memory for the map is refused, `TRIES` times in all. If
+/// memory is still refused then, the test does not run.
 pub(crate) fn play_where_made<P: Play, R: Wait + Abort>(
     rt: &R,
     alloc: Global,
@@ -121,7 +121,8 @@ pub(crate) fn play_where_made<P: Play, R: Wait + Abort>(
     Ok(())
 }
 
-/// Runs the test on a new map, unless memory for the map is refused. Answers whether the test ran.
+/// Runs the test on a new map. If memory for the map is refused, returns false, and the test does
+/// not run.
 fn is_played<P: Play, R: Wait + Abort>(
     rt: &R,
     alloc: Global,
@@ -153,9 +154,9 @@ fn play_under<L: Ledger, P: Play, R: Wait + Abort>(
     Ok(true)
 }
 
-/// How often a test asks for memory before it gives up. `docs/tests/refused.py` refuses at most eight
-/// allocations in a row, or all from one on: so memory is refused for good after this number of
-/// attempts that each asked for it.
+/// How often a test asks for memory before it gives up. `docs/tests/refused.py` refuses at most
+/// eight allocations in a row, or one allocation and all later ones. So if all of these attempts
+/// are refused memory, memory is refused permanently.
 pub(crate) const TRIES: u64 = 9;
 
 /// Whether memory is refused now.
@@ -163,7 +164,8 @@ pub(crate) fn is_refused(alloc: Global) -> bool {
     Box::new(alloc, 0).is_err()
 }
 
-/// The callers of the passes, without side values. If memory is refused, asks for it once more.
+/// Makes the callers of the passes, without side values. If memory is refused, asks for it once
+/// more.
 pub(crate) fn callers_of<L: Ledger>(
     alloc: Global,
     passes: Vec<Pass<L>>,
@@ -178,7 +180,7 @@ pub(crate) fn callers_of<L: Ledger>(
     Ok(callers)
 }
 
-/// The callers of the passes of a test to which no memory is refused.
+/// Makes the callers of the passes, in a test to which no memory is refused.
 pub(crate) fn callers_in<L: Ledger, R: Abort>(
     rt: &R,
     alloc: Global,
@@ -227,7 +229,8 @@ pub(crate) fn run<L: Ledger, S: Side, R: Wait>(
     run_heard(rt, shared, me, call, &Unheard)
 }
 
-/// Makes a call by `SharedMap::run`. The observer is told of the call's releases of the lock.
+/// Makes a call with `SharedMap::run`. The observer `hears` is notified each time the call releases
+/// the lock.
 pub(crate) fn run_heard<L: Ledger, S: Side, H: OnRelease, R: Wait>(
     rt: &R,
     shared: &Shared<L>,
@@ -238,12 +241,12 @@ pub(crate) fn run_heard<L: Ledger, S: Side, H: OnRelease, R: Wait>(
     shared.map.run(rt, me, call, hears)
 }
 
-/// The answer of `make` to a call that did what it was asked to do.
+/// What `make` returns for a call that was carried out.
 #[derive(Clone, Copy, Debug, PartialEq, Eq)]
 pub(crate) enum Told {
     /// The number of a transaction or of a savepoint.
     Number(u64),
-    /// The reply of an operation.
+    /// The reply to an operation.
     Replied(Reply),
     /// The receipt of a commit: the transaction, and its number in the commit order.
     Committed(u64, u64),
@@ -251,7 +254,7 @@ pub(crate) enum Told {
     Done,
 }
 
-/// Makes a call by the method of its name, such as `SharedMap::begin`.
+/// Makes a call with the method that has the call's name, such as `SharedMap::begin`.
 pub(crate) fn make<L: Ledger, R: Wait>(
     rt: &R,
     shared: &Shared<L>,
@@ -296,8 +299,8 @@ fn operate<L: Ledger, R: Wait>(
     }
 }
 
-/// The error of `close_or_miss`: the map and the callers that were passed in, if a caller is
-/// missing or was passed in twice; `None` if there is another reason.
+/// The error of `close_or_miss`. If a caller is missing or was passed in twice, it is the map and
+/// the callers that were passed in. For any other reason it is `None`.
 pub(crate) type Missing<L, S> = Option<(Shared<L>, Vec<Caller<L, S>>)>;
 
 /// Closes a map.
@@ -316,7 +319,7 @@ pub(crate) fn close_or_miss<L: Ledger, S: Side>(
     }
 }
 
-/// Closes a map, and answers its parts. Fails if the map does not close.
+/// Closes a map, and returns its parts. Fails if the map does not close.
 pub(crate) fn close<L: Ledger, S: Side>(
     shared: Shared<L>,
     callers: Vec<Caller<L, S>>,
@@ -327,7 +330,7 @@ pub(crate) fn close<L: Ledger, S: Side>(
     }
 }
 
-/// Closes a map, and answers its parts. Panics if the map does not close.
+/// Closes a map, and returns its parts. Panics if the map does not close.
 pub(crate) fn closed_of<L: Ledger, R: Abort>(
     rt: &R,
     shared: Shared<L>,
@@ -339,8 +342,8 @@ pub(crate) fn closed_of<L: Ledger, R: Abort>(
     }
 }
 
-/// The verdict of the checker on a history for this number of stripes. Answers `None` if there are
-/// no stripes, or if the history has an entry of a caller that the checker does not allow.
+/// Returns the checker's verdict on a history for this number of stripes. Returns `None` if there
+/// are no stripes, or if the history has a caller whose number the checker does not accept.
 pub(crate) fn judge(
     alloc: Global,
     trace: &[SmallEntry],
@@ -353,19 +356,20 @@ pub(crate) fn judge(
     Ok(Some(check(alloc, entries.as_slice(), stripes, Holder::Begun)?))
 }
 
-/// Whether each caller's number is one that the checker takes.
+/// Returns true if the checker accepts the number of each entry's caller.
 fn has_callers(trace: &[Entry]) -> bool
     ensures { result ≡ true → All (λ entry. caller_of entry < 64) trace.now }
 {
     trace.iter().all(|entry| entry.caller() < 64)
 }
 
-/// Whether a history is this one.
+/// Returns true if the history `trace` has exactly the entries `wanted`.
 pub(crate) fn is_history(trace: &[SmallEntry], wanted: &[Entry]) -> bool {
     Unpacked::new(trace).eq(wanted.iter().copied())
 }
 
-/// Whether a history for this number of stripes is legal by the checker, with no transaction open.
+/// Returns true if the checker finds a history for this number of stripes legal, and no transaction
+/// is open at its end.
 pub(crate) fn is_settled(
     alloc: Global,
     trace: &[SmallEntry],
@@ -375,8 +379,8 @@ pub(crate) fn is_settled(
     Ok(matches!(verdict, Some(Verdict::Legal { running: 0, .. })))
 }
 
-/// Whether a history for 8 stripes is settled, as `is_settled` says. `None` if the checker is refused
-/// memory for good.
+/// Returns what `is_settled` returns for a history for 8 stripes. Returns `None` if memory is
+/// refused to the checker in all of `TRIES` attempts.
 pub(crate) fn find_settled(alloc: Global, trace: &[SmallEntry]) -> Option<bool> {
     for _ in 0..TRIES {
         if let Ok(settled) = is_settled(alloc, trace, 8) {
@@ -386,7 +390,7 @@ pub(crate) fn find_settled(alloc: Global, trace: &[SmallEntry]) -> Option<bool> 
     None
 }
 
-/// The list of a core. `None` if memory for it is refused for good.
+/// The list of a core. `None` if memory for the list is refused in all of `TRIES` attempts.
 fn find_list(alloc: Global, core: &Core) -> Option<Vec<(u64, u64)>> {
     for _ in 0..TRIES {
         if let Ok(list) = core.regular_list(alloc) {
@@ -396,9 +400,10 @@ fn find_list(alloc: Global, core: &Core) -> Option<Vec<(u64, u64)>> {
     None
 }
 
-/// Whether a closed core has this number of keys, and a history that is legal with no transaction
-/// open. If it has a key, the key must be 1, with the value 10. If the checker is refused memory for
-/// good, only the number of keys is compared. If the list is, the key and its value are not.
+/// Returns true if a closed core has this number of keys, and a history that is legal with no
+/// transaction open. If it has a key, the key must be 1, with the value 10. If memory is refused to
+/// the checker permanently, only the number of keys is compared. If memory is refused permanently
+/// to the list of pairs, the key and its value are not compared.
 pub(crate) fn has_left<R: Abort>(rt: &R, alloc: Global, core: &Core, keys: u64) -> bool {
     let trace = core.trace();
     let Some(settled) = find_settled(alloc, trace) else {

@@ -1,7 +1,7 @@
-//! Tests that compare all calls of a gate, in their order, with tables made by hand. The library's
-//! user writes the gate, so no contract counts the calls on it. `run_tests` has a gate that forces
-//! an order; the gate here also notes its calls. If there are two workers, the calls of each are
-//! compared separately.
+//! These tests compare all calls of a gate, in their order, with tables made by hand. The library's
+//! user writes the gate, so no contract counts the calls of a gate. `run_tests` has a gate that
+//! forces an order. The gate of this module also notes its calls. If there are two workers, the
+//! calls of each worker are compared separately.
 use crate::run_tests::{await_flag, put, run, scripts_of};
 use std::alloc::{AllocError, Global};
 use std::process::Abort;
@@ -20,7 +20,7 @@ enum Heard {
     Before(usize, usize, usize),
     /// A script has its outcome.
     Done(usize),
-    /// A worker has let go of the lock.
+    /// A worker has released the lock.
     Freed(usize),
 }
 
@@ -36,13 +36,13 @@ impl Heard {
 }
 
 /// A gate that notes its calls. Worker 0 waits before its second action until worker 1 has done all
-/// its scripts, and worker 1 waits before its first action until worker 0 is there. So no operation
-/// of one worker falls between two holds of an operation of the other.
+/// its scripts. Worker 1 waits before its first action until worker 0 has come to its second
+/// action. So while an operation of one worker runs, the other worker does no operation.
 #[derive(Drop)]
 struct Listener<'a, R: Wait + Abort + Clock + Sync> {
     rt: &'a R,
     heard: Mutex<Vec<Heard>>,
-    /// The last script, which is worker 1's.
+    /// The index of the last script, which worker 1 does.
     last: usize,
     is_there: AtomicBool,
     is_done: AtomicBool,
@@ -76,8 +76,8 @@ impl<R: Wait + Abort + Clock + Sync> Gate for Listener<'_, R> {
     }
 }
 
-/// The calls that a gate gets in a run with this number of workers and this number of further
-/// tries. A single worker does not wait. With two workers, the last script must be worker 1's.
+/// Returns the calls that a gate gets in a run. `tries` is the number of further tries. A single
+/// worker does not wait. If there are two workers, worker 1 must do the last script.
 fn heard_of<R: Threads + Wait + Abort + Clock + Sync>(
     rt: &R,
     alloc: Global,
@@ -112,7 +112,8 @@ fn own(
     Ok(own)
 }
 
-/// Whether the gate got exactly these calls, each this number of times in a row.
+/// Returns true if the gate got exactly these calls. Each call must come in a row as often as its
+/// number says.
 fn is_heard(heard: &[Heard], wanted: &[(Heard, usize)]) -> bool {
     let mut rest = heard;
     for &(call, times) in wanted {
@@ -129,7 +130,7 @@ fn is_heard(heard: &[Heard], wanted: &[(Heard, usize)]) -> bool {
     rest.is_empty()
 }
 
-/// Whether the calls of this worker, one of two, are exactly these.
+/// In a run with two workers, returns true if this worker's calls are exactly `wanted`.
 fn is_own(
     alloc: Global,
     heard: &[Heard],
@@ -140,8 +141,8 @@ fn is_own(
     Ok(is_heard(own.as_slice(), wanted))
 }
 
-/// A begin and a commit take one hold each, and an operation takes three holds. The abort takes
-/// five: three, and two more for the change that it takes back.
+/// A begin and a commit take one hold of the lock each, and an operation takes three. The abort
+/// takes five holds: three, and two more for the change that it takes back.
 #[test]
 fn one_worker_is_heard(rt: HostRuntime) -> Result<(), Fail> {
     let first = [put(1, 10), Action::Op(Op::Get(9))];
@@ -205,9 +206,9 @@ fn two_workers_are_heard(rt: HostRuntime) -> Result<(), Fail> {
     Ok(())
 }
 
-/// Worker 0 has the stripe of key 1 until worker 1 has given up. An operation that finds a stripe
-/// held takes three holds too: the question, a seek that finds no change to take back, and the
-/// abort. A script is done once, after its last try.
+/// Worker 0 holds the stripe of key 1 until worker 1 has given up. An operation that finds a stripe
+/// held also takes three holds of the lock: the question, a seek that finds no change to take back,
+/// and the abort. A script is done once, after its last try.
 #[test]
 fn second_try_is_heard(rt: HostRuntime) -> Result<(), Fail> {
     let first = [put(1, 10)];

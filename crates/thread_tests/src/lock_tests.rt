@@ -1,6 +1,6 @@
-//! Tests of `key_locks`: holders of stripes, and the rights to them. The contracts say how a lock
-//! is answered, but not that stripes and rights are given memory while there is some. The callers
-//! take turns on one thread; the answers were worked out by hand.
+//! Tests of `key_locks`: holders of stripes, and the rights to stripes. The contracts say what a
+//! lock answers. They do not say that stripes and rights get memory as long as there is some. The
+//! callers take turns on one thread. The answers were worked out by hand.
 ghost use Rattle.std.specs.Prelude.{◌≡◌, length};
 
 use key_locks::{CALLERS, KeyLocks, LockAnswer, StripeRight};
@@ -11,9 +11,9 @@ use std::test::Fail;
 /// A caller's turn.
 #[derive(Clone, Copy, Debug)]
 enum Turn {
-    /// It locks a stripe, and must get this answer.
+    /// The caller locks a stripe, and must get this answer.
     Lock(usize, LockAnswer),
-    /// It releases all its stripes.
+    /// The caller releases all its stripes.
     Release,
 }
 
@@ -25,7 +25,7 @@ struct Stripes {
     ghost sized: { length locks ≡ count },
 }
 
-/// This number of free stripes. If memory is refused, asks for it once more.
+/// Makes `count` free stripes. If memory is refused, asks for it once more.
 fn free_stripes(alloc: Global, count: usize) -> Result<Stripes, AllocError> {
     if let Ok(locks) = KeyLocks::new(alloc, count) {
         return Ok(Stripes { locks, count });
@@ -34,7 +34,7 @@ fn free_stripes(alloc: Global, count: usize) -> Result<Stripes, AllocError> {
     Ok(Stripes { locks, count })
 }
 
-/// Takes a turn. Answers whether a lock had the answer that it must have.
+/// Takes a turn of a caller. Returns false if a lock does not give the answer that it must give.
 fn is_answered(stripes: &mut Stripes, caller: usize, turn: Turn) -> bool {
     if caller >= CALLERS {
         return false;
@@ -94,8 +94,8 @@ static ON_ONE: [(usize, Turn); 3] = [
     (6, Turn::Lock(0, LockAnswer::Busy(5))),
 ];
 
-/// A stripe that its holder locks once more is granted again. A caller that holds none releases
-/// none.
+/// If a caller locks a stripe that it already holds, the stripe is granted again. A caller that
+/// holds no stripe releases no stripe.
 #[test]
 fn a_stripe_is_held_until_its_holder_releases(rt: HostRuntime) -> Result<(), Fail> {
     take_turns(&rt, rt.alloc(), 8, ON_EIGHT.as_slice())?;
@@ -103,8 +103,8 @@ fn a_stripe_is_held_until_its_holder_releases(rt: HostRuntime) -> Result<(), Fai
     Ok(())
 }
 
-/// The rights are those of stripes 0, 1 and 2. `usize::MAX` stripes are refused, since there is no
-/// memory for so large a number.
+/// The rights to three stripes are those to stripes 0, 1 and 2. `usize::MAX` stripes are refused,
+/// since there is no memory for so many.
 #[test]
 fn each_stripe_has_a_right(rt: HostRuntime) -> Result<(), Fail> {
     let rights = match StripeRight::all(rt.alloc(), 3) {

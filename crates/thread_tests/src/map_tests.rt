@@ -1,6 +1,6 @@
-//! Tests of `locked_map`, in which callers make calls of one map: from tables, by hand, in threads,
-//! and with memory refused. This file only names the modules. The parts that they share with other
-//! tests are in `devices`.
+//! Tests of `locked_map`. Callers make calls of one map: from tables, by hand, in threads, and with
+//! memory refused. This file only names the modules. What the modules share with other tests is in
+//! `devices`.
 mod by_hand;
 mod cores;
 mod refused;

@@ -1,7 +1,7 @@
-//! Runs of scripts on threads: in an order that a gate forces, with any number of workers, and with
-//! memory refused. The contract of `run_scripts` lets each script be busy or refused; here a script
-//! that shares no stripe with another must commit. If the order depends on the threads, the history
-//! is only judged.
+//! Tests that run scripts on threads: in an order that a gate forces, with any number of workers,
+//! and with memory refused. The contract of `run_scripts` lets each script be busy or refused. Here
+//! a script that shares no stripe with another script must commit. If the order depends on the
+//! threads, the checker only judges the history.
 use crate::devices::{find_settled, is_refused, is_settled, judge};
 use history_check::Verdict;
 use std::alloc::{AllocError, Global};
@@ -15,8 +15,8 @@ use std::time::{Clock, Duration};
 use thread_runs::{Gate, Open, Outcome, Ran, run_scripts};
 use txn_words::{Action, Entry, Limits, Op, Refusal, Script, SmallEntry, Unpacked};
 
-/// Runs scripts on this number of workers, on a map of this number of stripes. A script that finds
-/// a stripe held is tried again at most this number of times.
+/// Runs scripts with this number of workers, on a map with this number of stripes. A script that
+/// finds a stripe held is tried at most `tries` more times.
 pub(crate) fn run<G: Gate, R: Threads + Wait + Sync>(
     rt: &R,
     alloc: Global,
@@ -47,7 +47,7 @@ pub(crate) const fn put(key: u64, value: u64) -> Action {
     Action::Op(Op::Put(key, value))
 }
 
-/// How often a flag is read, a millisecond apart.
+/// How often a flag is read at most. The reads are a millisecond apart.
 const TURNS: u64 = 20_000;
 
 /// Waits until a flag is set. The test fails if that takes too long.
@@ -66,12 +66,12 @@ pub(crate) fn await_flag<R: Abort + Clock>(rt: &R, flag: &AtomicBool) {
 enum Place {
     /// Before this action of a script.
     Action(usize),
-    /// At this release of the lock, from 0.
+    /// At the release of the lock with this number, counted from 0.
     Release(u64),
 }
 
-/// Worker 0 waits at a place until script 1 is done. Worker 1 waits before an action until worker 0
-/// has reached that place.
+/// A gate at which worker 0 waits at `place` until script 1 is done. Worker 1 waits before the
+/// action with the index `action` until worker 0 has reached `place`.
 #[derive(Drop)]
 struct Meeting<'a, R: Abort + Clock + Sync> {
     rt: &'a R,
@@ -114,8 +114,8 @@ impl<R: Abort + Clock + Sync> Gate for Meeting<'_, R> {
     }
 }
 
-/// The commit number of a script, if the script is committed and all its operations found keys
-/// without a value; else 0.
+/// Returns the commit number of a script, if the script is committed and none of its operations
+/// found a value at its key. Returns 0 otherwise.
 fn place_of(outcome: &Outcome) -> u64 {
     match outcome {
         Outcome::Committed { place, replies, .. } if replies.iter().all(|r| r.is_none()) => *place,
@@ -123,7 +123,7 @@ fn place_of(outcome: &Outcome) -> u64 {
     }
 }
 
-/// A gate before its run.
+/// Makes a gate for a run.
 fn gate_at<R: Abort + Clock + Sync>(rt: &R, place: Place, action: usize) -> Meeting<'_, R> {
     Meeting {
         rt,
@@ -135,7 +135,7 @@ fn gate_at<R: Abort + Clock + Sync>(rt: &R, place: Place, action: usize) -> Meet
     }
 }
 
-/// Two workers with a script each. Worker 1 commits first, while the transaction of worker 0 is
+/// Runs two scripts with two workers. Worker 1 must commit first, while worker 0's transaction is
 /// open.
 fn meet<R: Threads + Wait + Abort + Clock + Sync>(
     rt: &R,
@@ -157,8 +157,8 @@ fn crossing_scripts(alloc: Global) -> Result<Vec<Script>, AllocError> {
     scripts_of(alloc, [first.as_slice(), second.as_slice()].as_slice())
 }
 
-/// Worker 1 waits before its second action until worker 0 is about to do its second action. Worker
-/// 0 waits there until worker 1's script is done.
+/// Worker 1 waits before its second action until worker 0 is about to do its own second action. At
+/// this place worker 0 waits until worker 1's script is done.
 #[test]
 fn crossing_gate(rt: HostRuntime) -> Result<(), Fail> {
     let scripts = crossing_scripts(rt.alloc())?;
@@ -166,8 +166,9 @@ fn crossing_gate(rt: HostRuntime) -> Result<(), Fail> {
     Ok(())
 }
 
-/// Worker 0 keeps a stripe until worker 1 has found it held 1,001 times. Each of these attempts
-/// adds three entries, so the history needs far more room than was made before the run.
+/// Worker 0 keeps a stripe until worker 1 has tried 1,001 times and found it held each time. Each
+/// of these tries adds three entries, so the history needs far more room than was made before the
+/// run.
 #[test]
 fn many_attempts(rt: HostRuntime) -> Result<(), Fail> {
     let alloc = rt.alloc();
@@ -200,8 +201,9 @@ fn is_aborted(entry: &Entry) -> bool {
     matches!(entry, Entry::Aborted(_))
 }
 
-/// Worker 1's action waits for worker 0's third release of the lock, when worker 0 has begun, asked
-/// and sought. So worker 1's put and commit are between worker 0's question and its reply.
+/// Worker 1's action waits for worker 0's third release of the lock. By then worker 0 has begun,
+/// asked and sought. So worker 1's put and commit come between worker 0's question and the reply to
+/// it.
 #[test]
 fn step_between(rt: HostRuntime) -> Result<(), Fail> {
     let first = [put(2, 20)];
@@ -246,7 +248,7 @@ fn six_scripts(alloc: Global) -> Result<Vec<Script>, AllocError> {
     scripts_of(alloc, lists.as_slice())
 }
 
-/// One run, whose history is legal and has no open transaction.
+/// Runs the six scripts once. The history must be legal, with no transaction open at its end.
 fn run_once<R: Threads + Wait + Abort + Sync>(
     rt: &R,
     alloc: Global,
@@ -268,7 +270,7 @@ fn run_any_workers(rt: HostRuntime) -> Result<(), Fail> {
     Ok(())
 }
 
-/// Script `number` of the four hundred: put, take and put its own key.
+/// Script `number` of the four hundred. It puts, takes and puts its own key.
 fn script(alloc: Global, number: u64) -> Result<Script, AllocError> {
     let actions = [
         put(number, number),
@@ -278,8 +280,8 @@ fn script(alloc: Global, number: u64) -> Result<Script, AllocError> {
     Script::of_actions(alloc, &actions)
 }
 
-/// The commit number of script `number` if the script is committed with the replies that it must
-/// have; else 0.
+/// Returns the commit number of a script, if the script is committed with the replies that it must
+/// have. Returns 0 otherwise.
 fn own_place(number: u64, outcome: &Outcome) -> u64 {
     match outcome {
         Outcome::Committed { place, replies, .. }
@@ -288,7 +290,7 @@ fn own_place(number: u64, outcome: &Outcome) -> u64 {
     }
 }
 
-/// The commit numbers of all scripts, rising.
+/// The commit numbers of all scripts, in rising order.
 fn places(alloc: Global, ran: &Ran) -> Result<Vec<u64>, AllocError> {
     let mut places = Vec::new(alloc);
     for (number, outcome) in ran.outcomes.iter().enumerate() {
@@ -298,8 +300,8 @@ fn places(alloc: Global, ran: &Ran) -> Result<Vec<u64>, AllocError> {
     Ok(places)
 }
 
-/// Four workers run the scripts. Each script is committed with the replies that it must have, and
-/// the commit numbers are 1 to 400.
+/// Four workers run four hundred scripts. Each script is committed with the replies that it must
+/// have. The commit numbers are 1 to 400.
 #[test]
 fn four_hundred_scripts(rt: HostRuntime) -> Result<(), Fail> {
     let alloc = rt.alloc();
@@ -318,7 +320,7 @@ fn four_hundred_scripts(rt: HostRuntime) -> Result<(), Fail> {
     Ok(())
 }
 
-/// Runs the scripts of `crossing_gate` with one worker. Answers `None` if memory or a thread is
+/// Runs the scripts of `crossing_gate` with one worker. Returns `None` if memory or a thread is
 /// refused.
 fn ran_alone<R: Threads + Wait + Abort + Sync>(rt: &R, alloc: Global) -> Option<Ran> {
     let Ok(scripts) = crossing_scripts(alloc) else {
@@ -333,7 +335,7 @@ fn ran_alone<R: Threads + Wait + Abort + Sync>(rt: &R, alloc: Global) -> Option<
     }
 }
 
-/// The numbers of transactions that a history begins, commits and aborts.
+/// How many transactions a history begins, how many it commits, and how many it aborts.
 fn counts(trace: &[SmallEntry]) -> (usize, usize, usize) {
     let began = Unpacked::new(trace).filter(|entry| is_began(entry)).count();
     let committed = Unpacked::new(trace)
@@ -345,8 +347,8 @@ fn counts(trace: &[SmallEntry]) -> (usize, usize, usize) {
     (began, committed, aborted)
 }
 
-/// Whether a history is legal, with no caller in a transaction. If the checker is refused memory for
-/// good, the history is taken as legal.
+/// Returns true if a history is legal, with no transaction open at its end. If memory is refused to
+/// the checker permanently, the history is taken as legal.
 fn is_legal<R: Abort>(rt: &R, alloc: Global, trace: &[SmallEntry]) -> bool {
     assert!(rt; trace.iter().all(|entry| entry.caller() < 64));
     let Some(settled) = find_settled(alloc, trace) else {
@@ -364,8 +366,8 @@ fn is_refused_memory(outcome: &Outcome) -> bool {
     matches!(outcome, Outcome::Refused(Refusal::NoMemory))
 }
 
-/// Whether both scripts are committed. A script that is not committed must have been refused
-/// memory, and no caller may be left in a transaction.
+/// Returns true if both scripts are committed. Checks that a script that is not committed was
+/// refused memory, and that no transaction is open at the end.
 fn is_whole<R: Abort>(rt: &R, alloc: Global, ran: &Ran) -> bool {
     let outcomes = ran.outcomes.as_slice();
     assert_eq!(rt; outcomes.len(), 2);
@@ -382,10 +384,10 @@ fn is_whole<R: Abort>(rt: &R, alloc: Global, ran: &Ran) -> bool {
     done == 2
 }
 
-/// The state after a run that is refused memory, by `docs/tests/refused.sh`. One worker plays the
-/// scripts, until both are committed. `refused.sh` refuses at most eight allocations in a row, or
-/// all allocations after some point. Eight refusals make at most eight runs fail. If the ninth run
-/// fails too, every allocation is refused.
+/// Tests the state after a run that is refused memory by `docs/tests/refused.sh`. One worker runs
+/// the scripts again and again, until both are committed. `refused.sh` refuses at most eight
+/// allocations in a row, or all allocations after some point. Eight refusals make at most eight
+/// runs fail. So if the ninth run also fails, every allocation is refused.
 #[test]
 fn refused_memory_for_crossing_scripts(rt: HostRuntime) {
     for _ in 0..9 {

@@ -1,6 +1,6 @@
-//! Tests of `key_words`: atomic words of stripes, with the rights that belong to them. On one
-//! thread the answers were worked out by hand. With eight threads they depend on the threads; only
-//! the end is known then: all words are free.
+//! Tests of `key_words`: atomic words of stripes, with the rights to the stripes. On one thread,
+//! the answers were worked out by hand. With eight threads, the answers depend on the threads. Only
+//! the end is then known: all words are free.
 ghost use Rattle.std.specs.Prelude.{◌≡◌, [], length};
 ghost use Rattle.key_words.specs.Seats.{AreSeats, IsOf, known, stripes_of};
 
@@ -12,8 +12,8 @@ use std::test::Fail;
 use std::thread;
 use std::thread::Threads;
 
-/// A seat that has done nothing: its words, the number of stripes that these have, and its own
-/// number.
+/// A seat that has taken no stripe, with its words, the number of stripes of these words, and the
+/// number of the seat.
 #[derive(Drop)]
 struct Fresh {
     words: Arc<KeyWords, Global>,
@@ -26,7 +26,8 @@ struct Fresh {
     ghost empty: { (known seat).held ≡ [] },
 }
 
-/// A seat at its words, and the right that it was granted last, unless it has given that back.
+/// A seat with its words. `right` is the right that the seat was granted last. It is `None` if the
+/// seat has given this right back.
 #[derive(Drop)]
 struct Seated {
     words: Arc<KeyWords, Global>,
@@ -39,7 +40,7 @@ struct Seated {
     ghost numbered: { (known seat).number ≡ number },
 }
 
-/// A caller's rights, at its words.
+/// The rights of a caller, with the words that they belong to.
 #[derive(Drop)]
 struct Keeping {
     words: Arc<KeyWords, Global>,
@@ -49,7 +50,8 @@ struct Keeping {
     ghost sized: { stripes_of words.value ≡ stripes },
 }
 
-/// `count` seats at the words of this number of stripes, the last seat first.
+/// Makes words for this number of stripes, with `count` seats. Returns the seats, the last one
+/// first.
 fn fresh_seats(alloc: Global, stripes: usize, count: usize) -> Result<Vec<Fresh>, Fail> {
     if stripes == 0 || count == 0 || count > 64 {
         return Err("no seats".into());
@@ -61,7 +63,7 @@ fn fresh_seats(alloc: Global, stripes: usize, count: usize) -> Result<Vec<Fresh>
     Ok(at_words(alloc, Arc::new(alloc, words)?, stripes, seats)?)
 }
 
-/// The seats of these words, taken out of their list.
+/// Takes the seats of these words out of their list, the last one first.
 fn at_words(
     alloc: Global,
     words: Arc<KeyWords, Global>,
@@ -83,7 +85,7 @@ fn at_words(
     Ok(all)
 }
 
-/// The seats by rising number.
+/// The seats of `fresh_seats`, in the order of their numbers.
 fn seats_of(alloc: Global, stripes: usize, count: usize) -> Result<Vec<Seated>, Fail> {
     let mut all = Vec::new(alloc);
     for fresh in fresh_seats(alloc, stripes, count)? {
@@ -105,7 +107,7 @@ fn seats_of(alloc: Global, stripes: usize, count: usize) -> Result<Vec<Seated>, 
     Ok(all)
 }
 
-/// The callers by rising number.
+/// The callers with the seats of `fresh_seats`, in the order of their numbers.
 fn callers_of(alloc: Global, stripes: usize, count: usize) -> Result<Vec<Keeping>, Fail> {
     let mut all = Vec::new(alloc);
     for fresh in fresh_seats(alloc, stripes, count)? {
@@ -125,9 +127,9 @@ fn callers_of(alloc: Global, stripes: usize, count: usize) -> Result<Vec<Keeping
     Ok(all)
 }
 
-/// Takes a stripe, and keeps the right if the stripe is granted. Answers the word that was found: 0
-/// if the stripe was free. Answers `None` if there is no such stripe, or the right is that of
-/// another stripe.
+/// Takes a stripe, and keeps the right if the stripe is granted. Returns the word that was found,
+/// which is 0 if the stripe was free. Returns `None` if there is no such stripe, or if the granted
+/// right is that of another stripe.
 fn take(seated: &mut Seated, stripe: usize) -> Option<u64> {
     if stripe >= seated.stripes {
         return None;
@@ -142,8 +144,8 @@ fn take(seated: &mut Seated, stripe: usize) -> Option<u64> {
     }
 }
 
-/// Gives back the right that was granted last, if there is one and the stripe's word is the seat's
-/// own. Answers whether it did.
+/// Gives back the right that was granted last. Does this only if there is such a right and the
+/// stripe's word is that of the seat. Returns true if the right was given back.
 fn give(seated: &mut Seated) -> bool {
     let Some(right) = seated.right.take() else {
         return false;
@@ -161,8 +163,8 @@ fn give(seated: &mut Seated) -> bool {
     }
 }
 
-/// Seat 0 takes stripe 1. Until seat 0 gives the stripe back, both seats find the word of seat 0,
-/// which is 1, at stripe 1.
+/// Seat 0 takes stripe 1, which gives the stripe the word 1. Until seat 0 gives the stripe back,
+/// both seats find this word.
 #[test]
 fn words_of_stripes(rt: HostRuntime) -> Result<(), Fail> {
     let mut seats = seats_of(rt.alloc(), 8, 2)?;
@@ -187,14 +189,14 @@ fn words_of_stripes(rt: HostRuntime) -> Result<(), Fail> {
 /// The turn of a caller.
 #[derive(Clone, Copy, Debug)]
 enum Turn {
-    /// It takes a stripe, and must get this answer.
+    /// The caller takes a stripe, and must get this answer.
     Take(usize, Tried),
-    /// It gives back all its rights.
+    /// The caller gives back all its rights.
     GiveBack,
 }
 
-/// Plays a turn, and answers whether it went well. A take must get the answer in the turn. If this
-/// answer is the position of a right, the right must be that of the stripe.
+/// Plays a turn. Returns false if a take does not get the answer in the turn. If this answer is the
+/// position of a right, also returns false if the right is that of another stripe.
 fn is_answered(caller: &mut Keeping, turn: Turn) -> Result<bool, AllocError> {
     let Turn::Take(stripe, wanted) = turn else {
         caller.rights.give_back(&*caller.words);
@@ -210,8 +212,9 @@ fn is_answered(caller: &mut Keeping, turn: Turn) -> Result<bool, AllocError> {
     })
 }
 
-/// A take answers the position of the right if the caller has the stripe, the next position if the
-/// stripe is free, and one more than the other caller's number if the other caller has the stripe.
+/// If the caller already has the stripe, a take returns the position of the right. If the stripe is
+/// free, it returns the next position. If the other caller has the stripe, it returns that caller's
+/// number plus 1.
 #[test]
 fn rights_of_two_callers(rt: HostRuntime) -> Result<(), Fail> {
     let mut callers = callers_of(rt.alloc(), 8, 2)?;
@@ -248,7 +251,7 @@ fn take_and_give_back<R: Abort>(rt: &R, seated: &mut Seated) {
     }
 }
 
-/// Each seat takes stripes and gives them back, in its own thread. All begin at the same stripe.
+/// Runs `take_and_give_back` for each seat in its own thread. All seats begin at the same stripe.
 fn take_and_give_back_by_all<R: Threads + Wait + Abort + Sync>(rt: &R, seats: &mut [Seated]) {
     thread::scope(thread::scope_env(), rt, |scope| {
         for seated in seats {

@@ -1,8 +1,8 @@
-//! Tests of transactions as values, on the map with one owner and on the map of threads. They show
-//! what no contract says: that a work succeeds if there is memory for it, even at the limits; how
-//! far a table grows; and what is left if memory is refused.
+//! Tests of transactions as values, on the map with one owner and on the map that threads share.
+//! They test what no contract says: that a work succeeds if there is memory for it, even at the
+//! limits; how far a table grows; and what remains if memory is refused.
 //!
-//! They are a separate crate, because a crate with tests is proved twice.
+//! The tests are a separate crate, because a crate with tests is proved twice.
 #![tactic(auto)]
 
 #[cfg(test)]

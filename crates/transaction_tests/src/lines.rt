@@ -1,6 +1,6 @@
-//! Calls of a transaction as values, and tables of them at the limits, for both maps.
-//! `owned_limits` and `shared_limits` play the tables; no test is here. The answers are those of a
-//! plain map with savepoints, and were worked out by hand.
+//! Calls of a transaction as values, and tables of calls at the limits, for both maps.
+//! `owned_limits` and `shared_limits` play the tables. This module has no tests. The answers are
+//! those of a plain map with savepoints, and were worked out by hand.
 use owned_map::Stop;
 use std::alloc::{AllocError, Global};
 use txn_words::{Op, Refusal, Reply};
@@ -64,10 +64,10 @@ fn each_call(key: u64) -> [Line; 21] {
     ]
 }
 
-/// The answer to a call on a key of 2^63 or more, on a map that takes only half keys.
+/// The answer to a call on a key of 2^63 or more, if the map takes only keys below 2^63.
 const BAD: Told = Told::Stopped(Stop::Refused(Refusal::BadKey));
 
-/// Each call on a key of 2^63 or more, on a map that takes only half keys.
+/// Each call on a key of 2^63 or more, on a map that takes only keys below 2^63.
 fn each_refused(key: u64) -> [Line; 7] {
     [
         (Call::Do(Op::Get(key)), BAD),
@@ -91,7 +91,7 @@ fn add(all: &mut Vec<Line>, lines: &[Line]) -> Result<(), AllocError> {
     Ok(())
 }
 
-/// Each call on the keys 0, 2^63 - 1, 2^63 and 2^64 - 1, which are all there at the end.
+/// Each call on the keys 0, 2^63 - 1, 2^63 and 2^64 - 1. All four keys are in the map at the end.
 pub(crate) fn whole_keys(alloc: Global) -> Result<Vec<Line>, AllocError> {
     let mut all = Vec::new(alloc);
     for key in [0, HALF - 1, HALF, u64::MAX] {
@@ -100,8 +100,8 @@ pub(crate) fn whole_keys(alloc: Global) -> Result<Vec<Line>, AllocError> {
     Ok(all)
 }
 
-/// Each call on the keys 0, 2^63 - 1, 2^63 and 2^64 - 1 of a map that takes only half keys. The
-/// first two keys are there at the end.
+/// Each call on the keys 0, 2^63 - 1, 2^63 and 2^64 - 1, on a map that takes only keys below 2^63.
+/// The first two keys are in the map at the end.
 pub(crate) fn half_keys(alloc: Global) -> Result<Vec<Line>, AllocError> {
     let mut all = Vec::new(alloc);
     for key in [0, HALF - 1] {
@@ -117,8 +117,8 @@ pub(crate) fn half_keys(alloc: Global) -> Result<Vec<Line>, AllocError> {
 /// The answer to a return to a level that does not exist.
 const NO_LEVEL: Told = Told::Stopped(Stop::Refused(Refusal::NoSuchLevel));
 
-/// Returns to levels. Level `n` has `n` at key 1, and 1 at key 10,000 + `n`. Only key 2 is there at
-/// the end.
+/// Returns to levels. At level `n`, key 1 has the value `n`, and key 10,000 + `n` has the value 1.
+/// At the end, key 2 is the only key.
 const LEVELS: [Line; 24] = [
     (Call::Do(Op::Take(1)), Told::Replied(Some(1000))),
     (Call::Back(1001), NO_LEVEL),
@@ -146,8 +146,8 @@ const LEVELS: [Line; 24] = [
     (Call::Save, Told::Level(1)),
 ];
 
-/// Sets a thousand savepoints, and returns to levels. Before each savepoint its level is put at key
-/// 1, and one new key is put.
+/// Sets a thousand savepoints, and returns to levels. Before each savepoint, the savepoint's level
+/// is put at key 1, and one new key is put.
 pub(crate) fn a_thousand_savepoints(alloc: Global) -> Result<Vec<Line>, AllocError> {
     let mut all = Vec::new(alloc);
     for level in 1..1001u64 {

@@ -1,6 +1,6 @@
-//! A work in a thread that looks at one key. The tests of `shared` and `restarts` use it to see
-//! whether works were started, and which values they found; no test is here. A look may be refused
-//! memory, but it fails the test if it finds a wrong value.
+//! `Look` is a work that looks at one key in a thread. The tests of `shared` and `restarts` use it
+//! to see whether works were started, and which values they found. This module has no tests. A look
+//! may be refused memory. If it finds a wrong value, the test fails.
 ghost use Rattle.shared_transactions.specs.Keeps.{Keeps};
 
 use boost_core::Core;
@@ -14,7 +14,7 @@ use std::sync::ledger::Ledger;
 use std::thread::Threads;
 use txn_words::{Limits, Refusal, Reply};
 
-/// A work that counts itself in `started`, and gets the value at a key, which must be `wanted`.
+/// A work that adds one to `started`, and gets the value at `key`. The value must be `wanted`.
 #[derive(Clone, Copy)]
 pub(crate) struct Look<'a> {
     pub(crate) started: &'a AtomicU64,
@@ -41,7 +41,7 @@ fn get_by<L: Ledger, R: Wait>(
 }
 
 impl<R: Wait + Abort> Work<R> for Look<'_> {
-    /// Whether the get was done; it is not if memory is refused.
+    /// True if the get was done, and false if memory was refused.
     type Output = bool;
 
     fn run<L: Ledger>(self, rt: &R, map: &SharedMap<L>, me: &mut Caller<L, NoSide>) -> bool {

@@ -1,6 +1,6 @@
 //! Tests of the map with one owner: its table grows, its history is cut off, and a transaction
-//! returns to a savepoint. Each test is also run while memory is refused: for one allocation, for
-//! eight in a row, or for all from one allocation on.
+//! returns to a savepoint. Each test is also run while memory is refused to some allocations: to
+//! one, to eight in a row, or to one and all later ones.
 ghost use Rattle.std.specs.Prelude.{◌≡◌};
 ghost use Rattle.owned_map.specs.Keeps.{Keeps};
 
@@ -10,7 +10,7 @@ use std::alloc::Global;
 use std::process::Abort;
 use txn_words::{Limits, Refusal, Reply};
 
-/// The number of keys that are put: 0, 3, 6 and so on.
+/// How many keys are put. The keys are 0, 3, 6 and so on.
 const KEYS: u64 = 40;
 
 /// A map of two callers, if there is memory for it.
@@ -24,7 +24,7 @@ fn put(t: &mut Transaction<'_>, key: u64, value: u64) -> Result<Reply, Stop>
     t.put(key, value)
 }
 
-/// Answers 1 if a key is there.
+/// Returns 1 if a key is there.
 fn contains(t: &mut Transaction<'_>, key: u64) -> Result<Reply, Stop>
     ensures { Keeps t.old t.new }
 {
@@ -48,7 +48,7 @@ fn put_and_back(t: &mut Transaction<'_>, key: u64, level: u64) -> Result<(), Sto
     t.back(level)
 }
 
-/// Puts 1 at a key, then 2, and goes back to the savepoint in between.
+/// Puts 1 at a key, sets a savepoint, puts 2 at the key, and goes back to the savepoint.
 #[tactic(auto, using(owned_map::proofs::Calls::keeps_on))]
 fn put_and_go_back(t: &mut Transaction<'_>, key: u64) -> Result<Reply, Stop>
     ensures { Keeps t.old t.new }
@@ -69,11 +69,11 @@ fn get(t: &mut Transaction<'_>, key: u64) -> Result<Reply, Stop>
 enum Work {
     /// Puts a value at a key.
     Put(u64, u64),
-    /// Answers 1 if a key is there.
+    /// Replies 1 if a key is there.
     Contains(u64),
-    /// Puts 1 at a key, then 2, and goes back to the savepoint in between.
+    /// Puts 1 at a key, sets a savepoint, puts 2 at the key, and goes back to the savepoint.
     GoBack(u64),
-    /// Answers the value of a key.
+    /// Gets the value of a key.
     Get(u64),
 }
 
@@ -93,7 +93,7 @@ fn work_in(map: &mut OwnedMap, caller: u64, work: Work) -> Result<Reply, Stop> {
     map.transact(caller, |t: &mut Transaction<'_>| do_work(t, work))
 }
 
-/// Cuts the history off, and answers how many entries were cut off.
+/// Cuts the history off, and returns how many entries were cut off.
 fn trim(alloc: Global, map: &mut OwnedMap) -> Result<u64, Refusal> {
     match map.trim(alloc) {
         Ok(old) => Ok(length_of(&old)),
@@ -121,7 +121,7 @@ fn pairs_of(alloc: Global, map: &OwnedMap) -> Pairs {
     map.core().regular_list(alloc).ok()
 }
 
-/// Puts the keys until memory is refused for one, and answers how many are there.
+/// Puts the keys until memory is refused for one, and returns how many are there.
 fn fill(rt: &impl Abort, map: &mut OwnedMap) -> u64 {
     for done in 0..KEYS {
         match work_in(map, 0, Work::Put(done.wrapping_mul(3), done)) {

@@ -1,6 +1,7 @@
-//! Tests of transactions on the map with one owner at the limits of keys, values and savepoints. By
-//! contract a call at a limit may give up; here none may. The tables are those of `lines`. Each
-//! function that is given a transaction ensures `Keeps`, because the closure of `transact` must.
+//! Tests of transactions on the map with one owner, at the limits of keys, values and savepoints.
+//! By contract, a call at a limit may give up. In these tests no call may. The tables are those of
+//! `lines`. Each function that gets a transaction ensures `Keeps`, because the closure of
+//! `transact` must.
 ghost use Rattle.std.specs.Prelude.{◌≡◌};
 ghost use Rattle.owned_map.specs.Keeps.{Keeps};
 
@@ -39,7 +40,7 @@ fn make_call(t: &mut Transaction<'_>, what: Call) -> Result<Told, Stop>
     }
 }
 
-/// Makes the call of a line, and answers whether it got the line's answer.
+/// Makes the call of a line, and returns true if the call got the line's answer.
 fn is_told(t: &mut Transaction<'_>, line: &Line) -> bool
     ensures { Keeps t.old t.new }
 {
@@ -49,8 +50,8 @@ fn is_told(t: &mut Transaction<'_>, line: &Line) -> bool
     }
 }
 
-/// Makes the calls of the lines until one does not get its line's answer. Answers how many calls
-/// got their line's answer.
+/// Makes the calls of the lines, and stops at the first one that does not get its line's answer.
+/// Returns how many calls got their line's answer.
 #[tactic(auto, using(owned_map::proofs::Calls::keeps_stay, owned_map::proofs::Calls::keeps_on))]
 fn ask_all(t: &mut Transaction<'_>, lines: &[Line]) -> u64
     ensures { Keeps t.old t.new }

@@ -1,7 +1,7 @@
-//! Tests of maps of threads that begin with the pairs of a core, by `run_works_from` and `refill`.
-//! The contracts allow both functions to answer `NoMemory` at any time. In these tests neither
-//! function may do so. The works look at keys by `looks`, which also counts the works that were
-//! started.
+//! Tests of shared maps that begin with the pairs of a core. Such maps are made by `run_works_from`
+//! and `refill`. The contracts allow both functions to return `NoMemory` at any time. In these
+//! tests neither function may do so. The works look at keys with `looks`, which also counts the
+//! works that were started.
 ghost use Rattle.owned_map.specs.Keeps.{Keeps};
 
 use crate::looks::{go_on, have_same_pairs, looks};
@@ -25,13 +25,13 @@ fn put(t: &mut Transaction<'_>, key: u64) -> Result<Reply, Stop>
     t.put(key, key)
 }
 
-/// Puts a key in a transaction, and answers whether it was committed.
+/// Puts a key in a transaction, and returns true if the transaction was committed.
 fn is_put(map: &mut OwnedMap, key: u64) -> bool {
     let result: Result<Reply, Stop> = map.transact(0, |t: &mut Transaction<'_>| put(t, key));
     result.is_ok()
 }
 
-/// A core with the keys of a range, each with itself as its value.
+/// A core with the keys from `first` to `end` - 1, each with itself as its value.
 fn core_of(rt: &impl Abort, alloc: Global, limits: Limits, first: u64, end: u64) -> Core {
     let mut map = OwnedMap::new(alloc, limits).expect(rt, "memory");
     for key in first..end {
@@ -40,8 +40,8 @@ fn core_of(rt: &impl Abort, alloc: Global, limits: Limits, first: u64, end: u64)
     map.into_core()
 }
 
-/// Checks that a history begins with a transaction of `caller`, and that its entry at index `end`
-/// is the commit.
+/// Checks that the history of a core begins with a transaction of `caller`, and that the entry at
+/// index `end` is the commit of this transaction.
 fn begins_with_one(rt: &impl Abort, core: &Core, caller: u64, end: usize) {
     let trace = core.trace();
     assert!(rt; end < trace.len());
@@ -58,8 +58,8 @@ fn is_made(rt: &impl Abort, alloc: Global, old: &Core, finished: Finished<bool>)
     finished.core
 }
 
-/// Does looks on a new map that begins with the pairs of a core. `works` is the number of looks.
-/// The core has the keys below `keys`. Checks that all looks were started.
+/// Makes `works` looks on a new map that begins with the pairs of a core. The core has the keys
+/// below `keys`. Checks that all looks were started, and returns the new map's core.
 fn restart<R: Threads + Wait + Sync + Abort>(
     rt: &R,
     alloc: Global,
@@ -77,9 +77,10 @@ fn restart<R: Threads + Wait + Sync + Abort>(
     }
 }
 
-/// Makes maps with no pairs and with a thousand pairs: maps of the smallest limits from cores of
-/// the largest limits, and maps of the largest limits from cores of the smallest limits. There are
-/// as many works as the callers allow. The history must begin with the puts of the pairs.
+/// Makes new maps from cores with no pairs and with a thousand pairs. Maps with the smallest limits
+/// are made from cores with the largest limits, and maps with the largest limits from cores with
+/// the smallest limits. There are as many works as the callers allow. The history must begin with
+/// the puts of the pairs.
 #[test]
 fn every_restart_is_made(rt: HostRuntime) -> Result<(), Fail> {
     let least = Limits::new(1, 1, 2)?;
@@ -94,7 +95,7 @@ fn every_restart_is_made(rt: HostRuntime) -> Result<(), Fail> {
     Ok(())
 }
 
-/// Checks that no map is made from a core and no work is started, and answers why.
+/// Checks that no map is made from a core and no work is started, and returns why.
 fn is_refused<R: Threads + Wait + Sync + Abort>(
     rt: &R,
     alloc: Global,
@@ -126,8 +127,8 @@ fn a_caller_is_missing(rt: HostRuntime) -> Result<(), Fail> {
 /// 2^63.
 const HALF: u64 = 9_223_372_036_854_775_808;
 
-/// A map that takes only half keys cannot begin with the pairs of a core that has the key 2^63. It
-/// can begin with the pairs of a core that has the keys 2^63 - 2 and 2^63 - 1.
+/// A map that takes only keys below 2^63 cannot begin with the pairs of a core that has the key
+/// 2^63. It can begin with the pairs of a core that has the keys 2^63 - 2 and 2^63 - 1.
 #[test]
 fn a_key_is_too_large(rt: HostRuntime) -> Result<(), Fail> {
     let limits = Limits::new(2, 8, 64)?;
@@ -140,7 +141,7 @@ fn a_key_is_too_large(rt: HostRuntime) -> Result<(), Fail> {
     Ok(())
 }
 
-/// An opening that puts the pairs of a core.
+/// An opening of a map that puts the pairs of a core into the map.
 #[derive(Clone, Copy)]
 struct Refills<'a> {
     core: &'a Core,
@@ -160,7 +161,7 @@ impl<R: Wait> Work<R> for Refills<'_> {
     }
 }
 
-/// Makes a map whose opening puts the pairs of a core, and on which a work looks at one of them.
+/// Makes a map whose opening puts the pairs of a core. Then a work looks at one of the pairs.
 fn open_with<R: Threads + Wait + Sync + Abort>(
     rt: &R,
     alloc: Global,

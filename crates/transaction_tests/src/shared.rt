@@ -1,7 +1,7 @@
-//! Tests of transactions as values on a map of threads. One test lets the table grow, looks for
-//! keys, tries a transaction again, and does a work in a thread on a new map that begins with the
-//! pairs of the closed one. It is also run while memory is refused: for one allocation, for eight
-//! in a row, or for all from one allocation on. The other test closes a map without its callers.
+//! Tests of transactions as values on a shared map. One test lets the table grow, looks for keys,
+//! and tries a transaction again. It then runs a work on a new map that begins with the pairs of
+//! the closed map. This test is also run while memory is refused to one allocation, to eight in a
+//! row, or to one and all later ones. The other test closes a map without its callers.
 ghost use Rattle.std.specs.Prelude.{◌≡◌};
 ghost use Rattle.shared_transactions.specs.Keeps.{Keeps};
 
@@ -34,7 +34,7 @@ fn put<L: Ledger, R: Wait>(
     t.put(key, value)
 }
 
-/// Answers 1 if a key is there.
+/// Returns 1 if a key is there.
 fn contains<L: Ledger, R: Wait>(t: &mut Transaction<'_, L, R>, key: u64) -> Result<Reply, Stop>
     ensures { Keeps t.old.me t.new.me }
 {
@@ -46,7 +46,7 @@ fn contains<L: Ledger, R: Wait>(t: &mut Transaction<'_, L, R>, key: u64) -> Resu
 enum Work {
     /// Puts a value at a key.
     Put(u64, u64),
-    /// Answers 1 if a key is there.
+    /// Replies 1 if a key is there.
     Contains(u64),
 }
 
@@ -70,8 +70,8 @@ fn work_by<L: Ledger, R: Wait>(
     Ok(reply)
 }
 
-/// Puts a value at a key in its own transaction, with up to eight further tries and the shortest
-/// sleeps.
+/// Puts a value at a key in its own transaction. Tries at most eight more times if the put is busy,
+/// with the shortest sleeps between the tries.
 fn put_by<L: Ledger, R: Wait>(
     t: &mut Transaction<'_, L, R>,
     key: u64,
@@ -111,7 +111,7 @@ fn begun_by<L: Ledger>(me: &Caller<L, NoSide>) -> u64 {
     count
 }
 
-/// Puts the keys until memory is refused for one, and answers how many were put.
+/// Puts the keys until memory is refused for one, and returns how many were put.
 fn fill<L: Ledger, R: Wait + Abort>(rt: &R, t: &mut Transaction<'_, L, R>) -> u64 {
     for done in 0..KEYS {
         match put_by(t, done.wrapping_mul(3), done) {
@@ -150,8 +150,9 @@ fn is_busy<L: Ledger, R: Wait + Abort>(rt: &R, map: &SharedMap<L>, me: &mut Call
     }
 }
 
-/// Checks that a put is busy while another caller's transaction, which has put the key, is open.
-/// After that transaction is dropped, the put must be done and find the key absent.
+/// The caller `other` puts key 1 and leaves its transaction open. Checks that a put of the same key
+/// is then busy. After the drop of the open transaction, the put must be done and find the key
+/// absent.
 fn try_again<L: Ledger, R: Wait + Abort>(
     rt: &R,
     map: &SharedMap<L>,
@@ -171,9 +172,9 @@ fn try_again<L: Ledger, R: Wait + Abort>(
     }
 }
 
-/// A session in which a caller fills the map, and then tries to put a key that another caller's
-/// open transaction has put. Then the map is closed. Answers the map's core and how many keys were
-/// put, if there was memory for the callers.
+/// A session in which one caller fills the map. The caller then tries to put a key that another
+/// caller has put in an open transaction. Then the session closes the map. Returns the map's core
+/// and how many keys were put, or `None` if there was no memory for the callers.
 #[derive(Drop)]
 struct Works;
 
@@ -195,7 +196,7 @@ impl<R: Wait + Abort> Session<R> for Works {
     }
 }
 
-/// Closes a map, which must succeed, and answers its core.
+/// Closes a map, which must succeed, and returns the map's core.
 fn close<L: Ledger>(rt: &impl Abort, shared: SharedMap<L>, callers: Vec<Caller<L, NoSide>>) -> Core
     requires { shared.limits.callers ≡ L.parts }
 {
@@ -219,7 +220,7 @@ fn work_on<L: Ledger, R: Wait + Abort>(
     count
 }
 
-/// Checks how far the table of a core has grown, if all keys were put.
+/// If all keys were put, checks how far the table of a core has grown.
 fn has_grown(rt: &impl Abort, core: &Core, count: u64) {
     if count == KEYS {
         // The table doubles if there are more than two keys for each bucket: at 5, 9 and 17 keys.

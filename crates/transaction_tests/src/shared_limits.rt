@@ -1,6 +1,6 @@
-//! Tests of transactions on a map of threads at the limits of keys, values and savepoints, where
-//! the contracts would let a call give up. The last caller plays the tables of `lines` on the
-//! thread of the test, in a session that also closes the map.
+//! Tests of transactions on a shared map, at the limits of keys, values and savepoints. By
+//! contract, a call at a limit may give up. In these tests no call may. The last caller plays the
+//! tables of `lines` on the thread of the test. The session of this caller also closes the map.
 ghost use Rattle.std.specs.Prelude.{◌≡◌};
 
 use crate::lines::{Call, Line, Told, a_thousand_savepoints, half_keys, whole_keys};
@@ -37,7 +37,7 @@ fn make_call<L: Ledger, R: Wait>(t: &mut Transaction<'_, L, R>, what: Call) -> R
     }
 }
 
-/// Makes a call, and answers what the transaction answers.
+/// Makes a call, and returns the transaction's answer.
 fn answer<L: Ledger, R: Wait>(t: &mut Transaction<'_, L, R>, what: Call) -> Told {
     match make_call(t, what) {
         Ok(told) => told,
@@ -75,7 +75,7 @@ fn play<L: Ledger, R: Wait + Abort>(
     play_in(rt, Transaction::new(rt, map, me), lines);
 }
 
-/// Closes a map, and answers the number of its keys.
+/// Closes a map, and returns the number of its keys.
 fn count_at_close<L: Ledger>(
     shared: SharedMap<L>,
     callers: Vec<Caller<L, NoSide>>,
@@ -88,8 +88,8 @@ fn count_at_close<L: Ledger>(
     }
 }
 
-/// A session in which a caller plays these lines, and then the map is closed. Answers how many keys
-/// it has.
+/// A session in which the last caller plays these lines, and which then closes the map. Returns how
+/// many keys the map has.
 #[derive(Drop)]
 struct Plays {
     lines: Vec<Line>,

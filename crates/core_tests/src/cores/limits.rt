@@ -1,6 +1,6 @@
-//! Cores at their limits. By contract any call that takes memory may be refused memory, so a body
-//! that gives up at a limit would meet its contract. With enough memory, calls at a limit must have
-//! the same answers as elsewhere.
+//! Cores at their limits. The contracts allow any call that needs memory to fail for lack of
+//! memory, so a core that always failed at a limit would meet its contracts. With enough memory, a
+//! call at a limit must have the same answer as elsewhere.
 use super::{Call, begin, help_is, large_core, play_calls, put, put_helped, small_core};
 use crate::devices::{
     abort, back, core_with, has_map, limits_of, operate, pairs_of, run_steps, sizes_of, step_is,
@@ -19,7 +19,8 @@ static SIZES: [(u64, u64, u64); 4] = [
     (64, 4_096, 2),
 ];
 
-/// The least and the greatest key, the two in the middle, and one of stripe 4,095 of 4,096.
+/// The least and the greatest key, the two keys in the middle, and a key of the last stripe of
+/// 4,096.
 static KEYS: [u64; 5] = [
     0,
     4_095,
@@ -28,8 +29,8 @@ static KEYS: [u64; 5] = [
     18_446_744_073_709_551_615,
 ];
 
-/// Each operation on a key that is not there, with its reply. The operations put the least and the
-/// greatest value, and the last operation takes the key out again.
+/// Operations of each kind, each with its reply. The key is not there at the beginning. The
+/// operations put the least and the greatest value, and the last operation takes the key.
 fn operations_at(key: u64) -> [(Op, Option<u64>); 9] {
     [
         (Op::Get(key), None),
@@ -44,7 +45,7 @@ fn operations_at(key: u64) -> [(Op, Option<u64>); 9] {
     ]
 }
 
-/// A caller does each operation on a key.
+/// A caller does each operation of `operations_at` on a key.
 fn operations_are(rt: &impl Abort, core: &mut Core, caller: u64, key: u64) -> Result<(), Fail> {
     for (op, reply) in &operations_at(key) {
         let answer = operate(core, caller, *op)?;
@@ -61,7 +62,8 @@ fn works_on_keys(rt: &impl Abort, core: &mut Core, caller: u64) -> Result<(), Fa
     Ok(())
 }
 
-/// Each caller runs a transaction, and helps; there is no caller of the next number.
+/// Each caller runs a transaction and calls for help. There is no caller with the next number, so
+/// its calls are refused.
 fn callers_work(rt: &impl Abort, core: &mut Core, callers: u64) -> Result<(), Fail> {
     let mut count: u64 = 0;
     for caller in 0..callers {
@@ -90,13 +92,13 @@ fn sizes_work(rt: &impl Abort, alloc: Global, rows: &[(u64, u64, u64)]) -> Resul
     Ok(())
 }
 
-/// Each operation at each key by each caller, at the least and the largest limits.
+/// Each caller does each operation on each key, at the least and the greatest limits.
 #[test]
 fn every_limit(rt: HostRuntime) -> Result<(), Fail> {
     sizes_work(&rt, rt.alloc(), &SIZES)
 }
 
-/// The last stripe of 4,096 and the last caller of 64.
+/// Calls that use the last of 4,096 stripes and the last of 64 callers.
 const LAST_STRIPE: [(Call, Answer); 8] = [
     (Call::Step(Step::Begin(0)), Answer::Began(1)),
     (Call::Step(Step::Begin(63)), Answer::Began(2)),
@@ -115,7 +117,7 @@ fn last_stripe(rt: HostRuntime) -> Result<(), Fail> {
     play_calls(&rt, rt.alloc(), &mut core, &LAST_STRIPE)
 }
 
-/// Caller 0 makes this number of savepoints, each after one more key.
+/// Caller 0 makes this number of savepoints, and puts one key before each.
 fn save_all(rt: &impl Abort, core: &mut Core, levels: u64) -> Result<(), Fail> {
     let mut level: u64 = 0;
     for _ in 0..levels {
@@ -126,7 +128,7 @@ fn save_all(rt: &impl Abort, core: &mut Core, levels: u64) -> Result<(), Fail> {
     Ok(())
 }
 
-/// Levels to go back to, one after the other. After the return to level n, n keys are left.
+/// Levels to return to, one after the other. After the return to level n, the core has n keys.
 static LEVELS: [u64; 7] = [1_000, 999, 500, 11, 10, 1, 0];
 
 fn levels_are(rt: &impl Abort, core: &mut Core, levels: &[u64]) -> Result<(), Fail> {
@@ -147,7 +149,8 @@ fn levels_to_a_thousand(rt: HostRuntime) -> Result<(), Fail> {
     levels_are(&rt, &mut small_core(&rt, rt.alloc()), &LEVELS)
 }
 
-/// Caller 0 changes key 5 this number of times: its value is 0 at first, and each change adds 1.
+/// Caller 0 changes key 5 this number of times. The key's value is 0 at first, and each change adds
+/// 1.
 fn change_often(rt: &impl Abort, core: &mut Core, times: u64) -> Result<(), Fail> {
     let mut value: u64 = 0;
     for _ in 0..times {
@@ -159,7 +162,7 @@ fn change_often(rt: &impl Abort, core: &mut Core, times: u64) -> Result<(), Fail
     Ok(())
 }
 
-/// Numbers of jobs in a log: as many as fit into the log itself, one more, and very many.
+/// Numbers of jobs in a log: as many as fit into it without an allocation, one more, and very many.
 static JOBS: [u64; 3] = [8, 9, 100_000];
 
 /// Caller 0 changes key 5 `times` times in its transaction, and takes these changes back. The key's
@@ -182,7 +185,7 @@ fn logs_are(rt: &impl Abort, alloc: Global, core: &mut Core, rows: &[u64]) -> Re
     Ok(())
 }
 
-/// A key with the value 0, and a savepoint.
+/// Caller 0 puts key 5 with the value 0, and makes a savepoint.
 const FIRST_VALUE: [(Call, Answer); 3] = [
     (Call::Step(Step::Begin(0)), Answer::Began(1)),
     (Call::Op(0, Op::Put(5, 0)), Answer::Done(None)),
@@ -196,7 +199,7 @@ fn logs_to_100_000_jobs(rt: HostRuntime) -> Result<(), Fail> {
     logs_are(&rt, alloc, &mut small_core(&rt, alloc), &JOBS)
 }
 
-/// Adds this number of sweeps.
+/// Adds this number of sweeps to `steps`.
 fn add_sweeps(steps: &mut Vec<Step>, count: usize) -> Result<(), AllocError> {
     for _ in 0..count {
         steps.push(Step::Sweep)?;
@@ -204,7 +207,7 @@ fn add_sweeps(steps: &mut Vec<Step>, count: usize) -> Result<(), AllocError> {
     Ok(())
 }
 
-/// Takes steps, all of them sweeps, by one call; none finds a marked node.
+/// Takes steps, which are all sweeps, with one call. No sweep finds a marked node.
 fn run_sweeps(rt: &impl Abort, alloc: Global, core: &mut Core, steps: &[Step]) -> Result<(), Fail> {
     let answers = run_steps(alloc, core, steps)?;
     assert_eq!(rt; answers.len(), steps.len());
@@ -212,7 +215,7 @@ fn run_sweeps(rt: &impl Abort, alloc: Global, core: &mut Core, steps: &[Step]) -
     Ok(())
 }
 
-/// This number of sweeps by one call; none finds a marked node.
+/// Takes this number of sweeps with one call. No sweep finds a marked node.
 fn run_many(rt: &impl Abort, alloc: Global, core: &mut Core, count: usize) -> Result<(), Fail> {
     let mut steps = Vec::new(alloc);
     add_sweeps(&mut steps, count)?;
@@ -240,8 +243,8 @@ const LAST_PLACE: [(Call, Answer); 7] = [
     (Call::Run(Step::Commit(0)), Answer::Committed(1)),
 ];
 
-/// A table that help has grown to 65,536 buckets, with 65,538 keys, and a run of more than 100,000
-/// steps on it.
+/// Puts 65,538 keys, while help lets the table grow to 65,536 buckets. Then takes more than 100,000
+/// steps with one call.
 fn fill_and_run(rt: &impl Abort, alloc: Global, core: &mut Core) -> Result<(), Fail> {
     begin(rt, core)?;
     put_helped(rt, core, 65_538)?;
@@ -258,8 +261,8 @@ fn largest_table(rt: HostRuntime) -> Result<(), Fail> {
     fill_and_run(&rt, alloc, &mut large_core(&rt, alloc))
 }
 
-/// Room for more entries than memory can hold is refused, and room for fewer is made. The core
-/// works as usual after both.
+/// A call that asks for room for more entries than memory can hold is refused. A call that asks for
+/// less room succeeds. The core works as usual after both calls.
 #[test]
 fn room_for_entries(rt: HostRuntime) -> Result<(), Fail> {
     let alloc = rt.alloc();
@@ -276,8 +279,8 @@ fn makes_room(rt: &impl Abort, core: &mut Core) -> Result<(), Fail> {
     Ok(())
 }
 
-/// Room for 0, 1,000 and 2,000 entries is made, and room for 2^64 - 1 entries is refused. In each
-/// call but the one for 1,000 entries, the room is also to be written.
+/// Asks for room for 0, 1,000 and 2,000 entries, which succeeds, and for 2^64 - 1 entries, which is
+/// refused. All calls except the one for 1,000 entries also ask that the room be written.
 fn has_room(rt: &impl Abort, core: &mut Core) {
     assert!(rt; core.reserve(0, true).is_ok());
     assert!(rt; core.reserve(1_000, false).is_ok());
@@ -285,7 +288,8 @@ fn has_room(rt: &impl Abort, core: &mut Core) {
     assert!(rt; core.reserve(usize::MAX, true).is_err());
 }
 
-/// The history is moved into a larger vector in mid-transaction, and the core works as usual.
+/// During a transaction, the history is moved into a larger vector. The core works as usual after
+/// the move.
 #[test]
 fn moved_history(rt: HostRuntime) -> Result<(), Fail> {
     let alloc = rt.alloc();
@@ -296,8 +300,9 @@ fn moved_history(rt: HostRuntime) -> Result<(), Fail> {
 }
 
 /// The history has one entry, and caller 0 owes two more. A vector with room for two entries is too
-/// small, and is handed back. A vector with room for 1,000 entries becomes the history. The old
-/// vector of the history has less room than this one, and is handed back if it is offered again.
+/// small, so the call returns this vector. A vector with room for 1,000 entries becomes the
+/// history, and the call returns the history's old vector. The old vector has less room than the
+/// new one, so it is also returned if it is offered.
 fn moves_history(rt: &impl Abort, alloc: Global, core: &mut Core) -> Result<(), Fail> {
     let small = core.move_history(Vec::with_capacity(alloc, 2)?);
     assert_eq!(rt; small.capacity(), 2);
@@ -310,7 +315,8 @@ fn moves_history(rt: &impl Abort, alloc: Global, core: &mut Core) -> Result<(), 
     Ok(())
 }
 
-/// The history has four entries: one of the begin, two of the put, and one of the commit.
+/// Puts a key and commits. The history then has four entries: one for the begin, two for the put,
+/// and one for the commit.
 fn fill_and_count(rt: &impl Abort, core: &mut Core) -> Result<(), Fail> {
     let answer = operate(core, 0, Op::Put(7, 70))?;
     assert_eq!(rt; answer, Answer::Done(None));

@@ -1,7 +1,7 @@
-//! Pairs of keys that share a split key: a key below 2^63, and that key plus 2^63. Two callers take
-//! their steps in every order, and each answer is compared with that of a plain map that has its
-//! own undo. Two lists of seven steps have 3,432 orders, too many for a table, so no answer here
-//! was worked out by hand.
+//! Pairs of keys that share a split key: a key below 2^63, and the same key plus 2^63. Two callers
+//! take their steps in every order. Each answer is compared with the answer of a plain map that has
+//! its own undo. Two lists of seven steps have 3,432 orders, which are too many for a table, so no
+//! answer here was worked out by hand.
 use super::plain_map::{PlainMap, Stage};
 use crate::devices::{core_with, limits_of, pairs_of, sizes_of, step_is, take_step};
 use boost_core::Core;
@@ -10,11 +10,11 @@ use std::process::Abort;
 use std::test::Fail;
 use txn_words::{Answer, Op, Step};
 
-/// The number of pairs on which the orders are tried, one after the other.
+/// The number of key pairs. The orders are tried on the pairs in turn.
 const PAIRS: u64 = 24;
 
-/// An order of two lists of seven steps is a number below `ORDERS` with seven bits set. From the
-/// lowest bit on, each bit says whose step is next.
+/// An order of two lists of seven steps is a number below `ORDERS` with seven bits set. Each bit,
+/// beginning with the lowest, says which caller takes the next step.
 const ORDERS: u32 = 1 << 14;
 
 /// The operations of a caller on its own key, or on both keys of the pair.
@@ -56,15 +56,16 @@ impl Plan {
     }
 }
 
-/// The plain map with which a core is compared, and the caller whose step was the last.
+/// The plain map with which a core is compared, and the caller that took the last step.
 #[derive(Drop)]
 struct Compared {
     plain: PlainMap,
     last: Option<u64>,
 }
 
-/// Takes a step of a caller. If the caller's position no longer fits, the caller seeks again at
-/// once. The position must still fit if `last`, the caller of the last step, is the same caller.
+/// Takes a step of a caller. If the caller's position no longer fits, the caller seeks again, and
+/// the step is taken once more. If the same caller took the last step (`last`), the position must
+/// still fit.
 fn take_anew(
     rt: &impl Abort,
     core: &mut Core,
@@ -81,7 +82,7 @@ fn take_anew(
     Ok(answer)
 }
 
-/// Checks that the plain map has this answer to a step of a caller.
+/// Checks that the plain map gives this answer to a caller's step.
 fn agrees(
     rt: &impl Abort,
     compared: &mut Compared,
@@ -95,7 +96,8 @@ fn agrees(
     Ok(())
 }
 
-/// Takes a step of a caller, and compares the answer and the number of keys.
+/// Takes a caller's step on the core. Compares the answer and the number of keys with those of the
+/// plain map.
 fn take(
     rt: &impl Abort,
     core: &mut Core,
@@ -109,7 +111,7 @@ fn take(
     Ok(())
 }
 
-/// Ends the transaction of a caller that still has one.
+/// If a caller still has a transaction, ends it.
 fn end(rt: &impl Abort, core: &mut Core, compared: &mut Compared, caller: u64) -> Result<(), Fail> {
     if compared.plain.stage(caller) == Stage::Open {
         return take(rt, core, compared, caller, Step::Commit(caller));
@@ -131,7 +133,7 @@ fn compare(rt: &impl Abort, alloc: Global, core: &Core, compared: &Compared) -> 
     Ok(())
 }
 
-/// Caller 0 puts a key, or takes it out.
+/// Caller 0 puts a key if `is_there` is true, and takes the key otherwise.
 fn prepare_key(
     rt: &impl Abort,
     core: &mut Core,
@@ -149,7 +151,7 @@ fn prepare_key(
     take(rt, core, compared, 0, Step::Act(0))
 }
 
-/// Caller 0 puts both keys of a pair, or takes them out.
+/// Caller 0 puts both keys of a pair if `are_there` is true, and takes them otherwise.
 fn prepare(
     rt: &impl Abort,
     core: &mut Core,
@@ -230,7 +232,7 @@ fn upper_of(pair: u64) -> u64 {
     lower_of(pair) | 1 << 63
 }
 
-/// All pairs are put, and the table grows.
+/// Puts all pairs, and lets the table grow.
 fn prepare_all(rt: &impl Abort, core: &mut Core, compared: &mut Compared) -> Result<(), Fail> {
     for pair in 0..PAIRS {
         prepare(rt, core, compared, pair, true)?;
@@ -239,11 +241,11 @@ fn prepare_all(rt: &impl Abort, core: &mut Core, compared: &mut Compared) -> Res
     initialise(rt, core)
 }
 
-/// Two plans on a pair: the number of stripes, whether the keys of the pair are there before, and
-/// the two plans.
+/// Two plans for a pair: the number of stripes, whether the pair's keys are there at first, and the
+/// plan of each caller.
 type Case = (u64, bool, Plan, Plan);
 
-/// One order of two plans, on a pair.
+/// Plays two plans on a pair in one order.
 fn in_order(
     rt: &impl Abort,
     core: &mut Core,
@@ -259,7 +261,7 @@ fn in_order(
     play(rt, core, compared, order, &steps)
 }
 
-/// Every order of two plans, each on the next pair.
+/// Plays two plans in every order, each order on the next pair.
 fn in_every_order(
     rt: &impl Abort,
     core: &mut Core,
@@ -297,7 +299,7 @@ fn compare_case(
     compare(rt, alloc, core, compared)
 }
 
-/// Tries a case on a core, compared with a plain map.
+/// Tries a case on a core, and compares the core with a plain map.
 fn try_beside(rt: &impl Abort, alloc: Global, core: &mut Core, case: &Case) -> Result<(), Fail> {
     let mut compared = plain_of(alloc, case);
     compare_case(rt, alloc, core, &mut compared, case)
@@ -310,8 +312,8 @@ fn try_case(rt: &impl Abort, alloc: Global, case: &Case) -> Result<(), Fail> {
 }
 
 /// With 7 stripes the two keys of a pair have different stripes, so a caller can be busy only in a
-/// case with `PutBoth`. With 8 stripes they share a stripe, and a caller that asks while the other
-/// holds it is busy.
+/// case with `PutBoth`. With 8 stripes both keys have the same stripe. A caller that asks while the
+/// other caller holds this stripe is busy.
 static CASES: [Case; 8] = [
     (7, false, Plan::PutAborted, Plan::PutAborted),
     (7, false, Plan::PutAndTake, Plan::PutAborted),

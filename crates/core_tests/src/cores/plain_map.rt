@@ -1,7 +1,7 @@
-//! A plain map that has stripes, and an undo for each caller: it answers the steps of two callers.
-//! This module uses nothing of the core; `pairs` compares the map's answers with those of the core.
-//! The map has no cursors, so it never answers `Again`. It refuses a step only because of the
-//! caller's stage or undo.
+//! A plain map with stripes, and with an undo list for each caller. The map answers the steps of
+//! two callers. This module does not use the core. The module `pairs` compares the map's answers
+//! with the core's. The map has no cursors, so it never answers `Again`. It refuses a step only
+//! because of the caller's stage or undo.
 use std::alloc::{AllocError, Global};
 use std::collections::BTreeMap;
 use txn_words::{Answer, Op, Refusal, Step};
@@ -51,7 +51,8 @@ impl Player {
         self.undo.clear();
     }
 
-    /// The refusal of a step that only an open caller with nothing unfinished may take.
+    /// The refusal of a step that requires the stage `Open`, or `None` if the caller is in this
+    /// stage.
     fn unready(&self) -> Option<Refusal> {
         match self.stage {
             Stage::Closed => Some(Refusal::NotOpen),
@@ -94,7 +95,8 @@ impl PlainMap {
         self.map.len() as u64
     }
 
-    /// The pairs, sorted by split key (set bit 63 of the key, then reverse its bits), then by key.
+    /// The pairs, sorted by split key and then by key. The split key is the key with bit 63 set and
+    /// with its bits then reversed.
     pub(super) fn in_split_order(&self, alloc: Global) -> Result<Vec<(u64, u64)>, AllocError> {
         let mut sorted = Vec::new(alloc);
         for (key, value) in &self.map {
@@ -108,7 +110,7 @@ impl PlainMap {
         Ok(pairs)
     }
 
-    /// Takes a step of a caller, and gives the answer to it.
+    /// Takes a caller's step, and returns the answer.
     pub(super) fn answer(&mut self, step: Step) -> Result<Answer, AllocError> {
         match step {
             Step::Begin(caller) => Ok(self.begin(caller)),
@@ -163,7 +165,8 @@ impl PlainMap {
         }
     }
 
-    /// Does the operation that was asked for, a put or a take: `pairs` asks for no other.
+    /// Does the operation that was asked for. It is a put or a take, since `pairs` asks for nothing
+    /// else.
     fn change(&mut self, caller: u64, op: Op) -> Result<Answer, AllocError> {
         let key = op.key();
         let before = self.map.get(&key).copied();
@@ -180,7 +183,7 @@ impl PlainMap {
         Ok(Answer::Done(before))
     }
 
-    /// Takes back the newest change, or ends the undoing.
+    /// Takes back the newest change. If there is none, ends the return or the abort.
     fn undo_one(&mut self, caller: u64) -> Result<Answer, AllocError> {
         match self.player(caller).undo.pop() {
             Some((key, Some(value))) => {

@@ -1,7 +1,7 @@
-//! Tests of the state of a core after memory was refused. They are also run with memory refused:
-//! each such run refuses one allocation, or one allocation and all after it. The runs of `cores`
-//! fail if memory is refused; these tests go on. They compare numbers, which take no memory to
-//! read, and also the pairs if there is memory for their lists.
+//! Tests of a core's state after memory was refused. They are also run with memory refused: each
+//! such run refuses one allocation, or one allocation and all later ones. The runs of `cores` fail
+//! if memory is refused, but these tests continue. They compare numbers, which can be read without
+//! memory. If there is memory for lists of the pairs, they also compare the pairs.
 use crate::devices::{
     abort, core_if_made, limits_of, owed_by, pairs_of, sizes_of, step_is, take_step, trace_of,
 };
@@ -11,7 +11,8 @@ use std::process::Abort;
 use std::test::Fail;
 use txn_words::{Answer, Op, Refusal, Reply, Step};
 
-/// The numbers of entries, buckets and keys, and of the entries owed, which take no memory to read.
+/// The number of entries, the numbers of buckets and keys, and the number of entries owed. No
+/// memory is needed to read them.
 fn figures(core: &Core) -> (usize, (u32, u64), usize) {
     (trace_of(core).len(), sizes_of(core), owed_by(core))
 }
@@ -19,15 +20,15 @@ fn figures(core: &Core) -> (usize, (u32, u64), usize) {
 /// The pairs of a core, if there is memory for their list.
 type Pairs = Result<Vec<(u64, u64)>, AllocError>;
 
-/// Checks that these are the same pairs, if there was memory for both lists.
+/// Checks that both lists have the same pairs, if there was memory for both lists.
 fn are_same(rt: &impl Abort, before: &Pairs, after: &Pairs) {
     if let (Ok(after), Ok(before)) = (after, before) {
         assert!(rt; after.as_slice() == before.as_slice());
     }
 }
 
-/// Takes a step of a core with these pairs. If it is refused memory, nothing has changed, and the
-/// answer is false.
+/// Takes a step on a core that has these pairs. If the step is refused memory, the core must be
+/// unchanged, and the function returns false.
 fn try_beside(
     rt: &impl Abort,
     alloc: Global,
@@ -47,8 +48,8 @@ fn try_beside(
     Ok(false)
 }
 
-/// Takes a step. If it is refused memory, nothing has changed, and the answer is false. The pairs
-/// are compared if there is memory for their lists.
+/// Takes a step. If the step is refused memory, the core must be unchanged, and the function
+/// returns false. The pairs are compared if there is memory for their lists.
 fn try_step(
     rt: &impl Abort,
     alloc: Global,
@@ -60,7 +61,8 @@ fn try_step(
     try_beside(rt, alloc, core, &pairs, step, wanted)
 }
 
-/// Takes steps until one is refused memory, which changes nothing. Answers whether all were taken.
+/// Takes steps, and stops if a step is refused memory, which must change nothing. Returns true if
+/// all steps were taken.
 fn try_steps(
     rt: &impl Abort,
     alloc: Global,
@@ -84,7 +86,7 @@ fn steps_of(caller: u64, op: Op, reply: Reply) -> [(Step, Answer); 3] {
     ]
 }
 
-/// A caller begins and puts; false if memory is refused.
+/// A caller begins and puts a key. Returns false if memory is refused.
 fn begin_and_put(
     rt: &impl Abort,
     alloc: Global,
@@ -99,7 +101,7 @@ fn begin_and_put(
     )
 }
 
-/// A caller puts once more and takes; false if memory is refused.
+/// A caller puts its key once more and takes the key. Returns false if memory is refused.
 fn put_and_take(
     rt: &impl Abort,
     alloc: Global,
@@ -112,7 +114,7 @@ fn put_and_take(
     Ok(try_steps(rt, alloc, core, &put)? && try_steps(rt, alloc, core, &take)?)
 }
 
-/// Five callers begin and change a key three times each; false if memory is refused.
+/// Five callers begin, and each changes one key three times. Returns false if memory is refused.
 fn change_five(rt: &impl Abort, alloc: Global, core: &mut Core) -> Result<bool, Fail> {
     for caller in 0..5 {
         if !begin_and_put(rt, alloc, core, caller)? {
@@ -127,8 +129,8 @@ fn change_five(rt: &impl Abort, alloc: Global, core: &mut Core) -> Result<bool, 
     Ok(true)
 }
 
-/// Checks that five keys have this value. The pairs are counted, and compared if there is memory
-/// for their list.
+/// Checks that there are five keys. If there is memory for the list of pairs, also checks that each
+/// key has this value.
 fn has_five(rt: &impl Abort, alloc: Global, core: &Core, value: u64) {
     assert_eq!(rt; sizes_of(core), (2, 5));
     let wanted = [(4, value), (2, value), (1, value), (5, value), (3, value)];
@@ -137,8 +139,8 @@ fn has_five(rt: &impl Abort, alloc: Global, core: &Core, value: u64) {
     }
 }
 
-/// Each caller takes back its newest change. Then each key has the value `left`, or no key is left
-/// if `left` is `None`.
+/// Each of five callers takes back its newest change. Then each key must have the value `left`. If
+/// `left` is `None`, there must be no key.
 fn undo_five(
     rt: &impl Abort,
     alloc: Global,
@@ -156,7 +158,7 @@ fn undo_five(
     Ok(())
 }
 
-/// Five callers abort, and are leaving from then on.
+/// Five callers begin to abort. Each of them then owes one entry less.
 fn leave_five(rt: &impl Abort, core: &mut Core) -> Result<(), Fail> {
     assert_eq!(rt; owed_by(core), 25);
     for caller in 0..5 {
@@ -166,7 +168,7 @@ fn leave_five(rt: &impl Abort, core: &mut Core) -> Result<(), Fail> {
     Ok(())
 }
 
-/// Five callers have taken everything back and end.
+/// Five callers, which have taken back all their changes, end their transactions.
 fn end_five(rt: &impl Abort, core: &mut Core) -> Result<(), Fail> {
     for caller in 0..5 {
         step_is(rt, core, Step::Act(caller), Answer::Aborted)?;
@@ -174,8 +176,8 @@ fn end_five(rt: &impl Abort, core: &mut Core) -> Result<(), Fail> {
     Ok(())
 }
 
-/// Five callers change a key three times each, if memory is not refused, and take their changes
-/// back in turn.
+/// Each of five callers changes one key three times. Then the callers take their changes back in
+/// turn. If memory is refused for a change, nothing is taken back.
 fn change_and_undo_five(rt: &impl Abort, alloc: Global, core: &mut Core) -> Result<(), Fail> {
     if !change_five(rt, alloc, core)? {
         return Ok(());
@@ -187,8 +189,8 @@ fn change_and_undo_five(rt: &impl Abort, alloc: Global, core: &mut Core) -> Resu
     end_five(rt, core)
 }
 
-/// Each caller below `callers` aborts, if it has a transaction. Checks that no keys and no owed
-/// entries are left. Needs no memory.
+/// Each caller below `callers` aborts, if it has a transaction. After this there must be no keys
+/// and no owed entries. Needs no memory.
 fn abort_all(rt: &impl Abort, core: &mut Core, callers: u64) {
     for caller in 0..callers {
         let answer = abort(core, caller);
@@ -197,7 +199,7 @@ fn abort_all(rt: &impl Abort, core: &mut Core, callers: u64) {
     assert_eq!(rt; (sizes_of(core).1, owed_by(core)), (0, 0));
 }
 
-/// Five callers change keys and take the changes back, if memory is not refused, and abort.
+/// Runs `change_and_undo_five`. Then all five callers abort.
 fn play_five(rt: &impl Abort, alloc: Global, core: &mut Core) -> Result<(), Fail> {
     change_and_undo_five(rt, alloc, core)?;
     abort_all(rt, core, 5);
@@ -215,7 +217,7 @@ fn five_callers_undone(rt: HostRuntime) -> Result<(), Fail> {
     }
 }
 
-/// Takes steps, and takes a step once more if it is refused memory; false if a step is refused
+/// Takes steps. If a step is refused memory, takes it once more. Returns false if a step is refused
 /// memory twice.
 fn try_steps_twice(
     rt: &impl Abort,
@@ -233,7 +235,7 @@ fn try_steps_twice(
     Ok(true)
 }
 
-/// Caller 0 puts 129 keys; false if a step is refused memory twice.
+/// Caller 0 begins and puts 129 keys. Returns false if a step is refused memory twice.
 fn put_many(rt: &impl Abort, alloc: Global, core: &mut Core) -> Result<bool, Fail> {
     if !try_steps_twice(rt, alloc, core, &[(Step::Begin(0), Answer::Began(1))])? {
         return Ok(false);
@@ -247,7 +249,8 @@ fn put_many(rt: &impl Abort, alloc: Global, core: &mut Core) -> Result<bool, Fai
     Ok(true)
 }
 
-/// Bucket 64, the first of the second segment, is stored.
+/// Steps that double the table to 128 buckets and store bucket 64, which is the first of the second
+/// segment.
 static SECOND_SEGMENT: [(Step, Answer); 12] = [
     (Step::Double(2), Answer::Doubled(4)),
     (Step::Double(4), Answer::Doubled(8)),
@@ -266,8 +269,8 @@ static SECOND_SEGMENT: [(Step, Answer); 12] = [
     (Step::InitSeek(0, 64), Answer::Ready),
 ];
 
-/// Fills the table and stores the bucket. If a step is refused memory twice, the caller aborts
-/// instead.
+/// Puts the keys, stores bucket 64, and commits. If a step is refused memory twice, the caller
+/// aborts instead.
 fn fill_segments(rt: &impl Abort, alloc: Global, core: &mut Core) -> Result<(), Fail> {
     let is_done = put_many(rt, alloc, core)? && try_steps_twice(rt, alloc, core, &SECOND_SEGMENT)?;
     if !is_done {
@@ -279,8 +282,9 @@ fn fill_segments(rt: &impl Abort, alloc: Global, core: &mut Core) -> Result<(), 
     Ok(())
 }
 
-/// Bucket 64 is the first of the second segment, so its store takes memory. A step that is refused
-/// is taken once more. If it is refused again, the caller aborts, which needs no memory.
+/// Bucket 64 is the first of the second segment, so a step that stores this bucket needs memory. A
+/// step that is refused is taken once more. If the second try is refused, the caller aborts, which
+/// needs no memory.
 #[test]
 fn segments(rt: HostRuntime) -> Result<(), Fail> {
     match core_if_made(rt.alloc(), limits_of(&rt, 1, 8, 128)) {

@@ -1,6 +1,6 @@
-//! Operations that are asked for when stripes are words, on cores made by `Core::with_words` and
-//! `Core::with_room`. The step `Ask` is not allowed on such cores, so this module asks with the
-//! right to a stripe or with its word. The answers and the history were worked out by hand.
+//! Operations on cores whose stripes are words. Such cores are made by `Core::with_words` and
+//! `Core::with_room`. The step `Ask` is not allowed on them, so this module asks with the right to
+//! a stripe or with the stripe's word. The answers and the history were worked out by hand.
 use crate::devices::{core_of, is_history, limits_of, take_step};
 use boost_core::{CallerRoom, Core, Room};
 use key_locks::StripeRight;
@@ -9,7 +9,7 @@ use std::process::Abort;
 use std::test::Fail;
 use txn_words::{Answer, Entry, Op, Refusal, Step};
 
-/// A core of 3 callers, with 8 stripes that are words.
+/// A core for 3 callers, with 8 stripes that are words.
 fn core_with_words(rt: &impl Abort, alloc: Global) -> Core {
     Core::with_words(alloc, limits_of(rt, 3, 8, 8)).expect(rt, "a core")
 }
@@ -32,7 +32,7 @@ fn need(changes: usize, savepoints: usize) -> CallerRoom {
     }
 }
 
-/// A core like that of `core_with_words`, made with room.
+/// A core like that of `core_with_words`, made with this room.
 fn core_with_room(rt: &impl Abort, alloc: Global, room: Room<'_>) -> Core {
     Core::with_room(alloc, limits_of(rt, 3, 8, 8), room).expect(rt, "a core")
 }
@@ -47,7 +47,7 @@ fn has_words(core: &Core) -> bool {
     core.words()
 }
 
-/// Asks with the right to one of eight stripes.
+/// Asks for an operation with the right to its stripe, on a core with eight stripes.
 fn ask_by_right(core: &mut Core, right: &StripeRight, caller: u64, op: Op) -> Result<Answer, Fail> {
     if !core.words() {
         return Err("stripes are no words".into());
@@ -58,7 +58,8 @@ fn ask_by_right(core: &mut Core, right: &StripeRight, caller: u64, op: Op) -> Re
     Ok(core.ask_with(caller, op, right))
 }
 
-/// Asks with the word of the stripe.
+/// Asks for an operation with the word of its stripe. Fails if the word says that the stripe is
+/// free.
 fn ask_by_word(core: &mut Core, caller: u64, op: Op, word: u64) -> Result<Answer, Fail> {
     if !core.words() {
         return Err("stripes are no words".into());
@@ -86,9 +87,10 @@ fn answer(core: &mut Core, right: &StripeRight, ask: Ask) -> Result<Answer, Fail
     }
 }
 
-/// Caller 0 puts with the right to stripe 1. Then caller 1 asks for key 9, of the same stripe. The
-/// right to the stripe, the word of caller 2, which has never begun, and the word of caller 1
-/// itself are refused as stale. With the word of caller 0 the answer is busy.
+/// Caller 0 puts key 1 with the right to stripe 1. Then caller 1 asks for key 9, which has the same
+/// stripe. Asking with the right to the stripe is refused with `StaleWord`. A word that names
+/// caller 2, which has never begun, or caller 1 itself is refused in the same way. If the word
+/// names caller 0, the answer is `Busy`.
 static ASKS: [(Ask, Answer); 11] = [
     (Ask::Step(Step::Begin(0)), Answer::Began(1)),
     (Ask::Right(0, Op::Put(1, 10)), Answer::Asked),
@@ -140,7 +142,7 @@ fn rights_of(alloc: Global) -> Result<Vec<StripeRight>, AllocError> {
     StripeRight::all(alloc, 8)
 }
 
-/// Asks with the right to stripe 1.
+/// Makes the calls of `ASKS` with the right to stripe 1.
 fn ask_all(rt: &impl Abort, alloc: Global, core: &mut Core) -> Result<(), Fail> {
     let rights = rights_of(alloc)?;
     let right = rights.get(1).ok_or("no right")?;
@@ -165,8 +167,8 @@ fn rights_and_words(rt: HostRuntime) -> Result<(), Fail> {
     play(&rt, alloc, &mut core_with_words(&rt, alloc))
 }
 
-/// Cores that were made with less room than they need, or with more, give the same answers, whether
-/// or not the room was written.
+/// A core that was made with less room than it needs gives the same answers as a core that was made
+/// with more room. The answers also do not depend on whether the room was written.
 #[test]
 fn cores_with_room(rt: HostRuntime) -> Result<(), Fail> {
     let alloc = rt.alloc();

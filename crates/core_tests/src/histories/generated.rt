@@ -1,12 +1,12 @@
-//! Histories drawn from a seed, and histories with one fault. `histories` judges them; no test is
-//! here. `plain`, not `history_check`, says which entries a caller may add, so the judge is never
-//! compared with itself.
+//! Draws histories from a seed, and spoils a history at one place. The module `histories` judges
+//! them, and this module has no tests. The module `plain`, and not `history_check`, says which
+//! entries a caller may add, so `history_check` is never compared with itself.
 use super::plain::{self, Place};
 use std::alloc::{AllocError, Global};
 use txn_words::{Entry, Holder, Op};
 
-/// The numbers that callers have. The one to four callers of a history have the first numbers of
-/// this list.
+/// The numbers of callers. A history has one to four callers, which have the first numbers of this
+/// list.
 const CALLERS: [u64; 4] = [0, 1, 7, 63];
 
 /// Numbers that a seed determines, by Knuth's linear congruential generator (MMIX).
@@ -62,7 +62,7 @@ pub(super) fn legal_history(
     Ok(history)
 }
 
-/// Adds an entry that one of this number of callers may add.
+/// Draws one of the first `callers` callers, and adds an entry that this caller may add.
 fn add_entry(
     alloc: Global,
     draws: &mut Draws,
@@ -133,9 +133,10 @@ fn next_in_open(
     }
 }
 
-/// The entry for an operation in an open transaction: a Busy if another caller holds the stripe, or
-/// else an Asked. If `is_early`, the stripe was tested some time before the entry is recorded. The
-/// holder may have given it back since, so any other caller that has begun counts as the holder.
+/// The entry for an operation in an open transaction: a Busy entry if another caller holds the
+/// stripe, and otherwise an Asked entry. If `is_early` is true, the stripe was tested some time
+/// before the entry is recorded. The holder may have given the stripe back since then, so any other
+/// caller that has begun counts as a holder.
 fn next_operation(history: &[Entry], caller: u64, op: Op, stripes: u64, is_early: bool) -> Entry {
     let stripe = plain::stripe_of(op, stripes);
     for other in CALLERS {
@@ -170,7 +171,7 @@ pub(super) fn spoil(draws: &mut Draws, history: &mut Vec<Entry>) -> Result<(), A
     Ok(())
 }
 
-/// Changes the first Asked, Did or Busy from a place on.
+/// Changes the first Asked, Did or Busy entry at or after a place.
 fn change_operation(draws: &mut Draws, history: &mut [Entry], place: usize) {
     for entry in history.iter_mut().skip(place) {
         if let Entry::Asked(..) | Entry::Did(..) | Entry::Busy(..) = *entry {
@@ -180,7 +181,7 @@ fn change_operation(draws: &mut Draws, history: &mut [Entry], place: usize) {
     }
 }
 
-/// The entry with another number, reply, operation or caller; sometimes unchanged.
+/// The entry with a drawn number, reply, operation or caller. It may be unchanged.
 fn change_entry(draws: &mut Draws, entry: Entry) -> Entry {
     let caller = entry.caller();
     let other = draws.caller(4);

@@ -1,9 +1,9 @@
-//! The rules of a legal history word for word, on whole maps: the slow program with which the
-//! checker is compared.
+//! The slow program with which the checker is compared. It applies the rules of a legal history
+//! word for word, on whole maps.
 //!
-//! It judges each prefix of a history from the beginning. It counts and looks back in the list of
-//! entries, while the checker keeps numbers. It runs each transaction again on copies of maps,
-//! while the checker keeps one map.
+//! The program judges each prefix of a history from the beginning. It counts by reading the list of
+//! entries again, while the checker keeps numbers. It runs each transaction again on copies of
+//! maps, while the checker keeps one map.
 
 use history_check::{Rule, Verdict};
 use std::alloc::{AllocError, Global};
@@ -12,7 +12,7 @@ use txn_words::{Entry, Holder, Op, Reply};
 
 type Values = BTreeMap<u64, u64>;
 
-/// The phase of a caller, by the rule of shape.
+/// The phase of a caller, as the rule of shape defines it.
 #[derive(Clone, Copy, PartialEq, Eq)]
 pub(super) enum Place {
     Closed,
@@ -22,7 +22,7 @@ pub(super) enum Place {
     LeavingToEnd,
 }
 
-/// The entries of a caller from its last Began on.
+/// The entries of a caller, beginning with its last Began entry.
 pub(super) fn last_of(
     alloc: Global,
     caller: u64,
@@ -40,8 +40,8 @@ pub(super) fn last_of(
     Ok(entries)
 }
 
-/// The phase of a caller after a transaction's entries: the last entry other than an Undone says
-/// it.
+/// The phase of a caller after these entries of its transaction. The last entry that is not an
+/// Undone entry determines the phase.
 pub(super) fn place_after(entries: &[Entry]) -> Place {
     for entry in entries.iter().rev() {
         return match *entry {
@@ -58,8 +58,8 @@ pub(super) fn place_after(entries: &[Entry]) -> Place {
     Place::Closed
 }
 
-/// The number of changes that stand after a transaction's entries: the changes done, less those
-/// taken back.
+/// The number of changes that stand after a transaction's entries. This is the number of changes
+/// done minus the number of changes taken back.
 pub(super) fn count_standing(entries: &[Entry]) -> usize {
     let mut asked = None;
     let mut done: usize = 0;
@@ -75,7 +75,7 @@ pub(super) fn count_standing(entries: &[Entry]) -> usize {
     done.saturating_sub(taken_back)
 }
 
-/// Whether the operation that was asked for last was a change, if this is its reply.
+/// Returns true if the operation that was asked for last is a change, given that this is its reply.
 fn is_change_done(asked: Option<Op>, reply: Reply) -> bool {
     match asked {
         Some(Op::Put(..)) => true,
@@ -85,8 +85,8 @@ fn is_change_done(asked: Option<Op>, reply: Reply) -> bool {
     }
 }
 
-/// The number of standing changes at each level: 0 at level 0, then, for each savepoint that still
-/// exists, the number when it was set.
+/// The number of standing changes at each level. At level 0 it is 0. For each savepoint that still
+/// exists, it is the number when the savepoint was set.
 pub(super) fn standing_at_levels(
     alloc: Global,
     entries: &[Entry],
@@ -127,15 +127,16 @@ pub(super) fn counts_of(history: &[Entry]) -> Counts {
     counts
 }
 
-/// Whether the rule of shape has a row for one more entry, and the number of that entry is right.
+/// Returns true if the rule of shape has a row for one more entry, and if the number in that entry
+/// is right.
 fn has_shape(alloc: Global, history: &[Entry], entry: &Entry) -> Result<bool, AllocError> {
     let entries = last_of(alloc, entry.caller(), history)?;
     let kept = standing_at_levels(alloc, &entries)?;
     Ok(may_come(entry, counts_of(history), &entries, &kept))
 }
 
-/// Whether an entry may follow the entries of its caller's transaction, with these numbers of
-/// changes at its levels.
+/// Returns true if an entry may follow the entries of its caller's transaction. The list `kept` has
+/// the number of standing changes at each level.
 fn may_come(entry: &Entry, counts: Counts, entries: &[Entry], kept: &[usize]) -> bool {
     let standing = count_standing(entries);
     match place_after(entries) {
@@ -157,7 +158,7 @@ fn may_come(entry: &Entry, counts: Counts, entries: &[Entry], kept: &[usize]) ->
     }
 }
 
-/// Whether an entry may follow in an open transaction with nothing unfinished.
+/// Returns true if an entry may follow while its caller is in the phase `Open`.
 fn may_come_in_open(entry: &Entry, kept: &[usize], committed: u64) -> bool {
     match *entry {
         Entry::Asked(..) | Entry::Busy(..) | Entry::Saved(_) | Entry::Leave(_, None) => true,
@@ -167,7 +168,8 @@ fn may_come_in_open(entry: &Entry, kept: &[usize], committed: u64) -> bool {
     }
 }
 
-/// Whether an entry may follow on the way to a level, at which this number of changes stood.
+/// Returns true if an entry may follow while its caller returns to a level. At that level, `kept`
+/// changes stood.
 fn may_come_on_the_way(entry: &Entry, level: u64, kept: usize, standing: usize) -> bool {
     match *entry {
         Entry::Undone(_) => kept < standing,
@@ -253,12 +255,12 @@ fn map_after(values: &Values, op: Op) -> Result<Values, AllocError> {
     Ok(left)
 }
 
-/// The reply of an operation.
+/// The reply to an operation on these values.
 fn reply_of(values: &Values, op: Op) -> Reply {
     values.get(&op.key()).copied()
 }
 
-/// Whether an operation is a change.
+/// Returns true if an operation is a change of these values.
 fn is_change(values: &Values, op: Op) -> bool {
     match op {
         Op::Put(..) => true,
@@ -271,10 +273,10 @@ fn is_change(values: &Values, op: Op) -> bool {
 /// A transaction that runs alone.
 #[derive(Drop)]
 struct Running {
-    /// The map at its beginning, and after each change that stands.
+    /// The map at the transaction's beginning, and the map after each standing change.
     maps: Vec<Values>,
     pending: Option<Op>,
-    /// The number of maps at each level, 1 at level 0.
+    /// The number of maps when each level was set. It is 1 for level 0.
     notes: Vec<usize>,
 }
 
@@ -287,7 +289,8 @@ impl Running {
         })
     }
 
-    /// Lets entries act. Answers the last map, or `None` if one of the entries may not act.
+    /// Lets the entries act in turn. Returns the last map, or `None` if one of the entries may not
+    /// act.
     fn act_all(&mut self, entries: &[Entry]) -> Result<Option<Values>, AllocError> {
         for entry in entries {
             if !self.act(entry)? {
@@ -297,7 +300,7 @@ impl Running {
         Ok(self.maps.pop())
     }
 
-    /// Lets an entry act; answers whether it may.
+    /// Lets an entry act. Returns true if the entry may act.
     fn act(&mut self, entry: &Entry) -> Result<bool, AllocError> {
         match *entry {
             Entry::Asked(_, op) => self.pending = Some(op),
@@ -317,7 +320,8 @@ impl Running {
         Ok(true)
     }
 
-    /// Takes in the reply of the pending operation. Answers whether the last map gives this reply.
+    /// Finishes the pending operation with this reply. Returns true if the last map gives the same
+    /// reply.
     fn reply(&mut self, reply: Reply) -> Result<bool, AllocError> {
         let (Some(op), Some(last)) = (self.pending.take(), self.maps.last()) else {
             return Ok(false);
@@ -333,7 +337,8 @@ impl Running {
     }
 }
 
-/// The last map of a transaction that runs alone on these values; `None` if an entry may not act.
+/// Runs a transaction alone on these values. Returns its last map, or `None` if an entry may not
+/// act.
 fn run_alone(
     start: &Values,
     entries: &[Entry],
@@ -343,7 +348,8 @@ fn run_alone(
     run.act_all(entries)
 }
 
-/// The reply to the operation that a caller waits for, if the caller's transaction runs alone.
+/// The reply to a caller's pending operation, if the caller's transaction runs alone after the
+/// committed transactions.
 pub(super) fn reply_alone(
     alloc: Global,
     history: &[Entry],
@@ -357,7 +363,7 @@ pub(super) fn reply_alone(
     })
 }
 
-/// Runs a caller's last transaction of a history alone on these values.
+/// Runs a caller's last transaction in a history, alone on these values.
 fn run_last(
     alloc: Global,
     caller: u64,
@@ -381,16 +387,16 @@ fn run_committed(alloc: Global, history: &[Entry], values: &mut Values) -> Resul
     Ok(())
 }
 
-/// The map that the committed transactions leave.
+/// The map after all committed transactions.
 fn serial_map(alloc: Global, history: &[Entry]) -> Result<Values, AllocError> {
     let mut values = BTreeMap::new(alloc);
     run_committed(alloc, history, &mut values)?;
     Ok(values)
 }
 
-/// Whether the open transaction that begins with this entry has the same replies as if it ran alone
-/// on these values. If no open transaction begins with it, the answer is true. The entries of an
-/// open transaction are those of its caller from its Began on.
+/// Returns true if the open transaction that begins with this entry has the same replies as if it
+/// ran alone on these values. If no open transaction begins with this entry, also returns true. The
+/// entries of an open transaction are those of its caller, beginning with the last Began entry.
 fn reply_holds(
     alloc: Global,
     history: &[Entry],
@@ -414,14 +420,14 @@ fn replies_hold_on(alloc: Global, history: &[Entry], settled: &Values) -> Result
     Ok(true)
 }
 
-/// Whether each open transaction has the same replies as if it ran alone on the map that the
-/// committed transactions leave.
+/// Returns true if each open transaction has the same replies as if it ran alone on the map after
+/// all committed transactions.
 fn replies_hold(alloc: Global, history: &[Entry]) -> Result<bool, AllocError> {
     let settled = serial_map(alloc, history)?;
     replies_hold_on(alloc, history, &settled)
 }
 
-/// The rule that the last entry of a prefix breaks.
+/// The rule that the last entry of `beginning` breaks, if it breaks one.
 fn broken_rule(
     alloc: Global,
     beginning: &[Entry],
@@ -440,7 +446,8 @@ fn broken_rule(
     Ok((!is_locked(before, entry, stripes, holder)).then_some(Rule::Locks))
 }
 
-/// The first entry that breaks a rule, and the rule.
+/// The index of the first entry that breaks a rule, and the rule. If no entry breaks a rule,
+/// `None`.
 pub(super) fn first_bad(
     alloc: Global,
     history: &[Entry],
@@ -455,8 +462,8 @@ pub(super) fn first_bad(
     Ok(None)
 }
 
-/// The verdict on a history with this first bad entry. A caller is in a transaction from its Began
-/// to its end.
+/// The verdict on a history whose first bad entry is `bad`. A transaction runs from its Began entry
+/// until its end.
 pub(super) fn verdict(history: &[Entry], bad: Option<(usize, Rule)>) -> Verdict {
     if let Some((entry, rule)) = bad {
         let entry = entry as u64;

@@ -1,19 +1,19 @@
-//! History files with the output of `check` for each; the test over them is in `engines`. Most of
-//! the histories are worked examples of `txn_trace`, which proves their verdicts. The rows test the
-//! rest: how a file is read, what its version admits, the line and the status.
+//! History files, each with the output of `check` for it. The test that plays them is in `engines`.
+//! Most of the histories are worked examples of `txn_trace`, which proves their verdicts. The rows
+//! test the rest: how a file is read, which entries its version allows, the line and the status.
 
 use super::mixes::{HISTORY_OF_VERSION_2, ONE_HISTORY};
 use super::{Command, Files};
 
-/// One transaction that commits, one that aborts, and one that reads `10`: a legal history.
+/// A legal history with three transactions: one commits, one aborts, and one reads `10`.
 pub const CHECKED: &str =
     "{\"version\":1,\"stripes\":8,\"entries\":[[\"began\",0,1],[\"asked\",0,\"put\",1,10],\
     [\"did\",0,null],[\"committed\",0,1],[\"began\",1,2],[\"asked\",1,\"put\",1,99],[\"did\",1,10],\
     [\"leave\",1,null],[\"undone\",1],[\"aborted\",1],[\"began\",0,3],[\"asked\",0,\"get\",1],\
     [\"did\",0,10],[\"committed\",0,2]]}";
 
-/// The history `CHECKED` with gaps for the last reply and for the entry of the change that is taken
-/// back.
+/// The history `CHECKED`, with one gap for the last reply, and one for the entry that takes the
+/// aborted change back.
 const CHECKED_OF: &str =
     "{\"version\":1,\"stripes\":8,\"entries\":[[\"began\",0,1],[\"asked\",0,\"put\",1,10],\
     [\"did\",0,null],[\"committed\",0,1],[\"began\",1,2],[\"asked\",1,\"put\",1,99],[\"did\",1,10],\
@@ -257,7 +257,7 @@ pub const FILES: &[Files] = &[
         printed: "illegal entry 1 rule 2\n",
         status: 1,
     },
-    // The history of `mix_one_worker`, and another one of `mix`.
+    // The history of the test `mix_one_worker`, and another history that `mix` wrote.
     Files {
         command: Command::Check,
         frame: ONE_HISTORY,

@@ -1,7 +1,7 @@
-//! Readers and writers that fail at each call in turn, memory that is refused, and the lines of
-//! faults. No contract counts the calls of a reader or a writer; the tests here check that no call
-//! is made after one has failed. If memory is refused, by `docs/tests/refused.sh`, the output is
-//! empty or one of a few that were worked out by hand.
+//! Tests with readers and writers that fail at each call in turn, tests with refused memory, and
+//! tests of the lines of faults. No contract counts the calls of a reader or a writer. The tests
+//! check that no call is made after one has failed. If `docs/tests/refused.sh` refuses memory, the
+//! output must be empty or one of a few outputs that were worked out by hand.
 
 use super::checks::{CHECKED, LEGAL};
 use super::mixes::{EMPTY_SCRIPT, SHORT_HISTORY};
@@ -28,7 +28,8 @@ const OF_EACH_COMMAND: &[Printed] = &[
     (Command::Run, EMPTY_SCRIPT, SHORT_RUN),
 ];
 
-/// Each byte is read and written once, and the end is read once.
+/// Each byte of the file is read once, each byte of the output is written once, and the end of the
+/// file is read once.
 #[test]
 fn one_byte_at_a_time(rt: HostRuntime) {
     for (command, text, printed) in OF_EACH_COMMAND {
@@ -61,8 +62,8 @@ fn failing_reads(rt: HostRuntime) {
     }
 }
 
-/// A write that fails, or takes nothing, is not tried again. Only the beginning of the line is
-/// written.
+/// A write that fails or that takes nothing is not tried again. Only the part of the line before
+/// this write is written.
 fn fail_writes<T: Abort + Threads + Wait + Sync>(
     rt: &T,
     alloc: Global,
@@ -101,13 +102,14 @@ fn reads_no_more_than_shows_too_much(rt: HostRuntime) {
     assert!(rt; input.given == 16_777_217 && ended.output.calls == 0);
 }
 
-/// Whether this text is one of these.
+/// Returns true if `text` is one of the texts `known`.
 fn is_among(known: &[&str], text: &str) -> bool {
     known.iter().any(|one| *one == text)
 }
 
-/// Checks that one of these texts is printed, or nothing. If there is a fault, nothing is printed,
-/// and the fault is that there was no memory or, for `run`, no thread.
+/// Runs a command. Checks that it prints one of the texts `known`, or ends with a fault. With a
+/// fault, nothing may be printed, and the fault must be that there is no memory or, for `run`, no
+/// thread.
 fn refuse_memory<T: Abort + Threads + Wait + Sync>(
     rt: &T,
     alloc: Global,
@@ -126,35 +128,36 @@ fn refuse_memory<T: Abort + Threads + Wait + Sync>(
     }
 }
 
-/// The reports of one commit: the whole one, and those in which memory was refused to the begin or
-/// the ask.
+/// The reports of one transaction that commits: the whole report, the one if the begin is refused
+/// memory, and the one if the ask is refused memory.
 const REPORTS: &[&str] = &[
     FIRST_REPORT,
     "refused 14\nrefused 3\nrefused 3\nrefused 3\nrefused 3\nsize 2 count 0\n",
     "began 1\nrefused 14\nrefused 8\nrefused 8\ncommitted 1\nsize 2 count 0\n",
 ];
 
-/// Meant to be run with each allocation refused in turn: nothing is written, or the step that was
-/// refused memory has changed nothing.
+/// Meant to be run with each allocation refused in turn. Either nothing is written, or the report
+/// shows that the step that was refused memory has changed nothing.
 #[test]
 fn refused_allocations(rt: HostRuntime) {
     refuse_memory(&rt, rt.alloc(), Command::Replay, FIRST_COMMIT, REPORTS);
 }
 
-/// Meant to be run with each allocation refused in turn: the whole line is written, or nothing.
+/// Meant to be run with each allocation refused in turn. Either the whole line is written, or
+/// nothing.
 #[test]
 fn history_without_memory(rt: HostRuntime) {
     refuse_memory(&rt, rt.alloc(), Command::Check, CHECKED, &[LEGAL]);
 }
 
-/// One worker with two scripts, the first of which sets a savepoint.
+/// One worker with two scripts. The first script sets a savepoint.
 const TWO_SCRIPTS: &str =
     "{\"version\":1,\"workers\":1,\"stripes\":8,\"buckets\":8,\"tries\":0,\"scripts\":[[[\"put\",1,\
     10],[\"save\"]],[[\"get\",1]]]}";
 
-/// The histories of these scripts. The first is the whole one. In each of the others memory was
-/// refused to one step, which ended its script: the begin, the ask or the save of the first script,
-/// or the begin or the ask of the second.
+/// The possible histories of `TWO_SCRIPTS`. The first one is the whole history. In each of the
+/// others, one step was refused memory, which ended the step's script. This step is the begin, the
+/// ask or the save of the first script, or the begin or the ask of the second script.
 const TWO_SCRIPTS_HISTORIES: &[&str] = &[
     "{\"entries\":[[\"began\",0,1],[\"asked\",0,\"put\",1,10],[\"did\",0,null],[\"saved\",0],\
         [\"committed\",0,1],[\"began\",0,2],[\"asked\",0,\"get\",1],[\"did\",0,10],\
@@ -173,8 +176,8 @@ const TWO_SCRIPTS_HISTORIES: &[&str] = &[
         \"version\":1}\n",
 ];
 
-/// Meant to be run with each allocation refused in turn: nothing is written, or a whole history, in
-/// which the script whose step was refused memory has changed nothing.
+/// Meant to be run with each allocation refused in turn. Either nothing is written, or a whole
+/// history. In this history, a script with a step that was refused memory has changed nothing.
 #[test]
 fn mix_without_memory(rt: HostRuntime) {
     refuse_memory(
@@ -186,8 +189,8 @@ fn mix_without_memory(rt: HostRuntime) {
     );
 }
 
-/// Meant to be run with each allocation refused in turn: nothing is written, or a whole history. If
-/// the script was refused memory, the history has no entries.
+/// Meant to be run with each allocation refused in turn. Either nothing is written, or a whole
+/// history. If the script was refused memory, this history has no entries.
 #[test]
 fn run_without_memory(rt: HostRuntime) {
     let known = [SHORT_RUN, NO_ENTRIES];
@@ -230,7 +233,7 @@ fn has_line(
     Ok(())
 }
 
-/// Checks that a usage error has its text as its message, and status 2.
+/// Checks that the text and the message of a usage error are the same, and that the status is 2.
 fn has_usage(rt: &impl Abort, alloc: Global) -> Result<(), Fail> {
     let (text, message, ended) = line_of(alloc, &Fault::Usage)?;
     assert!(rt; text.as_str() == message.as_str() && ended == 2);

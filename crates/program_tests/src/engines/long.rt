@@ -1,6 +1,6 @@
-//! Histories whose text is longer than one piece, as `mix` writes it. The expected text is made by
-//! the rule: one script puts 1 at key 0, gets four keys that have no value, and then puts 1 at key
-//! 0 again and again, so that each put but the first answers 1.
+//! Tests of histories whose text is longer than one of the pieces in which `mix` writes it. The
+//! expected text is made by a rule. One script puts 1 at key 0, gets four keys that have no value,
+//! and then puts 1 at key 0 again and again. So the reply to each put but the first is 1.
 
 use boostmap_engine::{Fault, mix};
 use std::alloc::{AllocError, Global};
@@ -11,8 +11,8 @@ use std::process::Abort;
 use std::test::Fail;
 
 /// Each row has a number of puts, and the least and the greatest `digits` for `key`. In the first
-/// row the last entry ends at most 10 bytes before or behind the place at which a piece is full, so
-/// the end of the line is in the same piece or in the next one. In the second row each further
+/// row, the last entry ends at most 10 bytes before or after the place at which a piece is full. So
+/// the end of the line is in the same piece or in the next one. In the second row, each further
 /// digit moves the entries by one byte. So the place at which a piece is full falls on each byte of
 /// an entry in turn.
 const LENGTHS: [(u64, u32, u32); 2] = [(1916, 36, 56), (1930, 0, 36)];
@@ -20,8 +20,8 @@ const LENGTHS: [(u64, u32, u32); 2] = [(1916, 36, 56), (1930, 0, 36)];
 /// A number of puts whose history fills two pieces and a part of a third.
 const MANY: u64 = 4000;
 
-/// A writer that expects a text. It takes at most `most` bytes for each call, and none at the call
-/// `fails_at`, counted from 0.
+/// A writer that compares the bytes it takes with a text. It takes at most `most` bytes for each
+/// call. At the call `fails_at`, counted from 0, it takes none.
 #[derive(Drop)]
 struct Expecting<'a> {
     /// The part of the text that it has not taken yet.
@@ -70,7 +70,7 @@ fn key(get: u32, digits: u32) -> u64 {
     10u64.checked_pow(more).unwrap_or(0)
 }
 
-/// The file of the script.
+/// The file with one script that makes these puts and the four gets.
 fn script_file(alloc: Global, puts: u64, digits: u32) -> Result<String, AllocError> {
     let mut text = String::new(alloc);
     text.push_str("{\"version\":1,\"workers\":1,\"stripes\":8,\"buckets\":8,\"tries\":0,")?;
@@ -101,7 +101,7 @@ fn history_line(alloc: Global, puts: u64, digits: u32) -> Result<String, AllocEr
     Ok(text)
 }
 
-/// Mixes a file into a writer that expects a text.
+/// Runs `mix` on a file, with a writer that expects a text.
 fn mixed<'a>(
     alloc: Global,
     file: &str,

@@ -1,7 +1,7 @@
-//! Script files with the output of `mix` for each. With one worker every seed gives the same
+//! Script files, each with the output of `mix` for it. With one worker, every seed gives the same
 //! history, which was worked out by hand. With three workers, each of 200 seeds must give the same
-//! legal history in two runs. The history must not be empty. The contract allows an empty history
-//! if memory is refused.
+//! legal history in two runs. The history must not be empty, although the contract allows an empty
+//! history if memory is refused.
 
 use super::{Command, Files, compare_file, run_on};
 use crate::devices::Narrow;
@@ -10,7 +10,7 @@ use std::process::Abort;
 use std::sync::Wait;
 use std::thread::Threads;
 
-/// One worker with two scripts, the second of which aborts.
+/// One worker with two scripts. The second script aborts.
 pub const ONE_WORKER: &str =
     "{\"version\":1,\"workers\":1,\"stripes\":8,\"buckets\":8,\"tries\":0,\"scripts\":[[[\"put\",1,\
     10],[\"save\"],[\"take\",1],[\"back\",1]],[[\"get\",1],[\"abort\"]]]}";
@@ -44,8 +44,8 @@ pub const WORKERS_OF: &str =
 
 /// Script files, and the output for each.
 pub const FILES: &[Files] = &[
-    // A script file of version 2 may have the key 2^63 and the action `put_if`. Its history is of
-    // version 2 too.
+    // A script file of version 2 may have the key 2^63 and the action `put_if`. Its history also
+    // has version 2.
     Files {
         command: Command::Mix(7),
         frame: "#",
@@ -56,8 +56,8 @@ pub const FILES: &[Files] = &[
         printed: HISTORY_OF_VERSION_2,
         status: 0,
     },
-    // A `help` for the key 2^63 is refused before it takes a step. A `get` of this key is refused
-    // too, and so is a return to a level that is not there. After each of these refusals the
+    // A `help` for the key 2^63 is refused before it takes a step. A `get` of this key is also
+    // refused, and so is a return to a level that does not exist. After each of these refusals, the
     // transaction aborts.
     Files {
         command: Command::Mix(3),
@@ -111,17 +111,17 @@ const THREE_WORKERS: &str =
     10],[\"put\",2,20]],[[\"put\",2,21],[\"take\",1]],[[\"get\",1],[\"save\"],[\"put\",3,30],\
     [\"back\",1]],[[\"take\",2],[\"help\",5]],[[\"put\",4,40],[\"abort\"]],[[\"get\",2]]]}";
 
-/// The empty history. It is legal, and it plays scripts as the contract asks, but it must not be
-/// printed.
+/// The empty history. It is legal, and the contract allows it as a history of any scripts, but
+/// `mix` must not print it.
 const NOTHING: &str = "{\"entries\":[],\"stripes\":2,\"version\":1}\n";
 
-/// The output of `mix` for three workers.
+/// The output of `mix` for `THREE_WORKERS` with this seed.
 fn mix_three<T: Threads + Wait + Sync>(rt: &T, alloc: Global, seed: u64) -> Narrow {
     let input = &mut THREE_WORKERS.as_bytes();
     run_on(rt, alloc, Command::Mix(seed), input, Narrow::whole()).output
 }
 
-/// Checks that a history is legal, with nothing open.
+/// Checks that a history is legal, with no transaction open at its end.
 pub fn judge<T: Abort + Threads + Wait + Sync>(rt: &T, alloc: Global, history: &str) {
     let ended = run_on(
         rt,
@@ -135,7 +135,8 @@ pub fn judge<T: Abort + Threads + Wait + Sync>(rt: &T, alloc: Global, history: &
     assert!(rt; line.ends_with(" commits 0 open\n"), "{line}");
 }
 
-/// One worker does the same whatever the seed. Its history is among the checker's files.
+/// One worker gives the same history for every seed. This history is also among the files for
+/// `check`.
 #[test]
 fn mix_one_worker(rt: HostRuntime) {
     for seed in [0, 1, 7, 199, u64::MAX] {
@@ -149,8 +150,8 @@ fn mix_one_worker(rt: HostRuntime) {
     }
 }
 
-/// The history of any seed is legal with nothing open, and the same each time. Not all seeds give
-/// the same history, and no seed gives an empty one.
+/// For each seed, the history is legal, with no transaction open at its end, and it is the same in
+/// both runs. Not all seeds give the same history, and no seed gives an empty one.
 #[test]
 fn mix_any_seed(rt: HostRuntime) {
     let first = mix_three(&rt, rt.alloc(), 0);

@@ -12,8 +12,8 @@ use std::process::Abort;
 use std::test::Fail;
 use txn_words::{Answer, Entry, Holder, Limits, Op, Refusal, SmallEntry, Step, Unpacked};
 
-/// The number of times that a call is tried before memory is taken to be refused for good. Unless
-/// `docs/tests/refused.py` refuses all allocations, it refuses fewer than this number in a row.
+/// How often a call is tried before memory counts as refused permanently. `docs/tests/refused.py`
+/// refuses either all allocations, or fewer than this number in a row.
 const TRIES: usize = 9;
 
 /// The caller that looks on. Each caller `n` below it changes the key `n + 1`.
@@ -21,7 +21,7 @@ const ONLOOKER: u64 = 5;
 
 const NO_MEMORY: Answer = Answer::Refused(Refusal::NoMemory);
 
-/// Each caller begins, puts 10 and then 20 at its key, and takes the key out: steps and answers.
+/// Steps and their answers. Each caller begins, puts 10 and then 20 at its key, and takes the key.
 const CHANGES: [(Step, Answer); 50] = [
     (Step::Begin(0), Answer::Began(1)),
     (Step::Ask(0, Op::Put(1, 10)), Answer::Asked),
@@ -75,7 +75,8 @@ const CHANGES: [(Step, Answer); 50] = [
     (Step::Act(4), Answer::Done(Some(20))),
 ];
 
-/// The callers leave, take back one change each in three rounds, and end.
+/// Steps and their answers. Each caller begins its abort. In each of three rounds, every caller
+/// takes back one change. Then the aborts end.
 const ABORTS: [(Step, Answer); 40] = [
     (Step::Abort(0), Answer::Leaving),
     (Step::Abort(1), Answer::Leaving),
@@ -119,7 +120,7 @@ const ABORTS: [(Step, Answer); 40] = [
     (Step::Act(4), Answer::Aborted),
 ];
 
-/// The entries that all these steps add to the history.
+/// The entries that the steps of `CHANGES` and `ABORTS` add to the history.
 const ENTRIES: [Entry; 60] = [
     Entry::Began(0, 1),
     Entry::Asked(0, Op::Put(1, 10)),
@@ -186,7 +187,8 @@ const ENTRIES: [Entry; 60] = [
 /// The number of entries that the changes add.
 const CHANGED: usize = 35;
 
-/// The callers and their keys, in the order of the list, which is that of reversed bits.
+/// The callers with their keys, in the order of the list. The list orders the keys by their
+/// reversed bits.
 const KEYS: &[(u64, u64)] = &[(3, 4), (1, 2), (0, 1), (4, 5), (2, 3)];
 
 /// Whether memory is refused now.
@@ -215,12 +217,12 @@ fn abort(core: &mut Core, caller: u64) -> Answer {
     core.abort(caller)
 }
 
-/// The history, and the number of entries owed beyond it.
+/// The history, and the number of entries that are owed and not yet in it.
 fn history_of(core: &Core) -> (&[SmallEntry], usize) {
     (core.trace(), core.owed())
 }
 
-/// The numbers of buckets and keys.
+/// The number of buckets, and the number of keys.
 fn sizes_of(core: &Core) -> (u32, u64) {
     (core.size(), core.count())
 }
@@ -235,7 +237,7 @@ fn pairs_of(alloc: Global, core: &Core) -> Option<Vec<(u64, u64)>> {
     None
 }
 
-/// Takes a step. Answers `None` if memory is refused.
+/// Takes a step, and returns the answer, or `None` if memory is refused.
 fn answer_if_given(rt: &impl Abort, core: &mut Core, step: Step) -> Option<Answer> {
     for _ in 0..TRIES {
         let answer = take(rt, core, step);
@@ -249,13 +251,13 @@ fn answer_if_given(rt: &impl Abort, core: &mut Core, step: Step) -> Option<Answe
 /// The state of a caller after some entries.
 #[derive(Clone, Copy)]
 struct CallerState {
-    /// Whether it is in a transaction.
+    /// True if the caller is in a transaction.
     is_open: bool,
-    /// Whether it holds the stripe of its key.
+    /// True if the caller holds the stripe of its key.
     holds: bool,
-    /// The number of its changes that stand.
+    /// The number of the caller's changes that are not taken back.
     changes: u64,
-    /// The number of entries that it may still add without memory.
+    /// The number of entries that the caller may still add without memory.
     owed: usize,
 }
 
@@ -301,7 +303,7 @@ fn state_of(caller: u64, entries: &[Entry]) -> CallerState {
     state
 }
 
-/// The value of a caller's key if this number of the caller's changes stands.
+/// The value of a caller's key if this number of the caller's changes are not taken back.
 fn value_with(changes: u64) -> Option<u64> {
     match changes {
         1 => Some(10),
@@ -321,8 +323,8 @@ fn compare_entries(rt: &impl Abort, core: &Core, entries: &[Entry]) {
     assert!(rt; wanted.next().is_none());
 }
 
-/// Compares the numbers of buckets, of keys and of entries owed, and the pairs if there was memory
-/// for them.
+/// Compares the numbers of buckets, keys and owed entries with what the entries give. If there was
+/// memory for the pairs, compares these too.
 fn compare_pairs(rt: &impl Abort, core: &Core, pairs: Option<&[(u64, u64)]>, entries: &[Entry]) {
     let mut found = pairs.unwrap_or(&[]).iter();
     let mut count: u64 = 0;
@@ -340,7 +342,7 @@ fn compare_pairs(rt: &impl Abort, core: &Core, pairs: Option<&[(u64, u64)]>, ent
     assert!(rt; sizes_of(core) == (2, count) && history_of(core).1 == owed);
 }
 
-/// Compares the numbers, and the pairs if there is memory for them.
+/// Does `compare_pairs`, with the core's pairs if there is memory for them.
 fn compare_map(rt: &impl Abort, alloc: Global, core: &Core, entries: &[Entry]) {
     match pairs_of(alloc, core) {
         Some(pairs) => compare_pairs(rt, core, Some(&pairs), entries),
@@ -351,7 +353,7 @@ fn compare_map(rt: &impl Abort, alloc: Global, core: &Core, entries: &[Entry]) {
     }
 }
 
-/// The onlooker begins, asks for a key, and aborts. Answers the core's answer to the ask, or `None`
+/// The onlooker begins, asks for a key, and aborts. Returns the core's answer to the ask, or `None`
 /// if memory is refused.
 fn seen_of(rt: &impl Abort, core: &mut Core, key: u64) -> Option<Answer> {
     let began = answer_if_given(rt, core, Step::Begin(ONLOOKER))?;
@@ -382,8 +384,8 @@ fn first_entries(count: usize) -> &'static [Entry] {
     ENTRIES.get(..count).unwrap_or(&ENTRIES)
 }
 
-/// Compares the state after these entries. The stripes are compared only if the onlooker may look
-/// on.
+/// Compares the state of the core with what these entries give. The stripes are compared only if
+/// `looks_on` is true.
 fn compare(rt: &impl Abort, alloc: Global, core: &mut Core, entries: &[Entry], looks_on: bool) {
     compare_entries(rt, core, entries);
     compare_map(rt, alloc, core, entries);
@@ -394,7 +396,7 @@ fn compare(rt: &impl Abort, alloc: Global, core: &mut Core, entries: &[Entry], l
 
 /// Takes steps until one is refused memory. Only a begin or an ask may be refused memory. Compares
 /// the state after each step that adds an entry, except after an ask. `before` is the number of
-/// entries before the steps. Answers the number of entries after the steps. Neither number counts
+/// entries before the steps. Returns the number of entries after the steps. Neither number counts
 /// the onlooker's entries.
 fn play(
     rt: &impl Abort,
@@ -449,7 +451,7 @@ fn verdict_of(rt: &impl Abort, alloc: Global, core: &Core) -> Result<Verdict, Al
     verdict_on(rt, alloc, &entries)
 }
 
-/// Has the checker judge the history, which is legal and leaves no caller in a transaction.
+/// Checks that the checker finds the history legal, with no transaction open at its end.
 fn judge(rt: &impl Abort, alloc: Global, core: &Core) {
     for _ in 0..TRIES {
         if let Ok(verdict) = verdict_of(rt, alloc, core) {
@@ -478,7 +480,8 @@ fn play_all(rt: &impl Abort, alloc: Global, core: &mut Core) {
     judge(rt, alloc, core);
 }
 
-/// A caller begins, asks for an operation, and seeks. Answers `None` if memory is refused.
+/// A caller begins, asks for an operation, and seeks. Returns the answer to the seek, or `None` if
+/// memory is refused.
 fn placed_if_given(rt: &impl Abort, core: &mut Core, caller: u64, op: Op) -> Option<Answer> {
     let began = answer_if_given(rt, core, Step::Begin(caller))?;
     assert!(rt; matches!(began, Answer::Began(_)));
@@ -487,10 +490,11 @@ fn placed_if_given(rt: &impl Abort, core: &mut Core, caller: u64, op: Op) -> Opt
     Some(take(rt, core, Step::Seek(caller)))
 }
 
-/// The steps of the other caller.
+/// The steps of caller 1.
 const BESIDE: &[Step] = &[Step::Begin(1), Step::Ask(1, Op::Put(2, 20))];
 
-/// Caller 0 seeks the position of its put, the other caller takes a step, and caller 0 acts.
+/// Caller 0 seeks the position of its put. Then caller 1 takes `step`, and after this caller 0
+/// acts.
 fn act_beside(rt: &impl Abort, alloc: Global, core: &mut Core, step: Step) {
     let placed = placed_if_given(rt, core, 0, Op::Put(1, 10));
     if placed.is_none() {
@@ -507,14 +511,15 @@ fn act_beside(rt: &impl Abort, alloc: Global, core: &mut Core, step: Step) {
     assert!(rt; abort(core, 0) == Answer::Aborted);
 }
 
-/// Plays both steps of the other caller.
+/// Does `act_beside` with each step of caller 1.
 fn play_beside(rt: &impl Abort, alloc: Global, core: &mut Core) {
     for step in BESIDE {
         act_beside(rt, alloc, core, *step);
     }
 }
 
-/// Plays all steps of the five callers, or the two steps of a caller beside another's put.
+/// If `is_all` is true, plays all steps of the five callers. Otherwise plays the two steps of
+/// caller 1 during a put of caller 0.
 fn play_on(rt: &impl Abort, alloc: Global, core: &mut Core, is_all: bool) {
     if is_all {
         play_all(rt, alloc, core);
@@ -523,7 +528,7 @@ fn play_on(rt: &impl Abort, alloc: Global, core: &mut Core, is_all: bool) {
     }
 }
 
-/// Plays the steps on a core of this number of callers, if there is memory for it.
+/// Does `play_on` with a core of this number of callers, if there is memory for the core.
 fn play_on_core(rt: &impl Abort, alloc: Global, callers: u64, is_all: bool) -> Result<(), Fail> {
     match core_if_made(alloc, Limits::new(callers, 8, 8)?) {
         Some(mut core) => play_on(rt, alloc, &mut core, is_all),
@@ -533,16 +538,17 @@ fn play_on_core(rt: &impl Abort, alloc: Global, callers: u64, is_all: bool) -> R
 }
 
 /// Meant to be run with allocations refused: one allocation, eight in a row, or every allocation
-/// from some point on. If a change is refused memory, nothing has changed, and every caller aborts.
-/// State that takes memory to read is compared if there is memory.
+/// from some point on. If a change is refused memory, it has changed nothing, and every caller
+/// aborts. If reading some part of the state takes memory, this part is compared only if there is
+/// memory.
 #[test]
 fn five_callers_undone_is_legal(rt: HostRuntime) -> Result<(), Fail> {
     play_on_core(&rt, rt.alloc(), 6, true)
 }
 
-/// Meant to be run with allocations refused, like the test above. A caller has sought the position
-/// of its put when another caller's step is refused memory. The cursor of the first caller still
-/// fits, so this caller acts without another seek.
+/// Meant to be run with allocations refused, like `five_callers_undone_is_legal`. A caller has
+/// sought the position of its put when another caller's step is refused memory. The first caller's
+/// cursor is still valid, so this caller acts without another seek.
 #[test]
 fn a_cursor_stands_beside_a_refusal(rt: HostRuntime) -> Result<(), Fail> {
     play_on_core(&rt, rt.alloc(), 2, false)

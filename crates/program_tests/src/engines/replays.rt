@@ -1,7 +1,7 @@
-//! Step files with the report of `replay` for each. Each line of a run has steps, and behind the
-//! steps their answers. The answers were worked out by hand. The file and the report are both made
-//! from these lines. One test puts 129 keys: its lines are made by a rule, and its report is
-//! compared up to the third pair.
+//! Step files, each with the report of `replay` for it. Each line of a run has steps, and after
+//! them their answers. The file and the report are both made from these lines. The answers were
+//! worked out by hand. One test puts 129 keys. Its lines are made by a rule, and its report is
+//! compared only up to the third pair.
 
 use super::{Command, Files, run_on};
 use crate::devices::{Ended, Narrow, compare_ended};
@@ -24,7 +24,7 @@ const FIRST_COMMIT_OF: &str =
     "{\"version\":1,\"callers\":@,\"stripes\":8,\"buckets\":8,\"steps\":[[\"begin\",0],[\"ask\",0,\
     \"put\",1,10],[\"seek\",0],[\"act\",0],#[\"commit\",0]]}";
 
-/// The file `FIRST_COMMIT` with gaps for the members before `stripes`, and for a step behind the
+/// The file `FIRST_COMMIT` with gaps for the members before `stripes`, and for a step after the
 /// first.
 const MEMBERS_OF: &str =
     "{#,\"stripes\":8,\"buckets\":8,\"steps\":[[\"begin\",0],@[\"ask\",0,\"put\",1,10],\
@@ -40,7 +40,7 @@ const PUT_IF: &str =
 
 /// Step files, and the output for each.
 pub const FILES: &[Files] = &[
-    // No steps; and too many callers.
+    // Files without steps. The last one has too many callers.
     Files {
         command: Command::Replay,
         frame: EMPTY_FILE,
@@ -101,9 +101,9 @@ pub const FILES: &[Files] = &[
         printed: "refused 21\n",
         status: 3,
     },
-    // Wrong shapes: wrong numbers, a missing member, and another version. If there are both a wrong
-    // step and too many callers, the fault is the wrong step. A member that no step file has is
-    // skipped.
+    // Wrong shapes: wrong numbers, a missing member, and an unknown version. If a file has both a
+    // wrong step and too many callers, the fault is the wrong step. A member that does not belong
+    // in a step file is skipped.
     Files {
         command: Command::Replay,
         frame: MEMBERS_OF,
@@ -138,7 +138,8 @@ pub const FILES: &[Files] = &[
         printed: FIRST_REPORT,
         status: 0,
     },
-    // A step that only version 2 has; and a bad step before it, which is the first fault.
+    // A step that only version 2 allows. If there is a bad step before it, the fault is the bad
+    // step.
     Files {
         command: Command::Replay,
         frame: PUT_IF,
@@ -173,7 +174,8 @@ pub const FILES: &[Files] = &[
     },
 ];
 
-/// Five keys, and a doubling that must wait for the fifth.
+/// Steps that put five keys. A doubling before the fifth key answers `light`, and the next one
+/// doubles the table.
 const FIVE_KEYS: &str = r#"["begin",0] = began 1
 ["ask",0,"put",1,10],["seek",0],["act",0] = asked, placed, done none
 ["ask",0,"put",2,20],["seek",0],["act",0] = asked, placed, done none
@@ -185,8 +187,7 @@ const FIVE_KEYS: &str = r#"["begin",0] = began 1
 ["double",2] = moved 4
 ["double",4] = light"#;
 
-/// Keys that share a split key, and `put_if`, which puts only if the old value is the expected
-/// one.
+/// Steps on keys that share a split key. A `put_if` puts only if the old value is the expected one.
 const KEYS_OF_64_BITS: &str = r#"["begin",0] = began 1
 ["ask",0,"put",9223372036854775809,11],["seek",0],["act",0] = asked, placed, done none
 ["ask",0,"put",1,10],["seek",0],["act",0] = asked, placed, done none
@@ -196,7 +197,8 @@ const KEYS_OF_64_BITS: &str = r#"["begin",0] = began 1
 ["ask",0,"put_if",3,5,6],["seek",0],["act",0] = asked, placed, done none
 ["ask",0,"put",18446744073709551615,7],["seek",0],["act",0] = asked, placed, done none"#;
 
-/// Five of the seven operations are changes, and an abort takes them back.
+/// An abort takes back the five changes of `KEYS_OF_64_BITS`, whose other two operations change
+/// nothing.
 const FIVE_TAKEN_BACK: &str = r#"["abort",0] = leaving
 ["seek",0],["act",0] = placed, undone
 ["seek",0],["act",0] = placed, undone
@@ -309,7 +311,7 @@ const INITIALISATION: &str = r#"["commit",0] = committed 1
 ["init_store",1] = stored
 ["init_seek",1,3] = ready"#;
 
-/// Five callers change a key three times each, and take it all back in turn.
+/// Five callers change one key each, three times. Then they take all changes back in turn.
 const FIVE_CALLERS_UNDONE: &str = r#"["begin",0] = began 1
 ["ask",0,"put",1,10],["seek",0],["act",0] = asked, placed, done none
 ["begin",1] = began 2
@@ -356,13 +358,13 @@ const FIVE_CALLERS_UNDONE: &str = r#"["begin",0] = began 1
 ["act",3] = aborted
 ["act",4] = aborted"#;
 
-/// A commit of the first transaction.
+/// The commit of caller 0, which is the first commit.
 const COMMIT: &str = r#"["commit",0] = committed 1"#;
 
 const FIVE_KEYS_REPORT: &str = "size 4 count 5\n4 40\n2 20\n1 10\n5 50\n3 30\n";
 
-/// A step file with its name and its report. Each line of its parts has steps and, behind ` = `,
-/// the answers to them.
+/// A step file with its name and its report. Each line of its parts has steps, then ` = `, and then
+/// the answers to these steps.
 #[derive(Clone, Copy)]
 struct Run {
     name: &'static str,
@@ -370,7 +372,7 @@ struct Run {
     callers: u64,
     buckets: u64,
     parts: &'static [&'static str],
-    /// The report after the answers.
+    /// The part of the report that follows the answers.
     rest: &'static str,
 }
 
@@ -481,7 +483,7 @@ const RUNS: &[Run] = &[
     },
 ];
 
-/// Adds the steps of a part, with a comma behind each, and the answers to them.
+/// Adds the steps of a part, with a comma after each line, and the answers to them.
 fn add(steps: &mut String, report: &mut String, part: &str) -> Result<(), Fail> {
     for line in part.lines() {
         let (asked, answers) = line.split_once(" = ").ok_or("no answer")?;
@@ -521,7 +523,7 @@ fn texts_of(alloc: Global, run: Run, parts: &[&str]) -> Result<(String, String),
     Ok((file_with(alloc, run, &steps)?, report))
 }
 
-/// The end of `replay` for a file with this text.
+/// Runs `replay` on a file with this text.
 fn replayed<T: Threads + Wait + Sync>(rt: &T, alloc: Global, text: &str) -> Ended {
     let input = &mut text.as_bytes();
     run_on(rt, alloc, Command::Replay, input, Narrow::whole())
@@ -547,7 +549,7 @@ fn reports(rt: HostRuntime) -> Result<(), Fail> {
     Ok(())
 }
 
-/// Adds the put of a key by three steps, and the answers to them.
+/// Adds the three steps that put a key, and the answers to them.
 fn add_put(part: &mut String, key: u64) -> Result<(), Fail> {
     write!(
         part,
@@ -566,8 +568,8 @@ fn add_puts(part: &mut String, count: u64) -> Result<(), Fail> {
     Ok(())
 }
 
-/// The steps that double a table with 129 keys up to 128 buckets, and then initialise bucket 64,
-/// which is the first of the second segment.
+/// Steps that double a table with 129 keys until it has 128 buckets. Then bucket 64 is initialised,
+/// which is the first bucket of the second segment.
 const SEGMENTS: &str = r#"["double",2] = doubled 4
 ["double",4] = doubled 8
 ["double",8] = doubled 16
@@ -583,8 +585,8 @@ const SEGMENTS: &str = r#"["double",2] = doubled 4
 ["commit",0] = committed 1
 ["sweep"] = clean"#;
 
-/// A file of one caller and at most 128 buckets, and the lines of its report from the size to the
-/// third pair.
+/// A file with one caller and at most 128 buckets. `rest` has the lines of its report from the size
+/// to the third pair.
 const OF_SEGMENTS: Run = Run {
     name: "segments",
     version: 1,

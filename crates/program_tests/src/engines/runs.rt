@@ -1,6 +1,7 @@
-//! Script files with the output of `run` for each. The history of one worker was worked out by
-//! hand. The history of several workers depends on the threads: `check` must find it legal, with no
-//! transaction open. It must also have entries, though the contract allows an empty history.
+//! Script files, each with the output of `run` for it. The history of one worker was worked out by
+//! hand. The history of several workers depends on the threads. `check` must find it legal, with no
+//! transaction open at its end. It must also have entries, although the contract allows an empty
+//! history.
 
 use super::mixes::{BAD_KEY, ONE_WORKER, WORKERS_OF, judge};
 use super::{Command, Files, run_on};
@@ -14,12 +15,12 @@ use std::thread::Threads;
 pub const SHORT_RUN: &str =
     "{\"entries\":[[\"began\",0,1],[\"committed\",0,1]],\"stripes\":8,\"version\":3}\n";
 
-/// The history if memory was refused to the script.
+/// The history that `run` prints if the script is refused memory.
 pub const NO_ENTRIES: &str = "{\"entries\":[],\"stripes\":8,\"version\":3}\n";
 
 /// Script files, and the output for each.
 pub const FILES: &[Files] = &[
-    // The history of one worker is the one that `mix` prints, but of version 3.
+    // The history of one worker is the one that `mix` prints, but with version 3.
     Files {
         command: Command::Run,
         frame: ONE_WORKER,
@@ -31,8 +32,8 @@ pub const FILES: &[Files] = &[
             [\"did\",0,10],[\"leave\",0,null],[\"aborted\",0]],\"stripes\":8,\"version\":3}\n",
         status: 0,
     },
-    // In a script file of version 2 every number may be a key. For such a file, too, `run` prints a
-    // history of version 3.
+    // In a script file of version 2, every number may be a key. For such a file, `run` also prints
+    // a history of version 3.
     Files {
         command: Command::Run,
         frame: "#",
@@ -115,8 +116,8 @@ fn run_workers<T: Threads + Wait + Sync>(
     )
 }
 
-/// With one to six workers, the history of these scripts is legal and not empty, and leaves no
-/// transaction open.
+/// With one to six workers, the history of `ANY_WORKERS` is legal and not empty, and no transaction
+/// is open at its end.
 #[test]
 fn run_any_workers(rt: HostRuntime) -> Result<(), Fail> {
     for workers in "1 2 3 4 5 6".split(' ') {

@@ -1,6 +1,6 @@
 //! History files: their content, the text that is written for it, and the first fault of each file
-//! that is refused. No other kind of file is written, so one table tests both reading and writing.
-//! The files and their entries were made by hand.
+//! that is refused. Only history files are also written, so one table tests both reading and
+//! writing. The files and their entries were made by hand.
 
 use super::{Files, Kind};
 use std::alloc::Global;
@@ -36,7 +36,7 @@ const EVERY_ENTRY: &[Entry] = &[
     Entry::Aborted(5),
 ];
 
-/// These entries as a history that is written.
+/// The text that is written for a history with the entries `EVERY_ENTRY`.
 const EVERY_KIND: &str =
     "{\"entries\":[[\"began\",0,1],[\"saved\",0],[\"asked\",0,\"put\",1,10],[\"did\",0,null],\
     [\"asked\",0,\"take\",2],[\"did\",0,18446744073709551615],[\"asked\",0,\"get\",\
@@ -44,7 +44,7 @@ const EVERY_KIND: &str =
     [\"committed\",0,1],[\"busy\",63,\"put\",1,20,0],[\"busy\",1,\"take\",7,63],[\"busy\",1,\
     \"get\",0,2],[\"leave\",5,null],[\"aborted\",5]],\"stripes\":4096,\"version\":1}";
 
-/// The history with its members in another order.
+/// The history `EVERY_KIND`, with its members in another order.
 const EVERY_KIND_READ: &str =
     "{\"version\":1,\"stripes\":4096,\"entries\":[[\"began\",0,1],[\"saved\",0],\
     [\"asked\",0,\"put\",1,10],[\"did\",0,null],[\"asked\",0,\"take\",2],\
@@ -53,7 +53,7 @@ const EVERY_KIND_READ: &str =
     [\"busy\",63,\"put\",1,20,0],[\"busy\",1,\"take\",7,63],[\"busy\",1,\"get\",0,2],\
     [\"leave\",5,null],[\"aborted\",5]]}";
 
-/// White space, members in another order, further members, and one given twice.
+/// White space, members in another order, an additional member, and a member that is given twice.
 const ANY_ORDER: &str =
     " { \"entries\" : [ [ \"undone\" , 3 ] ],\n\"note\":null,\"stripes\":0,\"stripes\":1,\
     \"version\":1}\n";
@@ -62,7 +62,8 @@ const VERSION_2: &str = "{\"entries\":[[\"asked\",0,\"put_if\",1,null,5],\
     [\"asked\",0,\"put_if\",18446744073709551615,4,6],[\"busy\",1,\"put_if\",1,0,7,0],\
     [\"busy\",1,\"put_if\",2,null,8,63]],\"stripes\":8,\"version\":2}";
 
-/// Version 3, which only history files have, has the shapes of version 2.
+/// A file of version 3, which has the same shapes as version 2. Only history files have this
+/// version.
 const VERSION_3: &str =
     r#"{"entries":[["began",1,1],["busy",1,"put_if",2,null,8,0]],"stripes":8,"version":3}"#;
 
@@ -169,7 +170,7 @@ fn contents_of_histories(rt: HostRuntime) -> Result<(), Fail> {
     Ok(())
 }
 
-/// Groups of history files: the files of a group have the same fault, or none.
+/// Groups of history files. The files of a group have the same fault, or no fault.
 pub const FILES: &[Files] = &[
     Files {
         kind: Kind::History,
@@ -208,9 +209,9 @@ pub const FILES: &[Files] = &[
         fillings: "",
         fault: Some(FileFault::Limit),
     },
-    // The entry with index 1 is wrong. Besides, the caller of the first entry is out of range, and
-    // so is the number of stripes if the filling is 0. But ranges are tested only after all entries
-    // were read. So the fault is that of the wrong entry.
+    // The entry with index 1 is wrong. Besides, the caller of the first entry is out of range. If
+    // the filling is 0, the number of stripes is also out of range. But ranges are checked only
+    // after all entries are read, so the fault is that of the wrong entry.
     Files {
         kind: Kind::History,
         frame: BETWEEN_ENTRIES,
@@ -269,7 +270,7 @@ null
         fillings: "8 0",
         fault: Some(FileFault::Piece(Part::Entry, 1)),
     },
-    // Callers and holders are below 64.
+    // The numbers of callers and of holders must be below 64.
     Files {
         kind: Kind::History,
         frame: BEHIND_A_BEGIN,

@@ -1,6 +1,7 @@
-//! Script files: the content of good ones and the first fault of bad ones, in tables made by hand.
-//! The contract of `read_scripts` says that it answers `scripts_of` of the bytes, unless memory is
-//! refused. The tables test that this definition is what `docs/FORMATS.md` describes.
+//! Script files: the content of good files and the first fault of bad files, in tables made by
+//! hand. The contract of `read_scripts` says that it returns `scripts_of` of the bytes, unless
+//! memory is refused. The tests check that the definition `scripts_of` is what `docs/FORMATS.md`
+//! describes.
 
 use super::{Files, Kind};
 use std::alloc::Global;
@@ -16,13 +17,14 @@ const SIZES: &str = r#""version":1,"workers":1,"stripes":8,"buckets":8"#;
 const SCRIPTS_IN_VERSION: &str =
     r#"{"version":@,"workers":1,"stripes":2,"buckets":8,"tries":3,"scripts":#}"#;
 
-/// A file with gaps for its version and for one script, between good scripts and a wrong one.
+/// A file with one gap for its version and one for a script. Good scripts come before the second
+/// gap, and a wrong script comes after it.
 const BETWEEN_SCRIPTS: &str =
     "{\"version\":@,\"workers\":1,\"stripes\":2,\"buckets\":8,\"tries\":3,\"scripts\":[[],\
     [[\"get\",1]],#,[0]]}";
 
-/// Files with a gap for scripts, or for the actions of a script. The last two have a wrong script
-/// or action behind the gap.
+/// Files with a gap for scripts, or for the actions of a script. In the last two files, a wrong
+/// script or action follows the gap.
 pub const SCRIPTS: &str =
     r#"{"version":1,"workers":1,"stripes":2,"buckets":8,"tries":3,"scripts":[#]}"#;
 
@@ -35,7 +37,7 @@ pub const SCRIPTS_BEHIND: &str =
 pub const ACTIONS_BEHIND: &str =
     r#"{"version":7,"workers":1,"stripes":2,"buckets":8,"tries":3,"scripts":[[],[#,["back"]],[]]}"#;
 
-/// Every action.
+/// Each kind of action of version 1.
 const EVERY_ACTION: &str =
     "{\"version\":1,\"workers\":1,\"stripes\":2,\"buckets\":8,\"tries\":3,\"scripts\":[[[\"put\",1,\
     10],[\"take\",18446744073709551615],[\"get\",0]],[],[[\"save\"],[\"back\",1],[\"help\",\
@@ -48,7 +50,7 @@ const VERSION_2: &str = "{\"version\":2,\"workers\":1,\"stripes\":2,\"buckets\":
 #[derive(Clone, Copy)]
 struct Read {
     text: &'static str,
-    /// The numbers of callers, of stripes, of buckets and of tries.
+    /// The numbers of callers, stripes, buckets and tries.
     sizes: (u32, u32, u32, u64),
     version: u64,
     half_keys: bool,
@@ -104,7 +106,7 @@ fn numbers_of(work: &Scripts) -> ((u32, u32, u32, u64), u64, bool) {
     (sizes, work.version(), limits.has_half_keys())
 }
 
-/// Whether the packed actions are these.
+/// Returns true if the packed actions are exactly the wanted ones.
 fn are_actions(packed: &[PackedAction], wanted: &[Action]) -> bool {
     packed.len() == wanted.len()
         && packed
@@ -122,8 +124,8 @@ fn are_scripts(scripts: &[Script], wanted: &[&[Action]]) -> bool {
             .all(|(script, actions)| are_actions(script.actions(), actions))
 }
 
-/// Makes a script of these actions. Answers how many actions the script says it has, and the
-/// actions that it gives back.
+/// Makes a script of these actions. Returns how many actions the script says it has, and the
+/// actions that `into_actions` returns.
 fn given_back(alloc: Global, actions: &[Action]) -> Result<(usize, Vec<PackedAction>), Fail> {
     let script = Script::of_actions(alloc, actions)?;
     Ok((script.actions().len(), script.into_actions()))
@@ -142,7 +144,7 @@ fn compare(rt: &impl Abort, alloc: Global, read: &Read) -> Result<(), Fail> {
     Ok(())
 }
 
-/// Checks that a script gives back its actions.
+/// Checks that a script made of these actions returns them all.
 fn gives_back(rt: &impl Abort, alloc: Global, wanted: &[Action]) -> Result<(), Fail> {
     let (count, actions) = given_back(alloc, wanted)?;
     assert!(rt; count == wanted.len() && are_actions(&actions, wanted));
@@ -157,7 +159,7 @@ fn contents_of_script_files(rt: HostRuntime) -> Result<(), Fail> {
     gives_back(&rt, rt.alloc(), &[Action::Save, Action::Back(0)])
 }
 
-/// Groups of script files: the files of a group have the same fault, or none.
+/// Groups of script files. The files of a group have the same fault, or no fault.
 pub const FILES: &[Files] = &[
     Files {
         kind: Kind::Scripts,
@@ -210,7 +212,7 @@ pub const FILES: &[Files] = &[
         fillings: SIZES,
         fault: None,
     },
-    // A version that is out of range is found only after the scripts.
+    // A version that is out of range is found only after the scripts are read.
     Files {
         kind: Kind::Scripts,
         frame: BETWEEN_SCRIPTS,

@@ -1,6 +1,6 @@
-//! Step files: the content of good ones and the first fault of bad ones, in tables made by hand.
-//! The contract of `read_steps` says that it answers `file_of` of the bytes, unless memory is
-//! refused; the tables test that `file_of` is what `docs/FORMATS.md` describes.
+//! Step files: the content of good files and the first fault of bad files, in tables made by hand.
+//! The contract of `read_steps` says that it returns `file_of` of the bytes, unless memory is
+//! refused. The tests check that the definition `file_of` is what `docs/FORMATS.md` describes.
 
 use super::{Files, Kind};
 use std::alloc::Global;
@@ -14,8 +14,9 @@ pub const FIRST_COMMIT: &str =
     "{\"version\":1,\"callers\":2,\"stripes\":8,\"buckets\":8,\"steps\":[[\"begin\",0],[\"ask\",0,\
     \"put\",1,10],[\"seek\",0],[\"act\",0],[\"commit\",0]]}";
 
-/// Every kind of step of version 1 that `FIRST_COMMIT` lacks, with white space, the least and the
-/// greatest numbers, members in another order, further members, and a member that is given twice.
+/// A file with every kind of step of version 1 that `FIRST_COMMIT` lacks. It has white space, the
+/// least and the greatest numbers, members in another order, additional members, and a member that
+/// is given twice.
 const EVERY_STEP: &str =
     " { \"steps\" : [[\"abort\",18446744073709551615], [\"ask\",7,\"take\",0],\n[\"ask\",0,\"get\",\
     9223372036854775808],[\"ask\",1,\"put\",18446744073709551615,0],\n[\"save\",3],[\"back\",4,\
@@ -50,7 +51,8 @@ const BEFORE_MEMBERS: &str =
 const BEYOND_MEMBERS: &str =
     r#"{"version":1,"callers":1,"stripes":8,"buckets":8,"steps":[["sweep"]]#}"#;
 
-/// Files of one step with a gap for the value of `x`, a member that no step file has.
+/// Files with one step, and with a gap for the value of `x`. This member does not belong in a step
+/// file.
 const BEFORE_STEPS: &str =
     r#"{"x":#,"version":1,"callers":1,"stripes":8,"buckets":8,"steps":[["sweep"]]}"#;
 
@@ -74,8 +76,7 @@ const VALUES: &[&str] = &[
 struct Read {
     frame: &'static str,
     pieces: &'static [&'static str],
-    /// The numbers of callers, of stripes and of buckets, and whether only half keys, those below
-    /// 2^63, are taken.
+    /// The numbers of callers, stripes and buckets, and true if only keys below 2^63 are allowed.
     sizes: (u32, u32, u32, bool),
     steps: &'static [Step],
 }
@@ -124,7 +125,8 @@ const READ: &[Read] = &[
     PASSED_BEYOND,
 ];
 
-/// A member that is skipped, before the others or behind them.
+/// Files with a member that is skipped. In `PASSED_BEFORE` it comes before the other members, and
+/// in `PASSED_BEYOND` after them.
 const PASSED_BEFORE: Read = Read {
     frame: BEFORE_STEPS,
     pieces: VALUES,
@@ -185,7 +187,7 @@ fn contents_of_step_files(rt: HostRuntime) -> Result<(), Fail> {
     compare_passed(&rt, rt.alloc(), &nested_objects(rt.alloc())?)
 }
 
-/// Groups of step files: the files of a group have the same fault, or none.
+/// Groups of step files. The files of a group have the same fault, or no fault.
 pub const FILES: &[Files] = &[
     // Members.
     Files {
@@ -280,7 +282,7 @@ null
         fillings: "",
         fault: Some(FileFault::Piece(Part::Step, 0)),
     },
-    // Too many callers are found only after the steps.
+    // Too many callers are found only after the steps are read.
     Files {
         kind: Kind::Steps,
         frame: BETWEEN_STEPS,
@@ -329,7 +331,8 @@ null
         fillings: "1 65",
         fault: Some(FileFault::Piece(Part::Step, 1)),
     },
-    // More elements than any step has, and elements that no step has.
+    // A step with more elements than any step has, and steps with elements of a kind that no step
+    // has.
     Files {
         kind: Kind::Steps,
         frame: BEHIND_A_SWEEP,
@@ -341,7 +344,7 @@ null
         fillings: "",
         fault: Some(FileFault::Piece(Part::Step, 1)),
     },
-    // Text that is not JSON is the first fault, even behind a wrong step.
+    // Text that is not JSON is the first fault, even if it comes after a wrong step.
     Files {
         kind: Kind::Steps,
         frame: STEPS_OF_ONE,
@@ -402,7 +405,7 @@ null
         fillings: "3",
         fault: Some(FileFault::Piece(Part::Step, 2)),
     },
-    // Of two members with one name the last counts.
+    // If two members have the same name, the last one counts.
     Files {
         kind: Kind::Steps,
         frame: BEFORE_MEMBERS,

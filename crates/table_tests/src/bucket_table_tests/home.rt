@@ -1,6 +1,7 @@
-//! Buckets with their list, as one value. The invariant of a `Home` is what the calls of `Buckets`
-//! require of the buckets and of the list, so a test that calls a `Home` has nothing to prove.
-//! Contracts see nothing of a `Home`. The tests compare its answers with expected answers.
+//! A list and its buckets, as one value. The invariant of a `Home` is what the calls of `Buckets`
+//! require of the buckets and of the list, so a test that calls a `Home` has nothing to prove. The
+//! content of a `Home` is hidden from contracts. The tests compare the answers of its calls with
+//! expected answers.
 ghost use Rattle.std.specs.Prelude.{◌≡◌};
 ghost use Rattle.bucket_table.specs.Home.{IsHome};
 ghost use Rattle.bucket_table.specs.Dummies.{IsKeyed};
@@ -13,7 +14,7 @@ use std::alloc::Global;
 use std::marker::Model;
 use std::process::Abort;
 
-/// A list and its buckets. A contract sees nothing of them.
+/// A list and its buckets. Both are hidden from contracts.
 #[derive(Drop)]
 pub struct Home {
     list: NodeList,
@@ -41,7 +42,7 @@ pub enum Call {
     Link(u64),
     /// A store by a helper.
     Store(u64),
-    /// A doubling that names this size.
+    /// A doubling by a caller that has seen this size.
     Double(u64),
 }
 
@@ -69,7 +70,7 @@ fn made(list: &mut NodeList, buckets: &mut Buckets, call: Call) -> Answer
     }
 }
 
-/// Links the node of a key, sought from the nearest stored bucket.
+/// Links the node of a key. The seek begins at the nearest stored bucket.
 fn put(
     rt: &impl Abort,
     list: &mut NodeList,
@@ -94,9 +95,9 @@ fn put(
 }
 
 impl Home {
-    /// A list whose first node is the dummy of bucket 0 and has the stamp `first_stamp`, and two
-    /// buckets on that list. The number of buckets can grow to `max`. Answers `None` if memory is
-    /// refused, if `first_stamp` is 2^64 - 1, or if `max` is neither 2 nor 8.
+    /// Makes a list and two buckets on it. The first node of the list is the dummy of bucket 0, and
+    /// has the stamp `first_stamp`. The number of buckets can grow to `max`. Returns `None` if
+    /// memory is refused, if `first_stamp` is 2^64 - 1, or if `max` is neither 2 nor 8.
     pub fn new(alloc: Global, first_stamp: u64, max: u32, helpers: u32) -> Option<Home> {
         if first_stamp == u64::MAX {
             return None;
@@ -125,7 +126,7 @@ impl Home {
         put(rt, &mut self.list, &self.buckets, number)
     }
 
-    /// Takes a spare from the list for good, so the place of the spare stays reserved.
+    /// Takes a spare from the list and never gives it back, so the spare's place stays reserved.
     pub fn keep_spare(&mut self) -> Result<u64, SpareFault> {
         let spare = self.list.spare()?;
         Ok(spare.stamp())
@@ -136,8 +137,8 @@ impl Home {
         (self.buckets.size(), self.list.count(), self.list.changes())
     }
 
-    /// The split key of the bucket's dummy. If the bucket is not stored, it is the split key of the
-    /// dummy of its nearest stored ancestor.
+    /// The split key of the bucket's dummy. If the bucket is not stored, the dummy of its nearest
+    /// stored ancestor is used instead.
     pub fn nearest(&self, bucket: u32) -> Option<u64> {
         let node = self.list.linked_node(self.buckets.nearest(bucket))?;
         match node.kind {
@@ -146,7 +147,7 @@ impl Home {
         }
     }
 
-    /// The split key, kind and key of the node of a rank.
+    /// The split key, kind and key of the node with this rank in the list.
     pub fn node(&self, rank: usize) -> Option<(u64, Kind, u64)> {
         let mut place = self.list.head();
         for _ in 0..rank {

@@ -1,5 +1,5 @@
-//! Tests of the state of a table after memory was refused. They are also run with each allocation
-//! refused in turn. Unlike in `runs`, the whole table is compared after a call that was refused. An
+//! Tests of a table's state after an allocation was refused. They are also run with each allocation
+//! refused in turn. Unlike in `runs`, the whole table is compared after a refused call. An
 //! operation that was prepared before the refusal keeps its spare, and a helper keeps its cursor.
 use super::{do_at_once, figures, finish, has_pairs, small_table};
 use map_ops::{InitLink, InitSeek, Table};
@@ -8,7 +8,7 @@ use std::process::Abort;
 use std::test::Fail;
 use txn_words::{Op, Refusal};
 
-/// Compares the pairs of the table, its content and its count.
+/// Checks that the table has exactly these pairs (`has_pairs`).
 fn shows(rt: &impl Abort, alloc: Global, table: &Table, wanted: &[(u64, u64)]) -> Result<(), Fail> {
     assert!(rt; has_pairs(alloc, table, wanted)?, "other pairs");
     Ok(())
@@ -26,7 +26,7 @@ const PAIRS: [(u64, u64); 8] = [
     (15, 150),
 ];
 
-/// The first of these pairs.
+/// The first `count` pairs of `PAIRS`.
 fn first_pairs(count: usize) -> &'static [(u64, u64)] {
     PAIRS.get(..count).unwrap_or(&PAIRS)
 }
@@ -36,7 +36,7 @@ fn second_and_third() -> &'static [(u64, u64)] {
     PAIRS.get(1..3).unwrap_or(&PAIRS)
 }
 
-/// A table of two buckets that cannot grow, asked for once more if memory is refused.
+/// A table of two buckets that cannot grow. If memory is refused, tries once more.
 fn table_again(alloc: Global) -> Result<Table, AllocError> {
     match small_table(alloc) {
         Ok(table) => Ok(table),
@@ -44,8 +44,8 @@ fn table_again(alloc: Global) -> Result<Table, AllocError> {
     }
 }
 
-/// Puts a new key. If memory is refused, the table is unchanged: it has the pairs `before`, and the
-/// put succeeds when it is repeated.
+/// Puts a new key. If memory is refused, the table must still have exactly the pairs `before`, and
+/// a second put must succeed.
 fn put_again(
     rt: &impl Abort,
     alloc: Global,
@@ -83,15 +83,15 @@ fn put_all(
 /// The call that may be refused memory.
 #[derive(Clone, Copy)]
 enum Refused {
-    /// One of the puts of the pairs.
+    /// One of the puts that fill the table.
     Puts,
-    /// The preparation of a take, beside a prepared put.
+    /// The preparation of a take, while a put is prepared.
     Preparation,
-    /// The link of a dummy, beside a prepared put.
+    /// The link of a dummy, while a put is prepared.
     Link,
 }
 
-/// Puts pairs, makes the call that may be refused memory, and compares the pairs that are left.
+/// Puts pairs, makes the call that may be refused memory, and compares the table's pairs after it.
 fn play_refused(
     rt: &impl Abort,
     alloc: Global,
@@ -108,7 +108,7 @@ fn play_refused(
     shows(rt, alloc, table, left)
 }
 
-/// Plays on a new table.
+/// Runs `play_refused` on a new table.
 fn refuse(
     rt: &impl Abort,
     alloc: Global,
@@ -126,7 +126,8 @@ fn refused_memory_for_puts(rt: HostRuntime) -> Result<(), Fail> {
 }
 
 /// Prepares a put of key 6, and then prepares and does a take of key 2. If the take is refused
-/// memory, the table is unchanged, and the put is done instead. Answers the pairs of the table.
+/// memory, the table must be unchanged, and the put is done instead. Returns the pairs that the
+/// table must have at the end.
 fn do_second(
     rt: &impl Abort,
     alloc: Global,
@@ -155,8 +156,8 @@ fn refused_memory_for_a_preparation(rt: HostRuntime) -> Result<(), Fail> {
 }
 
 /// Prepares a put of key 4, and links the dummy of bucket 1 as helper 0. If the link is refused
-/// memory, the table is unchanged, the put is done, and the helper still has its cursor. Answers
-/// the pairs of the table.
+/// memory, the table must be unchanged and the helper must still have its cursor, and the put is
+/// done. Returns the pairs that the table must have at the end.
 fn link_beside_a_put(
     rt: &impl Abort,
     alloc: Global,
@@ -180,7 +181,7 @@ fn link_beside_a_put(
     }
 }
 
-/// Lets helper 0 link its dummy and store its bucket. Answers whether both steps succeeded.
+/// Lets helper 0 link its dummy and store its bucket. Returns true if both steps succeeded.
 fn is_linked_and_stored(table: &mut Table) -> bool {
     table.init_link(0) == Ok(InitLink::Linked) && table.init_store(0) == Ok(())
 }

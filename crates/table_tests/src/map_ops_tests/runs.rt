@@ -1,7 +1,7 @@
-//! Runs of steps on a table. They are given in rows, each with a step and its answer. A step is one
-//! call, or a few whose jobs or cursors belong together. The answers, the order of the pairs and
-//! the change numbers were worked out by hand. By contract a step may be refused memory even if
-//! there is some.
+//! Runs of steps on a table. Each row has a step and its answer. A step is one call, or a few calls
+//! that share a job or a cursor. The answers, the order of the pairs and the change numbers were
+//! worked out by hand. The contracts allow a step to fail for lack of memory even while memory is
+//! free.
 ghost use Rattle.std.specs.Prelude.{◌≡◌, true};
 ghost use Rattle.txn_words.specs.Map.{Map, get};
 ghost use Rattle.map_ops.specs.Jobs.{IsDue, key_of_job, spare_of_job};
@@ -57,13 +57,12 @@ enum Step {
     TakeBack,
     /// Takes the only key of the table, and then takes this change back.
     TakeThereAndBack(u64),
-    /// Prepares and places a put, puts value 40 at key 4, reads the key of the first put, and then
-    /// does that put. Adds the job of the first put to the kept jobs, and then the job of key 4 as
-    /// the newest.
+    /// Prepares and places a put. Then puts value 40 at key 4, reads the key of the prepared put,
+    /// and does the prepared put. Keeps the jobs of both puts. The job of key 4 becomes the newest.
     PutLate(u64, u64),
     /// Looks at the newest of the jobs that are kept.
     Newest,
-    /// Looks at the pair of a rank.
+    /// Looks at the pair with this rank.
     Pair(usize),
     /// Reads the size, the count and the change number.
     Read,
@@ -83,8 +82,8 @@ enum Answer {
     Done,
     Reply(Reply),
     Withdrawn(Op, u64),
-    /// Whether the cursor of the first put no longer fitted; the replies to the put of key 4, to
-    /// the read and to the first put.
+    /// The answer to `PutLate`. The first field is true if the cursor of the prepared put no longer
+    /// fitted. Then follow the replies to the put of key 4, to the read and to the prepared put.
     Late(bool, Reply, Reply, Reply),
     /// The reply to a take, and the effect of its job.
     Taken(Reply, Inverse),
@@ -127,7 +126,7 @@ fn discarded(table: &mut Table, op: Op) -> Result<Answer, Fail> {
     Ok(Answer::Reply(reply))
 }
 
-/// Prepares an operation and withdraws it. Answers the operation that was prepared, and its key.
+/// Prepares an operation and withdraws it. Returns the operation that was prepared, and its key.
 fn withdrawn(table: &mut Table, op: Op) -> Result<Answer, Fail> {
     let pending = table.prepare(op)?;
     let (op, key) = (pending.op(), pending.key().number());
@@ -135,8 +134,8 @@ fn withdrawn(table: &mut Table, op: Op) -> Result<Answer, Fail> {
     Ok(Answer::Withdrawn(op, key))
 }
 
-/// The pair at this rank of the list of pairs. Fails if the content or the count differs from the
-/// list.
+/// The pair with this rank in the table's list of pairs. Fails if the table's content or count does
+/// not agree with that list.
 fn pair_of_rank(alloc: Global, table: &Table, rank: usize) -> Result<Answer, Fail> {
     let pairs = pairs_of(alloc, table)?;
     if !has_pairs(alloc, table, &pairs)? {
@@ -160,7 +159,8 @@ fn put_with_job(
     Ok(Answer::Reply(reply))
 }
 
-/// Whether a job is due if its key has this value.
+/// Returns true if `value` fits the change that the job takes back: some value after a put, and
+/// `None` after a take.
 fn is_due(value: Reply, job: &MapJob) -> bool
     ensures { (m : Map) → get m (key_of_job job.now) ≡ value → result ≡ true → IsDue m job.now }
 {
@@ -171,7 +171,7 @@ fn is_due(value: Reply, job: &MapJob) -> bool
     }
 }
 
-/// Takes a change back, if it is due.
+/// Takes a job's change back. Fails if the value of the job's key does not fit this change.
 fn take_back(table: &mut Table, job: MapJob) -> Result<Answer, Fail>
     requires { OwnsIf table.old (spare_of_job job) }
 {
@@ -183,7 +183,7 @@ fn take_back(table: &mut Table, job: MapJob) -> Result<Answer, Fail>
     Ok(Answer::Done)
 }
 
-/// Takes back the newest of these puts.
+/// Takes back the newest of the puts whose jobs are in `jobs`.
 fn take_newest_back(table: &mut Table, jobs: &mut Vec<MapJob>) -> Result<Answer, Fail> {
     match jobs.pop().ok_or("no job")? {
         MapJob::Unput(key) => take_back(table, MapJob::Unput(key)),
@@ -238,7 +238,7 @@ fn read(table: &mut Table, key: u64) -> Result<(Reply, Option<MapJob>), Refusal>
     table.apply(Op::Get(key))
 }
 
-/// Keeps the job of a put of a new key.
+/// Adds the job of a put to `jobs`. Fails if there is no job, or if the put did not put a new key.
 fn keep_unput(jobs: &mut Vec<MapJob>, job: Option<MapJob>) -> Result<(), Fail> {
     let job = job.ok_or("no job")?;
     if !matches!(job, MapJob::Unput(_)) {
@@ -248,8 +248,8 @@ fn keep_unput(jobs: &mut Vec<MapJob>, job: Option<MapJob>) -> Result<(), Fail> {
     Ok(())
 }
 
-/// Prepares and places a put, puts value 40 at key 4, reads the key of the first put, and then does
-/// that put.
+/// Prepares and places a put. Then puts value 40 at key 4, reads the key of the prepared put, and
+/// does the prepared put. Adds the jobs of both puts to `jobs`, the job of key 4 last.
 fn put_late(
     table: &mut Table,
     jobs: &mut Vec<MapJob>,
@@ -269,7 +269,7 @@ fn put_late(
     Ok(Answer::Late(is_again, other, there, own))
 }
 
-/// Takes a step of the buckets, sweeps, or reads the figures.
+/// Takes a step on the buckets, sweeps, or reads the figures.
 fn take_bucket_step(table: &mut Table, step: Step) -> Result<Answer, Fail> {
     Ok(match step {
         Step::Double(seen) => Answer::Double(table.double(seen)),
@@ -389,7 +389,7 @@ const STEPS: [(Step, Answer); 118] = [
     (Step::Pair(3), Answer::Pair(5, 50)),
     (Step::Pair(4), Answer::Pair(3, 30)),
     (Step::Pair(5), Answer::End),
-    // The table of two buckets cannot grow, so the second doubling answers `AtLimit`.
+    // The table of two buckets cannot grow, so the second doubling returns `AtLimit`.
     (Step::BeginSmall, Answer::Done),
     (Step::Double(4), Answer::Double(Double::Moved(2))),
     (Step::Double(2), Answer::Double(Double::AtLimit)),
@@ -438,7 +438,7 @@ const STEPS: [(Step, Answer); 118] = [
     (Step::Read, Answer::Figures(2, 1, 7)),
     (Step::Sweep, Answer::Swept(SweepOutcome::Clean)),
     (Step::Read, Answer::Figures(2, 1, 7)),
-    // An operation that is withdrawn changes nothing. A change whose job is discarded stays.
+    // A withdrawn operation changes nothing. A change remains if its job is discarded.
     (
         Step::Withdraw(Op::Put(2, 20)),
         Answer::Withdrawn(Op::Put(2, 20), 2),
@@ -451,7 +451,7 @@ const STEPS: [(Step, Answer); 118] = [
     (Step::Begin, Answer::Done),
     (Step::ReturnAt(Op::Put(2, 20)), Answer::Reply(None)),
     (Step::Pair(0), Answer::End),
-    // The cursor of key 3 still fits: it is behind key 1, and key 4 is put in front of key 1.
+    // The cursor of key 3 still fits: its position is after key 1, and key 4 is put before key 1.
     (Step::Begin, Answer::Done),
     (Step::Do(Op::Put(1, 10)), Answer::Reply(None)),
     (Step::PutLate(3, 30), Answer::Late(false, None, None, None)),
@@ -480,7 +480,7 @@ const APPLY_THEN_TAKE_BACK: [(Step, Answer); 12] = [
     (Step::Pair(0), Answer::End),
 ];
 
-/// The cursor of key 2 is at the position where key 4 is put.
+/// Key 4 is put at the position of key 2's cursor, so this cursor no longer fits.
 const STALE_PENDING: [(Step, Answer); 11] = [
     (Step::PutLate(2, 20), Answer::Late(true, None, None, None)),
     (Step::Pair(0), Answer::Pair(4, 40)),

@@ -1,6 +1,6 @@
-//! Keys that share a split key, sixteen pairs of them in one table. The replies follow from a rule,
-//! so a loop makes the calls, unlike in `runs`. Each lower key is taken, and other changes of the
-//! pair are taken back. Only the higher keys are left at the end.
+//! Tests of keys that share a split key. One table has sixteen pairs of such keys. The replies
+//! follow from a rule, so a loop makes the calls, unlike in `runs`. The lower key of each pair is
+//! taken. All other changes of a pair are taken back, so only the higher keys remain at the end.
 use super::{do_at_once, figures, new_table, there_and_back};
 use map_ops::Table;
 use std::process::Abort;
@@ -9,15 +9,15 @@ use txn_words::{Op, Refusal};
 
 const HALF: u64 = 1 << 63;
 
-/// Puts a key, and the one that is higher by 2^63. Answers whether both were new.
+/// Puts a key, and the key that is higher by 2^63. Returns true if both were new.
 fn are_put(table: &mut Table, key: u64) -> Result<bool, Refusal> {
     let (high, value) = (key.wrapping_add(HALF), key.wrapping_add(100));
     let higher = do_at_once(table, Op::Put(high, value))?;
     Ok(higher.is_none() && do_at_once(table, Op::Put(key, key))?.is_none())
 }
 
-/// Takes a key out. Then changes this key and the key that is higher by 2^63, and takes each of
-/// these changes back. Answers whether each reply is that of the right key.
+/// Takes a key. Then changes this key and the key that is higher by 2^63, and takes each of these
+/// changes back. Returns true if each reply is right for the key of its operation.
 fn is_one_taken(table: &mut Table, key: u64) -> Result<bool, Refusal> {
     let (high, value) = (key.wrapping_add(HALF), key.wrapping_add(100));
     let low_replies = [
@@ -45,8 +45,8 @@ fn share_split_keys(rt: &impl Abort, table: &mut Table) -> Result<(), Fail> {
     Ok(())
 }
 
-/// Two keys that differ by 2^63 have one split key and one bucket: neither is mistaken for the
-/// other.
+/// Two keys that differ by 2^63 have the same split key and the same bucket. No call may mistake
+/// one of them for the other.
 #[test]
 fn keys_that_share_a_split_key(rt: HostRuntime) -> Result<(), Fail> {
     share_split_keys(&rt, &mut new_table(rt.alloc()).expect(&rt, "a table"))

@@ -1,6 +1,6 @@
-//! Calls that are driven by hand, one hold of the lock at a time. `into_booked` takes the core out
-//! of its lock. Each hold is then a call of `hold`, and a test can replace the core. The ends of
-//! the calls and the entries were worked out by hand.
+//! These tests drive calls by hand, one hold of the lock at a time. `into_booked` takes the core
+//! out of its lock. Each hold is then a call of the method `hold`, and a test can replace the core.
+//! The ends of the calls and the entries were worked out by hand.
 ghost use Rattle.std.specs.Prelude.{◌≡◌};
 ghost use Rattle.core_tokens.specs.Tokens.{HasTried};
 
@@ -14,8 +14,8 @@ use std::sync::ledger::Ledger;
 use std::test::Fail;
 use txn_words::{Answer, Entry, Limits, Op, Refusal};
 
-/// Takes the turns of a call until it has ended. Answers `None` if it has not ended after nine
-/// turns.
+/// Makes the holds of a call until the call has ended. Returns `None` if it has not ended after
+/// nine holds.
 fn drive<L: Ledger>(booked: &mut Booked<L>, me: &mut Caller<L, NoSide>, call: Call) -> Option<End>
     requires { HasTried me.old call }
 {
@@ -28,7 +28,8 @@ fn drive<L: Ledger>(booked: &mut Booked<L>, me: &mut Caller<L, NoSide>, call: Ca
     None
 }
 
-/// The end of a call by `drive`. If the call is an operation, tries the word of its stripe first.
+/// Makes a call with `drive`, and returns the call's end. If the call is an operation, first tries
+/// the word of the operation's stripe.
 fn end_of<L: Ledger>(
     booked: &mut Booked<L>,
     me: &mut Caller<L, NoSide>,
@@ -68,7 +69,7 @@ static SECOND: [Entry; 3] = [
     Entry::Aborted(1),
 ];
 
-/// Drives the calls.
+/// Makes the calls of `TURNS`, and checks their ends and what the callers have seen.
 fn take_turns<L: Ledger, R: Abort>(
     rt: &R,
     booked: &mut Booked<L>,
@@ -107,20 +108,20 @@ fn calls_by_hand(rt: HostRuntime) -> Result<(), Fail> {
     play_with(&rt, rt.alloc(), 2, &ByTurns)
 }
 
-/// A core of this number of stripes, which are words.
+/// Makes a core with this number of stripes. The stripes are words.
 fn core_with_words(alloc: Global, stripes: u64) -> Result<Core, Refusal> {
     Ok(Core::with_words(alloc, Limits::new(2, stripes, 8)?)?)
 }
 
-/// Puts another core, whose stripes are words, in the core's place. Neither has a history.
+/// Replaces the core with another one, whose stripes are words. Neither core has a history.
 fn lay_core<L: Ledger>(rt: &impl Abort, booked: &mut Booked<L>, core: Core) {
     assert!(rt; booked.core.trace().is_empty());
     booked.core = core;
     assert!(rt; booked.core.words() && booked.core.trace().is_empty());
 }
 
-/// Tries to begin a transaction on another core of 4 stripes, and then on one of 8. Both are
-/// refused.
+/// Tries to begin a transaction on another core with 4 stripes, and then on one with 8 stripes.
+/// Both begins are refused.
 fn begin_with_others<L: Ledger, R: Abort>(
     rt: &R,
     alloc: Global,
@@ -137,8 +138,8 @@ fn begin_with_others<L: Ledger, R: Abort>(
     Ok(())
 }
 
-/// The map has 8 words. A core of 4 stripes breaks the token. The token then takes no step on this
-/// core, nor later on a core of 8 stripes.
+/// The map has 8 words. If a caller's token meets a core with 4 stripes, the token becomes
+/// unusable. It takes no step on this core, and no step on a later core with 8 stripes.
 struct OtherStripes;
 
 impl Play for OtherStripes {

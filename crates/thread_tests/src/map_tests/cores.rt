@@ -1,6 +1,6 @@
-//! Tests of the core of a map, after the map is closed. No contract sees through the map's lock.
-//! The calls of a map are tested elsewhere; here the core itself takes steps, to show its buckets,
-//! its helpers and what is left to sweep. All steps are on one thread.
+//! Tests of a map's core after the map is closed. No contract sees through the map's lock. Other
+//! modules test the calls of a map. In this module the core itself takes steps, which show its
+//! buckets, its helpers and the nodes that are still to be swept. All steps are on one thread.
 use super::rows::{Row, play_rows};
 use crate::devices::{Play, Shared, Told, callers_in, closed_of, play_with};
 use boost_core::{Call, Core};
@@ -12,7 +12,7 @@ use std::sync::ledger::Ledger;
 use std::test::Fail;
 use txn_words::{Answer, Limits, Op, Refusal, Step};
 
-/// Takes a step. Answers `None`, and takes no step, if the step asks for an operation.
+/// Takes a step. If the step asks for an operation, takes no step and returns `None`.
 pub(super) fn step(core: &mut Core, step: Step) -> Option<Answer> {
     match step {
         Step::Ask(..) => None,
@@ -44,7 +44,7 @@ static FIRST_STEPS: [(Step, Answer); 7] = [
     (Step::Begin(1), Answer::Began(1)),
 ];
 
-/// Looks at the core of an unused map.
+/// Checks that a core is that of an unused map.
 fn is_unused<R: Abort>(rt: &R, core: &mut Core) -> Result<(), Fail> {
     assert!(rt; core.limits() == Limits::new(2, 8, 8)?);
     assert!(rt; core.words() && core.trace().is_empty());
@@ -53,8 +53,8 @@ fn is_unused<R: Abort>(rt: &R, core: &mut Core) -> Result<(), Fail> {
     Ok(())
 }
 
-/// A map that is closed at once. Its core has two buckets, nothing to sweep, and no helper that has
-/// sought.
+/// A map that is closed at once. Its core has two buckets and no node to sweep. No helper has
+/// sought a place for a dummy node.
 struct Unused;
 
 impl Play for Unused {
@@ -121,7 +121,7 @@ static PUT_BY_1: [Row; 2] = [
     (1, Call::Op(Op::Put(1, 10)), Ok(Told::Replied(None))),
 ];
 
-/// Caller 0's `try_word` is refused, and caller 1 puts the key.
+/// `try_word` is refused for caller 0, which has no transaction. Then caller 1 puts the key.
 fn try_idly<L: Ledger, R: Wait + Abort>(
     rt: &R,
     shared: &Shared<L>,
@@ -135,7 +135,8 @@ fn try_idly<L: Ledger, R: Wait + Abort>(
     Ok(())
 }
 
-/// A token without a transaction tries no word, so another caller finds the key's stripe free.
+/// The token of a caller without a transaction does not try a stripe's word, so another caller
+/// finds the stripe free.
 struct Idle;
 
 impl Play for Idle {

@@ -1,6 +1,7 @@
-//! The state after calls that are refused memory, by `docs/tests/refused.sh`. Without that script,
-//! the tests are plain worked runs, whose ends were worked out by hand. No contract says that a
-//! refused call leaves its caller unchanged, or that a call is given memory while there is some.
+//! Tests of the state after calls that are refused memory. `docs/tests/refused.sh` refuses the
+//! memory. Without this script, the tests are plain worked runs, whose ends were worked out by
+//! hand. No contract says that a refused call leaves its caller unchanged, or that a call gets
+//! memory as long as there is some.
 use crate::devices::{
     Play, Shared, TRIES, callers_of, closed_of, has_left, is_refused, play_where_made, run, seen_by,
 };
@@ -13,12 +14,12 @@ use std::sync::ledger::Ledger;
 use std::test::Fail;
 use txn_words::{Answer, Op, Refusal};
 
-/// A call of the caller at a position, and its end if there is memory.
+/// The position of a caller, its call, and the end of the call if there is memory.
 type Wanted = (usize, Call, End);
 
-/// Makes a call, and makes it again while it is refused memory, `TRIES` times in all. Answers the end
-/// of the last try. A try that is refused memory does not change the number of entries that the
-/// caller has seen.
+/// Makes a call, and makes it again while it is refused memory, `TRIES` times in all. Returns the
+/// end of the last try. Checks that a try that is refused memory does not change the number of
+/// entries that the caller has seen.
 fn end_of<L: Ledger, R: Wait + Abort>(
     rt: &R,
     shared: &Shared<L>,
@@ -36,7 +37,8 @@ fn end_of<L: Ledger, R: Wait + Abort>(
     End::Refused(Refusal::NoMemory)
 }
 
-/// Makes the calls up to the first that is refused memory for good. Answers whether none was.
+/// Makes the calls, and stops at the first one that is refused memory in all of `TRIES` tries.
+/// Returns false if there is such a call.
 fn is_whole<L: Ledger, R: Wait + Abort>(
     rt: &R,
     alloc: Global,
@@ -56,7 +58,7 @@ fn is_whole<L: Ledger, R: Wait + Abort>(
     true
 }
 
-/// Gives up each caller's transaction, if it has one, which needs no memory.
+/// Aborts the transaction of each caller that has one. This needs no memory.
 fn give_up<L: Ledger, R: Wait + Abort>(
     rt: &R,
     shared: &Shared<L>,
@@ -74,9 +76,9 @@ fn give_up<L: Ledger, R: Wait + Abort>(
     }
 }
 
-/// The calls are made up to the first that is refused memory for good. Then all callers give up. If a
-/// call was refused memory, no key is left. Otherwise one key is left, and the history has this
-/// number of entries.
+/// A test that makes the calls, and stops at the first one that is refused memory in all tries.
+/// Then all callers abort. If a call was refused memory, the closed map has no key. Otherwise the
+/// map has one key, and its history has `entries` entries.
 #[derive(Drop)]
 struct Refused {
     calls: &'static [Wanted],
@@ -138,7 +140,7 @@ const DONE: End = End::Answered(Answer::Done(None));
 /// The end of an operation on a key with the value 10.
 const HAD: End = End::Answered(Answer::Done(Some(10)));
 
-/// Each kind of call, including a help that doubles and stores buckets.
+/// Each kind of call. One of them is a help that doubles the table and stores buckets.
 static EACH_CALL: Refused = Refused {
     calls: &[
         (0, Call::Begin, End::Answered(Answer::Began(1))),

@@ -1,6 +1,6 @@
-//! The tests' side value, a register of four words, and the job that takes back one change of it.
-//! The job runs a boxed closure, and its ghost fields say that the closure brings the words back.
-//! The test is in `side`, which makes the closures.
+//! The tests' side value is a register of four words. The job that takes back one change of the
+//! register runs a boxed closure. The ghost fields of the job say that the closure restores the
+//! words. The test is in `side`, which makes the closures.
 ghost use Rattle.std.specs.Prelude.{◌≡◌};
 ghost use Rattle.thread_tests.specs.declared.map_tests.register.Register.{Register as Value};
 

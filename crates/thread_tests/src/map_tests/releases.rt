@@ -1,6 +1,6 @@
-//! An observer of releases is told of each hold of the lock exactly once. The observer is the
-//! caller's own type, so no contract can count the calls on it. The counts were worked out by hand
-//! from the steps of each call.
+//! An observer of releases is notified exactly once for each hold of the lock. The observer's type
+//! is the caller's own, so no contract can count the calls of the observer. The counts in the
+//! tables were worked out by hand from the steps of each call.
 use crate::devices::{Play, Shared, callers_in, play_with, play_with_room, run_heard};
 use boost_core::Call;
 use locked_map::{Caller, NoSide, OnRelease, Pass, Room};
@@ -24,7 +24,7 @@ impl OnRelease for Count {
     }
 }
 
-/// The number of releases of a call.
+/// Makes a call, and returns how often the call releases the lock.
 fn releases_of<L: Ledger, R: Wait>(
     rt: &R,
     shared: &Shared<L>,
@@ -38,9 +38,10 @@ fn releases_of<L: Ledger, R: Wait>(
     count.releases.load(Ordering::SeqCst)
 }
 
-/// Calls of one caller, each with its releases. A call that its token refuses takes no lock. The
-/// initialisation of a bucket takes three holds, and so does an operation. Taking changes back
-/// takes three holds, and two more for each change.
+/// Calls of one caller, each with the number of times that it releases the lock. A call that its
+/// token refuses does not take the lock. The initialisation of a bucket takes three holds of the
+/// lock, and so does an operation. Taking changes back takes three holds, and two more for each
+/// change.
 static RELEASES: [(Call, u64); 16] = [
     (Call::Commit, 0),
     (Call::Help(0), 1),
@@ -60,16 +61,16 @@ static RELEASES: [(Call, u64); 16] = [
     (Call::Abort, 5),
 ];
 
-/// Calls on a map whose `Room` has `is_written: true` and `entries: 0`. So its history may not grow
-/// under the lock, and the first hold takes no turn. The second hold hands over room for entries,
-/// and takes a turn. Each later hold takes a turn.
+/// Calls on a map whose `Room` has `is_written: true` and `entries: 0`. The history of such a map
+/// may not grow under the lock, so the first hold of the lock takes no turn. The second hold passes
+/// in room for entries, and takes a turn. Each later hold takes a turn.
 static GROWN: [(Call, u64); 3] = [
     (Call::Begin, 2),
     (Call::Op(Op::Put(1, 10)), 3),
     (Call::Commit, 1),
 ];
 
-/// Makes the calls.
+/// Makes the calls, and checks how often each one releases the lock.
 fn releases_are<L: Ledger, R: Wait + Abort>(
     rt: &R,
     shared: &Shared<L>,

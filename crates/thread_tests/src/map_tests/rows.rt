@@ -1,6 +1,7 @@
-//! Calls that are made in the order of a table. The answer of each must be the one in the table.
-//! No contract says that a call is given memory while there is some, or that `help` grows the
-//! table. The answers were worked out by hand. `cores`, `threads` and `step_between` play rows too.
+//! Calls that are made in the order of a table. Each call must get the answer in the table. No
+//! contract says that a call gets memory as long as there is some, or that `help` grows the table
+//! of the map. The answers were worked out by hand. `cores`, `threads` and `step_between` also play
+//! rows.
 use super::cores::step;
 use crate::devices::{
     Play, Shared, Told, callers_in, close, close_or_miss, closed_of, has_seen, is_history,
@@ -43,8 +44,8 @@ pub(super) fn play_row<L: Ledger, R: Wait + Abort>(
     assert_eq!(rt; told, wanted, "caller {}: {call:?}", number_of(me));
 }
 
-/// Tries to close a map with only caller 1. Since caller 0 is missing, the map and caller 1 are
-/// returned. Then closes the map with both callers.
+/// Tries to close a map with caller 1 alone. This must return the map and caller 1, since caller 0
+/// is missing. Then closes the map with both callers.
 fn close_missing_caller<L: Ledger, R: Abort>(
     rt: &R,
     alloc: Global,
@@ -71,14 +72,14 @@ static BUSY: [Row; 4] = [
     (1, Call::Op(Op::Get(9)), Err(Stop::Busy { holder: 0 })),
 ];
 
-/// The entries that caller 1 has then seen.
+/// The entries that caller 1 has seen after `BUSY`.
 static SEEN: [Entry; 3] = [
     Entry::Began(1, 2),
     Entry::Busy(1, Op::Get(9), 0),
     Entry::Aborted(1),
 ];
 
-/// Both commit.
+/// Caller 1 begins again, and both callers commit.
 static REST: [Row; 3] = [
     (1, Call::Begin, Ok(Told::Number(3))),
     (1, Call::Commit, Ok(Told::Committed(3, 1))),
@@ -131,7 +132,8 @@ impl Play for BusyBetween {
     }
 }
 
-/// The history has nine entries; caller 0 saw four of them, and caller 1 five.
+/// Checks that the history is `BETWEEN`, that caller 0 saw four of its nine entries, and that
+/// caller 1 saw the other five.
 fn counted_entries<L: Ledger, R: Abort>(rt: &R, closed: &Closed<L, NoSide>) {
     assert!(rt; is_history(closed.core.trace(), BETWEEN.as_slice()));
     assert_eq!(rt; closed.callers.len(), 2);
@@ -147,16 +149,17 @@ fn figures_of<L: Ledger>(callers: &[Caller<L, NoSide>], place: usize) -> Option<
     Some((number_of(me), seen_by(me)))
 }
 
-/// Caller 1 finds caller 0's stripe held, begins again and commits first. The map then does not
-/// close without caller 0, and closes with both: see `close_missing_caller` and `counted_entries`.
+/// Caller 1 finds a stripe held by caller 0, begins again and commits first. The map then does not
+/// close without caller 0, and closes with both callers (see `close_missing_caller` and
+/// `counted_entries`).
 #[test]
 fn busy_between_callers(rt: HostRuntime) -> Result<(), Fail> {
     play_with(&rt, rt.alloc(), 2, &BusyBetween)
 }
 
-/// Calls, and the state of the core after they are made and the map is closed: its size, its keys
-/// with their values in the order of the list, and its answer to a helper that seeks the position
-/// of a bucket's dummy node.
+/// Calls, and the core's state after them, once the map is closed. `size` is the number of the
+/// core's buckets. `list` has the core's keys with their values, in the order of its list. `seeks`
+/// has the core's answers to a helper that seeks the position of a bucket's dummy node.
 #[derive(Drop)]
 struct Worked {
     rows: &'static [Row],
@@ -208,7 +211,7 @@ static HELP_GROWS: Worked = Worked {
     seeks: &[(3, Answer::Ready), (2, Answer::Placed)],
 };
 
-/// A help that does nothing would meet its contract; it fails here.
+/// A `help` that does nothing would meet its contract, but it fails this test.
 #[test]
 fn help_grows(rt: HostRuntime) -> Result<(), Fail> {
     play_with(&rt, rt.alloc(), 2, &HELP_GROWS)
@@ -252,7 +255,7 @@ static KEYS_OF_64_BITS: Worked = Worked {
     seeks: &[],
 };
 
-/// Puts two keys that have the same split key, and puts under a condition.
+/// Puts two keys that have the same split key, and makes conditional puts.
 #[test]
 fn keys_of_64_bits(rt: HostRuntime) -> Result<(), Fail> {
     play_with(&rt, rt.alloc(), 2, &KEYS_OF_64_BITS)
@@ -284,9 +287,9 @@ static RIGHTS_COME_BACK: Worked = Worked {
     seeks: &[],
 };
 
-/// Rights to stripes are given back at the end of a transaction and not before. Keys 1, 9 and 17
-/// have the same stripe. After a savepoint and a return to it, caller 0 still has its right. An
-/// abort, a commit and a busy stripe each give back all rights of the caller.
+/// A transaction gives its rights to stripes back at its end and not before. Keys 1, 9 and 17 have
+/// the same stripe. Caller 0 sets a savepoint and returns to it, and then still has its right. An
+/// abort, a commit and a busy call each give back all rights of the caller.
 #[test]
 fn rights_come_back(rt: HostRuntime) -> Result<(), Fail> {
     play_with(&rt, rt.alloc(), 2, &RIGHTS_COME_BACK)

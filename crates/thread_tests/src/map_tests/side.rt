@@ -1,6 +1,6 @@
-//! A side value that is rolled back with its caller's transaction. The functions take any side
-//! value that can be made of words; the test gives them a `Register`. No contract says that a call
-//! is given memory while there is some; here it must be. The words were worked out by hand.
+//! These tests roll a side value back with its caller's transaction. The functions take any side
+//! value that can be made from words. The test passes a `Register`. No contract says that a call
+//! gets memory as long as there is some. In this test it must. The words were worked out by hand.
 ghost use Rattle.std.specs.Prelude.{◌≡◌, [], ◌∷◌, IfSome};
 
 use super::register::{OfWords, Register, RegisterJob};
@@ -22,8 +22,8 @@ fn marks_of<L: Ledger, S: Side>(me: &Caller<L, S>) -> Marks {
     (me.seen().len(), me.words())
 }
 
-/// Makes a call, and makes it again while it is refused memory. Answers `None` if it is refused for
-/// good. A refused call leaves its caller's marks unchanged.
+/// Makes a call, and makes it again while it is refused memory, `TRIES` times in all. Returns
+/// `None` if every try is refused. Checks that a refused try leaves the caller's marks unchanged.
 fn try_call<L: Ledger, S: Side, R: Wait + Abort>(
     rt: &R,
     shared: &Shared<L>,
@@ -43,7 +43,8 @@ fn try_call<L: Ledger, S: Side, R: Wait + Abort>(
 }
 
 /// Changes the first word of the side value, whose other words are 0. If the change is refused
-/// memory, nothing has changed, and it is tried once more. Answers `None` if it is refused again.
+/// memory, checks that nothing has changed, and tries once more. Returns `None` if it is refused
+/// again.
 fn change<L: Ledger, S: OfWords, R: Abort>(
     rt: &R,
     shared: &Shared<L>,
@@ -71,8 +72,8 @@ fn change<L: Ledger, S: OfWords, R: Abort>(
 }
 
 /// Changes the first word from 0 to 1, sets a savepoint, changes the word twice more, and returns
-/// to the savepoint. Answers the words before and after the return, or `None` if a call is refused
-/// memory twice.
+/// to the savepoint. Returns the words before and after this return, or `None` if every try of a
+/// call is refused memory.
 fn words_there<L: Ledger, S: OfWords, R: Wait + Abort>(
     rt: &R,
     shared: &Shared<L>,
@@ -97,8 +98,8 @@ fn words_there<L: Ledger, S: OfWords, R: Wait + Abort>(
     Some([there, me.words()])
 }
 
-/// Aborts, which needs no memory and is never refused in an open transaction. The words are then
-/// those at the beginning.
+/// Aborts the transaction. The abort needs no memory, and it may be refused only if no transaction
+/// is open. The words must then be those from before the transaction.
 fn give_up<L: Ledger, S: Side, R: Wait + Abort>(
     rt: &R,
     shared: &Shared<L>,
@@ -114,7 +115,7 @@ fn give_up<L: Ledger, S: Side, R: Wait + Abort>(
     assert_eq!(rt; me.words(), [0, 0, 0, 0]);
 }
 
-/// A list with room for one caller. If memory is refused, the room is asked for once more. Answers
+/// Makes a list with room for one caller. If memory is refused, asks for it once more. Returns
 /// `None` if it is refused again.
 fn room_for_one<T: Drop>(alloc: Global) -> Option<Vec<T>> {
     let mut list = Vec::new(alloc);
@@ -124,7 +125,7 @@ fn room_for_one<T: Drop>(alloc: Global) -> Option<Vec<T>> {
     Some(list)
 }
 
-/// Closes the map of a caller that has put nothing. The list of callers has room for it.
+/// Closes a map, whose only caller has put no key. The list `callers` has room for this caller.
 fn close_in<L: Ledger, S: Side, R: Abort>(
     rt: &R,
     alloc: Global,
@@ -179,7 +180,8 @@ fn there_and_back<L: Ledger, S: OfWords, R: Wait + Abort>(
     close_alone(rt, alloc, shared, me)
 }
 
-/// Boxes a value, and tries once more if memory is refused. Answers `None` if it is refused again.
+/// Boxes a value, and tries once more if memory is refused. Returns `None` if memory is refused
+/// again.
 fn make_box<T: Drop>(alloc: Global, value: T) -> Option<Box<T>>
     ensures { IfSome result (λ block. block.value ≡ value) }
 {
@@ -197,7 +199,7 @@ fn register(words: [u64; 4]) -> Register
 }
 
 /// Runs `there_and_back` with a register, whose jobs are boxed. If memory for a box is refused,
-/// does nothing and answers `None`.
+/// does nothing and returns `None`.
 fn register_returns<L: Ledger, R: Wait + Abort>(
     rt: &R,
     alloc: Global,
@@ -245,7 +247,7 @@ impl Play for SideReturns {
     }
 }
 
-/// If a call is refused memory twice, as by `docs/tests/refused.sh`, the caller gives up.
+/// If every try of a call is refused memory, as by `docs/tests/refused.sh`, the caller aborts.
 #[test]
 fn side_value_returns(rt: HostRuntime) -> Result<(), Fail> {
     play_where_made(&rt, rt.alloc(), 1, &SideReturns)

@@ -1,6 +1,6 @@
 //! Between two turns of one caller's call, another caller makes calls. This shows that no lock is
 //! held over a whole call, which no contract says. An observer of releases makes the other caller's
-//! calls on the same thread, so each run has one history, which was worked out by hand.
+//! calls on the same thread. So each run has the same history, which was worked out by hand.
 use super::rows::play_row;
 use crate::devices::{Play, Shared, Told, callers_in, closed_of, is_history, play_with, run_heard};
 use boost_core::{Call, End};
@@ -41,7 +41,7 @@ fn put_four<L: Ledger, R: Wait + Abort>(rt: &R, shared: &Shared<L>, me: &mut Cal
     }
 }
 
-/// Caller 0 begins, and puts 20 at key 2. `between` hears each release of the lock by the put.
+/// Caller 0 begins, and puts 20 at key 2. The put notifies `between` of each release of the lock.
 fn begin_and_put<L: Ledger, R: Wait + Abort>(
     rt: &R,
     shared: &Shared<L>,
@@ -53,7 +53,8 @@ fn begin_and_put<L: Ledger, R: Wait + Abort>(
     assert_eq!(rt; end, End::Answered(Answer::Done(None)));
 }
 
-/// Caller 0 begins and puts, and the other caller acts in between. The other caller is returned.
+/// Caller 0 begins and puts, and during its put the caller `other` runs a transaction. Returns
+/// `other`.
 fn put_two<L: Ledger, R: Wait + Abort>(
     rt: &R,
     shared: &Shared<L>,
@@ -70,7 +71,7 @@ fn put_two<L: Ledger, R: Wait + Abort>(
     between.other.into_inner()
 }
 
-/// Caller 0 makes its calls, and the other acts in between.
+/// Calls `put_two` with callers 0 and 1.
 fn meet<L: Ledger, R: Wait + Abort>(
     rt: &R,
     shared: &Shared<L>,

@@ -1,6 +1,6 @@
-//! The texts of the reasons why a call stopped: a held stripe, a refusal and refused memory. The
-//! last two are made by `Stop::from`. The texts were written by hand, and no map is needed for
-//! them.
+//! The texts of the reasons why a call stopped: a held stripe, a refusal, and refused memory.
+//! `Stop::from` makes the last two reasons. The texts were written by hand. These tests need no
+//! map.
 use locked_map::Stop;
 use std::alloc::{AllocError, Global};
 use std::test::Fail;

@@ -1,7 +1,7 @@
-//! Callers that each run in a thread, one after the other or all at the same time. The contracts
-//! let each call be refused; here none is. If the callers run one after the other, they have one
-//! history, which was worked out by hand. If they run at the same time, the history depends on the
-//! threads, so it is only judged.
+//! Tests with callers in threads, one after the other or all at the same time. The contracts let
+//! each call be refused. Here no call is refused. If the callers run one after the other, there is
+//! one possible history, which was worked out by hand. If they run at the same time, the history
+//! depends on the threads. The checker then only judges it.
 ghost use Rattle.std.specs.Prelude.{◌≡◌};
 
 use super::rows::{Row, play_row};
@@ -23,14 +23,14 @@ use txn_words::{Entry, Limits, Op};
 /// The work of a map's callers in their threads.
 #[derive(Clone, Copy)]
 enum Plan<'a> {
-    /// Each caller makes its own calls of these rows. Its thread begins when the thread of the
-    /// caller before it has ended.
+    /// Each caller makes those calls of these rows that name the caller. A caller's thread begins
+    /// when the thread of the previous caller has ended.
     InTurn(&'a [Row]),
     /// All callers make calls at the same time: calls that look random, made from this seed.
     AtOnce(u64),
 }
 
-/// Makes only the calls of this caller.
+/// Makes those calls of the rows that name this caller.
 fn play_own<L: Ledger, R: Wait + Abort>(
     rt: &R,
     shared: &Shared<L>,
@@ -45,7 +45,7 @@ fn play_own<L: Ledger, R: Wait + Abort>(
     }
 }
 
-/// Makes the calls of each caller in a thread, which begins when the thread before it has ended.
+/// Makes the calls of each caller in a thread. A thread begins when the previous one has ended.
 fn work_in_turn<L: Ledger + Send + Sync, R: Threads + Wait + Abort + Sync>(
     rt: &R,
     shared: &Shared<L>,
@@ -67,7 +67,7 @@ struct Dice {
 }
 
 impl Dice {
-    /// A number below `sides`, by a linear congruence.
+    /// A number below `sides`, from a linear congruential generator.
     fn roll(&mut self, sides: u64) -> u64 {
         self.state = self
             .state
@@ -89,7 +89,8 @@ impl Dice {
     }
 }
 
-/// One transaction, whose calls are never refused: it ends, or it finds a stripe held.
+/// Runs one transaction, in which no call may be refused. The transaction ends with a commit, with
+/// an abort, or with a stripe found held.
 fn transact<L: Ledger, R: Wait>(
     rt: &R,
     shared: &Shared<L>,
@@ -143,7 +144,7 @@ fn work_at_once<L: Ledger + Send + Sync, R: Threads + Wait + Abort + Sync>(
     });
 }
 
-/// A new map, on which its callers work. It closes, and its history is legal.
+/// Opens a map, and runs `work_and_close` with its callers.
 fn play_under<L: Ledger + Send + Sync, R: Threads + Wait + Abort + Sync>(
     rt: &R,
     alloc: Global,
@@ -178,7 +179,7 @@ fn work_and_close<L: Ledger + Send + Sync, R: Threads + Wait + Abort + Sync>(
     looks_so(rt, alloc, &closed_of(rt, shared, callers), what)
 }
 
-/// Looks at the closed map.
+/// Checks that the history is legal and, for `InTurn`, that it is `IN_TURN`.
 fn looks_so<L: Ledger, R: Abort>(
     rt: &R,
     alloc: Global,
@@ -217,7 +218,7 @@ static IN_TURN: [Entry; 8] = [
     Entry::Committed(1, 2),
 ];
 
-/// Each caller of `two_threads_in_turn` has seen its half of the history.
+/// Checks that the history is `IN_TURN`, and that each caller has seen its own half of it.
 fn in_turn<L: Ledger, R: Abort>(rt: &R, closed: &Closed<L, NoSide>) {
     let callers = closed.callers.as_slice();
     assert!(rt; is_history(closed.core.trace(), IN_TURN.as_slice()));
@@ -235,13 +236,13 @@ static TWO_IN_TURN: [Row; 6] = [
     (1, Call::Commit, Ok(Told::Committed(2, 2))),
 ];
 
-/// Caller 0 puts 60 at key 6, and caller 1 gets it.
+/// Caller 0 puts 60 at key 6. Then caller 1 gets this value.
 #[test]
 fn two_threads_in_turn(rt: HostRuntime) -> Result<(), Fail> {
     play(&rt, rt.alloc(), 2, Plan::InTurn(TWO_IN_TURN.as_slice()))
 }
 
-/// The seed of each run gives its number of callers, 2 to 8.
+/// The seed of each run determines the number of callers, which is 2 to 8.
 #[test]
 fn a_thousand_runs(rt: HostRuntime) -> Result<(), Fail> {
     for seed in 0..1000 {

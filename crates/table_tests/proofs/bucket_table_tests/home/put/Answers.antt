@@ -12,8 +12,8 @@ pub returns-clause-home : goal.returns-clause-home
 returns-clause-home g c =
     still_home _ _ c.link_at.ensures.follows _ (still_home _ _ c.seek-cursor.ensures.follows _ (still_home _ _ c.in_ok-spare.ensures.follows _ c.requires.home))
 
--- If a node has the sort key of a number's node (`regular_at`), the number is the node's key, and
--- the node is keyed.
+-- If the sort key of a node is `regular_at number`, then `number` is the node's key, and the node
+-- is keyed.
 regular_keyed : (n : NodeAt) (number : ℕ) → n.at ≡ regular_at number → IsKeyedNode n
 regular_keyed n number at regular =
     let own : n.at.key ≡ number = ap (λ (at : SortKey). at.key) at in
