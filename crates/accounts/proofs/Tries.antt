@@ -26,15 +26,13 @@ busy_so work wider zero a b is same = same
 busy_so work wider (suc n) a c is (b, holder, so_far, failed) =
     (b, holder, busy_so work wider n a b is so_far, fails_so work wider b c (Busy holder) is failed)
 
--- `did` is a relation of values that hold a caller. If it implies a transfer's work (`HasWorked`)
--- for each `Ok`, then `did` as a relation of the held callers (`on_callers`) implies `Works`.
 works_so : {H : Type 0} (caller_of : H → Caller) (did : H → Result Bool Stop → H → Type 0) (from to sum : ℕ) → ((h : H) (moved : Bool) (k : H) → did h (Ok moved) k → HasWorked from to sum moved (caller_of h) (caller_of k))
     → (a : Caller) (r : Result Bool Stop) (b : Caller) → on_callers caller_of did a r b → Works from to sum a r b
 works_so caller_of did from to sum is a (Ok moved) b (h, k, done, first, last) =
     subst (λ (x : Caller). HasWorked from to sum moved x b) first (subst (λ (x : Caller). HasWorked from to sum moved (caller_of h) x) last (is h moved k done))
 works_so caller_of did from to sum is a (Err stop) b done = tt
 
--- If such a work was tried and given up, `GivesUp` holds.
+-- If the work of a transfer was tried and given up, `GivesUp` holds.
 pub gives_up : {H : Type 0} (caller_of : H → Caller) (did : H → Result Bool Stop → H → Type 0) (from to sum tries : ℕ) (stop : Stop) (a b : Caller)
     → ((h : H) (moved : Bool) (k : H) → did h (Ok moved) k → HasWorked from to sum moved (caller_of h) (caller_of k))
     → ((busy : ℕ) × (busy ≤ tries) × ((holder : ℕ) → stop ≡ Busy holder → busy ≡ tries) × (l : Caller) × FailsBusy (on_callers caller_of did) busy a l × Fails (on_callers caller_of did) l b stop)

@@ -50,7 +50,7 @@ read m c txn from to had has es some =
     let (second, on) = replied (start m) c (Get to) has es (subst IsSome goes some) in
     (first, second, goes ∙ on)
 
--- What a transfer's work does to the map if it is run alone and committed.
+-- If a transfer's entries are run alone and committed, the map changes as `Makes` says.
 pub made : (m : Map) (c txn place from to sum : ℕ) (moved : Bool) (had has : Option ℕ) (es : List Entry) → from ≢ to → HasWritten c from to sum moved had has es
     → IsSome (alone m (Began c txn ∷ es ++ Committed c place ∷ [])) → Makes from to sum moved m (map_after m (Began c txn ∷ es ++ Committed c place ∷ []))
 made m c txn place from to sum false had has es apart (cannot, es_are) some =

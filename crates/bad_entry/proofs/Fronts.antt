@@ -74,7 +74,8 @@ module _ (holder : Holder) (stripes s : ℕ) (g : List Entry) where
   holder-push (Returned c n) after = other (Returned c n) after refl refl
   holder-push (Busy c op x) after = other (Busy c op x) after refl refl
 
--- `next_holder`, folded over the entries, gives the holder after them.
+-- Folding `next_holder` over the entries of a legal history turns the stripe's holder before these
+-- entries into the holder after them.
 pub holder-fold : (holder : Holder) (stripes s : ℕ) (g h : List Entry) → IsLegal holder stripes (g ++ h) → fold (next_holder stripes s) (holder_of stripes s g) h ≡ holder_of stripes s (g ++ h)
 holder-fold holder stripes s g [] legal = ap (holder_of stripes s) (sym (append-nil g))
 holder-fold holder stripes s g (e ∷ h) legal =

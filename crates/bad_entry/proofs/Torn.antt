@@ -15,8 +15,6 @@ IsTornBefore h c n (Some i) = (i < n) × IsWholeIn (take i h) c × ((m : ℕ) �
 pub none_yet : (h : List Entry) (c : ℕ) → IsTornBefore h c 0 None
 none_yet h c t in_t going = absurd (grind (arith, in_t))
 
--- Suppose that the replies contradict one another after `n + 1` entries, and after `m` entries if
--- `m ≤ n`. Then they also do so after `m` entries if `m ≤ n + 1`.
 one_more : (h : List Entry) (c n m : ℕ) → IsTornIn (take (n + 1) h) c → (m ≤ n → IsTornIn (take m h) c) → m ≤ n + 1 → IsTornIn (take m h) c
 one_more h c n m last before up =
     ⊎_elim (λ same. subst (λ (k : ℕ). IsTornIn (take k h) c) (sym same) last) (λ (less : m < n + 1). before (omega arith)) (eq-or-lt_of_le up)

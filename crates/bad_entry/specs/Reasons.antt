@@ -21,9 +21,8 @@ use Rattle.bad_entry.specs.Commits.{IsTornSince, last_commit}
 use Rattle.bad_entry.specs.Desks.{txn_in, waiting_in}
 use Rattle.bad_entry.specs.Holding.{IsHeldSince}
 
--- Either the caller waits for `op`, `due` is the reply that the present map gives to `op`, and
--- `last` is the last change of the key of `op`. Or the caller waits for no operation, and the
--- reason is `Nothing`.
+-- `Reply`: the caller waits for the operation `op`, `due` is the reply that the present map gives
+-- to `op`, and `last` is the last change of its key. `Nothing`: the caller waits for no operation.
 abbrev pub IsReplyReason : List Entry → ℕ → Reason → Type 0
 IsReplyReason h c (reasons.Reply op due last) =
     (waiting_in h c ≡ Some op) × (due ≡ reply_of (now h) op) × IsLast (key_of op) h last

@@ -16,7 +16,7 @@ use Rattle.txn_files.specs.Entries.{entry_of, is_old_entry}
 use Rattle.txn_files.specs.HistoryFile.{is_in_range}
 use Rattle.bad_file.specs.Flaws.{AreEntries, IsEntry, entry_in}
 
--- The entry that this value is, if it is an entry.
+-- Reads this value as an entry, if it is one.
 abbrev pub piece_in : Bool → Bool → Data → Option Entry
 piece_in o r d = option_and_then (entry_in o r) (elements_of d)
 

@@ -50,7 +50,6 @@ at_entry d ds k are = ap (option_and_then (λ (xs : List Data). slice_get xs k))
 there : (ds : List Data) (i : ℕ) (e : Data) → i < length ds → e ≡ get_or ds i e → slice_get ds i ≡ Some e
 there ds i e below is = slice_get-get_or ds i e below ∙ ap (λ (x : Data). Some x) (sym is)
 
--- If the first i elements are all entries, the element at each index below i is an entry.
 one_of : (o r : Bool) (ds : List Data) (i : ℕ) → i < length ds → AreEntries o r (take i ds) → (k : ℕ) (x : Data) → k < i → slice_get ds k ≡ Some x → IsEntry o r x
 one_of o r ds i below all k x less at_k =
     let few : i ≤ length ds = omega arith in

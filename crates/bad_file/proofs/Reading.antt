@@ -20,7 +20,7 @@ use Rattle.bad_file.specs.declared.expected.Expected.{Expected}
 use Rattle.bad_file.specs.declared.expected.Expected.TheVariants.{EntryName, Caller, Number, NumberOrNull}
 
 -- True if the elements are exactly those that are expected. The flag `o` says that the version is
--- 1. The flag `r` says that ranges count.
+-- 1. The flag `r` says that ranges are tested.
 abbrev pub accepts : Bool → Bool → List Data → List Expected → Bool
 accepts o r [] [] = true
 accepts o r [] (e ∷ es) = false
@@ -47,7 +47,7 @@ over : {A : Type 0} (x : Option A) (ds : List Data) (f : List Data → Bool) →
 over None ds f = refl
 over (Some a) ds f = refl
 
--- True if a caller is in range, or if ranges do not count.
+-- True if a caller is in range, or if ranges are not tested.
 abbrev ok : Bool → ℕ → Bool
 ok r c = not r || nat_le c max_caller
 
@@ -92,7 +92,7 @@ never : {A : Type 0} (x : Option (A × List Data)) → then_test x (λ a rest. f
 never None = refl
 never (Some p) = refl
 
--- Whether the version has the operation, and the elements after it are what is expected.
+-- True if the version has the operation, and the elements after the operation are as expected.
 abbrev kept_op : Bool → Bool → List Expected → Op → List Data → Bool
 kept_op o r es op rest = (not o || is_old_op op) && accepts o r rest es
 
@@ -201,8 +201,8 @@ op_first false r es (d ∷ ds) = new_op r es ds (as_str d)
 
 -- ---- an entry
 
--- True if there is an entry and the version has it. If ranges count, its callers must also be in
--- range.
+-- True if there is an entry and the version has it. If ranges are tested, its callers must also be
+-- in range.
 abbrev pub kept : Bool → Bool → Option Entry → Bool
 kept o r None = false
 kept o r (Some e) = (not o || is_old_entry e) && (not r || is_in_range e)
@@ -211,8 +211,6 @@ keeps : (o b : Bool) → ((not o || true) && b) ≡ b
 keeps true b = refl
 keeps false b = refl
 
--- The lemma for the end of an entry. Its flag `b` is true if no element follows. Only then is there
--- an entry.
 last : {A : Type 0} (o r : Bool) (c : ℕ) (a : A) (f : A → Entry) → kept o r (Some (f a)) ≡ ok r c → (b : Bool)
     → (ok r c && b) ≡ kept o r ((if b then Some a else None) >>= λ x. Some (f x))
 last o r c a f is true = both_true (ok r c) ∙ sym is
@@ -293,7 +291,6 @@ busy_last : (o r : Bool) (c : ℕ) (ds : List Data) → (ok r c && accepts o r d
 unfolding busy_of
 busy_last o r c ds = ap (λ b. ok r c && b) (op_first o r (Caller ∷ []) ds) ∙ busy_with o r c (op_at ds)
 
--- Lemmas for the elements after the word of an entry: a caller, and then the others.
 through : (o r : Bool) (f : ℕ → List Data → Option Entry) (x : Option (ℕ × List Data)) → then_test x (λ c rest. kept o r (f c rest)) ≡ kept o r (x >>= λ c. f c.0 c.1)
 through o r f None = refl
 through o r f (Some p) = refl
@@ -364,8 +361,8 @@ entry_word o r ds (Some w) =
     named o r ds (bytes_eq w (codes "asked")) (bytes_eq w (codes "busy")) (bytes_eq w (codes "did")) (bytes_eq w (codes "undone")) (bytes_eq w (codes "began"))
     (bytes_eq w (codes "saved")) (bytes_eq w (codes "leave")) (bytes_eq w (codes "returned")) (bytes_eq w (codes "committed")) (bytes_eq w (codes "aborted"))
 
--- Suppose that the word of an entry is expected first. Then `accepts` is true exactly if the
--- elements are an entry that counts (`kept`).
+-- If the word of an entry is expected first, `accepts` is true exactly if the elements are an entry
+-- that satisfies `kept`.
 pub entry_accepted : (o r : Bool) (ds : List Data) → accepts o r ds (EntryName ∷ []) ≡ kept o r (entry_of ds)
 unfolding entry_of leading_text
 entry_accepted o r [] = refl

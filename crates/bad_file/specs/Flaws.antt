@@ -53,7 +53,7 @@ pub record IsFault (is_old ranged : Bool) (ds : List Data) (i : ℕ) (wanted : O
 abbrev pub wrong : Data → Place → Option Expected → Flaw
 wrong d place wanted = Wrong place (found_of (at place d)) wanted
 
--- If the value at a place is not as expected, the flaw at this place.
+-- The flaw at a place, or `None` if the value at the place is as expected.
 abbrev pub flaw_at : Bool → Data → Place → Expected → Option Flaw
 flaw_at ranged d place wanted =
     if is_met ranged (Some wanted) (at place d) then None else Some (wrong d place (Some wanted))

@@ -72,7 +72,7 @@ are_few ranged most (Some ds) = not ranged || nat_le (length ds) most
 abbrev pub is_array : Bool → ℕ → Data → Bool
 is_array ranged most d = are_few ranged most (elements_of d)
 
--- Whether a value is what is expected. Its range counts only if `ranged` is true.
+-- True if a value is as expected. Its range is tested only if `ranged` is true.
 abbrev pub is_as_expected : Bool → Expected → Data → Bool
 is_as_expected ranged expected.Object d = is_some (as_object d)
 is_as_expected ranged expected.Version d = is_number ranged 1 max_version d

@@ -12,7 +12,7 @@ use Rattle.bank.specs.declared.NotMoved.{NotMoved}
 use Rattle.bank.specs.declared.NotMoved.TheVariants.{TooLittle, TooMuch, Stopped}
 use Rattle.bank.specs.Transfers.{IsWhy, WasStopped, balance}
 
--- If P implies Q for every error, and P holds of a result's error, then Q holds of this error.
+-- If `P` implies `Q` for every error, and `P` holds for a result's error, `Q` holds for this error.
 pub on_err : {T E : Type 0} {P Q : E → Type 0} (result : Result T E) → ((e : E) → P e → Q e) → IfErr result P → IfErr result Q
 on_err (Ok value) follows holds = tt
 on_err (Err e) follows holds = follows e holds

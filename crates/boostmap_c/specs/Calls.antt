@@ -21,7 +21,7 @@ TellsAnswer Steps (Some old) status before after (Some new) =
 TellsAnswer Steps None status before after None = (status ≡ empty_handle) × (after ≡ before)
 TellsAnswer Steps old status before after new = ⊥
 
--- The map helps its table to grow.
+-- A caller helps the map's table to grow, and the status reports the result to C.
 abbrev pub HelpsWith : Option State → ℕ → ℕ → ℕ → Option State → Type 0
 HelpsWith (Some old) c key status (Some new) =
     (outcome : Result Unit Refusal) × Helps old c key outcome new
@@ -36,7 +36,7 @@ Counts (Some old) status before after (Some new) =
 Counts None status before after None = (status ≡ empty_handle) × (after ≡ before)
 Counts old status before after new = ⊥
 
--- There is a new map. There is none if its limits or memory are refused.
+-- The call makes a new map, unless the map's limits or memory are refused.
 abbrev pub MakesWithin : Result Sizes Refusal → ℕ → Option State → Type 0
 MakesWithin (Ok limits) status (Some new) = (status ≡ done) × (new ≡ start limits)
 MakesWithin (Ok limits) status None = status ≡ refused NoMemory

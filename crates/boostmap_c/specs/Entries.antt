@@ -19,8 +19,8 @@ op_of e =
     else (if nat_eq e.operation 3 then Some (Take e.key)
     else (if nat_eq e.operation 4 then Some (Get e.key) else None)))
 
--- The Asked entry with this operation, and the Busy entry with this operation. None if there is no
--- operation.
+-- The Asked entry with this operation, or None if there is no operation. `busy_entry_of` gives the
+-- Busy entry in the same way.
 abbrev pub asked_entry_of : CEntry → Option Op → Option Entry
 asked_entry_of e None = None
 asked_entry_of e (Some op) = Some (Asked e.caller op)

@@ -58,7 +58,7 @@ pub record IsFirstMember (callers stripes : ℕ) (m : Member) : Type 0 where
   pub waiting : (place : ℕ) → place + 1 < callers
       → HoldsAt (IsNew map stripes (place + 1)) m.waiting.items place
 
--- There is the first member of a new map. There is none if the map's limits or memory are refused.
+-- The call makes the first member of a new map, unless the map's limits or memory are refused.
 abbrev pub OpensAt : ℕ → ℕ → ℕ → ℕ → ℕ → Option Member → Type 0
 OpensAt callers stripes status before after (Some new) =
     (are_striped_limits callers stripes ≡ true) × (status ≡ done) × (after ≡ callers)

@@ -37,7 +37,7 @@ no_entry = 8
 abbrev pub refused : Refusal → ℕ
 refused refusal = 16 + number_of refusal
 
--- The status of an answer. It is 63 for the answers that no call of C can have.
+-- The status of an answer. It is 63 for the answers that no call from C can get.
 abbrev pub status_of_answer : Answer → ℕ
 status_of_answer (Done None) = absent
 status_of_answer (Done (Some value)) = done

@@ -5,7 +5,7 @@ use Rattle.map_answers.specs.declared.stop.Stop.{Stop}
 use Rattle.map_answers.specs.declared.stop.Stop.TheVariants.{Busy, Refused}
 use Rattle.boostmap_c.specs.Replies.{done, absent, busy, refused}
 
--- The status and the word for the reason why a call was not done.
+-- The status for the reason why a call was not done. `word_of_stop` gives the word for this reason.
 abbrev pub status_of_stop : Stop → ℕ
 status_of_stop (Busy holder) = busy
 status_of_stop (Refused refusal) = refused refusal
@@ -14,7 +14,7 @@ abbrev pub word_of_stop : ℕ → Stop → ℕ
 word_of_stop before (Busy holder) = holder
 word_of_stop before (Refused refusal) = before
 
--- The status and the word for a call that returns a value or none.
+-- The status for a call that returns a value or none. `word_of_reply` gives the word for this call.
 abbrev pub status_of_reply : Result (Option ℕ) Stop → ℕ
 status_of_reply (Ok None) = absent
 status_of_reply (Ok (Some value)) = done
@@ -25,7 +25,7 @@ word_of_reply before (Ok None) = before
 word_of_reply before (Ok (Some value)) = value
 word_of_reply before (Err stop) = word_of_stop before stop
 
--- The status and the word for a call that returns a number.
+-- The status for a call that returns a number. `word_of_number` gives the word for this call.
 abbrev pub status_of_number : Result ℕ Stop → ℕ
 status_of_number (Ok number) = done
 status_of_number (Err stop) = status_of_stop stop

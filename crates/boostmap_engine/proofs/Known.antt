@@ -24,8 +24,8 @@ Appends-kept (Some us) (Some vs) (Some ws) xs p q = q ∙ p
 rest_whole : (text : List ℕ) (done : ℕ) → take (length text - done) (drop done text) ≡ drop done text
 rest_whole text done = take_all (length text - done) (drop done text) (omega (arith, length-drop done text))
 
--- If a writer that was offered the rest of a text takes `count` bytes of the rest, it has taken
--- `done + count` bytes of the text in all.
+-- If a writer has taken `done` bytes of a text and then takes `count` bytes of the rest, it has
+-- taken `done + count` bytes of the text in all.
 pub written_more : (a b c : Option (List ℕ)) (text : List ℕ) (done count : ℕ) → Appends a b (take done text) → Appends b c (take count (take (length text - done) (drop done text))) → Appends a c (take (done + count) text)
 written_more a b c text done count p q =
     let r = rw rest_whole at q in

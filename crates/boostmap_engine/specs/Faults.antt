@@ -7,7 +7,7 @@ use Rattle.boostmap_engine.specs.declared.fault.TheConstants.{USAGE}
 use Rattle.boostmap_engine.specs.declared.fault.Fault.{Fault}
 use Rattle.boostmap_engine.specs.declared.fault.Fault.TheVariants.{Usage, Input, NoMemory, NoThread, Read, Write, OutOfStep}
 
--- The exit status.
+-- The program's exit status after this fault.
 abbrev pub status_of : Fault → ℕ
 status_of Usage = 2
 status_of (Input fault) = 3

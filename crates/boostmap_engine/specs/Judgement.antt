@@ -6,8 +6,8 @@ use Rattle.txn_files.specs.HistoryFile.{history_of, holder_rule}
 use Rattle.history_check.specs.declared.verdict.Verdict.{Verdict}
 use Rattle.history_check.specs.Verdicts.{IsVerdictOn, says_legal, verdict_line}
 
--- `outcome` is the verdict on the history that is read from these bytes. The verdict is legal
--- exactly if the history is.
+-- `outcome` is the verdict on the history that is read from these bytes. The verdict says legal
+-- exactly if this history is legal.
 pub record IsJudged (bytes : List ℕ) (outcome : Verdict) : Type 0 where
   pub stripes : ℕ
   pub history : List Entry

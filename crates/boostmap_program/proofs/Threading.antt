@@ -71,11 +71,12 @@ few_in : (file : Result (ℕ × List ℕ × List (List Action)) FileFault) (work
 few_in (Err fault) work is = absurd (cc is)
 few_in (Ok f) work is = few_from f.0 f.1 f.2 work is
 
--- The tries that a script file asks for are at most 1,000.
+-- A script file asks for at most 1,000 tries.
 pub few_tries : (bytes : List ℕ) (work : Work) → scripts_of bytes ≡ Ok work → work.tries ≤ 1000
 few_tries bytes work is = few_in (contents script_file bytes) work is
 
--- If a history of the bytes is written and this fails, the output is as `LeavesThreaded` says.
+-- If the text of a run's history was to be written, and there was a fault, the output is as
+-- `LeavesThreaded` says.
 pub leaves_threaded : (remaining old new : Option (List ℕ)) (bytes text : List ℕ) → IsRead remaining bytes → IsThreadedOf bytes text → (fault : Fault) → LeavesText old new text fault → LeavesThreaded remaining old new fault
 leaves_threaded remaining old new bytes text read is faults.Write h = (bytes, text, read, is, h)
 leaves_threaded remaining old new bytes text read is faults.NoMemory h = h

@@ -29,8 +29,8 @@ pub record IsThreaded (work : Work) (text : List ℕ) : Type 0 where
 abbrev pub IsThreadedOf : List ℕ → List ℕ → Type 0
 IsThreadedOf bytes text = (work : Work) × (scripts_of bytes ≡ Ok work) × IsThreaded work text
 
--- The reason why there is no such text for the bytes: a thread was not started, the history is not
--- what the workers saw, or a reason that a mixed run can have too.
+-- The reason why there is no such text for the bytes. Either a thread was not started, or the
+-- history is not what the workers saw, or the reason is one that a mixed run can have too.
 abbrev pub HasNoneThreaded : List ℕ → Fault → Type 0
 HasNoneThreaded bytes faults.NoThread = Unit {0}
 HasNoneThreaded bytes faults.OutOfStep = Unit {0}
@@ -49,7 +49,7 @@ abbrev pub RunsThreads : Engine
 RunsThreads bytes old new (Ok well) = WritesTextOf IsThreadedOf bytes old new × (well ≡ true)
 RunsThreads bytes old new (Err fault) = LeavesThreaded bytes old new fault
 
--- The fault of a run in threads that was refused as a whole.
+-- The fault that is reported if a run in threads is refused as a whole.
 abbrev pub of_run : Refusal → Fault
 of_run refusals.NoMemory = faults.NoMemory
 of_run refusals.NoThread = faults.NoThread

@@ -12,7 +12,7 @@ use Rattle.bucket_table.specs.declared.helper.Helper.{Helper}
 use Rattle.bucket_table.specs.declared.helper.Helper.TheVariants.{Idle, Seeking, Holding}
 use Rattle.bucket_table.specs.Directory.{Directory, dummy_of, is_stored, limit_of, with_helper, with_dummy, with_size, beginning, MayBeStored, IsReadyHelper, IsSound}
 
--- A statement that holds of all helpers holds of the helper with a given number.
+-- If a statement is true for all helpers, it is true for the helper with a given number.
 pub helper_found : (P : Helper → Type 0) (helpers : List Helper) (number : ℕ) (helper : Helper) → All P helpers → slice_get helpers number ≡ Some helper → P helper
 helper_found P helpers number helper each is =
     subst P (get_or_from_slice_get helpers number helper helper is) (All-get_or P helpers number helper (slice_get_within helpers number helper is) each)
@@ -47,7 +47,8 @@ sound_with_helper d helper now sound order = record {
       All-set (IsReadyHelper new) d.helpers helper now (kept now order) (All-weaker (IsReadyHelper d) (IsReadyHelper new) kept d.helpers sound.helpers);
 }
 
--- The stored buckets after one more bucket is stored.
+-- If a bucket is stored, `is_stored` is true for it, and the dummies of all other buckets are
+-- unchanged.
 pub stored_here : (d : Directory) (bucket place : ℕ) → bucket < limit_of d → is_stored (with_dummy d bucket place) bucket ≡ true
 stored_here d bucket place within = ap is_some (get_or-set_same d.entries bucket (Some place) None within)
 

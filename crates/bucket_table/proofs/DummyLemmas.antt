@@ -21,7 +21,8 @@ pub either : (b : Bool) → (b ≡ true) ⊎ (b ≡ false)
 either true = inl refl
 either false = inr refl
 
--- A statement that holds of all nodes holds of all nodes that remain after a seek (`cleaned`).
+-- If a statement is true for all nodes, it is true for the nodes that remain after a seek
+-- (`cleaned`).
 each_cleaned : (P : NodeAt → Type 0) (at : SortKey) (nodes : List NodeAt) → AllByRecursion P nodes → AllByRecursion P (cleaned at nodes)
 unfolding cleaned
 each_cleaned P at [] each = tt
@@ -68,7 +69,7 @@ is_dummy_regular bucket n regular = go n.kind refl
     go Dummy is = absurd (regular is)
     go Regular is = rw is refl
 
--- If the dummy of a bucket is linked, `has_dummy` is true of the bucket.
+-- If the dummy of a bucket is linked, `has_dummy` is true for the bucket.
 pub dummy_had : (nodes : List NodeAt) (place bucket : ℕ) (n : NodeAt) → node_of nodes place ≡ Some n → n.kind ≡ Dummy → n.at ≡ dummy_at bucket → has_dummy nodes bucket ≡ true
 unfolding has_dummy node_of
 dummy_had [] place bucket n is dummy same = absurd (some-none (sym is))
@@ -83,13 +84,14 @@ dummy_had (m ∷ rest) place bucket n is dummy same = elim (eqb_tells m.place pl
     or_true true = refl
     or_true false = refl
 
--- If no node has the sort key of a bucket's dummy, `has_dummy` is false of the bucket.
+-- If no node has the sort key of a bucket's dummy, `has_dummy` is false for the bucket.
 pub no_dummy : (nodes : List NodeAt) (bucket : ℕ) → AllByRecursion (λ n. n.at ≢ dummy_at bucket) nodes → has_dummy nodes bucket ≡ false
 unfolding has_dummy
 no_dummy [] bucket each = refl
 no_dummy (n ∷ rest) bucket each = rw (is_dummy_other bucket n each.0) (no_dummy rest bucket each.1)
 
--- The dummies after one more node is linked.
+-- If one more node is linked, `has_dummy` is true for a bucket exactly if it was true before or the
+-- new node is the bucket's dummy.
 pub has_dummy-linked_after : (nodes : List NodeAt) (pred : ℕ) (x : NodeAt) (bucket : ℕ) → IsLinked nodes pred → has_dummy (linked_after nodes pred x) bucket ≡ (is_dummy_of bucket x || has_dummy nodes bucket)
 unfolding has_dummy linked_after IsLinked
 has_dummy-linked_after [] pred x bucket linked = absurd linked
@@ -138,8 +140,8 @@ is_dummy_of-dummy_node place bucket stamp other fits other_fits = elim (eqb_tell
   | inr apart ↦ rw apart.0 (is_dummy_other other (dummy_node place bucket stamp) (λ same. apart.1 (same_from_reversed bucket other (omega arith) (omega arith) (ap (λ (at : SortKey). at.split) same))))
 ]
 
--- If `IsKeyedNode` holds of a node and the node has the sort key of a bucket's dummy, then the node
--- is a dummy.
+-- If `IsKeyedNode` holds for a node, and the node has the sort key of a bucket's dummy, the node is
+-- a dummy.
 pub dummy_there : (n : NodeAt) (bucket : ℕ) → bucket < 2 ^ 32 → IsKeyedNode n → n.at ≡ dummy_at bucket → n.kind ≡ Dummy
 dummy_there n bucket fits keyed same = go n.kind refl
   where
@@ -152,11 +154,11 @@ dummy_there n bucket fits keyed same = go n.kind refl
         let parity : split n.at.key ≡ reversed bucket = ap (λ (at : SortKey). at.split) (sym own ∙ same) in
         absurd (omega (arith, odd, even, parity))
 
--- A dummy is not a regular node, so `IsKeyedNode` holds of it.
+-- `IsKeyedNode` holds for every dummy, because it says something only about regular nodes.
 pub keyed_dummy : (n : NodeAt) → n.kind ≡ Dummy → IsKeyedNode n
 keyed_dummy n dummy regular = absurd (cc (sym dummy ∙ regular))
 
--- A change of a node leaves `has_dummy` unchanged if it leaves `is_dummy_of` unchanged.
+-- If a change of a node leaves `is_dummy_of` unchanged, it leaves `has_dummy` unchanged.
 pub has_dummy-changed_at : (nodes : List NodeAt) (place : ℕ) (change : NodeAt → NodeAt) (bucket : ℕ) → ((n : NodeAt) → is_dummy_of bucket (change n) ≡ is_dummy_of bucket n) → has_dummy (changed_at nodes place change) bucket ≡ has_dummy nodes bucket
 unfolding has_dummy changed_at
 has_dummy-changed_at [] place change bucket same = refl

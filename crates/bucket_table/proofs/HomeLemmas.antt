@@ -1,4 +1,4 @@
--- The changes that keep buckets at home.
+-- The changes of a list that preserve `IsHome`.
 use Rattle.std.proofs.Common.{◌≡◌, ℕ, ◌<◌, inl, inr, Some, None, sym, ◌∙◌}
 use Rattle.std.proofs.lemmas.Bool.{cases_eq}
 use Rattle.std.proofs.lemmas.List.{get_or-set_same}
@@ -32,7 +32,7 @@ module _ (old new : Listing) (follows : Follows old new) where
   still_helper_home (Seeking bucket cursor) home = (still_placed old new cursor home.0 follows, home.1)
   still_helper_home (Holding bucket dummy) home = still_dummy dummy bucket home
 
-  -- Buckets stay at home when the list changes.
+  -- If the list changes, `IsHome` still holds.
   pub still_home : (d : Directory) → IsHome d old → IsHome d new
   still_home d home = record {
     stored = λ bucket place is. still_dummy place bucket (home.stored bucket place is);

@@ -111,20 +111,20 @@ lacks_missing limit row bucket missing other same = elim (cases_lt other limit) 
   | inr beyond ↦ ap is_some (entry_past limit row other beyond)
 ]
 
--- A list of `None` has no entry.
+-- Every place of a list of `None`s, and every place past its end, reads as `None`.
 pub none_in : {A : Type 0} (count at : ℕ) → slice_index_or (replicate {A = Option A} count None) at None ≡ None
 none_in zero at = refl
 none_in (suc count) zero = refl
 none_in (suc count) (suc at) = none_in count at
 
--- A new segment has its one dummy and no other.
+-- A new segment has its one dummy at the given place, and no other dummy.
 pub segment_here : (place dummy : ℕ) → place < 64 → slice_index_or (slice_set (replicate 64 None) place (Some dummy)) place None ≡ Some dummy
 segment_here place dummy within = get_or-set_same (replicate 64 None) place (Some dummy) None (omega (arith, within, length-replicate {A = Option ℕ} 64 None))
 
 pub segment_elsewhere : (place dummy other : ℕ) → other ≢ place → slice_index_or (slice_set (replicate 64 None) place (Some dummy)) other None ≡ None
 segment_elsewhere place dummy other apart = get_or-set_other (replicate 64 None) place other (Some dummy) None apart ∙ none_in 64 other
 
--- If a row of missing segments is just long enough for the limit, `IsRow` holds of it.
+-- If a row of missing segments is just long enough for the limit, `IsRow` holds for the row.
 pub row_missing : (limit count : ℕ) → limit ≤ 64 * count → 64 * count < limit + 64 → limit < 2 ^ 32 → IsRow limit (replicate count None)
 row_missing limit count long no_longer fits = record {
   long = let same = length-replicate {A = Option (List (Option ℕ))} count None in omega (arith, same, long);

@@ -51,7 +51,8 @@ pub record HoldsDummy (old new : Directory) (after : Listing) (helper : ℕ) : T
   pub now : new ≡ with_helper old helper (Holding bucket place)
   pub dummy : IsDummyAt after.nodes place bucket
 
--- The dummy of the helper's bucket is linked at the helper's cursor, and the helper has it.
+-- The dummy of the helper's bucket is linked at the helper's cursor. The helper then has this
+-- dummy.
 pub record LinksDummy (old new : Directory) (before after : Listing) (helper : ℕ) : Type 0 where
   pub bucket : ℕ
   pub cursor : Cursor

@@ -43,6 +43,6 @@ pub record IsBeforeBucket (nodes : List NodeAt) (place bucket : ℕ) : Type 0 wh
 abbrev pub IsKeyedNode : NodeAt → Type 0
 IsKeyedNode n = n.kind ≡ Regular → n.at ≡ regular_at n.at.key
 
--- `IsKeyedNode` holds of each node.
+-- `IsKeyedNode` holds for each node.
 abbrev pub IsKeyed : List NodeAt → Type 0
 IsKeyed nodes = AllByRecursion IsKeyedNode nodes

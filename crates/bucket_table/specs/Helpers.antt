@@ -22,9 +22,9 @@ holding_of Idle = Err HelperOutOfOrder
 holding_of (Seeking bucket cursor) = Err HelperOutOfOrder
 holding_of (Holding bucket dummy) = Ok (bucket, dummy)
 
--- The part of a helper's state that decides answers. The helper has nothing, or it has a cursor for
--- the dummy of a bucket, with the change number at which the cursor was placed, or it has the dummy
--- of a bucket.
+-- The part of a helper's state that decides answers. The helper has one of three things: nothing; a
+-- cursor for a bucket's dummy, with the change number at which the cursor was placed; or a bucket's
+-- dummy.
 pub data Help : Type 0 where
   Nothing : Help
   Sought : ℕ → ℕ → Help
@@ -39,7 +39,7 @@ help_of (Holding bucket dummy) = Dummy bucket
 abbrev pub help_at : Directory → ℕ → Option Help
 help_at d helper = option_map help_of (helper_of d helper)
 
--- Whether a helper has a cursor that fits.
+-- True if the helper has a cursor and the cursor fits the list.
 abbrev pub cursor_fits : Listing → Option Helper → Bool
 cursor_fits l (Some (Seeking bucket cursor)) = fits l cursor
 cursor_fits l (Some Idle) = false

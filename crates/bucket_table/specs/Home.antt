@@ -1,4 +1,4 @@
--- Buckets at home on their list.
+-- The condition that the buckets of a table fit a list.
 use Rattle.std.specs.Prelude.{◌≡◌, ℕ, Some, All}
 use Rattle.node_list.specs.Nodes.{Listing}
 use Rattle.list_steps.specs.Found.{IsPlaced, at_of}
@@ -16,7 +16,7 @@ IsHelperHome l (Seeking bucket cursor) = IsPlaced l cursor × (at_of cursor ≡ 
 IsHelperHome l (Holding bucket dummy) = IsDummyAt l.nodes dummy bucket
 
 -- The buckets fit this list: each stored bucket names its linked dummy, and each helper's cursor or
--- dummy belongs to this list (`IsHelperHome`). A change of the list keeps the buckets at home.
+-- dummy belongs to this list (`IsHelperHome`). `IsHome` still holds after a change of the list.
 pub record IsHome (d : Directory) (l : Listing) : Type 0 where
   pub stored : (bucket place : ℕ) → dummy_of d bucket ≡ Some place → IsDummyAt l.nodes place bucket
   pub helpers : All (IsHelperHome l) d.helpers

@@ -2,7 +2,7 @@
 use Rattle.std.specs.Prelude.{◌≡◌, ◌≢◌, ℕ, ◌+◌, ◌*◌, ◌/◌, ◌%◌, ◌<◌, ◌≤◌, ◌^◌, Bool, true, false, List, [], Option, Some, None, map, length, is_some, slice_index_or}
 use Rattle.std.specs.List.{range_with_len}
 
--- The entries of a segment; a missing segment has none.
+-- The entries of a segment. A missing segment has none.
 abbrev pub held_by : Option (List (Option ℕ)) → List (Option ℕ)
 held_by None = []
 held_by (Some segment) = segment

@@ -15,7 +15,8 @@ over name known found file named is =
     ap (option_and_then (asked_for known (seed_in found))) (is ∙ first_value-rows found (codes "FILE"))
     ∙ ap (λ given. asked_in given (rows_of found)) (sym named)
 
--- The call of `mix`, if both a file and a seed are found.
+-- If a file and a seed are found for `mix`, `asked_in` gives the call of `mix` with this file and
+-- with the number that `seed_of` reads.
 pub over_seed : (name : Text) (found : Found) (seed file : Text) → name ≡ codes "mix" → Some file ≡ first_value found (codes "FILE") → Some seed ≡ first_value found (codes "seed")
     → option_map (λ n. (codes "mix", Some n, file)) (seed_of seed) ≡ asked_in name (rows_of found)
 over_seed name found seed file named is_file is_seed =

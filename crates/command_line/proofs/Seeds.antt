@@ -28,7 +28,7 @@ parsed {E} word r plain parses = by_cases r (subst (λ ds. OkIff r (Fits ds) (di
     by_cases (Ok x) given = ap Some given.1 ∙ sym (ap seed_if (fits_to word given.0))
     by_cases (Err e) not_so = sym (ap seed_if (false_from_ne_true _ (λ is. not_so (fits_from word is))))
 
--- Dropping a leading plus leaves a word unchanged if its first byte is not a plus.
+-- If a word does not begin with a plus, `without_leading_plus` leaves the word unchanged.
 pub no_plus : (word : List ℕ) (first : Option ℕ) → first ≡ slice_get word 0 → (first ≡ Some 43 → ⊥) → without_leading_plus word ≡ word
 no_plus [] first is other = refl
 no_plus (c ∷ cs) first is other =

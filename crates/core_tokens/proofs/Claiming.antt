@@ -25,8 +25,8 @@ goes_cases Lock m n step a goes = inr goes
 goes_cases claim m n step a (inl stale) = inl stale
 goes_cases claim m n step a (inr asks) = inr asks.1
 
--- A move, or a refusal with a stale word, adds the entries of its step to the history. It changes
--- neither the limits nor whether stripes are words.
+-- If a step is a move of the core, or is refused because of a stale word, `GoesOver` holds: the
+-- step's entries are added to the history, and the limits are unchanged.
 pub goes_over : (claim : Claim) (m n : State) (step : Step) (a : Answer) → Goes claim m step a n → GoesOver m n step a
 goes_over claim m n step a goes = elim (goes_cases claim m n step a goes) [
   | inl stale ↦
@@ -35,13 +35,14 @@ goes_over claim m n step a goes = elim (goes_cases claim m n step a goes) [
   | inr move ↦ move_over m n step a move
 ]
 
--- A step that does not ask for an operation claims no stripe.
+-- A step that does not ask for an operation has the claim `Lock`.
 pub plain_claim : (tried : Option Trial) (m : State) (step : Step) → ((c : ℕ) (op : Op) → step ≡ Ask c op → ⊥) → claim_in tried m step ≡ Lock
 plain_claim None m step other = refl
 plain_claim (Some trial) m (Ask c op) other = absurd (other c op refl)
 plain_claim (Some trial) m step other = refl
 
--- A total that counts the entries still counts them after a step.
+-- If a total is the length of the history, and grows by the number of a step's entries, it is the
+-- length of the history after the step.
 pub counted_more : (h more es : List Entry) (total next : ℕ) → total ≡ length h → next ≡ total + length es → more ≡ h ++ es → next ≡ length more
 counted_more h more es total next counts adds is = omega (arith, counts, adds, simp length-append at (ap length is))
 
@@ -66,7 +67,8 @@ tried_sized_in : (tried : Option Trial) (stripes c size : ℕ) (call : Call) (ph
 tried_sized_in tried stripes c size call (Doubling seen) has = tt
 tried_sized_in tried stripes c size call phase has = has
 
--- The lemma above for the values in the code: `d'` is the drive `d` after it has noted a size.
+-- If `HasTriedNext` holds for a drive, `HasTriedIf` holds for the drive's next step after the drive
+-- has noted a size.
 pub may_next : {S : Type 0} (t k : Token S) (stripes size : ℕ) (d d' : Drive) → t ≡ k → stripes ≡ t.limits.stripes → d' ≡ sized_of size d → HasTriedNext k d → HasTriedIf t.claims.tried stripes (step_of d')
 may_next t k stripes size d d' view as_many sized has = rw (sized, as_many, view) (tried_sized_in k.claims.tried k.limits.stripes d.caller size d.call d.phase has)
 

@@ -13,8 +13,8 @@ use Rattle.core_tokens.specs.Suits.{SuitsSeat, IsInStep, IsSized}
 use Rattle.txn_words.specs.declared.answer.Answer.TheVariants as answers
 use Rattle.txn_words.specs.declared.step.Step.TheVariants as steps
 
--- `paired` gives a turn with only the seek, or a turn with the seek and the act. So a statement
--- that holds of both turns holds of the turn that `paired` gives.
+-- If a statement holds for the turn with only the seek, and for the turn with the seek and the act,
+-- it holds for the turn that `paired` gives.
 pub at_paired : (P : Turn → Type 0) (again : ℕ) (seeking acting : Step) → P (One seeking) → P (Two seeking acting) → P (paired again seeking acting)
 at_paired P again seeking acting one two = elim (nat_lt again 8) as (λ b. P (if b then One seeking else Two seeking acting)) [ true ↦ one | false ↦ two ]
 
@@ -33,8 +33,6 @@ goes_told base seen seen' d e step a is whole seen_is told goes =
       fits = subst (λ o. FitsIf o d.call (told_in d.call d.phase a)) (sym (seat_on_more seen es s seat)) (fits_on s d step a (seat_on s es) is (subst (λ o. FitsIf o d.call d.phase) seat goes.fits) refl);
     })
 
--- The second step of a turn is the drive's next step after the answer `Placed`, and this step does
--- not double the table.
 second_in : (size c : ℕ) (call : Call) (phase : Phase) (step next : Step) → turn_in c call phase ≡ Two step next → (step_in c call (told_in call phase answers.Placed) ≡ Some next) × IsSized size (told_in call phase answers.Placed)
 second_in size c call (Seeking work again) step next = at_paired (λ t. t ≡ Two step next → (Some (steps.Act c) ≡ Some next) × Unit) again (steps.Seek c) (steps.Act c) (λ is. absurd (cc is)) (λ is. (cc is, tt))
 second_in size c call (Initialising way again) step next =
@@ -54,7 +52,8 @@ pub no_second : (tried : Option Trial) (m : State) (seen : List Entry) (d : Driv
 no_second tried m seen d next answers.Placed not_so = absurd (not_so refl)
 no_second tried m seen d next a not_so = (refl, refl, refl)
 
--- After its drive has noted the size, a call is still in progress and still in step.
+-- After its drive has noted the core's size, a call is still in progress, and still in step with
+-- the core.
 pub goes_sized : (base seen : List Entry) (d e : Drive) (size : ℕ) → e ≡ sized_of size d → IsUnderway base seen d → IsUnderway base seen e
 goes_sized base seen d e size is goes = rw is (record {
   entries = goes.entries ∙ ap (λ h. base ++ h) (sym (made-sized size d.caller d.call d.phase));

@@ -17,7 +17,8 @@ use Rattle.txn_drive.specs.declared.«end».End.TheVariants as ends
 use Rattle.txn_words.specs.declared.answer.Answer.TheVariants as answers
 use Rattle.txn_words.specs.declared.step.Step.TheVariants as steps
 
--- The call has not ended, or has ended with `Helped`. Then the hold has taken the drive's turn.
+-- The call has not ended, or has ended with `Helped`. In both cases the hold has taken the drive's
+-- turn.
 abbrev IsPlain : Option End → Type 0
 IsPlain None = Unit {0}
 IsPlain (Some ends.Helped) = Unit {0}
@@ -53,8 +54,6 @@ Told known n key bucket e = (e.call ≡ calls.Help key) × Reaches known n bucke
 
 -- `n`, `seen'` and `e` are the core, the entries and the drive after a turn.
 module _ (known : Type 0) (tried : Option Trial) (c key bucket : ℕ) (n : State) (seen' : List Entry) (e : Drive) where
-  -- The last step of the turn is a move of the core. If the call keeps to its bucket in this move,
-  -- it keeps to the bucket in the turn.
   took_last : {m : State} {seen : List Entry} {phase : Phase} {step : Step} {a : Answer} → is_ask step ≡ false → TakesOneStep tried m seen (helping c key phase) step a n seen' e
       → (Move m step a n → Reaches known n bucket (told_in (calls.Help key) phase a)) → Told known n key bucket e
   took_last {m} {seen} {phase} {step} {a} plain takes reaches =
@@ -121,7 +120,7 @@ stays {S} key size m n k l d e heads held =
     let on = later_hold ⊥ key size m n k l d e None tt (λ no. absurd no) heads held in
     (on.0.0, going ⊥ n e.caller (key % size) e.call e.phase on.0.1 on.1)
 
--- If a call with a target suits the core (`Suits`), `HelpSuits` holds of its phase.
+-- If a call has a target and `Suits` holds for its phase, `HelpSuits` holds for this phase.
 way_suits : (m : State) (s : Seat) (c bucket : ℕ) (call : Call) (phase : Phase) → IsTo bucket phase → Suits m s c call phase → HelpSuits m c phase
 way_suits m s c bucket call (Initialising way again) to suits = suits.1
 way_suits m s c bucket call (Linking way again) to suits = suits.1

@@ -19,15 +19,13 @@ no_out : (call : Call) → is_odd call (ends.Refused OutOfStep) ≡ true
 no_out calls.Begin = refl
 no_out call = refl
 
--- If an end is not odd, the call may have it, whatever entries the call has added. Such an end is
--- not `OutOfStep`.
 plain_end : (call : Call) (outcome : End) (es : List Entry) → is_odd call outcome ≡ false → MayEnd call outcome × IsQuiet outcome es × (false ≡ is_out outcome)
 plain_end call (ends.Refused OutOfStep) es plain = absurd (false≢true (sym plain ∙ no_out call))
 plain_end call (ends.Refused r) es plain = (plain, tt, refl)
 plain_end call outcome es plain = (plain, tt, refl)
 
--- A call that ends out of step has committed nothing. A drive with an odd end has also committed
--- nothing. An end is odd if the drive's call must not have it (`is_odd`).
+-- A call that ends with `OutOfStep` has committed nothing. If a drive has an end that its call must
+-- not have (`is_odd`), it has also committed nothing.
 pub out_run : (base seen : List Entry) (e : Drive) → IsUnderway base seen e → (is_some (seat_after seen) ≡ true → CommitNothing (made e)) → HasRun base seen e.caller e.call (ends.Refused OutOfStep)
 out_run base seen e goes quiet = record { added = made e; entries = goes.entries; made = tt; may = tt; quiet = quiet }
 
@@ -76,7 +74,8 @@ held_sized how m n k l d d' e size r size_is is held = (how, subst (λ x. HeldBy
 pub other_in_step : {S : Type 0} (m : State) (t k : Token S) (d : Drive) → t ≡ k → (m.limits.stripes ≡ t.limits.stripes → ⊥) → InStep m k d → ⊥
 other_in_step {S} m t k d view other ins = other (ap (λ (z : Sizes). z.stripes) (ins.1.same_limits ∙ ap (λ (x : Token S). x.limits) (sym view)))
 
--- If a core and a token are in step, they stay in step, and the hold does not end with `OutOfStep`.
+-- If a core and a token are in step after a turn, the token is not broken, and the hold does not
+-- end with `OutOfStep`.
 pub held_in_step : (n : State) (limits : Sizes) (number : ℕ) (seen : List Entry) (b : Bool) (e : Drive) (end r : Option End) (whole : Bool) → IsInStep n limits number seen e → IsShaped n.history
     → whole ≡ is_some (seat_after seen) → end ≡ end_of e → b ≡ (not whole || odd_if e.call end) → r ≡ end_in b end → ((b ≡ false) × IsInStep n limits number seen e) × IfSome r (λ x. x ≢ ends.Refused OutOfStep)
 held_in_step n limits number seen b e end r whole ins shape whole_is end_is broken ends_is =

@@ -11,13 +11,11 @@ use Rattle.core_tokens.proofs.Phases.{seat_on_more}
 use Rattle.core_tokens.specs.Noted.{HasRoomFor, IsNoted, adds_entry, began_by, last_txn}
 use Rattle.txn_words.specs.declared.seat.Phase.TheVariants as seats
 
--- If `entries_of` gives an entry, `adds_entry` is true of the step.
+-- If `entries_of` gives an entry, `adds_entry` is true for the step.
 adds_if : (step : Step) (a : Answer) (e : Entry) → e ∷ [] ≡ entries_of step a → adds_entry step ≡ true
 adds_if (Begin c) a e is = refl
 adds_if step a e is = cc
 
--- If there is room for the owed entries and for the entries that an entry reserves, there is room
--- for this entry and for the entries that are owed after it.
 owed_row : (s : Seat) (e : Entry) (room : ℕ) (next : Option Seat) → row s s.phase e ≡ next → owed_by (Some s) + reserved_for e ≤ room → 0 < room → owed_by next + 1 ≤ room
 owed_row s e room None is all one = omega (arith, one)
 owed_row s e room (Some next) is all one = omega (arith, owed_by-row s next e is, all)

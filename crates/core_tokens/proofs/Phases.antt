@@ -15,8 +15,6 @@ use Rattle.txn_words.specs.declared.answer.Answer.TheVariants as answers
 use Rattle.txn_words.specs.declared.entry.Entry.TheVariants as entries
 use Rattle.txn_words.specs.declared.seat.Phase.TheVariants as seats
 
--- `phase_after` gives a phase for each entry after which a call continues, and `None` for any other
--- entry. If the rule of shape allows the entry, the seat then has this phase.
 abbrev left_for : Option ℕ → Standing
 left_for None = seats.LeavingToEnd
 left_for (Some n) = seats.LeavingTo n
@@ -70,8 +68,6 @@ fits_first s next c (calls.Back n) answers.Leaving is = row_phase s next (entrie
 fits_first s next c calls.Abort answers.Leaving is = row_phase s next (entries.Leave c None) seats.LeavingToEnd refl is
 fits_first s next c call a is = tt
 
--- Two phases may follow a seek. A statement that holds of both holds of the phase that does follow
--- (`at_seek`). `at_counted` says the same for one more change that is taken back.
 at_seek : (P : Phase → Type 0) (work : Work) (again : ℕ) (a : Answer) → P (Acting work again) → P (Lost work) → P (told_seek work again a)
 at_seek P work again answers.Placed acting lost = acting
 at_seek P (Busy x k) again (answers.Refused NothingToSeek) acting lost = acting
@@ -96,7 +92,7 @@ fits_undone s call (Busy x k) fits = at_counted (SuitsSeat s call) k (Busy x (k 
 fits_undone s call (Leaving k) fits = at_counted (SuitsSeat s call) k (Leaving (k + 1)) (Leaving k) (leave_more call k (k + 1) ∙ fits) tt
 
 -- The phases other than `Fresh` in which no work is done. No call returns to its work from such a
--- phase. So the next phase fits each seat, and counts no change as taken back.
+-- phase.
 abbrev Aside : Phase → Type 0
 Aside (Seeking work again) = ⊥
 Aside (Acting work again) = ⊥
@@ -131,7 +127,7 @@ free_told (Storing way) call answers.Stored aside = free_towards way.bucket way.
 free_told (Storing way) call (answers.Refused r) aside = free_refused r
 free_told phase call a aside = (λ s call. tt, refl)
 
--- The entries of a phase's step, and the seat after them.
+-- The entries that a step adds with this answer. If there is no step, there are no entries.
 abbrev pub entries_if : Option Step → Answer → List Entry
 entries_if None a = []
 entries_if (Some step) a = entries_of step a

@@ -16,7 +16,7 @@ use Rattle.txn_drive.specs.declared.call.Call.TheVariants as calls
 use Rattle.txn_words.specs.declared.seat.Phase.TheVariants as seats
 use Rattle.txn_words.specs.declared.step.Step.TheVariants as steps
 
--- The step for which a turn needs room.
+-- The step for which a turn needs room, which is the last step of the turn.
 abbrev pub asked_of : Turn → Option Step
 asked_of (One step) = Some step
 asked_of (Two step next) = Some next

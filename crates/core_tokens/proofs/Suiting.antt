@@ -61,7 +61,7 @@ no_caller : (half : Bool) (s : Seat) (c : ℕ) (call : Call) → refusal_in half
 no_caller half s c calls.Begin = refl
 no_caller half s c call = refl
 
--- If `Suits` holds of a phase, `SuitsSeat` holds of it too.
+-- If `Suits` holds for a phase, so does `SuitsSeat`.
 pub suits_fits : (m : State) (c : ℕ) (s : Seat) (call : Call) (phase : Phase) → Suits m s c call phase → SuitsSeat s call phase
 suits_fits m c s call Fresh suits = (m.limits.half, no_caller m.limits.half s c call ∙ suits.0)
 suits_fits m c s call (Seeking work again) suits = suits

@@ -116,13 +116,13 @@ abbrev pub HasTriedStep : Option Trial → ℕ → Step → Type 0
 HasTriedStep tried stripes (Ask c op) = HasTriedAt tried (stripe_of stripes (key_of op))
 HasTriedStep tried stripes step = Unit {0}
 
--- If there is a step, `HasTriedStep` holds of it.
+-- If there is a step, `HasTriedStep` holds for it.
 abbrev pub HasTriedIf : Option Trial → ℕ → Option Step → Type 0
 HasTriedIf tried stripes None = Unit {0}
 HasTriedIf tried stripes (Some step) = HasTriedStep tried stripes step
 
--- The claim of caller `c` after this trial: the right if the trial found the right, otherwise the
--- word that the trial found.
+-- The claim of caller `c` after this trial. If the trial found the right, the claim is `Right`.
+-- Otherwise `claim_of` gives the claim from the word that the trial found.
 abbrev pub claim_by : State → ℕ → Trial → Claim
 claim_by m c trial = if trial.word == 0 then Right else claim_of m c (trial.word - 1)
 
@@ -141,7 +141,7 @@ abbrev pub Readies : Claimed → Call → Claimed → Type 0
 Readies k (calls.Op op) l = Tries k (stripe_of k.stripes (key_of op)) l
 Readies k call l = l ≡ k
 
--- All rights are given back.
+-- The claims after all rights have been given back.
 abbrev pub given_back : Claimed → Claimed
 given_back k = record k { seat = none_held k.seat; held = []; tried = None }
 

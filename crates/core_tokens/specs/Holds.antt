@@ -39,7 +39,9 @@ abbrev pub odd_if : Call → Option End → Bool
 odd_if call None = false
 odd_if call (Some outcome) = is_odd call outcome
 
--- What a hold returns after its turn.
+-- The end that a hold returns after its turn. If the token is broken (the first argument), this is
+-- a refusal with `OutOfStep`. Otherwise it is the call's own end, or `None` if the call has not
+-- ended.
 abbrev pub end_in : Bool → Option End → Option End
 end_in true outcome = Some (ends.Refused OutOfStep)
 end_in false outcome = outcome
@@ -132,15 +134,15 @@ abbrev pub FitsIf : Option Seat → Call → Phase → Type 0
 FitsIf None call phase = Unit {0}
 FitsIf (Some s) call phase = SuitsSeat s call phase
 
--- A call is in progress. Before the call its caller had seen the entries `base`, and since then the
--- entries that its drive has made. The caller's seat fits the drive.
+-- A call is in progress. Before the call, its caller had seen the entries `base`. Since then, the
+-- caller has seen the entries that the call's drive has made. The caller's seat fits the drive.
 pub record IsUnderway (base seen : List Entry) (d : Drive) : Type 0 where
   pub entries : seen ≡ base ++ made d
   pub fits : FitsIf (seat_after seen) d.call d.phase
 
 -- What taking a turn does. `taken` says whether there was room for what the turn may add. If there
--- was none, nothing is done. Then the call has added nothing yet, and it may be refused with
--- `NoMemory`.
+-- was no room, nothing is done. In this case the call has added no entry yet, and may be refused
+-- with `NoMemory`.
 pub record TurnTaken (tried : Option Trial) (m : State) (seen : List Entry) (d : Drive)
     (turn : Turn) (taken : Bool) (n : State) (seen' : List Entry) (e : Drive) : Type 0 where
   pub took : taken ≡ true → TakesTurn tried m seen d turn n seen' e
@@ -157,8 +159,9 @@ abbrev pub MayEnd : Call → End → Type 0
 MayEnd call (ends.Refused OutOfStep) = Unit {0}
 MayEnd call outcome = is_odd call outcome ≡ false
 
--- A call has ended with this end. Before the call its caller had seen the entries `base`. If the
--- rule of shape allows each seen entry, a call that ended out of step has committed nothing.
+-- A call has ended with this end. Before the call, its caller had seen the entries `base`. If the
+-- rule of shape allows each seen entry, and the call has ended with `OutOfStep`, it has committed
+-- nothing.
 pub record HasRun (base seen : List Entry) (c : ℕ) (call : Call) (outcome : End) : Type 0 where
   pub added : List Entry
   pub entries : seen ≡ base ++ added

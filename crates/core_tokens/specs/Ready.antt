@@ -46,8 +46,8 @@ IsUnready k call refusal l =
     ((refused_by k call ≡ Some refusal) × (l ≡ k))
     ⊎ ((refused_by k call ≡ None) × Lacks k call refusal l)
 
--- The reason why a change of the side value is refused: the token is broken, or else memory is
--- refused.
+-- The reason why a change of the side value is refused: `OutOfStep` if the token is broken,
+-- otherwise `NoMemory`.
 abbrev pub refused_side : Bool → Refusal
 refused_side true = OutOfStep
 refused_side false = NoMemory

@@ -50,7 +50,7 @@ may_refuse (calls.Help key) NoMemory = true
 may_refuse (calls.Help key) StampsUsedUp = true
 may_refuse call refusal = false
 
--- Whether a call must not have this end.
+-- True if this end is not allowed for the call.
 abbrev pub is_odd : Call → End → Bool
 is_odd call (ends.Refused refusal) = not (may_refuse call refusal)
 is_odd call outcome = false

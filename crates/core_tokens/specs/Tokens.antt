@@ -37,7 +37,7 @@ pub record AreTickets (limits : Sizes) (passes : List Ticket) : Type 0 where
   pub words : TableId
   pub are : passes ≡ map (new_ticket limits words) (range_with_len 0 limits.callers)
 
--- Both are the same caller of the same map.
+-- Both tokens belong to the same caller of the same map.
 pub record IsSameCaller {S : Type 0} (k l : Token S) : Type 0 where
   pub number : l.number ≡ k.number
   pub limits : l.limits ≡ k.limits
@@ -59,8 +59,7 @@ pub record IsSameButSide {S : Type 0} (k l : Token S) : Type 0 where
   pub claims : IsSameClaims k l
   pub broken : l.broken ≡ k.broken
 
--- The seat of a pass or a caller has the same number as the pass or the caller, and there is a word
--- for each stripe.
+-- The seat has the number of its pass or caller, and there is a word for each stripe.
 pub record IsNumbered (number : ℕ) (limits : Sizes) (claims : Claimed) : Type 0 where
   pub number_is : claims.seat.number ≡ number
   pub stripes : claims.stripes ≡ limits.stripes

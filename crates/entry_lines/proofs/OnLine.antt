@@ -31,7 +31,6 @@ pub entry_on-fails : (line text : List ℕ) (fault : FileFault) → length line 
 entry_on-fails line text fault short some is_text same h =
     subst (FailsAs fault) (sym (entry_on-text line text short some is_text same)) (fails_first fault (or_fault NotJson (read text)) entry_in h)
 
--- Every result meets `Gives` with itself.
 pub Gives-same : {A : Type 0} (r : Result A FileFault) → Gives (λ x. x) r r
 Gives-same (Ok x) = refl
 Gives-same (Err NotJson) = refl

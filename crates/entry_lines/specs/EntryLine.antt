@@ -24,7 +24,7 @@ is_space byte = byte == 32 || byte == 9 || byte == 13 || byte == 10
 abbrev pub is_blank : List ℕ → Bool
 is_blank line = list_all is_space line
 
--- The entry, if its callers are in range.
+-- The entry, or the fault `Limit` if its caller or the holder that it names is out of range.
 abbrev pub ranged_entry : Entry → Result (Option Entry) FileFault
 ranged_entry entry = if is_in_range entry then Ok (Some entry) else Err Limit
 

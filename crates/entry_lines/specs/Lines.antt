@@ -23,6 +23,7 @@ history_from number (line ∷ lines) = elim (entry_on line) [
 ]
 
 -- The entries in these bytes, one for each line that is not blank, up to the first line that is
--- refused. If a line is refused, also its number, counted from 1, and its fault.
+-- refused. If a line is refused, the result also has the line's number, counted from 1, and its
+-- fault.
 abbrev pub history_of_lines : List ℕ → List Entry × Option (ℕ × FileFault)
 history_of_lines bytes = history_from 1 (split_lines bytes)

@@ -7,7 +7,8 @@ use Rattle.txn_words.specs.declared.entry.Entry.{Entry}
 use Rattle.txn_words.specs.Kinds.{caller_of, is_began}
 use Rattle.txn_trace.specs.Locks.{has_begun}
 
--- If each caller of a history is below 64, no caller from 64 on has begun a transaction.
+-- If all callers of a history have numbers below 64, no caller with the number 64 or above has
+-- begun a transaction.
 pub none_begun : (c : ℕ) → 64 ≤ c → (h : List Entry) → All (λ e. caller_of e < 64) h → has_begun c h ≡ false
 none_begun c above [] all = refl
 none_begun c above (e ∷ h) all =

@@ -86,7 +86,7 @@ undone_from s (LeavingTo n) c h = inl (n, refl, ltb-true _ _ (some_if (nat_lt (s
 undone_from s LeavingToEnd c h = inr (refl, ltb-true _ _ (some_if (nat_lt 0 s.standing) _ h))
 undone_from s _ c h = absurd (false≢true h)
 
--- If an Undone entry is allowed, at least one change stands.
+-- If an Undone entry is allowed, the caller has at least one standing change.
 pub undone_some : (s : Seat) (q : Phase) (c : ℕ) → is_some (row s q (Undone c)) ≡ true → 0 < s.standing
 undone_some s q c h = elim (undone_from s q c h) [
   | inl to ↦ (let more = to.2 in omega arith)
@@ -105,8 +105,8 @@ aborted_from s LeavingToEnd c h = (refl, eqb-true s.standing 0 (some_if (s.stand
 aborted_from s _ c h = absurd (false≢true h)
 
 module _ {holder : Holder} (stripes : ℕ) (g : List Entry) (legal : IsLegal holder stripes g) (c : ℕ) (seat : Seat) (seat_is : seat_after (own c g) ≡ Some seat) where
-  -- If an entry of the caller has the right shape, the rule of shape has a row for it at the
-  -- caller's seat, and its number is right.
+  -- If an entry of the caller has the right shape, `row` allows it for the caller's seat, and the
+  -- number in it is right.
   pub in_row : (e : Entry) → caller_of e ≡ c → is_shaped g e ≡ true → (is_some (row seat seat.phase e) ≡ true) × (is_numbered g e ≡ true)
   in_row e mine shaped = and_parts (is_some (row seat seat.phase e)) (is_numbered g e) (sym (is_shaped_is g e seat (ap (λ d. seat_after (own d g)) mine ∙ seat_is)) ∙ shaped)
 
@@ -115,7 +115,8 @@ module _ {holder : Holder} (stripes : ℕ) (g : List Entry) (legal : IsLegal hol
       let shape = in_row (Began c t) refl (breaks_none holder stripes g (Began c t) fine).0 in
       entries.began stripes g legal c t seat seat_is (only_closed seat seat.phase c t shape.0) (eqb-true t _ shape.1)
 
-  -- A transaction that begins has the next number, and one that commits has the next commit number.
+  -- If a Began entry breaks no rule, its number is one more than the number of Began entries before
+  -- it.
   pub number-began : (t : ℕ) → broken holder stripes g (Began c t) ≡ None → t ≡ how_many is_began g + 1
   number-began t fine = eqb-true t _ (in_row (Began c t) refl (breaks_none holder stripes g (Began c t) fine).0).1
 

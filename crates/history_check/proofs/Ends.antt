@@ -31,6 +31,6 @@ module _ (holder : Holder) (stripes : ℕ) where
     | Some bad ↦ legal.Illegal bad.0 bad.1
   ]) (same_first [] h 0)
 
-  -- If a verdict means what `verdict_by` gives, it is the verdict on the history.
+  -- If a verdict means the same as the result of `verdict_by`, it is the verdict on the history.
   pub verdict_on : (h : List Entry) (v : Verdict) → meaning_of v ≡ verdict_by (broken holder stripes) h → IsVerdictOn holder stripes h v
   verdict_on h v is = record { meaning = is ∙ same_verdict h; legal = says (broken holder stripes) (IsLegal holder stripes h) h v (legal_where h) is }

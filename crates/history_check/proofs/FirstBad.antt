@@ -23,9 +23,9 @@ pub next_is : (o : Option ℕ) (P : Type 0) (v x : ℕ) → SomeIff o P v → o 
 next_is None P v x may is = absurd (cc is)
 next_is (Some y) P v x may is = let same : y ≡ x = cc is in sym same ∙ may.1
 
--- The first bad entry after one more entry, with index `i`, is added. If there was a bad entry
--- before, it remains the first one. If there was none and the added entry breaks a rule (`rule`),
--- the added entry is the first bad one.
+-- The first bad entry of a history to which an entry with the index `i` was added. If there was a
+-- bad entry before, it remains the first one. If there was none and the added entry breaks a rule
+-- (`rule`), the added entry is the first bad one.
 abbrev then_bad : Option (ℕ × ℕ) → Option ℕ → ℕ → Option (ℕ × ℕ)
 then_bad (Some bad) rule i = Some bad
 then_bad None (Some rule) i = Some (i, rule)
@@ -65,15 +65,16 @@ module _ (broken : List Entry → Entry → Option ℕ) where
   told_of told h fed None none is = is.0
   told_of told h fed (Some bad) none is = absurd (cc (sym none ∙ is))
 
-  -- The verdict if no entry is bad, and the verdict if some entry is bad.
+  -- If no entry is bad, the verdict is `Legal`, with the number of commits and the number of
+  -- callers in a transaction.
   pub verdict_by-none : (h : List Entry) (commits count : ℕ) → first_bad_by broken [] h 0 ≡ None → commits ≡ how_many is_commit h → count ≡ length (running (callers_in h) h) → legal.Legal commits count ≡ verdict_by broken h
   verdict_by-none h commits count none commits_are count_is = (λ i. legal.Legal (commits_are i) (count_is i)) ∙ sym (rw (none, verdict_by) refl)
 
   pub verdict_by-some : (h : List Entry) (bad : ℕ × ℕ) → first_bad_by broken [] h 0 ≡ Some bad → legal.Illegal bad.0 bad.1 ≡ verdict_by broken h
   verdict_by-some h bad is = sym (rw (is, verdict_by) refl)
 
-  -- Given that a history is good exactly if no entry is bad, the verdict says legal exactly if the
-  -- history is good.
+  -- Assume that a history is good exactly if no entry is bad. Then its verdict says legal exactly
+  -- if the history is good.
   pub says : (good : Type 0) (h : List Entry) (v : Verdict) → good ↔ (first_bad_by broken [] h 0 ≡ None) → meaning_of v ≡ verdict_by broken h → SaysLegal v ↔ good
   says good h (Legal commits count) iff is = (λ u. iff.1 (none (first_bad_by broken [] h 0) refl), λ g. refl)
     where

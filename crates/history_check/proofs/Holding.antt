@@ -28,14 +28,14 @@ without : (c : ℕ) (o : Option ℕ) → locks.without_caller c o ≡ cond {A = 
 without c None = refl
 without c (Some d) = refl
 
--- A Busy may not name its own caller.
+-- A Busy entry that names its own caller breaks the rule of locks.
 pub busy-own : {holder : Holder} (stripes : ℕ) (h : List Entry) → IsLegal holder stripes h → (c : ℕ) (op : Op) (x : ℕ) → x ≡ c → is_locked holder stripes h (Busy c op x) ≡ false
 busy-own {holder} stripes h legal c op x is =
     is_locked-busy holder stripes h c op x legal.shape legal.locks
     ∙ ap (λ b. not b && elim holder as (λ r. Bool) [ Now ↦ option_eq nat_eq (holder_of stripes (stripe_of stripes (key_of op)) h) (Some x) | Begun ↦ has_begun x h ]) (eq-eqb x c is)
 
--- If `holder` is `Begun`, a Busy entry that names another caller is legal exactly if that caller
--- has begun a transaction.
+-- If `holder` is `Begun`, a Busy entry that names another caller keeps the rule of locks exactly if
+-- that caller has begun a transaction.
 pub busy-begun : {holder : Holder} (stripes : ℕ) (h : List Entry) → IsLegal holder stripes h → (c : ℕ) (op : Op) → holder ≡ Begun → (x : ℕ) → x ≢ c → is_locked holder stripes h (Busy c op x) ≡ has_begun x h
 busy-begun {holder} stripes h legal c op begun x other =
     is_locked-busy holder stripes h c op x legal.shape legal.locks
@@ -60,7 +60,7 @@ module _ {holder : Holder} (stripes : ℕ) (h : List Entry) (legal : IsLegal hol
     abbrev asked_test : Option ℕ → Bool
     asked_test o = elim o as (λ o. Bool) [ None ↦ true | Some d ↦ d == c ]
 
-    -- An Asked is legal if the stripe is granted, and illegal if another caller holds it.
+    -- If the stripe is granted to the caller, the caller's Asked entry keeps the rule of locks.
     pub asked-granted : (new : List (Option ℕ)) → locks.Grants c (key % live.stripes) live.locks new → is_locked holder stripes h (Asked c op) ≡ true
     asked-granted new is = is_locked-asked holder stripes h c op legal.shape legal.locks ∙ elim is.open_to_caller [
       | inl none ↦ ap asked_test (sym held ∙ none)
@@ -70,8 +70,8 @@ module _ {holder : Holder} (stripes : ℕ) (h : List Entry) (legal : IsLegal hol
     pub asked-refused : (other : ℕ) (new : List (Option ℕ)) → locks.Refuses c (key % live.stripes) other live.locks new → is_locked holder stripes h (Asked c op) ≡ false
     asked-refused other new is = is_locked-asked holder stripes h c op legal.shape legal.locks ∙ ap asked_test (sym held ∙ is.held) ∙ ne_eqb other c is.by_another
 
-    -- If `holder` is `Now`, a Busy entry that names another caller is legal exactly if that caller
-    -- holds the stripe.
+    -- If `holder` is `Now`, a Busy entry that names another caller keeps the rule of locks exactly
+    -- if that caller holds the stripe.
     pub busy-held : holder ≡ Now → (x : ℕ) → x ≢ c → is_locked holder stripes h (Busy c op x) ≡ option_eq nat_eq (locks.holder_of live.locks (key % live.stripes)) (Some x)
     busy-held now x other =
         is_locked-busy holder stripes h c op x legal.shape legal.locks

@@ -35,23 +35,20 @@ each-set P (x ∷ xs) zero a here others (suc k) = others (suc k) (λ is. absurd
 each-set P (x ∷ xs) (suc i) a here others zero = others zero (λ is. absurd (omega arith))
 each-set P (x ∷ xs) (suc i) a here others (suc k) = each-set (λ j. P (suc j)) xs i a here (λ j other. others (suc j) (λ is. other (let same : suc j ≡ suc i = is in omega arith))) k
 
--- After a write, the element at that index, if there is one, has the property of the written
--- element.
+-- If the written value has the property `P`, so has the element at the written index.
 pub set-here : {A : Type 0} (P : A → Type 0) (xs : List A) (i : ℕ) (a : A) → P a → IfSome (slice_get (set xs i a) i) P
 set-here P [] i a here = tt
 set-here P (x ∷ xs) zero a here = here
 set-here P (x ∷ xs) (suc i) a here = set-here P xs i a here
 
--- If a property implies another, an optional element with the first has the second too.
+-- If `P` implies `Q` and an optional element has the property `P`, it has the property `Q` too.
 pub if_some : {A : Type 0} (P Q : A → Type 0) (o : Option A) → ((a : A) → P a → Q a) → IfSome o P → IfSome o Q
 if_some P Q None to is = tt
 if_some P Q (Some a) to is = to a is
 
--- If an optional element is `Some a` and has a property, `a` has this property.
 pub at_some : {A : Type 0} (P : A → Type 0) (o : Option A) (a : A) → o ≡ Some a → IfSome o P → P a
 at_some P o a is holds = subst (λ r. IfSome r P) is holds
 
--- A caller that is read at an index below 64 is in the table at this index.
 caller_at : (callers : Callers) (c : ℕ) (caller : Caller) → c < 64 → caller ≡ get_or callers.table.items c caller → slice_get callers.table.items c ≡ Some caller
 caller_at callers c caller below is = slice_get_read callers.table.items (vec_len callers.table) c caller callers.table.ok.0 (let all : vec_len callers.table ≡ 64 = callers.all in omega arith) is
 
@@ -61,8 +58,8 @@ sits_at h callers c caller entered below is = at_some (Sits h c) (slice_get call
 pub room_at : (e : Entry) (callers : Callers) (caller : Caller) → HasRoomFor e callers → caller_of e < 64 → caller ≡ get_or callers.table.items (caller_of e) caller → HasRoom e caller
 room_at e callers caller room below is = at_some (HasRoom e) (slice_get callers.table.items (caller_of e)) caller (caller_at callers (caller_of e) caller below is) room
 
--- If an entry has the right shape, the rule of shape has a row for it at its caller's seat, and its
--- number is right.
+-- If an entry has the right shape, `row` allows it for its caller's seat, and the number in it is
+-- right.
 pub in_row : (h : List Entry) (e : Entry) (seat : Seat) → seat_after (own (caller_of e) h) ≡ Some seat → is_shaped h e ≡ true → (is_some (row seat seat.phase e) ≡ true) × (is_numbered h e ≡ true)
 in_row h e seat seat_is shaped = and_parts (is_some (row seat seat.phase e)) (is_numbered h e) (sym (is_shaped_is h e seat seat_is) ∙ shaped)
 

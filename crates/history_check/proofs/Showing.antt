@@ -77,6 +77,5 @@ busy_followed stripes h legal live shows c op x shaped answered right new locked
       (followed stripes h legal live shows e shaped answered new _ _ _ _ _ (locked ∙ r) next holder_is stripes_are has holds).shows refl;
 }
 
--- If `FollowsAt` holds for an entry, it holds for an equal entry.
 pub of_entry : {holder : Holder} {stripes : ℕ} {h : List Entry} {right : Bool} {new : LiveMap} {e kind : Entry} → e ≡ kind → FollowsAt holder stripes h kind right new → FollowsAt holder stripes h e right new
 of_entry {holder} {stripes} {h} {right} {new} {e} {kind} is follows = subst (λ f. FollowsAt holder stripes h f right new) (sym is) follows

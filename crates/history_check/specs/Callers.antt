@@ -41,16 +41,16 @@ pub record HasRoom (e : Entry) (caller : Caller) : Type 0 where
   pub change : is_did e ≡ true → vec_len caller.changes < vec_capacity caller.changes
   pub level : is_saved e ≡ true → 0 < caller.seat.room
 
--- The caller has the seat and the log that its entries give it, and its `has_begun` says whether it
--- has begun a transaction.
+-- The caller has the seat and the log that follow from its entries, and its `has_begun` says
+-- whether it has begun a transaction.
 pub record Sits (h : List Entry) (c : ℕ) (caller : Caller) : Type 0 where
   pub seat : seat_after (own c h) ≡ Some (seat_of caller)
   pub log : log_of c h ≡ log_in caller
   pub begun : has_begun c h ≡ caller.has_begun
 
 -- The entries `h` have the right shape, and were entered in the table `callers`. Each caller has
--- the seat and the log that its own entries give it. `began` and `committed` are the numbers of all
--- Began and Committed entries.
+-- the seat and the log that follow from its own entries. `began` and `committed` are the numbers of
+-- all Began and Committed entries.
 pub record HaveEntered (h : List Entry) (callers : Callers) : Type 0 where
   pub shape : IsShaped h
   pub below : All (λ e. caller_of e < 64) h

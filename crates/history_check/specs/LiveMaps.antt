@@ -12,8 +12,8 @@ use Rattle.history_check.specs.declared.live_map.LiveMap.{LiveMap}
 use Rattle.history_check.specs.Callers.{HaveEntered}
 use Rattle.history_check.specs.Remainders.{Have}
 
--- The live map shows the history: it has the values of the map after the history, and each stripe
--- has the holder that the history gives it.
+-- The live map shows the history: it has the values that the map has after the history, and each
+-- stripe has the holder that it has after the history.
 pub record Shows (holder : Holder) (stripes : ℕ) (h : List Entry) (live : LiveMap) : Type 0 where
   pub holder_is : live.holder ≡ holder
   pub stripes_are : live.stripes ≡ stripes
@@ -27,8 +27,8 @@ StillShows old new =
     → Shows holder stripes h old → Shows holder stripes h new
 
 -- `right` is true exactly if the entry keeps the rule of locks after the history. If `right` is
--- true, the new map shows the history with this entry added. This is said only of a legal history,
--- and of an entry whose shape and reply are right.
+-- true, the new map shows the history with this entry added. `FollowsEntry` claims both only if the
+-- history is legal, and the entry's shape and reply are right.
 pub record FollowsAt (holder : Holder) (stripes : ℕ) (h : List Entry) (e : Entry) (right : Bool)
     (new : LiveMap) : Type 0 where
   pub locked : is_locked holder stripes h e ≡ right

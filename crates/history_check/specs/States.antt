@@ -9,8 +9,8 @@ use Rattle.history_check.specs.Callers.{HaveEntered}
 use Rattle.history_check.specs.LiveMaps.{Shows}
 use Rattle.history_check.specs.Verdicts.{number_of}
 
--- The state tells the entries: they are a legal history, and the state has the callers and the live
--- map as they are after this history.
+-- The entries are a legal history, and the state has the callers and the live map as they are after
+-- this history.
 pub record Tells (holder : Holder) (stripes : ℕ) (h : List Entry) (state : State) : Type 0 where
   pub legal : IsLegal holder stripes h
   pub entered : HaveEntered h state.callers
@@ -28,8 +28,7 @@ abbrev pub Judged : Holder → ℕ → List Entry → Entry → Option Rule → 
 Judged holder stripes h e None new = Tells holder stripes (h ++ e ∷ []) new
 Judged holder stripes h e (Some rule) new = broken holder stripes h e ≡ Some (number_of rule)
 
--- For each history for which the old state is right (`Tells`), the entry is judged as `Judged`
--- says.
+-- `Judged` holds for the entry and each history for which the old state is right (`Tells`).
 abbrev pub Judges : Entry → State → Option Rule → State → Type 0
 Judges e old rule new =
     (holder : Holder) (stripes : ℕ) (h : List Entry)

@@ -74,7 +74,7 @@ fails_to_explain remaining bytes Read known h = tt
 fails_to_explain remaining bytes (Line number fault) known h = absurd h
 fails_to_explain remaining bytes Write known h = absurd h
 
--- If `FailsToExplain` holds of a fault, it also holds of what `tell` returns: the fault itself,
+-- If `FailsToExplain` holds for a fault, it also holds for what `tell` returns: the fault itself,
 -- `NoMemory` or `Write`.
 pub told_fault : (remaining : Option (List ℕ)) (fault told : Fault) → (told ≡ fault) ⊎ ((told ≡ NoMemory) ⊎ (told ≡ Write)) → FailsToExplain remaining fault → FailsToExplain remaining told
 told_fault remaining fault told (inl is) h = subst (FailsToExplain remaining) (sym is) h

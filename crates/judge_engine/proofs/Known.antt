@@ -17,15 +17,15 @@ Consumes-more (Some us) None c xs ys p q = absurd p
 Consumes-more (Some us) (Some vs) None xs ys p q = absurd q
 Consumes-more (Some us) (Some vs) (Some ws) xs ys p q = p ∙ ap (λ (s : List ℕ). xs ++ s) q ∙ sym (append_assoc xs ys ws)
 
--- Suppose that a property holds of the bytes that were read, whatever bytes are added to them. Then
--- the property holds of all bytes that the reader had left.
+-- If `P` holds for the bytes that were read, whatever bytes follow them, it holds for all bytes
+-- that the reader had left.
 pub OfAll-early : (P : List ℕ → Type 0) (a b : Option (List ℕ)) (xs : List ℕ) → Consumes a b xs → ((more : List ℕ) → P (xs ++ more)) → (bytes : List ℕ) × IfSome a (λ all. bytes ≡ all) × P bytes
 OfAll-early P None b xs p h = (xs ++ [], tt, h [])
 OfAll-early P (Some us) None xs p h = absurd p
 OfAll-early P (Some us) (Some vs) xs p h = (us, refl, subst P (sym p) (h vs))
 
--- If the reader is at its end, a property of the bytes that were read holds of all bytes that the
--- reader had left.
+-- If the reader is at its end and `P` holds for the bytes that were read, it holds for all bytes
+-- that the reader had left.
 pub OfAll-read : (P : List ℕ → Type 0) (a b : Option (List ℕ)) (xs : List ℕ) → Consumes a b xs → IsAtEnd b → P xs → (bytes : List ℕ) × IfSome a (λ all. bytes ≡ all) × P bytes
 OfAll-read P None b xs p end h = (xs, tt, h)
 OfAll-read P (Some us) None xs p end h = absurd p

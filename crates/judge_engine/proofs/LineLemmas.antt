@@ -59,7 +59,7 @@ first_split : (x : ℕ) (xs : List ℕ) (b : Bool) → is_break x ≡ b → (fir
 first_split x xs true e first rest is = ([], split_lines xs, slice_split-cons_yes is_break x xs e)
 first_split x xs false e first rest is = (x ∷ first, rest, slice_split-cons_no is_break x xs e ∙ ap (onto_first x) is)
 
--- `split_lines` always gives a first line.
+-- `split_lines` returns at least one line.
 pub some_line : (xs : List ℕ) → (first : List ℕ) × (rest : List (List ℕ)) × (split_lines xs ≡ first ∷ rest)
 some_line [] = ([], [], refl)
 some_line (x ∷ xs) = let s = some_line xs in first_split x xs (is_break x) refl s.0 s.1 s.2

@@ -57,7 +57,7 @@ illegal_stays Commits h more entry rule v =
       serializable = (λ no. absurd (false≢true no), λ all. let none = (serializable_iff (h ++ more)).0 all in absurd (cc (there, none)));
     }
 
--- A history with the verdict legal is legal.
+-- If the verdict on a history is `Legal`, the history is legal.
 pub legal_said : (basis : Basis) (h : List Entry) (commits running : ℕ) → IsVerdictBy basis h (Legal commits running) → IsLegalBy basis h
 legal_said (Locks stripes holder) h commits running v = v.legal.0 refl
 legal_said Commits h commits running v = v.serializable.0 refl

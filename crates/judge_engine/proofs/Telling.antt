@@ -26,7 +26,8 @@ count_push kind os o =
     one true = refl
     one false = refl
 
--- How one more outcome changes the count.
+-- One more outcome raises the count of a kind by one if it is of this kind. Otherwise the count is
+-- unchanged.
 pub count_more : (kind : Kind) (os : List Outcome) (i : ℕ) (d : Outcome) → i < length os → how_many kind (take (i + 1) os) ≡ how_many kind (take i os) + cond (is_kind kind (get_or os i d)) 1 0
 count_more kind os i d within = ap (how_many kind) (take_more os i d within) ∙ count_push kind (take i os) (get_or os i d)
 
@@ -51,15 +52,15 @@ lines_more workers os i d within =
     ap (outcome_lines workers 0) (take_more os i d within) ∙ lines_push workers 0 (take i os) (get_or os i d)
     ∙ ap (λ k. outcome_lines workers 0 (take i os) ++ outcome_line workers k (get_or os i d)) place
 
--- A text is `start` and the lines of the first `i` outcomes. With the next outcome's line added,
--- the text is `start` and the lines of the first `i + 1` outcomes.
+-- If a text is `start` and the lines of the first `i` outcomes, and the next outcome's line is
+-- added, the text is `start` and the lines of the first `i + 1` outcomes.
 pub grown_lines : (new old start : List ℕ) (workers : ℕ) (os : List Outcome) (i : ℕ) (d : Outcome) → new ≡ old ++ outcome_line workers i (get_or os i d) → old ≡ start ++ outcome_lines workers 0 (take i os) → i < length os
     → new ≡ start ++ outcome_lines workers 0 (take (i + 1) os)
 grown_lines new old start workers os i d line before within =
     line ∙ ap (λ t. t ++ outcome_line workers i (get_or os i d)) before ∙ append_assoc start (outcome_lines workers 0 (take i os)) (outcome_line workers i (get_or os i d))
     ∙ ap (λ m. start ++ m) (sym (lines_more workers os i d within))
 
--- If the script file or memory was refused, `FailsForScripts` holds of the fault.
+-- If the script file or memory was refused, `FailsForScripts` holds for the fault.
 pub fails_scripts : (left : Option (List ℕ)) (bytes : List ℕ) (fault : FileFault) → IfSome left (λ all. bytes ≡ take max_read all) → FailsAs fault (scripts_of bytes) → FailsForScripts left (of_scripts fault)
 fails_scripts left bytes files.NoMemory known fails = tt
 fails_scripts left bytes files.NotJson known fails = (bytes, known, fails)
@@ -67,7 +68,7 @@ fails_scripts left bytes files.Member known fails = (bytes, known, fails)
 fails_scripts left bytes (files.Piece part i) known fails = (bytes, known, fails)
 fails_scripts left bytes files.Limit known fails = (bytes, known, fails)
 
--- If the history file or memory was refused, `FailsForHistory` holds of the fault.
+-- If the history file or memory was refused, `FailsForHistory` holds for the fault.
 pub fails_history : (left : Option (List ℕ)) (bytes : List ℕ) (fault : FileFault) → IfSome left (λ all. bytes ≡ take max_read all) → FailsAs fault (history_of bytes) → FailsForHistory left (of_history fault)
 fails_history left bytes files.NoMemory known fails = tt
 fails_history left bytes files.NotJson known fails = (bytes, known, fails)

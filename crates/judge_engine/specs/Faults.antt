@@ -6,7 +6,7 @@ use Rattle.piece_files.specs.declared.file_fault.FileFault.TheVariants as files
 use Rattle.judge_engine.specs.declared.fault.Fault.{Fault}
 use Rattle.judge_engine.specs.declared.fault.Fault.TheVariants.{Input, Line, NoMemory, Read, Write}
 
--- The exit status.
+-- The judge's exit status after this fault.
 abbrev pub status_of : Fault → ℕ
 status_of (Input fault) = 3
 status_of (Line number fault) = 3

@@ -33,7 +33,7 @@ IsUnjudgedFile bytes Read = Unit {0}
 IsUnjudgedFile bytes (Line number fault) = ⊥
 IsUnjudgedFile bytes Write = ⊥
 
--- `P` holds of the bytes that were read. These are all bytes that the reader had left, but at most
+-- `P` holds for the bytes that were read. These are all bytes that the reader had left, but at most
 -- one more than a file may have.
 abbrev pub OfFile : Option (List ℕ) → (List ℕ → Type 0) → Type 0
 OfFile remaining P = (bytes : List ℕ) × IfSome remaining (λ all. bytes ≡ take max_read all) × P bytes

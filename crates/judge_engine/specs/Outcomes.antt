@@ -22,7 +22,7 @@ use Rattle.piece_files.specs.declared.file_fault.FileFault.{FileFault}
 use Rattle.piece_files.specs.declared.file_fault.FileFault.TheVariants as files
 use Rattle.judge_engine.specs.Files.{OfFile}
 
--- The exit status.
+-- The exit status after this fault.
 abbrev pub outcomes_status : OutcomesFault → ℕ
 outcomes_status (Scripts fault) = 3
 outcomes_status (History fault) = 3
@@ -56,14 +56,14 @@ of_history files.Member = History files.Member
 of_history (files.Piece part i) = History (files.Piece part i)
 of_history files.Limit = History files.Limit
 
--- Whether an outcome is of a kind.
+-- Whether the outcome is of this kind.
 abbrev pub is_kind : Kind → Outcome → Bool
 is_kind kinds.Committed (outcomes.Committed place entry) = true
 is_kind kinds.Aborted (outcomes.Aborted entry) = true
 is_kind kinds.GivenUp outcomes.GivenUp = true
 is_kind kind outcome = false
 
--- How many outcomes are of a kind.
+-- How many of the outcomes are of this kind.
 abbrev pub how_many : Kind → List Outcome → ℕ
 how_many kind os = length (filter (is_kind kind) os)
 
@@ -145,7 +145,7 @@ abbrev pub WritesOutcomes : Option (List ℕ) → Option (List ℕ) → Option (
 WritesOutcomes scripts history old new well =
     (text : List ℕ) × TellsOutcomes scripts history text well × Appends old new text
 
--- The output after a fault. If a write failed, `TellsOutcomes` holds of the text that was to be
+-- The output after a fault. If a write failed, `TellsOutcomes` holds for the text that was to be
 -- written, and nothing is said about the output. After any other fault nothing was written. If a
 -- file was refused, the fault is the one that `scripts_of` or `history_of` gives.
 abbrev pub LeavesOutcomes : Option (List ℕ) → Option (List ℕ) → Option (List ℕ)

@@ -15,23 +15,23 @@ FailsToWrite old new Read = ⊥
 FailsToWrite old new (Input fault) = ⊥
 FailsToWrite old new (Line number fault) = ⊥
 
--- The line of a verdict was written, and nothing else. `IsRight` holds of the verdict, and `legal`
+-- The line of a verdict was written, and nothing else. `IsRight` holds for the verdict, and `legal`
 -- is true exactly if the verdict says legal.
 abbrev pub WritesLine : (Verdict → Type 0) → Bool → Option (List ℕ) → Option (List ℕ) → Type 0
 WritesLine IsRight legal old new =
     (outcome : Verdict) × IsRight outcome × (legal ≡ says_legal outcome)
     × Appends old new (verdict_line outcome)
 
--- The line of a verdict was written, and further lines after it. `IsRight` holds of the verdict,
+-- The line of a verdict was written, and further lines after it. `IsRight` holds for the verdict,
 -- and `legal` is true exactly if the verdict says legal.
 abbrev pub WritesLines : (Verdict → Type 0) → Bool → Option (List ℕ) → Option (List ℕ) → Type 0
 WritesLines IsRight legal old new =
     (outcome : Verdict) × (lines : List ℕ) × IsRight outcome × (legal ≡ says_legal outcome)
     × Appends old new (verdict_line outcome ++ lines)
 
--- The output after a fault. If a write failed, there is a verdict of which `IsRight` holds, and
+-- The output after a fault. If a write failed, there is a verdict for which `IsRight` holds, and
 -- nothing is said about the output. After any other fault nothing was written. If a file or a line
--- was refused, `IsWrong` holds of the fault.
+-- was refused, `IsWrong` holds for the fault.
 abbrev pub LeavesOutput : (Verdict → Type 0) → (Fault → Type 0) → Option (List ℕ) → Option (List ℕ)
     → Fault → Type 0
 LeavesOutput IsRight IsWrong old new Write =

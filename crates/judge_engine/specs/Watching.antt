@@ -41,9 +41,9 @@ HasNoVerdict basis found Write = ⊥
 abbrev pub IsUnjudged : Basis → List ℕ → Fault → Type 0
 IsUnjudged basis bytes fault = HasNoVerdict basis (history_of_lines bytes) fault
 
--- At the beginning, a reader has the bytes `remaining` left. `P` holds of the whole list of these
+-- At the beginning, a reader has the bytes `remaining` left. `P` holds for the whole list of these
 -- bytes, even if some of them are not read later. If `remaining` is `None`, the bytes are not
--- known, and `P` holds of some list.
+-- known, and `P` holds for some list.
 abbrev pub OfAll : Option (List ℕ) → (List ℕ → Type 0) → Type 0
 OfAll remaining P = (bytes : List ℕ) × IfSome remaining (λ all. bytes ≡ all) × P bytes
 

@@ -23,20 +23,20 @@ pub keeps_same : (known : Option (List ℕ)) → Keeps known known
 keeps_same None = tt
 keeps_same (Some xs) = refl
 
--- If the outcome is a fault of the engine, and `P` holds of the fault, `EndsWith` holds.
+-- If the outcome is a fault of the engine, and `P` holds for the fault, `EndsWith` holds.
 failed : (IsDone : Bool → Type 0) (P : EngineFault → Type 0) (outcome : RunResult) (fault : EngineFault) → P fault → IsErrAnd outcome (λ e. e ≡ Fault fault) → EndsWith IsDone P outcome
 failed IsDone P (Ok well) fault holds err = absurd err
 failed IsDone P (Err e) fault holds err = subst (ByFault P) (sym err) holds
 
--- If a source was not opened, memory was refused or a read failed. If `P` holds of both faults,
--- `EndsWith` holds.
+-- If a source was not opened, and `P` holds for the faults `NoMemory` and `Read`, `EndsWith` holds.
 not_opened : (IsDone : Bool → Type 0) (P : EngineFault → Type 0) (outcome : RunResult) (failure : Failure) → P faults.NoMemory → P faults.Read → (failure ≡ Fault faults.NoMemory) ⊎ (failure ≡ Fault faults.Read)
     → IsErrAnd outcome (λ e. e ≡ failure) → EndsWith IsDone P outcome
 not_opened IsDone P (Ok well) failure memory read which err = absurd err
 not_opened IsDone P (Err e) failure memory read (inl is) err = subst (ByFault P) (sym (err ∙ is)) memory
 not_opened IsDone P (Err e) failure memory read (inr is) err = subst (ByFault P) (sym (err ∙ is)) read
 
--- How `check` ends.
+-- If `check` has written the line of a verdict on the source with this name, `RunsCall` holds for
+-- it.
 pub check_done : (by_commits : Bool) (name : Text) (files : Files) (bytes old new : Option (List ℕ)) (well : Bool) → Holds (files name) bytes → WritesLine (Checks by_commits bytes) well old new
     → RunsCall (asked.Check by_commits name) files old new (Ok well)
 check_done by_commits name files bytes old new well same = writes_line _ _ well old new (λ v. of_file (files name) bytes _ same)
@@ -52,7 +52,8 @@ pub check_not_opened : (by_commits : Bool) (name : Text) (files : Files) (old : 
 check_not_opened by_commits name files old outcome failure =
     not_opened (λ well. WritesLine (Checks by_commits (files name)) well old old) (LeavesOutput (Checks by_commits (files name)) (FailsToCheck (files name)) old old) outcome failure (keeps_same old) (keeps_same old)
 
--- How `why` ends.
+-- If `why` has written the lines of a verdict on the source with this name, `RunsCall` holds for
+-- it.
 pub why_done : (by_commits : Bool) (name : Text) (files : Files) (bytes old new : Option (List ℕ)) (well : Bool) → Holds (files name) bytes → WritesLines (Checks by_commits bytes) well old new
     → RunsCall (asked.Why by_commits name) files old new (Ok well)
 why_done by_commits name files bytes old new well same = writes_lines _ _ well old new (λ v. of_file (files name) bytes _ same)
@@ -67,7 +68,8 @@ pub why_not_opened : (by_commits : Bool) (name : Text) (files : Files) (old : Op
 why_not_opened by_commits name files old outcome failure =
     not_opened (λ well. WritesLines (Checks by_commits (files name)) well old old) (FailsToExplain (files name)) outcome failure tt tt
 
--- How `watch` ends.
+-- If `watch` has written the line of a verdict on the entries of standard input, `RunsCall` holds
+-- for it.
 pub watch_done : (basis : Basis) (files : Files) (bytes old new : Option (List ℕ)) (well : Bool) → Holds (files (codes "-")) bytes → WritesLine (Watches basis bytes) well old new
     → RunsCall (asked.Watch basis) files old new (Ok well)
 watch_done basis files bytes old new well same = writes_line _ _ well old new (λ v. of_all (files (codes "-")) bytes _ same)
@@ -85,7 +87,7 @@ watch_not_opened basis files old outcome failure =
     let known = files (codes "-") in
     not_opened (λ well. WritesLine (Watches basis known) well old old) (LeavesOutput (Watches basis known) (FailsToWatch basis known) old old) outcome failure (keeps_same old) (keeps_same old)
 
--- How `outcomes` ends.
+-- If `outcomes` has written a report on the two sources, `RunsCall` holds for it.
 pub outcomes_done : (scripts history : Text) (files : Files) (left right old new : Option (List ℕ)) (well : Bool) → Holds (files scripts) left → Holds (files history) right → WritesOutcomes left right old new well
     → RunsCall (asked.Outcomes scripts history) files old new (Ok well)
 outcomes_done scripts history files left right old new well one two = writes_outcomes (files scripts) (files history) left right old new well one two

@@ -27,8 +27,7 @@ of_file known bytes P same (read, is, holds) = (read, read_same known bytes (λ 
 pub of_all : (known bytes : Option (List ℕ)) (P : List ℕ → Type 0) → Holds known bytes → OfAll bytes P → OfAll known P
 of_all known bytes P same (read, is, holds) = (read, read_same known bytes (λ all. read ≡ all) same is, holds)
 
--- If `WritesLine` holds for a property of verdicts, it holds for each property that follows from
--- it.
+-- If `P` implies `Q`, `WritesLine` with `P` implies `WritesLine` with `Q`.
 pub writes_line : (P Q : Verdict → Type 0) (well : Bool) (old new : Option (List ℕ)) → ((v : Verdict) → P v → Q v) → WritesLine P well old new → WritesLine Q well old new
 writes_line P Q well old new follows (v, right, says, grows) = (v, follows v right, says, grows)
 

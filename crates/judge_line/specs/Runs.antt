@@ -40,7 +40,7 @@ EndsWith IsDone HasFailed outcome = MatchResult outcome IsDone (ByFault HasFaile
 abbrev pub Prints : Text → Option (List ℕ) → Option (List ℕ) → Bool → Type 0
 Prints text old new well = (well ≡ true) × Appends old new (text ++ 10 ∷ [])
 
--- What standard output has if `outcomes` fails. After a fault of the engine, it is as
+-- Standard output after `outcomes` has failed. After a fault of the engine, it is as
 -- `LeavesOutcomes` says. If memory was refused before the engine was called, it is unchanged.
 abbrev pub LeavesBoth : Option (List ℕ) → Option (List ℕ) → Option (List ℕ) → Option (List ℕ)
     → Failure → Type 0

@@ -36,8 +36,6 @@ caller_is : (caller : ℕ) (holder : Option ℕ) → is_caller caller holder ≡
 caller_is caller None is = cc
 caller_is caller (Some holder) is = ap (λ h. Some h) (eqb-true holder caller is)
 
--- After a write, the element at the written index has a property if the written value has it. The
--- element at any other index has the property if it had it before.
 get_or-set_is : (holders : Holders) (stripe other : ℕ) (holder : Option ℕ) → stripe < length holders → (P : Option ℕ → Type 0) → (other ≡ stripe → P holder) → (other ≢ stripe → P (get_or holders other None)) → P (get_or (set holders stripe holder) other None)
 get_or-set_is holders stripe other holder within P here elsewhere =
     elim (cases_eq other stripe) [
@@ -124,7 +122,6 @@ none_else-freed holders stripe within none_else other holder =
     (λ same held. absurd (none_is_not_some None holder refl held))
     (λ differs held. none_else other holder held)
 
--- If the number is 64 or more, a release changes no holder: no caller has such a number.
 not_a_caller : (caller : ℕ) (held : Option ℕ) → ((holder : ℕ) → held ≡ Some holder → holder < 64) → 64 ≤ caller → held ≡ without_caller caller held
 not_a_caller caller None few past = refl
 not_a_caller caller (Some holder) few past =
@@ -169,7 +166,7 @@ AreChained-taken holders older newest caller stripe are below within free =
     (its.0, IsChain-elsewhere holders older other stripe _ next (Some caller) its.0 its.1 (none_is_no_caller other _ free) (some_is_no_other caller other _ refl differs) within))
     (none_else-taken holders stripe caller within below are.none_else)
 
--- The caller took this stripe last.
+-- This stripe is the one that the caller took last.
 pub record IsNewest (holders older newest : List (Option ℕ)) (caller stripe : ℕ) : Type 0 where
   pub newest_is : get_or newest caller None ≡ Some stripe
   pub held : get_or holders stripe None ≡ Some caller
@@ -205,7 +202,8 @@ AreChained-freed holders older newest caller stripe are below is =
     ))
     (none_else-freed holders stripe is.within are.none_else)
 
--- At first no caller holds a stripe.
+-- Before the first lock, `AreChained` holds: all three lists hold only `None`, and every chain is
+-- empty.
 pub AreChained-new : (stripes : ℕ) (holders older newest : Holders) → holders ≡ replicate stripes None → older ≡ replicate stripes None → newest ≡ replicate 64 None → AreChained holders older newest
 AreChained-new stripes holders older newest holders_is older_is newest_is = record {
   as_many = ap length (older_is ∙ sym holders_is);

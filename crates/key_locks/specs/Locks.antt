@@ -26,8 +26,8 @@ pub record Refuses (caller stripe holder : ℕ) (old new : List (Option ℕ)) : 
   pub by_another : holder ≢ caller
   pub same : new ≡ old
 
--- What a lock does: after Granted, the holders are as `Grants` says. After Busy, they are as
--- `Refuses` says.
+-- The effect of a lock. If the answer is `Granted`, the holders satisfy `Grants`. If it is `Busy`,
+-- they satisfy `Refuses`.
 abbrev pub Locks : ℕ → ℕ → List (Option ℕ) → LockAnswer → List (Option ℕ) → Type 0
 Locks caller stripe old Granted new = Grants caller stripe old new
 Locks caller stripe old (Busy holder) new = Refuses caller stripe holder old new

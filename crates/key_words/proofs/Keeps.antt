@@ -45,16 +45,15 @@ module _ (s : St) (o : IsOrderly s) (id : ℕ) (v w : View) (me : get_elem? s.vi
       (id, w, set_here s.views id w (within s.views id v me), t.3 ∙ ap (λ (n : ℕ). n + 1) (ap (λ (y : View). y.number) is ∙ sym same)))
       (λ ne. (t.0, t.1, set_else s.views id t.0 w ne ∙ t.2, t.3)))) n
 
-  -- If a stripe was taken (`WasTaken`) according to the old views, it was taken according to the
-  -- new views.
+  -- If `WasTaken` holds for the old views, it holds for the new views.
   lifted : (stripe word : ℕ) → WasTaken s.views stripe word → WasTaken after stripe word
   lifted stripe word t = dite (ℕ_discrete t.0 id)
       (λ e. let is : t.1 ≡ v = some-injective t.1 v (sym t.2 ∙ subst (λ (k : ℕ). get_elem? s.views k ≡ some v) (sym e) me) in
       (id, w, set_here s.views id w (within s.views id v me), t.3 ∙ ap (λ (n : ℕ). n + 1) (ap (λ (y : View). y.number) is ∙ sym same), kept (stripe, 0) (subst (λ (u : View). Contains u.notes (stripe, 0)) is t.4)))
       (λ ne. (t.0, t.1, set_else s.views id t.0 w ne ∙ t.2, t.3, t.4))
 
-  -- The rule is kept under these conditions if words and slots change, and the view `w` takes the
-  -- place of `v`.
+  -- If words and slots change, and the view `w` replaces `v`, the rule still holds. The premises
+  -- say how each word and each slot may change.
   pub moved : (ws : List ℕ) (hs : List (Maybe (Option ℕ))) → length ws ≡ length s.words → length hs ≡ length s.homes
       → ((k : ℕ) → (get_or ws k 0 ≡ 0) ⊎ ((get_or ws k 0 ≡ v.number + 1) ⊎ (get_or ws k 0 ≡ get_or s.words k 0)))
       → ((k : ℕ) → times k w.held ≡ once_for v.number (get_or ws k 0))
@@ -87,8 +86,8 @@ module _ (s : St) (o : IsOrderly s) (id : ℕ) (v w : View) (me : get_elem? s.vi
         (λ (t : (i ≢ id) × (get_elem? s.views i ≡ some u)). o.noted i u t.1 k word ne has) (at_set s.views id i w u e));
   }
 
-  -- The rule is kept if only the view changes. The words are unchanged, and so is the slot at each
-  -- position.
+  -- If only one seat's view changes, but no word and no slot, the rule still holds. The new view
+  -- must hold the same stripes as the old one.
   pub unmoved : (hs : List (Maybe (Option ℕ))) → length hs ≡ length s.homes → ((k : ℕ) → get_elem? hs k ≡ get_elem? s.homes k)
       → ((k : ℕ) → times k w.held ≡ times k v.held)
       → ((k word : ℕ) → word ≢ 0 → Contains w.notes (k, word) → WasTaken s.views k word)

@@ -37,8 +37,6 @@ seen_taken s o i inside ne = ⊎_elim (λ (z : get_or s.words i 0 ≡ 0). absurd
     let one : times i t.1.held ≡ 1 = o.held t.0 t.1 t.2 i ∙ once_yes t.1.number (get_or s.words i 0) t.3 in
     (t.0, t.1, t.2, t.3, o.taken t.0 t.1 t.2 i (omega (arith, one)))) (o.named i inside)
 
--- A note of a word other than 0 is true if the word names a seat that has taken the stripe. If a
--- true note or a note of the word 0 is added, all notes of words other than 0 are still true.
 added_note : (s : St) → IsOrderly s → (id : ℕ) (v : View) → get_elem? s.views id ≡ some v → (i x : ℕ) → (x ≢ 0 → WasTaken s.views i x)
     → (k word : ℕ) → word ≢ 0 → Contains (v.notes ++ (i, x) ∷ []) (k, word) → WasTaken s.views k word
 added_note s o id v me i x true k word ne has = ⊎_elim (λ (old : Contains v.notes (k, word)). o.noted id v me k word ne old)
@@ -79,9 +77,6 @@ tries n id m i own said e lt s o wide me _ = let v : View = m.0 in let x : ℕ =
       ((λ z. absurd (ne z)), λ _. (refl, ((λ h. own_word v.number x (times i v.held) (o.held id v me i) h), λ q. omega (arith, o.held id v me i, once_yes v.number x q)))),
     ))
 
--- An act that takes out the slot of the stripe x, and puts it right after the slot of the first
--- stripe, k. The act has three parts. The slot of k goes home, the slot of x is taken out, and the
--- slot of k is taken out again.
 front_of : (hs : Slots) (c : List (ℕ × Option ℕ)) (x k : ℕ) (ks : List ℕ) → c ≡ (k, None) ∷ emptied ks → k ≢ x → x < length hs → k < length hs → get_elem? hs x ≡ some (some None)
     → Valid hs c (chain gives (chain (takes x None) (takes k None)))
     × (carried_after c (chain gives (chain (takes x None) (takes k None))) ≡ emptied (k ∷ x ∷ ks))
@@ -103,7 +98,7 @@ front_of hs c x k ks e ne lx lk at = let a : Act (Option ℕ) = chain gives (cha
       l₃ ∙ l₂ ∙ l₁,
     ))
 
--- The effect of an act that moves the slot of the stripe k to the front.
+-- The effect of an act that moves the slot of the stripe `k` to the front.
 pub record Fronts (hs : Slots) (k : ℕ) (ks : List ℕ) (a : Act (Option ℕ)) : Type 0 where
   pub valid : Valid hs (emptied ks) a
   pub order : carried_after (emptied ks) a ≡ emptied (k ∷ removed k ks)

@@ -6,7 +6,7 @@ use Rattle.atomic_table.specs.Table.{State}
 use Rattle.txn_words.specs.Held.{times, once_for}
 use Rattle.key_words.specs.declared.view.View.{View}
 
--- A view, made of its parts.
+-- Builds a view from its parts.
 abbrev pub view : ℕ → ℕ → List ℕ → List (ℕ × ℕ) → View
 view number made held notes = record { number = number; made = made; held = held; notes = notes }
 
@@ -26,8 +26,9 @@ WasTaken views stripe word =
     (seat : ℕ) × (v : View) × (get_elem? views seat ≡ some v) × (word ≡ v.number + 1)
     × Contains v.notes (stripe, 0)
 
--- For each stripe, either its right is at home, or one seat holds the stripe: the seat that the
--- stripe's word names. Each note of a word other than 0 names a seat that has taken the stripe.
+-- For each stripe, either the stripe's right is in the stripe's home, or one seat holds the stripe,
+-- and the stripe's word names this seat. If a noted word is not 0, it names a seat that has taken
+-- the stripe.
 pub record IsOrderly (s : State (Option ℕ) View) : Type 0 where
   pub wide : length s.homes ≡ length s.words
   -- No two views have the same number. Each number is below the count of seats (`made`) in the view
@@ -43,7 +44,8 @@ pub record IsOrderly (s : State (Option ℕ) View) : Type 0 where
   pub named : (stripe : ℕ) → stripe < length s.words → IsNamed s.views (slice_index s.words stripe)
   pub held : (i : ℕ) (v : View) → get_elem? s.views i ≡ some v → (stripe : ℕ)
       → times stripe v.held ≡ once_for v.number (slice_index s.words stripe)
-  -- If a stripe's word is 0, its slot is at home with its right; if not, its slot is out.
+  -- If a stripe's word is 0, the stripe's home has its slot, with its right in the slot. If the
+  -- word is not 0, the home is empty.
   pub home : (stripe : ℕ) → stripe < length s.words → slice_index s.words stripe ≡ 0
       → get_elem? s.homes stripe ≡ some (some (Some stripe))
   pub out : (stripe : ℕ) → stripe < length s.words → slice_index s.words stripe ≢ 0

@@ -26,11 +26,11 @@ no_pair : (k : Kind) (key value : ℕ) → pair_if k true key value ≡ []
 no_pair Dummy key value = refl
 no_pair Regular key value = refl
 
--- A marked node adds nothing.
+-- A marked node adds no pair to the content.
 pub pair_marked : (n : NodeAt) → n.marked ≡ true → pair_of n ≡ []
 pair_marked n marked = ap (λ b. pair_if n.kind b n.at.key n.value) marked ∙ no_pair n.kind n.at.key n.value
 
--- A regular, unmarked node adds its pair.
+-- A regular, unmarked node adds its key and its value to the content.
 pub pair_regular : (n : NodeAt) → n.kind ≡ Regular → n.marked ≡ false → pair_of n ≡ (n.at.key, n.value) ∷ []
 pair_regular n regular unmarked = rw (regular, unmarked) refl
 
@@ -54,7 +54,8 @@ pairs_same_rest front n rest other same =
     ∙ ap (λ ps. pairs front ++ ps) (pairs_cons n rest ∙ ap (λ ps. pair_of n ++ ps) same ∙ sym (pairs_cons n other))
     ∙ sym (pairs-append front (n ∷ other))
 
--- Replacing a stretch of nodes replaces the pairs of the stretch.
+-- If a stretch of nodes is replaced, the pairs of this stretch are replaced in the content, and all
+-- other pairs are unchanged.
 pub replaced : (front was now rest : List NodeAt) → Replaces (pairs (front ++ (was ++ rest))) (pairs (front ++ (now ++ rest))) (pairs was) (pairs now)
 replaced front was now rest = record {
   before = pairs front;
@@ -75,7 +76,7 @@ module _ (nodes : List NodeAt) (place : ℕ) (n : NodeAt) (is : node_of nodes pl
   at : IsAt nodes place n
   at = found_at nodes place n is
 
-  -- Linking a node adds its pair, if it has one.
+  -- If a node is linked, its pair, if it has one, is added to the content.
   pub pairs_linked : (x : NodeAt) → Replaces (pairs nodes) (pairs (linked_after nodes place x)) [] (pair_of x)
   pairs_linked x = replaces_same _ _ _ _ _ _ _ _
       (ap pairs (append_assoc at.front (n ∷ []) at.rest ∙ sym at.is))
@@ -91,19 +92,19 @@ module _ (nodes : List NodeAt) (place : ℕ) (n : NodeAt) (is : node_of nodes pl
       (replaced at.front (n ∷ []) (change n ∷ []) at.rest)
 
   module _ (regular : n.kind ≡ Regular) (unmarked : n.marked ≡ false) where
-    -- Marking the node removes its pair.
+    -- If a regular node is marked, its pair is removed from the content.
     pub pairs_marked : Replaces (pairs nodes) (pairs (marked_at nodes place)) ((n.at.key, n.value) ∷ []) []
     pairs_marked = replaces_same _ _ _ _ _ _ _ _ refl refl
         (pair_regular n regular unmarked) (pair_marked (record n { marked = true }) refl)
         (changed (λ k. record k { marked = true }))
 
-    -- Writing a value replaces the value in the pair.
+    -- If a value is written to a regular node, only the value in this node's pair changes.
     pub pairs_written : (value : ℕ) → Replaces (pairs nodes) (pairs (written_at nodes place value)) ((n.at.key, n.value) ∷ []) ((n.at.key, value) ∷ [])
     pairs_written value = replaces_same _ _ _ _ _ _ _ _ refl refl
         (pair_regular n regular unmarked) (pair_regular (record n { value = value }) regular unmarked)
         (changed (λ k. record k { value = value }))
 
-    -- The node's pair is in the content.
+    -- The pair of a regular, unmarked node is in the content.
     pub pairs_contain : Contains (pairs nodes) (n.at.key, n.value)
     pairs_contain =
         let parts : pairs nodes ≡ pairs at.front ++ ((n.at.key, n.value) ∷ pairs at.rest) =
@@ -149,8 +150,8 @@ pairs_sought nodes from sort start =
     ∙ pairs_same_rest at.front start.node (cleaned sort at.rest) at.rest (pairs_cleaned sort at.rest)
     ∙ sym (ap pairs at.is)
 
--- Suppose that `P` holds for each node and that, for each regular and unmarked node, `P` implies
--- `Q` for the node's pair. Then `Q` holds for each pair.
+-- If `P` holds for each node, and `P` implies `Q` for the pair of each regular, unmarked node, then
+-- `Q` holds for each pair.
 pub each_pair : (P : NodeAt → Type 0) (Q : ℕ → ℕ → Type 0) → ((n : NodeAt) → n.kind ≡ Regular → n.marked ≡ false → P n → Q n.at.key n.value) → (nodes : List NodeAt) → AllByRecursion P nodes → AllByRecursion (λ pair. Q pair.0 pair.1) (pairs nodes)
 unfolding pairs
 each_pair P Q holds [] each = tt

@@ -37,7 +37,7 @@ unmarked_from_not false is = refl
 pub next_noted : (n : NodeAt) (cur : Noted) → n.place ≡ cur.place → is_next_noted (Some n) (Some cur) ≡ (n.stamp == cur.stamp && not n.marked)
 next_noted n cur same = rw (same_test n.place cur.place same) refl
 
--- The node is the noted one, and unmarked.
+-- The node is the one that the cursor noted, and is unmarked.
 pub record Fits (n : NodeAt) (cur : Noted) : Type 0 where
   pub place : n.place ≡ cur.place
   pub stamp : n.stamp ≡ cur.stamp
@@ -70,7 +70,7 @@ module _ (l : Listing) (c : Cursor) where
 
 -- A cursor that fits.
 module _ (l : Listing) (c : Cursor) (fitting : fits l c ≡ true) where
-  -- The first node of the cursor is linked.
+  -- If a cursor fits, its first node is linked.
   pub fits_pred : (n : NodeAt) × (node_of l.nodes (pred_of c) ≡ Some n) × (n.stamp ≡ c.pred.stamp)
   unfolding fits
   fits_pred = go (node_of l.nodes (pred_of c)) (and_left _ _ fitting)
@@ -82,7 +82,8 @@ module _ (l : Listing) (c : Cursor) (fitting : fits l c ≡ true) where
   pub fits_linked : IsLinked l.nodes (pred_of c)
   fits_linked = found_linked l.nodes (pred_of c) fits_pred.0 fits_pred.1
 
-  -- The node after the cursor's first node, if there is one, is the noted second node.
+  -- If a cursor fits, and there is a node after its first node, that node is the second node that
+  -- the cursor noted.
   pub fits_next : (m : NodeAt) → behind l c ≡ Some m → (cur : Noted) × (c.cur ≡ Some cur) × Fits m cur
   unfolding fits
   fits_next m is = go c.cur refl
@@ -102,7 +103,7 @@ module _ (l : Listing) (c : Cursor) (sound : IsSound l) (placed : IsPlaced l c) 
       let same : pred.0 ≡ n = some-injective (sym pred.1 ∙ is) in
       placed.below n is (sym (ap (λ (v : NodeAt). v.stamp) same) ∙ pred.2)
 
-  -- The node after the cursor's first node is not below the sort key.
+  -- If a placed cursor fits, the node after its first node is not below the cursor's sort key.
   pub high : (m : NodeAt) → behind l c ≡ Some m → IsNotBelow m (at_of c)
   high m is =
       let next = fits_next l c fitting m is in
@@ -110,8 +111,8 @@ module _ (l : Listing) (c : Cursor) (sound : IsSound l) (placed : IsPlaced l c) 
       let P : ℕ → Type 0 = λ p. node_of l.nodes p ≡ Some m in
       placed.beyond m next.0 next.1 (subst P next.2.place there) next.2.stamp
 
-  -- If the node after the cursor's first node does not have the sort key, that node is above the
-  -- sort key.
+  -- If a placed cursor fits, and the node after its first node does not have the cursor's sort key,
+  -- that node is above the sort key.
   pub above : node_there l c ≡ None → (m : NodeAt) → behind l c ≡ Some m → IsBefore (at_of c) m.at
   above none m is = elim (cases_same m.at (at_of c)) [
     | inl same ↦ absurd (some-none (rw same.0 at (sym (ap (λ o. with_key o (at_of c)) is) ∙ none)))
@@ -148,7 +149,7 @@ there l c n spread fitting is = go (behind l c) refl is
 
 -- A cursor that was just found by a seek.
 module _ (l : Listing) (c : Cursor) (found : IsFound l c) where
-  -- The cursor fits.
+  -- A cursor that was just found by a seek fits.
   pub found_fits : fits l c ≡ true
   found_fits =
       fits_then l c found.pred found.pred_is pred_noted
@@ -167,7 +168,7 @@ module _ (l : Listing) (c : Cursor) (found : IsFound l c) where
           let stamp : m.stamp ≡ cur.stamp = ap (λ (n : Noted). n.stamp) same in
           rw (same_test m.place cur.place place, same_test m.stamp cur.stamp stamp, beyond.0) refl
 
-  -- The cursor is placed.
+  -- A cursor that was just found by a seek is placed (`IsPlaced`).
   pub found_placed : IsSound l → IsPlaced l c
   found_placed sound = record {
     pred_known = omega (arith, sound.stamped.bound (pred_of c) found.pred found.pred_is, found.pred_noted);
@@ -194,8 +195,8 @@ module _ (l : Listing) (c : Cursor) (found : IsFound l c) where
       cur_node : (cur : Noted) → c.cur ≡ Some cur → (k : NodeAt) × (node_of l.nodes cur.place ≡ Some k) × (k.stamp ≡ cur.stamp) × IsNotBelow k (at_of c)
       cur_node cur cur_is = go (behind l c) cur refl (found.cur_noted ∙ cur_is) found.beyond
 
--- If `next` is the place of the node after `place`, a cursor notes the same of the node at `next`
--- and of the node after `place`.
+-- If `next` is the place of the node after `place`, the note of the node at `next` is also the note
+-- of the node after `place`.
 pub noted_next : (nodes : List NodeAt) (place next : ℕ) (k : Noted) → IsSpread nodes → place_of (next_of nodes place) ≡ Some next → noted (node_of nodes next) ≡ Some k → noted (next_of nodes place) ≡ Some k
 noted_next nodes place next k spread is note =
     let found = linked_found nodes next (next_linked nodes place next spread is) in
@@ -229,7 +230,7 @@ noted_found l place c before beyond pred_is cur_is changes_are = record {
     Beyond : ℕ → Type 0
     Beyond p = IsBeyond (next_of l.nodes p) (at_of c)
 
--- Whether a cursor fits depends only on the nodes.
+-- Whether a cursor fits depends only on the list's nodes.
 pub fits_same : (old new : Listing) (c : Cursor) → new.nodes ≡ old.nodes → fits new c ≡ fits old c
 unfolding fits
 fits_same old new c same = ap (λ ns. is_noted (node_of ns (pred_of c)) c.pred.stamp && is_next_noted (next_of ns (pred_of c)) c.cur) same

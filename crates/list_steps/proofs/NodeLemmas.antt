@@ -72,7 +72,6 @@ module _ (place : ℕ) (n : NodeAt) (rest : List NodeAt) (here : n.place ≡ pla
   linked-append [] = inl here
   linked-append (m ∷ front) = inr (linked-append front)
 
--- If a place is absent from a list (`AbsentFrom`), each node of the list has another place.
 apart_append : (place : ℕ) (front : List NodeAt) (m : NodeAt) (rest : List NodeAt) → AbsentFrom place (front ++ m ∷ rest) → m.place ≢ place
 apart_append place [] m rest absent = absent.0
 apart_append place (k ∷ front) m rest absent = apart_append place front m rest absent.1
@@ -140,14 +139,12 @@ no_place None is = refl
 no_place (Some n) is = absurd (some-none is)
 
 module _ (nodes : List NodeAt) (place next : ℕ) (spread : IsSpread nodes) (is : place_of (next_of nodes place) ≡ Some next) where
-  -- The place of the next node is linked.
   pub next_linked : IsLinked nodes next
   next_linked =
       let there = some_place (next_of nodes place) next is in
       let P : ℕ → Type 0 = λ p. IsLinked nodes p in
       subst P there.2 (found_linked nodes there.0.place there.0 (next_found nodes place there.0 spread there.1))
 
-  -- The node at the place of the next node is the next node.
   pub next_node : (m : NodeAt) → node_of nodes next ≡ Some m → next_of nodes place ≡ Some m
   next_node m found =
       let there = some_place (next_of nodes place) next is in

@@ -9,7 +9,6 @@ use Rattle.split_key.proofs.SortLemmas.{before_apart, before_transitive}
 use Rattle.list_steps.specs.Seek.{IsBelow}
 use Rattle.list_steps.proofs.NodeLemmas.{found_at, next_at}
 
--- If a node `k` is before all nodes of a list, then `k` is before the node `n` of this list.
 pub before_later : (k n : NodeAt) (front rest : List NodeAt) → AllByRecursion (IsNodeBefore k) (front ++ n ∷ rest) → IsNodeBefore k n
 before_later k n [] rest before = before.0
 before_later k n (m ∷ front) rest before = before_later k n front rest before.1

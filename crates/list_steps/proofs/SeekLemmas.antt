@@ -32,13 +32,11 @@ pub record IsSeeking (old now : Listing) (from place : ℕ) (after : Option ℕ)
   pub changes : now.changes ≡ changes_after old.changes (length old.nodes - length now.nodes)
   pub follows : Follows old now
 
--- If a seek has reached `place`, and the next node's place is `there`, the node at `there` is the
--- node after `place`.
 pub seeking_next : {old now : Listing} {from place : ℕ} {after : Option ℕ} {sort : SortKey} → IsSeeking old now from place after sort → (there : ℕ) → after ≡ Some there → (m : NodeAt) → node_of now.nodes there ≡ Some m → next_of now.nodes place ≡ Some m
 seeking_next {now = now} {place = place} seeking there is m found =
     next_node now.nodes place there seeking.sound.spread (seeking.next ∙ is) m found
 
--- A seek begins at an unmarked node.
+-- The dummy at which a seek begins is unmarked, so it satisfies `IsPred`.
 pub pred_from_start : (nodes : List NodeAt) (place : ℕ) (sort : SortKey) → IsStart nodes place sort → AllPlain nodes → IsPred nodes place sort
 pred_from_start nodes place sort start plain = record {
   node = start.node;
@@ -89,7 +87,7 @@ module _ (nodes : List NodeAt) (place : ℕ) (sort : SortKey) (pred : IsPred nod
   first_rest : (o : Option NodeAt) → next_of nodes place ≡ o → first pred_at.rest ≡ o
   first_rest o is = sym (next_at nodes place pred.node pred_at) ∙ is
 
-  -- The seek ends if there is no next node.
+  -- If there is no next node, the seek ends and leaves the nodes unchanged.
   pub sought_at_end : next_of nodes place ≡ None → sought nodes place sort ≡ nodes
   sought_at_end is =
       sought_at nodes place pred.node pred_at sort
@@ -103,7 +101,8 @@ module _ (nodes : List NodeAt) (place : ℕ) (sort : SortKey) (pred : IsPred nod
     rest_is : pred_at.rest ≡ m ∷ without_first pred_at.rest
     rest_is = first_is pred_at.rest m (first_rest (Some m) is)
 
-    -- The seek ends if the next node is unmarked and not below the sort key.
+    -- If the next node is unmarked and not below the sort key, the seek ends and leaves the nodes
+    -- unchanged.
     pub sought_stopped : m.marked ≡ false → IsNotBelow m sort → sought nodes place sort ≡ nodes
     sought_stopped unmarked above =
         sought_at nodes place pred.node pred_at sort
@@ -111,7 +110,8 @@ module _ (nodes : List NodeAt) (place : ℕ) (sort : SortKey) (pred : IsPred nod
         (ap (cleaned sort) rest_is ∙ cleaned_stopped m (without_first pred_at.rest) sort unmarked above ∙ sym rest_is)
         ∙ sym pred_at.is
 
-    -- A seek passes an unmarked node below the sort key.
+    -- If the next node is unmarked and below the sort key, a seek that begins at the next node has
+    -- the same result.
     pub sought_passed : IsSpread nodes → m.marked ≡ false → IsBelow m sort → sought nodes m.place sort ≡ sought nodes place sort
     sought_passed spread unmarked below =
         sought_at nodes m.place m next sort
@@ -125,7 +125,7 @@ module _ (nodes : List NodeAt) (place : ℕ) (sort : SortKey) (pred : IsPred nod
         next : IsAt nodes m.place m
         next = at_next nodes place pred.node pred_at m spread (first_rest (Some m) is)
 
-    -- A seek unlinks a marked node.
+    -- If the next node is marked, a seek has the same result after the next node is unlinked.
     pub sought_unlinked : m.marked ≡ true → sought (unlinked_after nodes place) place sort ≡ sought nodes place sort
     sought_unlinked marked =
         sought_at (unlinked_after nodes place) place pred.node (at_unlinked nodes place pred.node pred_at) sort
@@ -133,7 +133,7 @@ module _ (nodes : List NodeAt) (place : ℕ) (sort : SortKey) (pred : IsPred nod
         (sym (ap (cleaned sort) rest_is ∙ cleaned_marked m (without_first pred_at.rest) sort marked))
         ∙ sym (sought_at nodes place pred.node pred_at sort)
 
-  -- After the next node is unlinked, the node at the place is still before the position.
+  -- If the next node is unlinked, `IsPred` still holds for the node at the place.
   pub pred_unlinked : IsPred (unlinked_after nodes place) place sort
   pred_unlinked = record {
     node = pred.node;

@@ -58,7 +58,7 @@ module _ (l : Listing) (c : Cursor) (sound : IsSound l) (placed : IsPlaced l c) 
             content = λ regular. pairs_contain l.nodes n.place n here.is regular here.unmarked;
           })
 
-  -- The result of `look` is right (`Finds`).
+  -- The result of `look` satisfies `Finds`.
   pub finds : (found : Option ℕ) → found ≡ place_of (node_there l c) → Finds l c found
   finds None none = absent (no_place (node_there l c) (sym none))
   finds (Some place) is = there_at place is

@@ -59,7 +59,8 @@ without_first_marked-append (n ∷ front) m rest passed marked =
     without_first_marked-cons n (front ++ m ∷ rest) passed.0
     ∙ ap (λ ns. n ∷ ns) (without_first_marked-append front m rest passed.1 marked)
 
--- A sweep may begin at a node that precedes all marked ones: no node before it is marked.
+-- If a node precedes all marked nodes, a sweep may begin at this node: neither it nor any node
+-- before it is marked.
 pub sweeping_from : (nodes : List NodeAt) (place : ℕ) → IsRising nodes → IsBeforeMarks nodes place → IsSweeping nodes place
 sweeping_from nodes place rising start =
     let node = start.node in
@@ -72,12 +73,11 @@ sweeping_from nodes place rising start =
       passed = clean_up_to at.front node at.rest (subst R at.is rising) (subst B at.is start.before);
     }
 
--- If a node precedes all nodes of a list, it precedes all marked ones.
 behind_rest : (n : NodeAt) (rest : List NodeAt) → AllByRecursion (IsNodeBefore n) rest → AllByRecursion (λ m. m.marked ≡ true → IsBefore n.at m.at) rest
 behind_rest n [] before = tt
 behind_rest n (m ∷ rest) before = ((λ marked. before.0), behind_rest n rest before.1)
 
--- If neither a node nor any node before it is marked, it precedes all marked nodes.
+-- If a node and all nodes before it are unmarked, the node precedes all marked nodes.
 behind_all : (P : NodeAt → Type 0) (front : List NodeAt) (n : NodeAt) (rest : List NodeAt) → IsRising (front ++ n ∷ rest) → n.marked ≡ false → ((m : NodeAt) → P m → IsBefore m.at n.at → m.marked ≡ true → ⊥) → AllByRecursion P (front ++ n ∷ rest) → AllByRecursion (λ m. m.marked ≡ true → IsBefore n.at m.at) (front ++ n ∷ rest)
 unfolding IsRising
 behind_all P [] n rest rising unmarked never each = (
@@ -114,9 +114,9 @@ early_low bucket at before = elim (lower_from at (dummy_at bucket) before) [
 ]
 
 -- Let `split` be the result of `NodeList::marks_begin`, and let `bucket` have a dummy whose split
--- key is at most `split`. If this dummy is linked, it precedes all marked nodes, and so does each
--- linked dummy before it. The function `bucket_at` returns such a bucket for `split`. So a sweep
--- may begin at the dummy of that bucket, or at the dummy of its nearest stored ancestor.
+-- key is at most `split`. Each linked dummy that is not after this dummy precedes all marked nodes.
+-- The function `bucket_at` returns such a bucket for `split`. So a sweep may begin at the dummy of
+-- that bucket, or at the dummy of its nearest stored ancestor.
 pub before_marks : (l : Listing) (place bucket split : ℕ) (node : NodeAt) → IsSound l → node_of l.nodes place ≡ Some node → node.kind ≡ Dummy → IsNotBefore (dummy_at bucket) node.at → reversed bucket ≤ split → AreMarksFrom split l.nodes → IsBeforeMarks l.nodes place
 before_marks l place bucket split node sound is dummy not_behind order from =
     let at = found_at l.nodes place node is in

@@ -46,22 +46,22 @@ pub record IsFound (l : Listing) (c : Cursor) : Type 0 where
   pub beyond : IsBeyond (behind l c) (at_of c)
   pub changes : change_number_of c ≡ l.changes
 
--- There is a node, it has this stamp, and it is unmarked.
+-- True if there is a node that has this stamp and is unmarked.
 abbrev pub is_noted : Option NodeAt → ℕ → Bool
 is_noted None stamp = false
 is_noted (Some n) stamp = n.stamp == stamp && not n.marked
 
--- Either the node is the second node that the cursor noted, and is unmarked, or there is no node
--- and the cursor noted no second node.
+-- True if the node is unmarked and is the second node that the cursor noted. Also true if there is
+-- no node and the cursor noted no second node.
 abbrev pub is_next_noted : Option NodeAt → Option Noted → Bool
 is_next_noted None None = true
 is_next_noted None (Some c) = false
 is_next_noted (Some n) None = false
 is_next_noted (Some n) (Some c) = n.place == c.place && (n.stamp == c.stamp && not n.marked)
 
--- The cursor fits. Its first node is linked, is unmarked and has the noted stamp. The next node is
--- the noted second node, is unmarked and has the noted stamp. If no second node is noted, the first
--- node is the last of the list.
+-- True if the cursor fits. Its first node is linked, is unmarked and has the noted stamp. The next
+-- node is the noted second node, is unmarked and has the noted stamp. If no second node is noted,
+-- the first node is the last of the list.
 unfoldable pub fits : Listing → Cursor → Bool
 fits l c = is_noted (node_of l.nodes (pred_of c)) c.pred.stamp && is_next_noted (behind l c) c.cur
 

@@ -13,15 +13,16 @@ IsBelow n at = IsBefore n.at at
 abbrev pub IsNotBelow : NodeAt → SortKey → Type 0
 IsNotBelow n at = IsNotBefore n.at at
 
--- The nodes after a seek has unlinked some: the marked ones before the first unmarked node that is
--- not below the sort key.
+-- The nodes that remain after a seek. It unlinks each marked node that precedes the first unmarked
+-- node at or after the position of the sort key.
 unfoldable pub cleaned : SortKey → List NodeAt → List NodeAt
 cleaned at [] = []
 cleaned at (n ∷ rest) =
     if n.marked then cleaned at rest
     else (if is_before n.at at then n ∷ cleaned at rest else n ∷ rest)
 
--- The nodes after a seek for the sort key that begins at the place `from`.
+-- The nodes that remain after a seek. The seek is for the sort key `at`, and begins at the place
+-- `from`.
 unfoldable pub sought : List NodeAt → ℕ → SortKey → List NodeAt
 sought [] from at = []
 sought (n ∷ rest) from at = if n.place == from then n ∷ cleaned at rest else n ∷ sought rest from at

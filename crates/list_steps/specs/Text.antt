@@ -1,4 +1,4 @@
--- The text of the error that a cursor does not fit.
+-- The text of the error for a cursor that does not fit.
 use Rattle.std.specs.Prelude.{ℕ, List, codes}
 
 -- The text of `Again`.

@@ -80,7 +80,7 @@ module _ {S : Type 0} (words : S → List ℕ) (k r h l : Token S) (call : Call)
 pub passed_of : {S : Type 0} (words : S → List ℕ) (k l : Token S) (call : Call) (outcome : End) → IsDone outcome → Ran words k call outcome l → Passed k call l
 passed_of words k l call outcome done ran = record { free = ran.free; whose = ran.whose; sound = ran.sound; outcome = outcome; done = done; went = ran.went }
 
--- A token that lets a call pass is not broken.
+-- If a token does not refuse a call, it is not broken.
 pub sound_if_free : (half b : Bool) (seat : Option Seat) (call : Call) → refused_at half b seat call ≡ None → b ≡ false
 sound_if_free half true seat call free = absurd (cc free)
 sound_if_free half false seat call free = refl

@@ -1,4 +1,4 @@
--- When a help is refused because of its key.
+-- When a call for help is refused because of its key.
 use Rattle.std.proofs.Common.{◌≡◌, ◌↔◌, ◌∙◌, ℕ, Bool, true, false, if◌then◌else◌, List, Option, Some, None, Result, Err, inl, inr}
 use Rattle.std.proofs.Common.{is_some, refl, sym, ap}
 use Rattle.std.proofs.lemmas.Bool.{false≢true}
@@ -29,7 +29,7 @@ bad_refused words k l key (Err (stops.Refused refusal)) at (inl by_token) = cc (
 bad_refused words k l key (Err (stops.Refused refusal)) at (inr later) = absurd (cc (at, later.0))
 bad_refused words k l key r at leaves = absurd (cc (at, leaves.free))
 
--- If the token is not broken, a help is refused with `BadKey` exactly if its key is bad.
+-- If the token is not broken, a call for help is refused with `BadKey` exactly if its key is bad.
 pub help_bad_key : {S T : Type 0} (words : S → List ℕ) (k l : Token S) (key : ℕ) (r : Result T Stop) → (k.broken ≡ false → is_some (seat_after k.seen) ≡ true) → LeavesBy words k (calls.Help key) r l
     → k.broken ≡ false → (r ≡ Err (stops.Refused BadKey)) ↔ (is_bad_key k.limits.half key ≡ true)
 help_bad_key words k l key r rows leaves sound =

@@ -69,8 +69,8 @@ pub record HeldOnce {S : Type 0} (k : Token S) (d : Drive) (result : Option End)
 
 -- A call that took the lock. If the call is an operation, it first tried the word of its key's
 -- stripe, unless the token had the right. The entries that the token has seen since are those that
--- the call's holds added. The token's claims are those before the first hold, but if the call ended
--- the transaction, all rights were given back.
+-- the call's holds added. If the call ended the transaction, all rights were given back. Otherwise
+-- the token's claims are those before the first hold.
 pub record WentOn {S : Type 0} (k : Token S) (call : Call) (outcome : End) (l : Token S) : Type 0
   where
     pub ready : Token S

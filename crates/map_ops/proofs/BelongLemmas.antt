@@ -1,4 +1,4 @@
--- After a step on the list each node is still at its position, and the same dummies are linked.
+-- After a step on the list, each node is still at its position, and the same dummies are linked.
 use Rattle.std.proofs.Common.{◌≡◌, ℕ, ◌||◌, inl, inr, List, [], ◌∷◌, Bool, true, false, cond, map, refl, sym, ◌∙◌, ap, subst}
 use Rattle.std.specs.List.{AllByRecursion, range_with_len}
 use Rattle.node_list.specs.declared.node.Kind.{Kind}

@@ -26,18 +26,17 @@ module _ (old new : Listing) (key : ℕ) (sound : IsSound old) (after : IsSound 
   old_rises : Rises (pairs old.nodes)
   old_rises = rises-pairs old.nodes sound.rising belong.keyed
 
-  -- The node at the place is the key's node.
   own_node : (place : ℕ) (n : NodeAt) (has : HasNode old key place) → node_of old.nodes place ≡ Some n → n ≡ has.node
   own_node place n has is = some-injective (sym is ∙ ap (node_of old.nodes) has.place_is ∙ has.its.is)
 
   own_key : (place : ℕ) (n : NodeAt) → HasNode old key place → node_of old.nodes place ≡ Some n → n.at.key ≡ key
   own_key place n has is = ap (λ (m : NodeAt). m.at.key) (own_node place n has is) ∙ ap (λ (at : SortKey). at.key) has.its.at
 
-  -- If the node at the place of the key's node has this value, the key had this value.
+  -- If the key's node has the value `value`, the map of the pairs has this value at the key.
   pub had : (place value : ℕ) (n : NodeAt) → HasNode old key place → node_of old.nodes place ≡ Some n → n.value ≡ value → get (map_of (pairs old.nodes)) key ≡ Some value
   had place value n has is value_is = has.value ∙ ap Some (ap (λ (m : NodeAt). m.value) (sym (own_node place n has is)) ∙ value_is)
 
-  -- The key's node is the one that is marked.
+  -- If a step marks the node at the place of the key's node, `MarksNode` holds.
   pub marks_node : (place value : ℕ) → HasNode old key place → Marks old new place value → MarksNode old new key
   marks_node place value has marks = record {
     node = has.node;
@@ -45,7 +44,7 @@ module _ (old new : Listing) (key : ℕ) (sound : IsSound old) (after : IsSound 
     writes = record { nodes = marks.becomes.nodes ∙ ap (marked_at old.nodes) has.place_is; changes = marks.becomes.changes };
   }
 
-  -- The key's node is the one that is written.
+  -- If a step writes the node at the place of the key's node, `WritesNode` holds.
   pub swaps_node : (place was now : ℕ) → HasNode old key place → Swaps old new place was now → WritesNode old new key now
   swaps_node place was now has swaps = record {
     node = has.node;
@@ -83,8 +82,8 @@ module _ (old new : Listing) (key : ℕ) (sound : IsSound old) (after : IsSound 
         last = swaps.becomes.last;
       }
 
-  -- If the key has a gap at `pred` (`HasGap`) and the step links a node right after `pred`,
-  -- `LinksNode` holds, because a node of the old list is at `pred`.
+  -- If `HasGap` holds for the place `pred`, and a step links a node right after this place,
+  -- `LinksNode` holds.
   pub links_node : (pred : ℕ) (x node : NodeAt) → HasGap old key pred → x ≡ node → Links old new pred x → LinksNode old new node
   links_node pred x node room is links = record {
     before = pred;
@@ -108,7 +107,7 @@ module _ (old new : Listing) (key : ℕ) (sound : IsSound old) (after : IsSound 
           last = links.takes.last;
         }
 
--- Giving a spare back after the write changes no node.
+-- If a spare is given back after the key's node was written, `WritesNode` still holds.
 pub written_then_back : (old mid new : Listing) (key value : ℕ) → WritesNode old mid key value → new.nodes ≡ mid.nodes → new.changes ≡ mid.changes → WritesNode old new key value
 written_then_back old mid new key value writes same kept = record {
   node = writes.node;

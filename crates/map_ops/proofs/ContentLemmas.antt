@@ -41,15 +41,15 @@ get-inserted (p ∷ ps) m q rises =
           ∙ sym (ap (λ b. or_else (cond b (Some p.1) (value_at q ps)) (get m q)) (split_cmp_tied q p.0 ∙ ne_eqb q p.0 other))
     ]
 
--- If pairs rise, they and their map have the same value at each key.
+-- If the keys of a list of pairs rise, looking a key up in the list and in the map made from it
+-- gives the same value.
 pub get-map_of : (ps : List (ℕ × ℕ)) (q : ℕ) → Rises ps → get (map_of ps) q ≡ value_at q ps
 get-map_of ps q rises = get-inserted ps empty q rises ∙ or_else_none (value_at q ps)
 
--- Pairs that rise are the ordered pairs of their map.
+-- If the keys of a list of pairs rise, the list equals the ordered pairs of the map made from it.
 pub ordered-map_of : (ps : List (ℕ × ℕ)) → Rises ps → ps ≡ ordered (map_of ps)
 ordered-map_of ps rises = ordered_rising (map_of ps) ps rises (λ k. sym (get-map_of ps k rises))
 
--- A map is the map of its ordered pairs.
 map_of_is : (m : Map) (ps : List (ℕ × ℕ)) → Rises ps → ps ≡ ordered m → map_of ps ≡ m
 map_of_is m ps rises is = same_map (map_of ps) m (λ q. get-map_of ps q rises ∙ ap (value_at q) is ∙ value_at-ordered m q)
 
@@ -66,13 +66,12 @@ module _ (old new : List (ℕ × ℕ)) (k : ℕ) (old_rises : Rises old) (new_ri
       map_of_is (insert (map_of old) k w) new new_rises (r.new_is ∙ ordered-written (map_of old) k v w r.before r.after
       (sym r.old_is ∙ ordered-map_of old old_rises))
 
-  -- If a pair is taken out, its key is removed from the map.
+  -- If a pair is removed from the list, its key is removed from the map of the pairs.
   pub map_of-unlinked : (v : ℕ) → Replaces old new ((k, v) ∷ []) [] → map_of new ≡ remove (map_of old) k
   map_of-unlinked v r =
       map_of_is (remove (map_of old) k) new new_rises (r.new_is ∙ ordered-unlinked (map_of old) k v r.before r.after
       (sym r.old_is ∙ ordered-map_of old old_rises))
 
--- If a key belongs before some nodes, it also belongs before the keys of their pairs.
 above_pair : (k : ℕ) (kind : Kind) (marked : Bool) (key value : ℕ) (ps : List (ℕ × ℕ)) → (kind ≡ Regular → IsBefore (regular_at k) (regular_at key)) → AllByRecursion (λ (other : ℕ × ℕ). IsBefore (regular_at k) (regular_at other.0)) ps → AllByRecursion (λ (other : ℕ × ℕ). IsBefore (regular_at k) (regular_at other.0)) (pair_if kind marked key value ++ ps)
 above_pair k Dummy marked key value ps here all = all
 above_pair k Regular true key value ps here all = all
@@ -91,7 +90,8 @@ rises_pair Dummy marked key value ps here rises = rises
 rises_pair Regular true key value ps here rises = rises
 rises_pair Regular false key value ps here rises = (here refl, rises)
 
--- The pairs of nodes rise if the nodes rise and each regular node is at its key's position.
+-- If the nodes are in rising order, and each regular node is at its key's position, the keys of the
+-- nodes' pairs rise.
 pub rises-pairs : (nodes : List NodeAt) → IsRising nodes → IsKeyed nodes → Rises (pairs nodes)
 unfolding pairs IsRising
 rises-pairs [] rising keyed = tt
@@ -100,7 +100,6 @@ rises-pairs (n ∷ rest) rising keyed =
     (λ regular. above_pairs n.at.key rest (subst (λ (at : SortKey). AllByRecursion (λ (m : NodeAt). IsBefore at m.at) rest) (keyed.0 regular) rising.0) keyed.1)
     (rises-pairs rest rising.1 keyed.1)
 
--- How the pair of one node affects the value that the pairs have at a key.
 value_at-other : (key : ℕ) (kind : Kind) (marked : Bool) (k value : ℕ) (ps : List (ℕ × ℕ)) → (kind ≡ Regular → k ≢ key) → value_at key (pair_if kind marked k value ++ ps) ≡ value_at key ps
 value_at-other key Dummy marked k value ps other = refl
 value_at-other key Regular true k value ps other = refl
@@ -135,8 +134,6 @@ value_at-there key (m ∷ rest) place n rising keyed is kind at unmarked = elim 
       ∙ value_at-there key rest place n rising.1 keyed.1 later kind at unmarked
 ]
 
--- A list of nodes has as many pairs as live nodes. If pairs rise, their map has as many keys as
--- there are pairs.
 length_pair : (kind : Kind) (marked : Bool) (key value : ℕ) (ps : List (ℕ × ℕ)) (count : ℕ) → length ps ≡ count → length (pair_if kind marked key value ++ ps) ≡ (if is_regular kind && not marked then 1 else 0) + count
 length_pair Dummy marked key value ps count is = omega (arith, is)
 length_pair Regular true key value ps count is = omega (arith, is)

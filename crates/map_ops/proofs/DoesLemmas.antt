@@ -35,7 +35,7 @@ sets_then_back old mid new buckets k value spare sets gives = record {
   last = gives.last ∙ sets.last;
 }
 
--- A spare that is given back after the write is no longer out; the other spares are unchanged.
+-- If a spare is given back after a write, it is no longer out, and all other spares are unchanged.
 pub keeps_then_back : (old mid new : Listing) (buckets : Directory) (spare : SpareAt) → KeepsSpares (table_of old buckets) (table_of mid buckets) → GivesBack (table_of mid buckets) (table_of new buckets) (Some spare)
     → Spends (table_of old buckets) (table_of new buckets) (Some spare)
 keeps_then_back old mid new buckets spare keeps gives = (gives.spares.0, λ other apart. gives.spares.1 other apart ∙ keeps other)
@@ -46,7 +46,7 @@ put_spends old new k None spare job is spends = subst (SpendsFor old new spare) 
 put_spends old new k (Some value) spare job is spends = subst (SpendsFor old new spare) (sym is) spends
 
 module _ (old new : Listing) (buckets : Directory) (k : ℕ) (before : Option ℕ) (before_is : before ≡ get (content (table_of old buckets)) k) (spare : SpareAt) where
-  -- `Does` holds of a put.
+  -- If a put sets its key to the new value and spends its spare, `Does` holds for the put.
   pub does_put : (v : ℕ) (job : Option MapJob) → job ≡ unput k before → Sets (table_of old buckets) (table_of new buckets) k (Some v) → Spends (table_of old buckets) (table_of new buckets) (Some spare)
       → Does (table_of old buckets) (table_of new buckets) (record { op = Put k v; spare = Some spare }) before job
   does_put v job job_is sets spends = record {
@@ -59,7 +59,8 @@ module _ (old new : Listing) (buckets : Directory) (k : ℕ) (before : Option �
     last = sets.last;
   }
 
-  -- `Does` holds of a `PutIf` whose condition holds.
+  -- If the condition of a `PutIf` holds, and the operation sets its key and spends its spare,
+  -- `Does` holds for the operation.
   pub does_put_if : (v : ℕ) (expected : Option ℕ) (job : Option MapJob) → option_eq nat_eq before expected ≡ true → job ≡ unput k before → Sets (table_of old buckets) (table_of new buckets) k (Some v) → Spends (table_of old buckets) (table_of new buckets) (Some spare)
       → Does (table_of old buckets) (table_of new buckets) (record { op = PutIf k expected v; spare = Some spare }) before job
   does_put_if v expected job holds job_is sets spends =
@@ -74,7 +75,8 @@ module _ (old new : Listing) (buckets : Directory) (k : ℕ) (before : Option �
         last = sets.last;
       }
 
-  -- `Does` holds of a `PutIf` whose condition does not hold.
+  -- If the condition of a `PutIf` does not hold, and the operation's spare is given back, `Does`
+  -- holds for the operation.
   pub does_put_if_not : (v : ℕ) (expected : Option ℕ) → option_eq nat_eq before expected ≡ false → GivesBack (table_of old buckets) (table_of new buckets) (Some spare)
       → Does (table_of old buckets) (table_of new buckets) (record { op = PutIf k expected v; spare = Some spare }) before None
   does_put_if_not v expected differs gives =
@@ -113,7 +115,7 @@ module _ (old new : Listing) (buckets : Directory) (k : ℕ) (before : Option �
     last = gives.last;
   }
 
--- A get changes nothing.
+-- If a get changes nothing, and its reply is the key's value, `Does` holds for the get.
 pub does_get : (list : Listing) (buckets : Directory) (k : ℕ) (reply : Option ℕ) → reply ≡ get (content (table_of list buckets)) k
     → Does (table_of list buckets) (table_of list buckets) (record { op = Get k; spare = None }) reply None
 does_get list buckets k reply is = record {
@@ -142,8 +144,8 @@ places old new buckets key from bound c sound nodes_is kept same found placed fi
   changes = found.changes;
 }
 
--- If a change's key is set to its value before the change, and the spare of the change's job is
--- spent, `TakesBack` holds.
+-- If a job's key is set to the value that it had before the change, and the job's spare is spent,
+-- `TakesBack` holds.
 pub takes_back : (old new : Listing) (buckets : Directory) (job : MapJob) → Sets (table_of old buckets) (table_of new buckets) (key_of_job job) (value_before job) → Spends (table_of old buckets) (table_of new buckets) (spare_of_job job)
     → TakesBack (table_of old buckets) (table_of new buckets) job
 takes_back old new buckets job sets spends = record {

@@ -12,7 +12,6 @@ use Rattle.map_ops.specs.Changes.{AreApart, OwnsIf, ShowsAfter, Spends, TakesBac
 use Rattle.map_ops.specs.Laws.{TakesBackTwo}
 use Rattle.map_ops.proofs.Laws.{still_owned, other_owned}
 
--- A key that is not set keeps its value.
 get-set_at-other : (m : Map) (j k : ℕ) (value : Option ℕ) → j ≢ k → get (set_at m j value) k ≡ get m k
 get-set_at-other m j k value apart = get-set_at m j value k ∙ ap (λ b. cond b value (get m k)) (ne_eqb k j (λ same. apart (sym same)))
 
@@ -37,7 +36,7 @@ set_at-swap m j k x y apart = same_map (set_at (set_at m j x) k y) (set_at (set_
           ap (λ b. cond b y (cond (q == j) x (get m q))) not ∙ sym (ap (λ b. cond (q == j) x (cond b y (get m q))) not)
     ]
 
--- Both orders of two jobs leave the same content.
+-- If two jobs of different keys are taken back, both orders give the same content.
 pub either-content : (old one other : TableAt) (first second : MapJob) → key_of_job first ≢ key_of_job second → TakesBackTwo old one first second → TakesBackTwo old other second first → content one ≡ content other
 either-content old one other first second apart a b =
     a.two.content_is
@@ -50,8 +49,6 @@ abbrev is_at : Option SpareAt → ℕ → Bool
 is_at None place = false
 is_at (Some spare) place = place == spare.place
 
--- After a spare is spent, no spare is out at the place of the spent one, and every other place is
--- as before.
 spent-at : (old new : TableAt) (spare : Option SpareAt) (place : ℕ) → Spends old new spare → spare_out new place ≡ cond (is_at spare place) None (spare_out old place)
 spent-at old new None place spends = spends place
 spent-at old new (Some spare) place spends = elim (cases_eq place spare.place) [
@@ -65,7 +62,7 @@ either_none true false out = refl
 either_none false true out = refl
 either_none false false out = refl
 
--- Both orders of two jobs leave the same spares out.
+-- If two jobs are taken back, the same spares are out after both orders.
 pub either-spares : (old one other : TableAt) (first second : MapJob) → TakesBackTwo old one first second → TakesBackTwo old other second first → KeepsSpares other one
 either-spares old one other first second a b place =
     let j = is_at (spare_of_job first) place in
@@ -80,8 +77,8 @@ spent_owned : (old new : TableAt) (spent : Option SpareAt) (spare : SpareAt) →
 spent_owned old new None spare apart spends owned = still_owned old new spare spends owned
 spent_owned old new (Some gone) spare apart spends owned = other_owned old new spare gone.place spends.1 (λ same. apart (sym same)) owned
 
--- If `ShowsAfter` holds of a job, it still holds after another job is taken back, provided that the
--- two jobs have different keys and their spares have different places.
+-- If `ShowsAfter` holds for a job, it still holds after another job is taken back. The two jobs
+-- must have different keys, and their spares must have different places.
 pub either_due : (old new : TableAt) (first second : MapJob) → key_of_job first ≢ key_of_job second → AreApart (spare_of_job first) (spare_of_job second) → ShowsAfter second old → TakesBack old new first → ShowsAfter second new
 either_due old new first second apart spares shows back = go second apart spares shows
   where

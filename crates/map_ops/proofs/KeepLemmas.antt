@@ -13,7 +13,7 @@ use Rattle.bucket_table.specs.Directory.{Directory, limit_of}
 use Rattle.bucket_table.specs.Dummies.{has_dummy}
 use Rattle.map_ops.specs.TableAt.{TableAt, table_of, Follows, IsPlaced, KeepsBuckets, KeepsNodes}
 
--- If only the list changes, the buckets are unchanged.
+-- If only the list changes, `KeepsBuckets` holds.
 pub same_buckets : (old new : Listing) (d : Directory) → KeepsBuckets (table_of old d) (table_of new d)
 same_buckets old new d = record { all = refl; size = refl; largest = refl; stored = refl; helps = refl }
 

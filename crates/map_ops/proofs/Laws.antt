@@ -29,7 +29,6 @@ other_owned old new spare place keeps other owned = keeps spare.place other ∙ 
 pub fresh_apart : (old new : TableAt) (spare other : SpareAt) → GivesSpare old new spare → Owns old other → other.place ≢ spare.place
 fresh_apart old new spare other gives owned same = let gone : out_at old.list other.place ≡ None = ap (out_at old.list) same ∙ gives.fresh in let both : Some other.stamp ≡ None = sym owned ∙ gone in cc
 
--- After a key is set to a value, the key has this value.
 pub get-set_at-here : (m : Map) (k : ℕ) (value : Option ℕ) → get (set_at m k value) k ≡ value
 get-set_at-here m k value = get-set_at m k value k ∙ ap (λ b. cond b value (get m k)) (eq-eqb k k refl)
 
@@ -38,16 +37,15 @@ pub shows_before : (old new : TableAt) (job : MapJob) → TakesBack old new job 
 shows_before old new job back =
     ap (λ m. get m (key_of_job job)) back.content_is ∙ get-set_at-here (content old) (key_of_job job) (value_before job)
 
--- A directory without buckets. Statements that hold for any buckets are used with this directory.
+-- A directory without buckets. It is used as the argument where a statement holds for any buckets.
 abbrev pub no_buckets : Directory
 no_buckets = record { size = 0; entries = []; helpers = [] }
 
--- After a put, `IsDue` holds of its job.
 put_is_due : (m : Map) (k v : ℕ) (job : MapJob) (o : Option ℕ) → unput k o ≡ Some job → IsDue (insert m k v) job
 put_is_due m k v job None same = subst (IsDue (insert m k v)) (some-injective same) (ap is_some (get-insert-here m k v))
 put_is_due m k v job (Some old) same = subst (IsDue (insert m k v)) (some-injective same) (ap is_some (get-insert-here m k v))
 
--- After an operation, `IsDue` holds of its job.
+-- If an operation has a job, `IsDue` holds for this job after the operation.
 pub job_is_due : (m : Map) (op : Op) (spare : Option SpareAt) (job : MapJob) → job_of m op spare ≡ Some job → IsDue (after m op) job
 job_is_due m (Put k v) spare job is = put_is_due m k v job (get m k) is
 job_is_due m (Take k) spare job is = go (get m k) spare is
@@ -76,8 +74,6 @@ set_at-remove m k before is = same_map _ m (λ q. get-set_at (remove m k) k befo
   | inr other ↦ ap (λ b. cond b before (get (remove m k) q)) (ne_eqb q k other) ∙ get-remove m k q ∙ ap (λ b. cond b None (get m q)) (ne_eqb q k other)
 ])
 
--- If the change of a put, or of any operation with a job, is taken back, the map is as it was
--- before.
 put_set_at : (m : Map) (k v : ℕ) (job : MapJob) (o : Option ℕ) → get m k ≡ o → unput k o ≡ Some job → set_at (insert m k v) (key_of_job job) (value_before job) ≡ m
 put_set_at m k v job None was same = subst (λ j. set_at (insert m k v) (key_of_job j) (value_before j) ≡ m) (some-injective same) (set_at-insert m k v None was)
 put_set_at m k v job (Some old) was same = subst (λ j. set_at (insert m k v) (key_of_job j) (value_before j) ≡ m) (some-injective same) (set_at-insert m k v (Some old) was)
@@ -97,7 +93,6 @@ set_at-after m (PutIf k expected v) spare job is = go (option_eq nat_eq (get m k
     go true same = put_set_at m k v job (get m k) refl same
     go false same = absurd (some-none (sym same))
 
--- If a put had no job, it would leave the map unchanged; but `unput` always gives a job.
 put_no_job : (m : Map) (k v : ℕ) (o : Option ℕ) → unput k o ≡ None → insert m k v ≡ m
 put_no_job m k v None none = absurd (some-none none)
 put_no_job m k v (Some old) none = absurd (some-none none)
@@ -118,7 +113,7 @@ after-no_job m (PutIf k expected v) spare given is = go (option_eq nat_eq (get m
     go true none = put_no_job m k v (get m k) none
     go false none = refl
 
--- If `apply` does a change, `ShowsAfter` holds of the change's job afterwards.
+-- If `apply` does a change, `ShowsAfter` holds for the change's job afterwards.
 pub shows_after : (old new : TableAt) (op : Op) (reply : Option ℕ) (job : MapJob) → Applies old new op reply (Some job) → ShowsAfter job new
 shows_after old new op reply job applies =
     (subst (λ (m : Map). IsDue m job) (sym applies.content_is) (job_is_due (content old) op applies.spare job (sym applies.job_is)), owned job applies.spares)
@@ -128,7 +123,8 @@ shows_after old new op reply job applies =
     owned (Restore k before) spares = tt
     owned (Relink k before spare) gives = gives.owned
 
--- An operation followed by its job leaves the content unchanged.
+-- If the change of an operation is taken back right after the operation, the content is the same as
+-- before the operation.
 pub content-there_and_back : (old mid new : TableAt) (op : Op) (reply : Option ℕ) (job : MapJob) → Applies old mid op reply (Some job) → TakesBack mid new job → content new ≡ content old
 content-there_and_back old mid new op reply job applies back =
     back.content_is ∙ ap (λ (m : Map). set_at m (key_of_job job) (value_before job)) applies.content_is ∙ set_at-after (content old) op applies.spare job (sym applies.job_is)
@@ -164,7 +160,7 @@ put_keeps old new k v reply job applies = go (get (content old) k) (subst (JobSp
 pub get_keeps : (old new : TableAt) (k : ℕ) (reply : Option ℕ) (job : Option MapJob) → Applies old new (Get k) reply job → KeepsSpares old new
 get_keeps old new k reply job applies = subst (JobSpare old new) applies.job_is applies.spares
 
--- If `apply` does an operation that has a job, `ShowsAfter` holds of this job afterwards.
+-- If `apply` does an operation that has a job, `ShowsAfter` holds for this job afterwards.
 pub applied_shows_after : (old new : TableAt) (op : Op) (reply : Option ℕ) (job : Option MapJob) → Applies old new op reply job → IfSome job (λ j. ShowsAfter j new)
 applied_shows_after old new op reply None applies = tt
 applied_shows_after old new op reply (Some job) applies = shows_after old new op reply job applies

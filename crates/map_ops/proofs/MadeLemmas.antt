@@ -10,7 +10,6 @@ use Rattle.std.specs.FinMap.Entries.{find-put}
 use Rattle.txn_words.specs.Map.{Map, empty, get, insert}
 use Rattle.map_ops.specs.TableAt.{map_of}
 
--- Inserting pairs one after another gives each key the value that `update_all` gives it.
 update_all-inserted : (ps : List (ℕ × ℕ)) (m : Map) (q : ℕ) → update_all (eq_by_cmp nat_cmp) (λ k. get m k) ps q ≡ get (fold (λ (m : Map) (pair : ℕ × ℕ). insert m pair.0 pair.1) m ps) q
 update_all-inserted [] m q = refl
 update_all-inserted (p ∷ ps) m q = ap (λ f. update_all (eq_by_cmp nat_cmp) f ps q) one ∙ update_all-inserted ps (insert m p.0 p.1) q

@@ -58,8 +58,8 @@ module _ (l : Listing) (c : Cursor) (key : ℕ) (sound : IsSound l) (belong : Be
   get-absent absent =
       get-map_of (pairs l.nodes) key rises ∙ value_at-absent key l.nodes belong.keyed (subst (λ (s : SortKey). AllByRecursion (λ (n : NodeAt). n.at ≢ s) l.nodes) same absent.others)
 
-  -- If a look at the cursor finds a place, the key's node is linked there. If it finds none, a node
-  -- for the key belongs right after the cursor's first node.
+  -- If `look` finds a place, the key's node is linked at this place. If `look` finds no place, a
+  -- node for the key belongs right after the cursor's first node.
   pub stands : (found : Option ℕ) → Finds l c found → Stands l key (pred_of c) found
   stands None absent = record { vacant = subst (IsVacant l.nodes (pred_of c)) same absent.vacant; none = get-absent absent }
   stands (Some place) at =
@@ -71,7 +71,7 @@ module _ (l : Listing) (c : Cursor) (key : ℕ) (sound : IsSound l) (belong : Be
         value = get-there at.node at.there;
       }
 
--- If a look at the cursor returns `Ok`, `Stands` holds of the value in the `Ok`.
+-- If `look` at the cursor returns `Ok`, the value in the `Ok` satisfies `Stands`.
 pub found : (l : Listing) (c : Cursor) (key : ℕ) → IsSound l → Belong l.nodes → IsPlaced l c → at_of c ≡ regular_at key
     → (result : Result (Option ℕ) Again) → fits l c ≡ is_ok result → IfOk result (Finds l c) → IfOk result (Stands l key (pred_of c))
 found l c key sound belong placed same (Ok there) fitting finds = stands l c key sound belong placed fitting same there finds
@@ -88,11 +88,11 @@ pub vacant : (l : Listing) (key pred : ℕ) (there : Option ℕ) → Stands l ke
 vacant l key pred None room none = room
 vacant l key pred (Some place) has none = absurd (some-none (sym has.value ∙ none))
 
--- If `HasNode` holds of a place, the node at this place is linked.
+-- If `HasNode` holds for a place, a node is linked at this place.
 pub node_linked : (l : Listing) (key place : ℕ) → HasNode l key place → IsLinked l.nodes place
 node_linked l key place has = found_linked l.nodes place has.node (ap (node_of l.nodes) has.place_is ∙ has.its.is)
 
--- The value of the key's node is the value of the key.
+-- If the key's node is at the place, the value of the node at this place is the key's value.
 pub value_there : (l : Listing) (key place : ℕ) (n : NodeAt) → HasNode l key place → node_of l.nodes place ≡ Some n → Some n.value ≡ get (map_of (pairs l.nodes)) key
 value_there l key place n has is =
     ap (λ (m : NodeAt). Some m.value) (some-injective (sym is ∙ ap (node_of l.nodes) has.place_is ∙ has.its.is)) ∙ sym has.value

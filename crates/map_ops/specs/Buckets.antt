@@ -25,7 +25,7 @@ abbrev pub LacksSegment : List Bool → ℕ → Type 0
 LacksSegment stored bucket =
     (other : ℕ) → other / 64 ≡ bucket / 64 → is_stored stored other ≡ false
 
--- Converts the refusal of a call on buckets to the refusal of a step with the same name.
+-- Converts the refusal of a call on buckets to the step's refusal that has the same name.
 abbrev pub refusal_for : InitRefusal → Refusal
 refusal_for NoSuchBucket = refusals.NoSuchBucket
 refusal_for ParentMissing = refusals.ParentMissing
@@ -44,18 +44,19 @@ abbrev pub seek_answer : ℕ → List Bool → Option Help → ℕ → Result In
 seek_answer size stored help bucket =
     answer_for (buckets.seek_answer size (is_stored stored) help bucket)
 
--- The answer to a link if memory lasts. It depends on whether the helper's cursor fits, on which
--- dummies are linked, on the last stamp and on the helper's state.
+-- The answer to a link if no memory is refused. It depends on whether the helper's cursor fits, on
+-- which dummies are linked, on the last stamp and on the helper's state.
 abbrev pub link_answer : Bool → List Bool → ℕ → Option Help → Result InitLink Refusal
 link_answer fitting linked last help =
     answer_for (buckets.link_answer fitting (is_stored linked) last help)
 
--- What the table answers, if memory lasts, when the helper with this number links its dummy.
+-- What the table answers, if no memory is refused, when the helper with this number links its
+-- dummy.
 abbrev pub link_answer_of : TableAt → ℕ → Result InitLink Refusal
 link_answer_of t helper =
     link_answer (helper_fits t helper) (linked_of t) (last_of t) (slice_get (helps_of t) helper)
 
--- The answer to a store if memory lasts, given the helper's state.
+-- The answer to a store if no memory is refused, given the helper's state.
 abbrev pub store_answer : Option Help → Result Unit Refusal
 store_answer help = answer_for (buckets.store_answer help)
 

@@ -26,7 +26,7 @@ key_of_job (Unput k) = k
 key_of_job (Restore k old) = k
 key_of_job (Relink k old spare) = k
 
--- The value of the job's key before the change, or none.
+-- The value that the job's key had before the change, or `None` if it had no value.
 abbrev pub value_before : MapJob → Option ℕ
 value_before (Unput k) = None
 value_before (Restore k old) = Some old
@@ -45,14 +45,14 @@ IsDue m (Unput k) = IsSome (get m k)
 IsDue m (Restore k old) = IsSome (get m k)
 IsDue m (Relink k old spare) = get m k ≡ None
 
--- The job for the inverse of a take. The arguments are the key, the value that was taken, if there
--- was one, and the spare.
+-- The job that undoes a take. The arguments are the key, the value that was taken, if there was
+-- one, and the spare. If one of the last two is missing, there is no job.
 abbrev pub relink : ℕ → Option ℕ → Option SpareAt → Option MapJob
 relink k (Some old) (Some spare) = Some (Relink k old spare)
 relink k (Some old) None = None
 relink k None spare = None
 
--- The job for the inverse of a put, given the key and the value that it had before, if any.
+-- The job that undoes a put, given the key and the value that the key had before, if it had one.
 abbrev pub unput : ℕ → Option ℕ → Option MapJob
 unput k None = Some (Unput k)
 unput k (Some old) = Some (Restore k old)

@@ -6,7 +6,8 @@ use Rattle.map_ops.specs.declared.job.MapJob.{MapJob}
 use Rattle.map_ops.specs.TableAt.{TableAt, content, regular}
 use Rattle.map_ops.specs.Changes.{Applies, TakesBack}
 
--- The list has the pairs of the content in their order.
+-- The list has the pairs of the content in split order: by split key, and by key if split keys are
+-- equal.
 abbrev pub IsInOrder : TableAt → Type 0
 IsInOrder t = regular t ≡ ordered (content t)
 
@@ -19,7 +20,7 @@ pub record GoesAndReturns (old new : TableAt) : Type 0 where
   pub applies : Applies old between op reply (Some job)
   pub back : TakesBack between new job
 
--- Two jobs were taken back one after the other.
+-- The changes of two jobs were taken back, one after the other.
 pub record TakesBackTwo (old new : TableAt) (first second : MapJob) : Type 0 where
   pub between : TableAt
   pub one : TakesBack old between first

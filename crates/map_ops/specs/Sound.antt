@@ -8,7 +8,7 @@ use Rattle.bucket_table.specs.Directory.{Directory}
 use Rattle.bucket_table.specs.Dummies.{IsKeyed}
 use Rattle.bucket_table.specs.Home.{IsHome}
 
--- A dummy is at no key's position: its split key is even.
+-- If the node is a dummy, its split key is even. So a dummy is at no key's position.
 abbrev pub IsEvenDummy : NodeAt → Type 0
 IsEvenDummy n = n.kind ≡ Dummy → n.at.split % 2 ≡ 0
 

@@ -24,7 +24,7 @@ now_linked (n ∷ rest) pred x is = elim (eqb_tells n.place pred) [
   | inr apart ↦ rw apart.0 (inr (now_linked rest pred x (elim is [ inl first ↦ absurd (apart.1 first) | inr later ↦ later ])))
 ]
 
--- If a node is linked and its place was free before, the node is found at its place.
+-- If a node is linked at a place that was free, `node_of` finds the node at that place.
 pub now_found : (nodes : List NodeAt) (pred : ℕ) (x : NodeAt) → AbsentFrom x.place nodes → IsLinked nodes pred → node_of (linked_after nodes pred x) x.place ≡ Some x
 unfolding node_of linked_after IsLinked
 now_found [] pred x absent is = absurd is
@@ -93,8 +93,7 @@ absent_unlinked (n ∷ (m ∷ rest)) pred place apart is = elim (eqb_tells n.pla
       rw later.0 (absent_linked (m ∷ rest) n.place place apart.0 (linked_more (m ∷ rest) place there.1), absent_unlinked (m ∷ rest) pred place apart.1 is_later)
 ]
 
--- After a change, each node that is found was there before the change, or is the node that was
--- linked.
+-- Each node that `node_of` finds after a link was found before it, or is the node that was linked.
 pub found_linked_after : (nodes : List NodeAt) (pred place : ℕ) (x n : NodeAt) → node_of (linked_after nodes pred x) place ≡ Some n → (node_of nodes place ≡ Some n) ⊎ ((x ≡ n) × (x.place ≡ place))
 unfolding node_of linked_after
 found_linked_after [] pred place x n is = inl is
@@ -171,7 +170,7 @@ found_unlinked (m ∷ (k ∷ rest)) pred place n spread is = elim (eqb_tells m.p
   ]
 ]
 
--- A node that was found before a change is still found after it, unless it is the unlinked node.
+-- If a node is linked at a free place, `node_of` still finds each node that it found before.
 pub still_found_linked : (nodes : List NodeAt) (pred place : ℕ) (x n : NodeAt) → AbsentFrom x.place nodes → node_of nodes place ≡ Some n → node_of (linked_after nodes pred x) place ≡ Some n
 unfolding node_of linked_after
 still_found_linked [] pred place x n absent is = is

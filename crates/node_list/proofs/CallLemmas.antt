@@ -19,13 +19,14 @@ use Rattle.node_list.proofs.SpareSteps.{spare_laid_out, spare_stamps, spare_out,
 use Rattle.node_list.proofs.SlabSteps.{link_absent, link_laid_out, link_stamps, link_gone, link_others, mid_spare, change_laid_out, change_stamps, change_out, unlink_laid_out, unlink_stamps, unlink_out}
 use Rattle.node_list.proofs.FollowLemmas.{sound, gives_out_follows, takes_back_follows, links_follow, changes_follow, unlinks_follow}
 
--- There are at most as many counted nodes as slots in use.
+-- The counts of live and of marked nodes together are at most the number of the slab's slots in
+-- use.
 pub counted_fit : (slab : Slab SlotAt) (head last count marked : ℕ) → IsKept slab head last count marked → count + marked ≤ slab_len slab
 counted_fit slab head last count marked is =
     let fits = nodes_fit slab head (nodes_in slab head) is.laid_out in
     omega (arith, fits, counts_fit (nodes_in slab head), is.counted, is.marks)
 
--- If a place is linked, the slot there has a linked node.
+-- If the list has a node at a place, the slab's slot there holds a linked node.
 pub slot_linked : (slab : Slab SlotAt) (head last count marked place : ℕ) → IsKept slab head last count marked → IsLinked (nodes_in slab head) place → (node : Node) × (get slab place ≡ Some (Linked node))
 slot_linked slab head last count marked place is linked = linked_node (get slab) (nodes_in slab head) place is.laid_out.chain linked
 
@@ -131,8 +132,8 @@ module _ (old : Slab SlotAt) (head changes last count marked : ℕ) (is : IsKept
       let same = some-injective (sym there ∙ regular.is) in
       (ap (λ (v : NodeAt). v.kind) same ∙ regular.regular, ap (λ (v : NodeAt). v.marked) same ∙ regular.unmarked)
 
-  -- If the list has an unmarked regular node at a place, this node is the one in the slot there,
-  -- and the node in the slot is unmarked.
+  -- If the list has an unmarked regular node at a place, it is the node in the slab's slot there,
+  -- and the node in this slot is unmarked.
   pub regular_found : (place : ℕ) (node : Node) → IsRegularAt (nodes_in old head) place → get old place ≡ Some (Linked node) → (node_of (nodes_in old head) place ≡ Some (node_seen place node)) × (node.marked ≡ false)
   regular_found place node regular is_node =
       let linked = found_linked (nodes_in old head) place regular.node regular.is in
@@ -174,13 +175,14 @@ module _ (old : Slab SlotAt) (head changes last count marked : ℕ) (is : IsKept
   behind_place pred before behind is_before =
       sym (next_is (get old) (nodes_in old head) pred before is.laid_out.chain (behind_linked old head pred behind) is_before) ∙ ap place_of behind.next
 
-  -- If a linked node has a next place, the slot there has a linked node.
+  -- If a linked node names a next place, the slot at that place holds a linked node.
   pub behind_slot : (pred place : ℕ) (before : Node) → IsLinked (nodes_in old head) pred → get old pred ≡ Some (Linked before) → before.next ≡ Some place → (node : Node) × (get old place ≡ Some (Linked node))
   behind_slot pred place before linked is_before next =
       let place_is = next_is (get old) (nodes_in old head) pred before is.laid_out.chain linked is_before ∙ next in
       linked_node (get old) (nodes_in old head) place is.laid_out.chain (linked_more _ _ (next_linked (nodes_in old head) pred place place_is).1)
 
-  -- The marked node right after `pred` has the sort key of the node in the slot at `place`.
+  -- If the node at `pred` names `place` as its next place, the marked node right after `pred` has
+  -- the sort key of the node in the slot at `place`.
   pub behind_at : (pred place : ℕ) (before node : Node) (behind : IsBeforeMarked (nodes_in old head) pred) → get old pred ≡ Some (Linked before) → before.next ≡ Some place → get old place ≡ Some (Linked node) → behind.node.at ≡ node.at
   behind_at pred place before node behind is_before next is_node =
       let nodes = nodes_in old head in
@@ -230,8 +232,8 @@ module _ (old : Slab SlotAt) (head changes last count marked : ℕ) (is : IsKept
       (is_out : IsOut (listing_of old head changes last) s)
       (next_was : next ≡ before.next)
       (mid_is : mid ≡ with_value old pred (Linked (record before { next = Some s.place }))) where
-    -- After the slot of the node in front has changed, the spare's slot still has the spare's
-    -- stamp.
+    -- If the node that will be before the new one gets another next place, the spare's slot still
+    -- has the spare's stamp.
     pub filling_slot : get mid s.place ≡ Some (Out s.stamp)
     filling_slot = mid_spare old mid (with_value mid s.place (Linked (stored_node (filled s) before.next))) head last pred (nodes_in old head) (filled s) before is.laid_out is.stamps is_before is_out mid_is refl
 

@@ -44,7 +44,6 @@ walk_is (suc fuel) at [] chain room = refl
 walk_is (suc fuel) at (n ∷ rest) chain room =
     rw chain.0 (ap (λ ns. n ∷ ns) (walk_is fuel at rest chain.1 (omega arith)))
 
--- If a node in a slot belongs before all nodes of a chain, no node of the chain is at its place.
 absent_after : (at : ℕ → Option SlotAt) (n : NodeAt) (next : Option ℕ) (nodes : List NodeAt) → at n.place ≡ Some (Linked (stored_node n next)) → IsChain at nodes → AllByRecursion (IsNodeBefore n) nodes → AbsentFrom n.place nodes
 unfolding IsChain
 absent_after at n next [] is chain before = tt
@@ -135,18 +134,18 @@ unfolding IsChain
 absent_free at [] place chain free = tt
 absent_free at (n ∷ rest) place chain free = ((λ same. free _ (rw same at chain.0)), absent_free at rest place chain.1 free)
 
--- If a place is linked, the slot there has a linked node.
+-- If a chain has a node at a place, the slot at that place holds a linked node.
 pub linked_node : (at : ℕ → Option SlotAt) (nodes : List NodeAt) (place : ℕ) → IsChain at nodes → IsLinked nodes place → (node : Node) × (at place ≡ Some (Linked node))
 unfolding IsChain IsLinked
 linked_node at [] place chain is = absurd is
 linked_node at (n ∷ rest) place chain (inl here) = (stored_node n (first_place rest), rw (← here) chain.0)
 linked_node at (n ∷ rest) place chain (inr later) = linked_node at rest place chain.1 later
 
--- If the slot at a place has no linked node, no node is linked at that place.
+-- If the slot at a place holds no linked node, the chain has no node at that place.
 pub not_linked : (at : ℕ → Option SlotAt) (nodes : List NodeAt) (place : ℕ) → IsChain at nodes → ((node : Node) → at place ≢ Some (Linked node)) → IsLinked nodes place → ⊥
 not_linked at nodes place chain free linked = let there = linked_node at nodes place chain linked in free there.0 there.1
 
--- If a node is linked at a place, it is the node in the slot there.
+-- If a chain has a node at a place, `node_of` finds there the node that the slot holds.
 pub node_found : (at : ℕ → Option SlotAt) (nodes : List NodeAt) (place : ℕ) (node : Node) → IsChain at nodes → IsLinked nodes place → at place ≡ Some (Linked node) → node_of nodes place ≡ Some (node_seen place node)
 unfolding IsChain IsLinked node_of
 node_found at [] place node chain is is_node = absurd is

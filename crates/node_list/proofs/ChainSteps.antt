@@ -44,7 +44,7 @@ first_place-changed (n ∷ rest) place change same = elim (eqb_tells n.place pla
   | inr apart ↦ rw apart.0 refl
 ]
 
--- Each change keeps the dummy of bucket 0 first.
+-- After each change of the list, the dummy of bucket 0 is still the first node.
 pub starts_linked : (nodes : List NodeAt) (head pred : ℕ) (x : NodeAt) → StartsWithHead nodes head
     → StartsWithHead (linked_after nodes pred x) head
 starts_linked nodes head pred x starts =
@@ -71,8 +71,8 @@ starts_changed (n ∷ rest) head place change same starts = elim (eqb_tells n.pl
       rw apart.0 (record { node = starts.node; is = starts.is; place = starts.place; at = starts.at; kind = starts.kind })
 ]
 
--- A new node is linked right after the node at `pred`. The slot at `pred` gets the new node's place
--- as its next place. The new node's slot gets the next place that the slot at `pred` had.
+-- If the slot at `pred` gets the new node's place as its next place, and the new node's slot gets
+-- the old next place of `pred`, the chain becomes `linked_after`.
 pub chain_linked : (at new : ℕ → Option SlotAt) (nodes : List NodeAt) (pred : ℕ) (x : NodeAt) (before : Node) → IsChain at nodes → IsSpread nodes → AbsentFrom x.place nodes → at pred ≡ Some (Linked before) → new pred ≡ Some (Linked (record before { next = Some x.place })) → new x.place ≡ Some (Linked (stored_node x before.next)) → ((other : ℕ) → other ≢ pred → other ≢ x.place → new other ≡ at other) → IsChain new (linked_after nodes pred x)
 unfolding IsChain IsSpread linked_after
 chain_linked at new [] pred x before chain apart absent is written x_is others = tt
@@ -97,8 +97,8 @@ chain_linked at new (n ∷ rest) pred x before chain apart absent is written x_i
 renamed : (before behind : Node) (n m : NodeAt) (next after : Option ℕ) → before ≡ stored_node n next → behind ≡ stored_node m after → record before { next = behind.next } ≡ stored_node n after
 renamed before behind n m next after first second = ap₂ (λ (b c : Node). record b { next = c.next }) first second
 
--- The node right after the node at `pred` is unlinked. The slot at `pred` gets the next place that
--- the unlinked node had.
+-- If the slot at `pred` gets the next place of the node right after `pred`, the chain becomes
+-- `unlinked_after`.
 pub chain_unlinked : (at new : ℕ → Option SlotAt) (nodes : List NodeAt) (pred place : ℕ) (before behind : Node) → IsChain at nodes → IsSpread nodes → at pred ≡ Some (Linked before) → before.next ≡ Some place → at place ≡ Some (Linked behind) → new pred ≡ Some (Linked (record before { next = behind.next })) → ((other : ℕ) → other ≢ pred → new other ≡ at other) → IsChain new (unlinked_after nodes pred)
 unfolding IsChain IsSpread unlinked_after
 chain_unlinked at new [] pred place before behind chain apart is next_is is_behind written others = tt

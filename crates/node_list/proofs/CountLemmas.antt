@@ -96,7 +96,6 @@ unfolding count_where
 counts_fit [] = omega arith
 counts_fit (n ∷ rest) = omega (arith, counts_fit rest, gains n.kind n.marked)
 
--- The count of marked nodes is 0 exactly if no node is marked.
 unmarked : (b : Bool) → cond {A = ℕ} b 1 0 ≡ 0 → b ≡ false
 unmarked true none = absurd (omega arith)
 unmarked false none = refl

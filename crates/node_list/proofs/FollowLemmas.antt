@@ -16,7 +16,7 @@ use Rattle.node_list.proofs.AfterLemmas.{found_linked_after, found_changed, foun
 use Rattle.node_list.proofs.ChainLemmas.{true-ne-false, out-not-linked, linked_node, node_found, spread}
 use Rattle.node_list.proofs.SpareSteps.{out_in, slot_out}
 
--- A list follows itself.
+-- `Follows` is reflexive.
 pub follows_self : (l : Listing) → Follows l l
 follows_self l = record {
   sound = λ is. is;
@@ -62,7 +62,7 @@ follows_twice a b c first second = record {
       (in_c.0, in_c.1, same_after _ _ _ in_b.2 in_c.2);
 }
 
--- After each change the new list follows the old one.
+-- If a list gives out a spare, the new list follows the old one (`Follows`).
 pub gives_out_follows : (old new : Listing) (place stamp : ℕ) → stamp ≡ old.last + 1 → IsSound new → GivesOut old new place stamp → Follows old new
 gives_out_follows old new place stamp above now_sound given = record {
   sound = λ was. now_sound;
@@ -162,7 +162,7 @@ stamped slab head changes last laid stamps =
       out_alone = λ p q stamp is_p is_q. stamps.one_place p q (Out stamp) (Out stamp) (spare_of p stamp is_p) (spare_of q stamp is_q) refl;
     }
 
--- The invariants that callers may rely on.
+-- If the fields of a list meet their invariant (`IsKept`), the list is sound (`IsSound`).
 pub sound : (slab : Slab SlotAt) (head changes last count marked : ℕ) → IsKept slab head last count marked → IsSound (listing_of slab head changes last)
 sound slab head changes last count marked kept = record {
   first = record {

@@ -21,8 +21,7 @@ kept slab head last count marked nodes laid stamps below counted marks =
       marks = rw same marks;
     }
 
--- If the slab only gets more room, three things stay the same: its nodes, the invariant of the
--- fields, and the list.
+-- If a slab only gets more room, the nodes in it stay the same.
 pub grown : (slab : Slab SlotAt) (room head : ℕ) → nodes_in (record slab { capacity = room }) head ≡ nodes_in slab head
 unfolding nodes_in
 grown slab room head = refl

@@ -33,7 +33,7 @@ pub some_place : (o : Option NodeAt) → is_some o ≡ true → (place : ℕ) ×
 some_place None is = cc
 some_place (Some n) is = (n.place, refl)
 
--- No place is both linked and absent.
+-- If no node is at the place `p` and a node is at the place `q`, the two places differ.
 pub absent_linked : (nodes : List NodeAt) (p q : ℕ) → AbsentFrom p nodes → IsLinked nodes q → p ≢ q
 unfolding IsLinked
 absent_linked [] p q absent is same = absurd is
@@ -70,7 +70,7 @@ found_linked (m ∷ rest) place n is = elim (eqb_tells m.place place) [
   | inr apart ↦ inr (found_linked rest place n (rw apart.0 at is))
 ]
 
--- If `IsVacant` holds of a place and a sort key, the place is linked.
+-- If `IsVacant` holds for a place and a sort key, the list has a node at that place.
 pub vacant_linked : (nodes : List NodeAt) (pred : ℕ) (sort : SortKey) → IsVacant nodes pred sort → IsLinked nodes pred
 vacant_linked nodes pred sort vacant = found_linked nodes pred vacant.node vacant.is
 
@@ -133,7 +133,8 @@ next_found (n ∷ rest) pred m apart is = elim (eqb_tells n.place pred) [
     behind : first rest ≡ Some m → node_of rest m.place ≡ Some m → node_of (n ∷ rest) m.place ≡ Some m
     behind is_first there = deeper there
 
--- If the next node's place is `place`, the next node is the node at `place`.
+-- If the node right after `pred` is at `place`, and `node_of` finds `n` at `place`, then `n` is the
+-- node right after `pred`.
 pub next-found : (nodes : List NodeAt) (pred place : ℕ) (n : NodeAt) → IsSpread nodes → place_of (next_of nodes pred) ≡ Some place → node_of nodes place ≡ Some n → next_of nodes pred ≡ Some n
 next-found nodes pred place n apart next is = go (next_of nodes pred) refl next
   where

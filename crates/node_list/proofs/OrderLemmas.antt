@@ -20,11 +20,11 @@ before-irreflexive n before = before_not_before n.at n.at before (before_irrefle
 pub before-transitive : (n m k : NodeAt) → IsNodeBefore n m → IsNodeBefore m k → IsNodeBefore n k
 before-transitive n m k first second = before_transitive n.at m.at k.at first second
 
--- Only the sort keys decide the order.
+-- The order of two nodes depends only on their sort keys.
 pub before-same : (n m k l : NodeAt) → n.at ≡ k.at → m.at ≡ l.at → IsNodeBefore n m → IsNodeBefore k l
 before-same n m k l n_at m_at before = rw (← n_at, ← m_at) before
 
--- If `P` implies `Q` and holds of each node, `Q` holds of each node.
+-- If `P` implies `Q` and `P` holds for each node of a list, `Q` holds for each of these nodes.
 pub each_map : (P Q : NodeAt → Type 0) (nodes : List NodeAt) → ((n : NodeAt) → P n → Q n) → AllByRecursion P nodes → AllByRecursion Q nodes
 each_map P Q [] more each = tt
 each_map P Q (n ∷ rest) more each = (more n each.0, each_map P Q rest more each.1)
@@ -33,7 +33,7 @@ pub each_both : (P Q : NodeAt → Type 0) (nodes : List NodeAt) → AllByRecursi
 each_both P Q [] one other = tt
 each_both P Q (n ∷ rest) one other = ((one.0, other.0), each_both P Q rest one.1 other.1)
 
--- If a statement holds of each node, it holds of the node at a place.
+-- If `P` holds for each node of a list, it holds for each node that `node_of` finds in the list.
 pub each_found : (P : NodeAt → Type 0) (nodes : List NodeAt) (place : ℕ) (n : NodeAt) → AllByRecursion P nodes → node_of nodes place ≡ Some n → P n
 unfolding node_of
 each_found P [] place n each is = absurd (some-none (sym is))
@@ -42,8 +42,8 @@ each_found P (m ∷ rest) place n each is = elim (eqb_tells m.place place) [
   | inr apart ↦ each_found P rest place n each.1 (rw apart.0 at is)
 ]
 
--- If a statement holds of each node, and also of the new or changed node, it holds of each node
--- after a link, an unlink or a change.
+-- If `P` holds for each node of a list and for a new node, it holds for each node after the new
+-- node is linked.
 pub each_linked : (P : NodeAt → Type 0) (nodes : List NodeAt) (pred : ℕ) (x : NodeAt) → P x → AllByRecursion P nodes → AllByRecursion P (linked_after nodes pred x)
 unfolding linked_after
 each_linked P [] pred x it each = tt
@@ -72,7 +72,7 @@ each_changed P (n ∷ rest) place change kept each = elim (eqb_tells n.place pla
   | inr apart ↦ rw apart.0 (each.0, each_changed P rest place change (λ m is. kept m (rw apart.0 is)) each.1)
 ]
 
--- Each change keeps the order.
+-- If a new node is linked where it belongs in the order, the nodes stay in order.
 pub rising_linked : (nodes : List NodeAt) (pred : ℕ) (n x : NodeAt) → IsRising nodes → node_of nodes pred ≡ Some n → IsNodeBefore n x → ((m : NodeAt) → next_of nodes pred ≡ Some m → IsNodeBefore x m) → IsRising (linked_after nodes pred x)
 unfolding IsRising linked_after node_of next_of
 rising_linked [] pred n x rising is before next = tt
@@ -97,7 +97,7 @@ rising_linked (k ∷ (m ∷ rest)) pred n x rising is before next = elim (eqb_te
       )
 ]
 
--- If a node is linked where `IsVacant` holds of its sort key, the nodes stay in order.
+-- If a node is linked at a place where `IsVacant` holds for its sort key, the nodes stay in order.
 pub rising_vacant : (nodes : List NodeAt) (pred : ℕ) (x : NodeAt) → IsRising nodes → IsVacant nodes pred x.at → IsRising (linked_after nodes pred x)
 rising_vacant nodes pred x rising vacant = rising_linked nodes pred vacant.node x rising vacant.is vacant.below vacant.above
 

@@ -23,7 +23,7 @@ run_of_zeros counts from zero none = refl
 run_of_zeros counts from (suc more) none =
     omega (arith, run_of_zeros counts from more (λ place after before. none place after (omega (arith, before))), none (from + more) (omega arith) (omega arith))
 
--- If the changed count is outside a run, the run's sum is unchanged.
+-- If a count outside a run changes, the run's sum stays the same.
 pub run_elsewhere : (counts : List ℕ) (from width place value : ℕ) → ((other : ℕ) → from ≤ other → other < from + width → other ≢ place) → run_sum (set counts place value) from width ≡ run_sum counts from width
 unfolding run_sum
 run_elsewhere counts from zero place value apart = refl
@@ -32,7 +32,7 @@ run_elsewhere counts from (suc more) place value apart =
     let rest = run_elsewhere counts from more place value (λ other after before. apart other after (omega (arith, before))) in
     omega (arith, here, rest)
 
--- If the changed count is in a run, the run's sum changes by the same amount.
+-- If a count in a run changes, the run's sum changes by the same amount.
 pub run_changed : (counts : List ℕ) (from width place value : ℕ) → place < length counts → from ≤ place → place < from + width → run_sum (set counts place value) from width + get_or counts place 0 ≡ run_sum counts from width + value
 unfolding run_sum
 run_changed counts from zero place value within after before = absurd (omega (arith, after, before))

@@ -127,7 +127,7 @@ marks_near t nodes split is rising first =
     let end : split + 2 ^ 52 ≡ (first.region + 1) * 2 ^ 52 = omega (arith, first.is) in
     rw end (first_near first.region nodes rising (λ none. first.some (is first.region ∙ none)))
 
--- If `P` implies `Q` and holds of the number in an option, `Q` holds of this number.
+-- If `P` implies `Q` and `P` holds for the number in an option, `Q` holds for this number.
 pub if_some : (P Q : ℕ → Type 0) (o : Option ℕ) → ((x : ℕ) → P x → Q x) → IfSome o P → IfSome o Q
 if_some P Q None each is = tt
 if_some P Q (Some x) each is = each x is

@@ -25,7 +25,8 @@ nothing_summed = record {
   in_all = sym (run_of_zeros (replicate 64 0) 0 64 (λ place after before. zero_at 64 place));
 }
 
--- The count of one region rises by one, or falls by one; the other counts are unchanged.
+-- If the count of a split key's region is raised by one, the counts of all other regions are
+-- unchanged.
 pub one_more_in : (counts : List ℕ) (split : ℕ) → region_of split < length counts → (region : ℕ) → get_or (set counts (region_of split) (get_or counts (region_of split) 0 + 1)) region 0 ≡ get_or counts region 0 + one_in split region
 one_more_in counts split within region = elim (eqb_tells (region_of split) region) [
   | inl here ↦ rw (here.0, ← here.1) (get_or-set_same counts (region_of split) _ 0 within)
@@ -56,8 +57,8 @@ module _ (total : ℕ) (groups regions : List ℕ) (is : IsSummed total groups r
     pub group_fits : get_or groups (region / 64) 0 ≤ total
     group_fits = omega (arith, is.in_all, count_in_run groups 0 64 (region / 64) (omega arith) (omega (arith, small)))
 
-    -- If the count of a region, the count of its group and the total change by the same amount, the
-    -- sums are still right.
+    -- If the count of a region, the count of its group and the total change by the same amount,
+    -- `IsSummed` still holds.
     pub summed : (in_region in_group in_total less more : ℕ) → in_region + less ≡ get_or regions region 0 + more → in_group + less ≡ get_or groups (region / 64) 0 + more → in_total + less ≡ total + more → IsSummed in_total (set groups (region / 64) in_group) (set regions region in_region)
     summed in_region in_group in_total less more region_is group_is total_is = record {
       groups_in = length-set groups (region / 64) in_group ∙ is.groups_in;
@@ -78,8 +79,7 @@ module _ (total : ℕ) (groups regions : List ℕ) (is : IsSummed total groups r
               get_or-set_other groups (region / 64) group in_group 0 apart.1 ∙ is.by_group group within ∙ sym same
         ]
 
-  -- If the total is not 0, the sum of the groups is not 0. The first group whose count is not 0 has
-  -- a region whose count is not 0.
+  -- If the total is not 0, the sum of the counts of all groups is not 0.
   pub some_group : total ≢ 0 → run_sum groups 0 64 ≢ 0
   some_group some none = some (is.in_all ∙ none)
 

@@ -4,14 +4,15 @@ use Rattle.node_list.specs.declared.node.Kind.TheVariants.{Dummy}
 use Rattle.node_list.specs.Nodes.{NodeAt, Listing, node_of, out_at}
 use Rattle.node_list.specs.Sound.{IsSound}
 
--- One node at two times: only its value and its mark may differ.
+-- The two are one node at two times: only its value and its mark may differ.
 pub record IsSameNode (n m : NodeAt) : Type 0 where
   pub place : n.place ≡ m.place
   pub at : n.at ≡ m.at
   pub kind : n.kind ≡ m.kind
   pub stamp : n.stamp ≡ m.stamp
 
--- The node was linked at this place before, or its stamp was out at the place, or its stamp is new.
+-- The node was linked at this place before, or a spare with its stamp was out at this place, or its
+-- stamp is above all earlier stamps.
 abbrev pub WasThere : Listing → ℕ → NodeAt → Type 0
 WasThere old place n =
     ((m : NodeAt) × (node_of old.nodes place ≡ Some m) × IsSameNode m n)

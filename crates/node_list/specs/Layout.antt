@@ -42,7 +42,7 @@ abbrev pub first_place : List NodeAt → Option ℕ
 first_place [] = None
 first_place (n ∷ rest) = Some n.place
 
--- The slots have these nodes. Each node is stored with the place of the next node.
+-- Each of these nodes is stored in the slot at its place, together with the place of the next node.
 unfoldable pub IsChain : (ℕ → Option SlotAt) → List NodeAt → Type 0
 IsChain at [] = Unit {0}
 IsChain at (n ∷ rest) = (at n.place ≡ Some (Linked (stored_node n (first_place rest))))
@@ -63,7 +63,7 @@ out_stamp (Some (Out stamp)) = Some stamp
 unfoldable pub nodes_in : Slab SlotAt → ℕ → List NodeAt
 nodes_in slab head = walk (slab_len slab) (get slab) (Some head)
 
--- The list as a contract sees it, from its fields.
+-- The list as contracts see it, computed from its fields.
 abbrev pub listing_of : Slab SlotAt → ℕ → ℕ → ℕ → Listing
 listing_of slab head changes last = record {
   nodes = nodes_in slab head;

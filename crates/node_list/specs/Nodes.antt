@@ -24,7 +24,7 @@ pub record Listing : Type 0 where
   pub changes : ℕ
   pub last : ℕ
 
--- A place that is kept, its stamp, and the contents that its node will have.
+-- A spare: its place in the list, its stamp, and the contents that its node will have.
 pub record SpareAt : Type 0 where
   pub place : ℕ
   pub stamp : ℕ
@@ -56,7 +56,8 @@ first_dummy place stamp =
       marked = false;
     }
 
--- A spare as a list gives it, filled as the dummy of bucket 0.
+-- A spare as a list gives it out. Until a caller fills it, it has the contents of the dummy of
+-- bucket 0.
 abbrev pub unfilled : ℕ → ℕ → SpareAt
 unfilled place stamp =
     record {
@@ -90,12 +91,12 @@ abbrev pub place_of : Option NodeAt → Option ℕ
 place_of None = None
 place_of (Some n) = Some n.place
 
--- The node at a place.
+-- The node at a place, or None if no node is there.
 unfoldable pub node_of : List NodeAt → ℕ → Option NodeAt
 node_of [] place = None
 node_of (n ∷ rest) place = if n.place == place then Some n else node_of rest place
 
--- The node right after the node at a place.
+-- The node right after the node at a place, or None if there is no such node.
 unfoldable pub next_of : List NodeAt → ℕ → Option NodeAt
 next_of [] place = None
 next_of (n ∷ rest) place = if n.place == place then first rest else next_of rest place
@@ -196,7 +197,8 @@ pub record UsesSpare (old new : Listing) (after : List NodeAt) (place : ℕ) : T
   pub gone : out_at new place ≡ None
   pub others : (other : ℕ) → other ≢ place → out_at new other ≡ out_at old other
 
--- A spare is out at the place, and all else is unchanged except the last stamp.
+-- A spare with the stamp `stamp` is now out at the place, and `stamp` is the last stamp. All else
+-- is unchanged.
 pub record GivesOut (old new : Listing) (place stamp : ℕ) : Type 0 where
   pub nodes : new.nodes ≡ old.nodes
   pub head : new.head ≡ old.head

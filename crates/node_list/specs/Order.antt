@@ -9,7 +9,7 @@ use Rattle.node_list.specs.Nodes.{NodeAt, node_of, next_of}
 abbrev pub IsNodeBefore : NodeAt → NodeAt → Type 0
 IsNodeBefore n m = IsBefore n.at m.at
 
--- Each node belongs before all that follow it.
+-- Each node belongs before all nodes that follow it in the list.
 unfoldable pub IsRising : List NodeAt → Type 0
 IsRising [] = Unit {0}
 IsRising (n ∷ rest) = AllByRecursion (IsNodeBefore n) rest × IsRising rest

@@ -7,7 +7,7 @@ pub data SlotAt : Type 0 where
   Linked : Node → SlotAt
   Out : ℕ → SlotAt
 
--- The slot that a stored node stands for.
+-- The contents of the slot in which this node is stored: a linked node, or the stamp of a spare.
 abbrev pub slot_of : Node → SlotAt
 slot_of n = if n.is_linked then Linked n else Out n.stamp
 

@@ -57,7 +57,7 @@ is_marked_in region n = n.marked && region_of n.at.split == region
 abbrev pub IsTallied : TallyAt → List NodeAt → Type 0
 IsTallied t nodes = (region : ℕ) → count_in t region ≡ count_where (is_marked_in region) nodes
 
--- Each marked node among these has this split key or a higher one.
+-- Each marked node of the list has a split key of at least `split`.
 abbrev pub AreMarksFrom : ℕ → List NodeAt → Type 0
 AreMarksFrom split nodes = AllByRecursion (λ n. n.marked ≡ true → split ≤ n.at.split) nodes
 

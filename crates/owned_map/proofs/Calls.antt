@@ -42,8 +42,7 @@ grew c old new is = record {
     moved base (inl stands) = inl (standing base _ stands)
     moved base (inr stands) = inr (standing base _ stands)
 
--- `Keeps` holds of a call that changes nothing. If `Keeps` holds of each of two calls, it holds of
--- the two calls together, one after the other.
+-- If a call changes nothing, `Keeps` holds for it.
 pub keeps_stay : (t : Transaction) → Keeps t t
 keeps_stay t = record { same_map = refl; same_caller = refl; goes_on = stays t.caller t.map.now.core }
 
@@ -55,19 +54,20 @@ keeps_on old between new first second = record {
       (subst (λ c. GoesOn c between.map.now.core new.map.now.core) first.same_caller second.goes_on);
 }
 
--- If a call leaves the map's reference and the caller unchanged, and `GoesOn` holds of the caller,
--- then `Keeps` holds of the call.
+-- If a call leaves the map's reference and the caller unchanged, and `GoesOn` holds for the caller,
+-- `Keeps` holds for the call.
 pub keeps_by : (old new : Transaction) → new.map.ghost_name ≡ old.map.ghost_name → new.caller ≡ old.caller → GoesOn old.caller old.map.now.core new.map.now.core → Keeps old new
 keeps_by old new same_map same_caller goes_on = record { same_map = same_map; same_caller = same_caller; goes_on = goes_on }
 
--- If a transaction continues and is then taken back, all of it is taken back.
+-- If a transaction continues from `old` to `between`, and is taken back from there to `new`,
+-- `IsTakenBack` holds from `old` to `new`.
 pub back_on : (c : ℕ) (old between new : State) → GoesOn c old between → IsTakenBack c between new → IsTakenBack c old new
 back_on c old between new goes_on back = record {
   back = λ base can. back.back base (goes_on.back base can);
   beside = only.after c old between new goes_on.beside back.beside;
 }
 
--- If `HasDone` holds of an operation, it still holds after the table has grown.
+-- If `HasDone` holds for an operation, it still holds after the table has grown.
 pub grew_done : (op : Op) (x : Option ℕ) (old between new : State) → HasDone op x old between → IsGrown between new → HasDone op x old new
 grew_done op x old between new done is = record { replied = done.replied; changed = ap now is.history ∙ done.changed }
 

@@ -55,7 +55,7 @@ caller_there here callers stripes buckets are same = subst (λ c. 0 < c) same (s
 within_of : (s : State) → 0 < s.limits.callers → nat_le s.limits.callers 0 ≡ false
 within_of s there = lt-leb s.limits.callers 0 there
 
--- If the phase of caller 0 is `Opened`, `IsAt` holds of this caller.
+-- If the phase of caller 0 is `Opened`, `IsAt` holds for this caller.
 at_open : (s : State) → IsLegal (holder_by s.words) s.limits.stripes s.history → nat_le s.limits.callers 0 ≡ false → (seat_in s.history 0).phase ≡ Opened → IsAt 0 (based 0 s) Opened s
 at_open s legal within opened =
     let seat = seat_there 0 s.history legal.shape in
@@ -147,7 +147,7 @@ never_busy old new op x filling ordinary legal event =
     apart zero is same = false≢true is
     apart (suc n) is same = omega (arith, same)
 
--- A put is answered `Done` or `Refused`.
+-- If `IsFilling` holds, a put by caller 0 is answered `Done` or `Refused`.
 pub only_puts : (old new : State) (k v : ℕ) (answer : Answer) → IsFilling old → old.words ≡ false → IsLegal (holder_by old.words) old.limits.stripes old.history
     → ((x : Option ℕ) → answer ≡ answers.Done x → ⊥) → ((refusal : Refusal) → answer ≡ answers.Refused refusal → ⊥) → Operates old 0 (Put k v) answer new → ⊥
 only_puts old new k v (answers.Done x) filling ordinary legal not_done not_refused moves = not_done x refl
@@ -168,7 +168,7 @@ put_on old between new k v x filling legal operates grown = record {
   alone = λ d apart. ap (own d) grown.history ∙ others old between filling.alone (only.operated 0 old between (Put k v) (answers.Done x) operates) d apart;
 }
 
--- A commit is never refused.
+-- If `IsFilling` holds, a commit of caller 0 is not refused.
 pub only_commits : (old new : State) (answer : Answer) → IsFilling old → ((p : ℕ) → answer ≡ answers.Committed p → ⊥) → Move old (Commit 0) answer new → ⊥
 only_commits old new (answers.Committed p) filling not_committed move = not_committed p refl
 only_commits old new (answers.Refused refusal) filling not_committed move = never move.allowed
@@ -181,7 +181,6 @@ only_commits old new (answers.Refused refusal) filling not_committed move = neve
     never (inr is) = is.1
 only_commits old new _ filling not_committed move = absurd move.allowed.1
 
--- By `taken_at` below, the limits accept the key of each listed pair.
 rest_none : (b : Bool) (v : ℕ) (rest : Option ℕ) → cond b (Some v) rest ≡ None → rest ≡ None
 rest_none true v rest none = absurd (cc none)
 rest_none false v rest none = none

@@ -59,7 +59,8 @@ noted op x jobs m right = subst (λ y. taken_back (cond (changes op y) ((key_of 
         ∙ ap (taken_back jobs) (after_unchanged m op (sym (changes-reply m op) ∙ is))
 
 module _ {rule : Holder} (limits : Sizes) (c : ℕ) (base : Map) (h : List Entry) where
-  -- After one more entry of the caller, `IsBasedOn` still holds, by the law of this kind of entry.
+  -- If the changes that stand after one more entry of the caller lead back to `base`, `IsBasedOn`
+  -- holds after this entry.
   pub stands_after : (e : Entry) → caller_of e ≡ c → nat_le limits.callers c ≡ false → (seat : Seat) (log : List (ℕ × Option ℕ)) (committed current : Map) (holder : ℕ → Option ℕ)
       → Next rule limits.stripes h e seat log committed current holder → taken_back log current ≡ base → IsBasedOn rule limits c base seat.phase (h ++ e ∷ [])
   stands_after e mine within seat log committed current holder next back = record {
@@ -83,8 +84,8 @@ module _ {rule : Holder} (limits : Sizes) (c : ℕ) (base : Map) (h : List Entry
       let next = laws.busy limits.stripes h stands.legal c op x stands.seat stands.seat_is stands.phase_is locked in
       (stands_after (entry.Busy c op x) refl stands.within _ _ _ _ _ next stands.back, next.now_is)
 
-  -- After a Did with the right reply, the map is the one that the operation makes of the map
-  -- before. The transaction is open and can still be taken back to `base`.
+  -- If a Did entry has the right reply, the operation is done on the map. The transaction is then
+  -- open and can still be taken back to `base`.
   pub did_now : (op : Op) (x : Option ℕ) → IsBasedOn rule limits c base (Waiting op) h → x ≡ reply_of (now h) op
       → IsBasedOn rule limits c base Opened (h ++ entry.Did c x ∷ []) × (now (h ++ entry.Did c x ∷ []) ≡ after (now h) op)
   did_now op x stands right =

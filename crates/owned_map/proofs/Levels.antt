@@ -113,8 +113,8 @@ reached_at c n m h seat seat_is leaving shaped =
     tested true s there = refl
     tested false s there = absurd (false≢true there)
 
--- If `unready` is `None`, `rest` is `None` too: the step also passes the tests that follow those of
--- readiness.
+-- If `unready` returns None, the step passes the tests of readiness, and the later tests (`rest`)
+-- too.
 pub past : (s : State) (c : ℕ) (rest : Option Refusal) → unready s c rest ≡ None → rest ≡ None
 past s c rest free =
     let q : Phase = (seat_in s.history c).phase in

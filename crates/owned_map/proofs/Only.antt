@@ -73,7 +73,7 @@ commits_after h step answer quiet =
 pub same : (c : ℕ) (old new : State) → new.history ≡ old.history → OnlyWorked c old new
 same c old new is = record { only = λ d apart. ap (own d) is; commits = ap commit_entries is }
 
--- If `OnlyWorked` holds of each of two changes, it holds of both in a row.
+-- `OnlyWorked` is transitive.
 pub after : (c : ℕ) (old between new : State) → OnlyWorked c old between → OnlyWorked c between new → OnlyWorked c old new
 after c old between new first second = record {
   only = λ d apart. second.only d apart ∙ first.only d apart;

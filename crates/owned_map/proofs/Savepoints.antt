@@ -78,8 +78,7 @@ module _ {rule : Holder} {stripes c : ℕ} (h : List Entry) (e : Entry) (mine : 
   levels_next : level_count c (h ++ e ∷ []) ≡ length seat.kept
   levels_next = ap (λ (s : Seat). length s.kept) seat_next
 
--- The map at a level stays the same when a change is added to the log. It also stays the same when
--- the newest change is taken back, if this change is newer than the level.
+-- If an operation adds a change to the log, the map at each level stays the same.
 noted_level : (n : ℕ) (op : Op) (x : Option ℕ) (standing : ℕ) (kept : List ℕ) (log : List (ℕ × Option ℕ)) (m : Map) → get_or kept n 0 ≤ standing → x ≡ reply_of m op
     → taken_back (take (cond (changes op x) (standing + 1) standing - get_or kept n 0) (cond (changes op x) ((key_of op, x) ∷ log) log)) (after m op)
     ≡ taken_back (take (standing - get_or kept n 0) log) m
@@ -191,8 +190,6 @@ module _ {rule : Holder} (limits : Sizes) (c : ℕ) (base : Map) (h : List Entry
             ∙ sym (map_is h stands n),
       )
 
--- The history of a state. By the lemmas below, states with equal histories have the same
--- savepoints.
 abbrev history_of : State → List Entry
 history_of s = s.history
 

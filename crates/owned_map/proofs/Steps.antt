@@ -29,19 +29,19 @@ use Rattle.owned_map.proofs.Histories.{seat_there, began_now, asked_now, busy_no
 use Rattle.owned_map.proofs.Only as only
 use Rattle.boost_core.proofs.Refused.{closed_is, first_none}
 
--- If `IsAt` holds of a state, it holds of an equal state.
 pub to_state : (c : ℕ) (base : Map) (q : Phase) (s t : State) → t ≡ s → IsAt c base q s → IsAt c base q t
 to_state c base q s t same = subst (IsAt c base q) (sym same)
 
 abbrev now_of : State → Map
 now_of s = now s.history
 
--- If `IsAt` holds of a state, `IsBasedOn` holds of the state's history with no entry added.
+-- If `IsAt` holds for a state, `IsBasedOn` holds for the state's history followed by the empty
+-- list.
 pub unmoved : (c : ℕ) (base : Map) (q : Phase) (s : State) → IsAt c base q s
     → IsBasedOn (holder_by s.words) s.limits c base q (s.history ++ [])
 unmoved c base q s stands = subst (IsBasedOn (holder_by s.words) s.limits c base q) (sym (append-nil s.history)) stands
 
--- The seat that `seat_in` gives is the seat in `IsAt`.
+-- If `IsAt` holds for a caller and a state, `seat_in` gives the caller's seat that `IsAt` names.
 pub phase_in : (c : ℕ) (base : Map) (q : Phase) (s : State) → (stands : IsAt c base q s) → seat_in s.history c ≡ stands.seat
 phase_in c base q s stands = ap (λ (o : Option Seat). unwrap_or o closed_seat) stands.seat_is
 
@@ -52,7 +52,6 @@ not_not : (b : Bool) → not b ≡ false → b ≡ true
 not_not true is = refl
 not_not false is = absurd (false≢true (sym is))
 
--- A caller with a closed seat has no transaction.
 idle_after : (c : ℕ) (s t : State) → t ≡ s → seat_after (own c s.history) ≡ Some closed_seat → IsIdle c t
 idle_after c s t is closed = subst (IsIdle c) (sym is) (ap (λ (o : Option Seat). is_closed (unwrap_or o closed_seat).phase) closed)
 
@@ -90,12 +89,12 @@ waits old between next c base op stands ask seek =
       same = ap now_of seek.move.state ∙ ap now (append-nil between.history) ∙ ap now_of ask.move.state ∙ asked.1;
     }
 
--- If a waiting operation gets a reply, the reply is the one that the map gives.
+-- If a waiting operation gets a reply, this is the reply that the operation has on the present map.
 pub replied : (s : State) (c : ℕ) (base : Map) (op : Op) (x : Option ℕ) → IsAt c base (Waiting op) s → IsReply (seat_in s.history c).phase (now s.history) x → x ≡ reply_of (now s.history) op
 replied s c base op x stands reply =
     subst (λ q. IsReply q (now s.history) x) (ap (λ (seat : Seat). seat.phase) (phase_in c base (Waiting op) s stands) ∙ stands.phase_is) reply
 
--- If an operation is done, `HasDone` holds of it, and the transaction is still open.
+-- If an operation is done, `HasDone` holds for it, and the transaction is still open.
 pub does : (old new : State) (c : ℕ) (base : Map) (op : Op) (x : Option ℕ) → IsAt c base Opened old → Operates old c op (answers.Done x) new
     → IsAt c base Opened new × HasDone op x old new
 does old new c base op x stands (s1, ask, (s2, seek, (s3, did, last))) =
@@ -177,7 +176,7 @@ busy old new c op x legal event =
     let locked = (and_parts (old.words || has_stamp_for old op) _ event.move.allowed.1).1 in
     ap now_of event.move.state ∙ (busy_now old.limits c (based c old) old.history op x (ready old c _ legal event.move.allowed.0) locked).1
 
--- If a call is refused, `GoesOn` holds.
+-- If a step is refused, `GoesOn` holds.
 pub refused : (old new : State) (c : ℕ) (step : Step) (refusal : Refusal) → Move old step (answers.Refused refusal) new → GoesOn c old new
 refused old new c step refusal move = record {
   back = λ base can. kept base can;

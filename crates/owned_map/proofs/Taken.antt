@@ -96,8 +96,7 @@ returned old new c n (answers.Returned m) (reached, between, event, ends) well =
 returned old new c n answers.Leaving none well = absurd none
 returned old new c n answer event well = moved old new (Back c n) answer event.move well
 
--- `keys_of` is true of the keys that are not refused. If a history asks only for such keys, so do
--- the entries of each of its transactions.
+-- True if the key is not refused.
 abbrev keys_of : Bool → ℕ → Bool
 keys_of half k = not (is_bad_key half k)
 

@@ -74,7 +74,7 @@ filled pairs h is =
     ap (λ g. g ++ Committed 0 (how_many is_commit g + 1) ∷ []) is
     ∙ ap (λ n. (Began 0 1 ∷ flat_map put_new pairs) ++ Committed 0 (n + 1) ∷ []) (none_committed pairs)
 
--- Since the keys of the pairs rise, no earlier pair has the key of a given pair.
+-- If the keys of a list of pairs rise, no pair has the key of an earlier pair.
 below_at : (k j v : ℕ) (front back : List (ℕ × ℕ)) → T (below_all split_cmp j (front ++ (k, v) ∷ back)) → k ≢ j
 below_at k j v [] back below = λ same. subst (λ o. T (is_lt o)) (ap (split_cmp j) same ∙ tied_itself split_cmp_total j) (pair_parts (is_lt (split_cmp j k)) (below_all split_cmp j back) below).0
 below_at k j v (pair ∷ front) back below = below_at k j v front back (pair_parts (is_lt (split_cmp j pair.0)) (below_all split_cmp j (front ++ (k, v) ∷ back)) below).1
@@ -123,12 +123,10 @@ put_one k v front h g before fresh noted put = record {
       ∙ sym (one_more q k v front (sym (before.values k) ∙ fresh));
 }
 
--- The keys of the listed pairs rise.
+-- The pairs that `ordered` lists for a map are sorted by their split keys (`IsSortedBySplit`).
 pub sorted_listed : (m : Map) (pairs front back : List (ℕ × ℕ)) → pairs ≡ ordered m → front ++ back ≡ pairs → IsSortedBySplit (front ++ back)
 sorted_listed m pairs front back is parts = subst IsSortedBySplit (sym (parts ∙ is)) (sorted-ordered m)
 
--- Lemmas about the next listed pair. `fresh_at`: the new map lacks the pair's key. `put_at`: after
--- the pair is put, `HasPut` holds of one more listed pair.
 plus_one : (i : ℕ) → i + 1 ≡ suc i
 plus_one i = omega arith
 
@@ -146,7 +144,8 @@ put_at pairs h g i less put fresh noted is =
     subst (λ es. HasPut es g) (sym (ap (λ n. take n pairs) (plus_one i) ∙ take-suc pairs i (0, 0) less))
     (put_one pair.0 pair.1 (take i pairs) h g put fresh noted is)
 
--- If no pair remains, all pairs have been put.
+-- If `HasPut` holds for the first `i` pairs of a list, and the list has at most `i` pairs, it holds
+-- for the whole list.
 pub put_all : (pairs : List (ℕ × ℕ)) (h : List Entry) (i : ℕ) → length pairs ≤ i → HasPut (take i pairs) h → HasPut pairs h
 put_all pairs h i all put = subst (λ es. HasPut es h) (take_all i pairs all) put
 
@@ -155,7 +154,7 @@ put_all pairs h i all put = subst (λ es. HasPut es h) (take_all i pairs all) pu
 pub same_listed : (pairs : List (ℕ × ℕ)) (h : List Entry) → HasPut pairs h → (m : Map) → pairs ≡ ordered m → now h ≡ m
 same_listed pairs h put m is = same_map (now h) m (λ q. put.values q ∙ ap (value_at q) is ∙ value_at-ordered m q)
 
--- If no entry is owed, no caller has a transaction. If some entry is owed, some caller has one.
+-- If a caller owes no entry in its phase, it has no transaction.
 closed_in : (n : ℕ) (q : Phase) → owed_in n q ≡ 0 → is_closed q ≡ true
 closed_in n Closed is = refl
 closed_in n Opened is = absurd (omega (arith, is))
@@ -210,7 +209,7 @@ some_open s owes =
     let (c, within, some) = some_owes (λ d. owed_by (seat_after (own d s.history))) s.limits.callers 0 owes in
     (c, omega (arith, within), open_by (seat_after (own c s.history)) some)
 
--- If a property holds on `Ok`, so does each property that follows from it.
+-- If `P` implies `Q`, `OnOk` with `P` implies `OnOk` with `Q`.
 pub on_ok : {T E P Q : Type 0} (result : Result T E) → (P → Q) → OnOk result P → OnOk result Q
 on_ok (Ok value) follows holds = follows holds
 on_ok (Err e) follows holds = tt

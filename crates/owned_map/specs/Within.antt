@@ -98,8 +98,8 @@ pub record OnlyWorked (c : ℕ) (old new : State) : Type 0 where
   pub only : OnlyDid c old new
   pub commits : commit_entries new.history ≡ commit_entries old.history
 
--- A caller continued its transaction. If the transaction could be taken back to a map before, it
--- still can be taken back to this map. No other caller did anything, and nothing was committed.
+-- A caller continued its transaction. If the transaction could be taken back to a map, it can still
+-- be taken back to this map. No other caller did anything, and nothing was committed.
 pub record GoesOn (c : ℕ) (old new : State) : Type 0 where
   pub back : (base : Map) → CanAbort c base old → CanAbort c base new
   pub beside : OnlyWorked c old new
@@ -129,9 +129,9 @@ pub record IsSameMap (c : ℕ) (old new : State) : Type 0 where
   pub same : now new.history ≡ now old.history
   pub beside : OnlyWorked c old new
 
--- A caller began a transaction on the map of `old`, which led to the state `begun`. The work led
--- from there to the state `done`. Then the transaction was committed. There is one more Committed
--- entry, which is the caller's, and the map is the one that the work made.
+-- In the state `old`, a caller began a transaction, and the state became `begun`. The work led from
+-- there to the state `done`. Then the transaction was committed. There is one more Committed entry,
+-- which is the caller's, and the map is the one that the work made.
 pub record IsRun (c : ℕ) (old begun done new : State) : Type 0 where
   pub began : now begun.history ≡ now old.history
   pub ended : now new.history ≡ now done.history

@@ -35,9 +35,9 @@ pieces-last of part i j (e ∷ ds) d at =
     let later : j ≡ suc i + length ds = omega (arith, at) in
     rw (pieces-last of part (suc i) j ds d later) (first_stays (piece_at of part i e) (pieces_from of part (suc i) ds) (piece_at of part j d))
 
--- What was read so far: the pieces of all elements or, if `are_all` is false, those before the
--- first element that is no piece. All these pieces are counted, and the first `most` of them are
--- kept.
+-- The pieces that were read from the elements `ds`. If `are_all` is false, they are the pieces
+-- before the first element that is no piece. All these pieces are counted, and the first `most` of
+-- them are kept.
 pub record IsRead {P : Type 0} (of : List Data → Option P) (part : Part) (most : ℕ) (are_all : Bool) (pieces : List P) (count : ℕ) (ds : List Data) : Type 0 where
   pub all : List P
   pub found : pieces_from of part 0 ds ≡ outcome part are_all all
@@ -52,7 +52,6 @@ nothing_read of part most = record { all = []; found = refl; each = λ e. refl; 
 true≢false : {Q : Type 0} → false ≡ true → Q
 true≢false e = absurd (grind (arith, e))
 
--- If the next element is a piece, `IsRead` holds with this piece added, whether it is kept or not.
 piece_read : {P : Type 0} (of : List Data → Option P) (part : Part) (most : ℕ) (pieces kept : List P) (count : ℕ) (ds : List Data) (d : Data) (p : P)
     → Some p ≡ option_and_then of (elements_of d) → (h : IsRead of part most true pieces count ds) → kept ≡ take most (h.all ++ p ∷ []) → IsRead of part most true kept (count + 1) (ds ++ d ∷ [])
 piece_read of part most pieces kept count ds d p is h keeps =
@@ -131,8 +130,6 @@ old_later of is_old part i ds d h =
     let last = piece_at (old_of is_old of) part (length ds) d in
     pieces-last (old_of is_old of) part 0 (length ds) ds d (omega arith) ∙ ap (λ read. with_last read last) h
 
--- If the next element is the same piece in both versions, or no piece in either, it does not change
--- which piece is the first that version 1 lacks.
 old_same : {P : Type 0} (of : List Data → Option P) (is_old : P → Bool) (part : Part) (first : Option ℕ) (ds : List Data) (d : Data)
     → option_and_then (old_of is_old of) (elements_of d) ≡ option_and_then of (elements_of d) → OldRead of is_old part first ds → OldRead of is_old part first (ds ++ d ∷ [])
 old_same of is_old part (Some i) ds d same h = old_later of is_old part i ds d h

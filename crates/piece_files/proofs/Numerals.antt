@@ -83,7 +83,7 @@ number_of-digits bs n numeral small is =
     ap (λ m. Some (Some m)) is ∙ sym (number_of_parts bs numeral.0 (subst (λ m. m < 2 ^ 64) is small))
     ∙ ap (λ p. option_map as_u64 (number_from false p)) (sym (scan_of_digits bs numeral.1))
 
--- Digits followed by one more digit are digits.
+-- If a digit is added at the end of a text of digits, the text still consists of digits.
 pub digits_more : (ds : List ℕ) (c : ℕ) → AllDigits 10 ds → AllDigits 10 (c ∷ []) → AllDigits 10 (ds ++ c ∷ [])
 digits_more [] c all one = one
 digits_more (d ∷ ds) c all one = (all.0, digits_more ds c all.1 one)

@@ -80,7 +80,8 @@ one_passed bytes before rest x first space h =
 
 -- ---- the bytes after a value
 
--- If white space is passed up to the end of the bytes, nothing but white space follows.
+-- If all bytes between `at` and `end` are white space, and `end` is the end of the bytes, only
+-- white space follows after `at`.
 pub all_passed : (bytes : List ℕ) (at end : ℕ) → PassesSpace (drop at bytes) (drop end bytes) → end ≡ length bytes
     → PassesSpace (drop at bytes) []
 all_passed bytes at end h last = subst (PassesSpace (drop at bytes)) (drop_all end bytes (omega (arith, last))) h
@@ -282,7 +283,6 @@ pub taken_to_bracket : (depth : ℕ) (start bytes rest behind : List ℕ) (ds : 
 taken_to_bracket depth start bytes rest behind ds d taken is h =
     subst (λ fs. Begin depth start fs (tokens_at after_value behind)) (append-nil (ds ++ d ∷ [])) (one_taken depth start bytes rest ds d [] (tokens_at after_value behind) taken is (closed depth rest behind h))
 
--- Adding a plain value at the end of a list adds its data at the end of the list's data.
 its_data : (kept vs : List Plain) (v : Plain) → kept ≡ vs ++ v ∷ [] → map data_of vs ++ data_of v ∷ [] ≡ map data_of kept
 its_data kept vs v is = sym (ap (map data_of) is ∙ map-append data_of vs (v ∷ []))
 

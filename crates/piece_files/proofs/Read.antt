@@ -19,8 +19,7 @@ pub json_of-long : (bytes : List ℕ) → max_bytes < length bytes → json_of b
 unfolding json_of
 json_of-long bytes more = let long : nat_le (length bytes) max_bytes ≡ false = grind (arith, nat_tests, more) in rw long refl
 
--- The result is `NotJson` if the bytes are not UTF-8, or if they are UTF-8 and are not read as a
--- value.
+-- The result is `NotJson` if the bytes are not UTF-8, or if they are UTF-8 but not a JSON value.
 chosen : (is_text : Bool) (found : Option Data) → (is_text ≡ true → found ≡ None) → cond is_text (or_fault NotJson found) (Err NotJson) ≡ Err NotJson
 chosen true found none = ap (or_fault NotJson) (none refl)
 chosen false found none = refl

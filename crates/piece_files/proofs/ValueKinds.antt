@@ -25,7 +25,7 @@ mapped : {A : Type 0} (f : A → Data) (o : Option (A × List Token)) (d : Data)
 mapped f None d r e = never e
 mapped f (Some p) d r e = (p.0, same (f p.0) d p.1 r e)
 
--- The values that can begin with a token.
+-- The value `d` can begin with this token.
 abbrev pub Begins : Token → Data → Type 0
 Begins Token.begin_object d = (ms : Members) × (d ≡ object ms)
 Begins Token.end_object d = ⊥

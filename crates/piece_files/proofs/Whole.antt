@@ -45,13 +45,13 @@ fails_first (Piece part i) r next h = ap (λ x. x >>= next) h
 fails_first Limit r next h = ap (λ x. x >>= next) h
 fails_first NoMemory r next h = tt
 
--- If a function returns a fault by `?`, its result is right (`Gives`) if the fault is right
--- (`FailsAs`).
+-- If a function returns a fault by `?`, and the fault satisfies `FailsAs`, the function's result
+-- satisfies `Gives`.
 pub gives_fault : {X Y : Type 0} (seen : X → Y) (r : Result X FileFault) (fault : FileFault) (wanted : Result Y FileFault) → IsErrAnd r (λ e. e ≡ fault) → FailsAs fault wanted → Gives seen r wanted
 gives_fault seen (Ok x) fault wanted and h = absurd and
 gives_fault seen (Err e) fault wanted and h = subst (λ f. FailsAs f wanted) (sym and) h
 
--- A fault of `ok_or o Member` means that the member is missing.
+-- If `ok_or o Member` is a fault, the option `o` is `None`, and the fault is `Member`.
 missing : {A : Type 0} (o : Option A) (fault : FileFault) → Err fault ≡ ok_or o Member → (o ≡ None) × (fault ≡ Member)
 missing None fault e = (refl, cc)
 missing (Some x) fault e = absurd (grind (arith, e))

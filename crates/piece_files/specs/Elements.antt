@@ -1,4 +1,4 @@
--- Functions that take the elements of an array in JSON, one after the other.
+-- Functions that read the elements of a JSON array, one after the other.
 use Rattle.std.specs.Prelude.{ℕ, List, [], ◌∷◌, length, ◌==◌, Option, Some, None, option_map, option_and_then, is_some, ⊤, if◌then◌else◌}
 use Rattle.serde_json.specs.Data.{Data, Items, no_items, item}
 use Rattle.serde_json.specs.Find.{as_null, as_number, as_str, as_array, as_u64}
@@ -9,8 +9,8 @@ abbrev pub ◌>>=◌ : {A B : Type 0} → Option A → (A → Option B) → Opti
 (Some x) >>= f = f x
 None >>= f = None
 
--- The value, if it is a whole number below 2^64 with no sign, fraction or exponent. 2.0, 1e2, -0
--- and 2^64 are read as floats, so they do not count.
+-- The value, if it is a whole number below 2^64 with no sign, fraction or exponent. The values 2.0,
+-- 1e2, -0 and 2^64 are floats, so the result for them is `None`.
 abbrev pub whole_number : Data → Option ℕ
 whole_number d = option_and_then as_u64 (as_number d)
 
@@ -33,17 +33,17 @@ unfoldable pub leading_text : List Data → Option (List ℕ × List Data)
 leading_text [] = None
 leading_text (d ∷ ds) = option_map (λ s. (s, ds)) (as_str d)
 
--- The only element, if it is a number and there is no other.
+-- The number, if the list has exactly one element and this element is a number.
 unfoldable pub one_of : List Data → Option ℕ
 one_of ds = do
   n ← number_at ds
   if length n.1 == 0 then Some n.0 else None
 
--- `Some` exactly if there is no element.
+-- Returns `Some` exactly if the list is empty.
 unfoldable pub ends_here : List Data → Option ⊤
 ends_here ds = if length ds == 0 then Some tt else None
 
--- Null is read as `None`, and a number as itself.
+-- Reads a value that is null or a number. Null is read as `None`, and a number as itself.
 abbrev pub optional : Data → Option (Option ℕ)
 optional d = if is_some (as_null d) then Some None else option_map (λ n. Some n) (whole_number d)
 
@@ -52,13 +52,14 @@ unfoldable pub optional_at : List Data → Option (Option ℕ × List Data)
 optional_at [] = None
 optional_at (d ∷ ds) = option_map (λ r. (r, ds)) (optional d)
 
--- The only element, if it is null or a number and there is no other.
+-- The result of `optional`, if the list has exactly one element and this element is null or a
+-- number.
 unfoldable pub optional_of : List Data → Option (Option ℕ)
 optional_of ds = do
   r ← optional_at ds
   if length r.1 == 0 then Some r.0 else None
 
--- The two elements, if they are numbers and there is no other.
+-- The two numbers, if the list consists of exactly two numbers.
 unfoldable pub two_of : List Data → Option (ℕ × ℕ)
 two_of ds = do
   m ← number_at ds

@@ -22,12 +22,12 @@ abbrev pub ◌>>=◌ : {A B : Type 0}
 (Ok x) >>= f = f x
 (Err e) >>= f = Err e
 
--- The value if it is there, else this fault.
+-- The option's value. If the option is `None`, this fault.
 abbrev pub or_fault : {A : Type 0} → FileFault → Option A → Result A FileFault
 or_fault fault (Some x) = Ok x
 or_fault fault None = Err fault
 
--- `fault` is the fault in `wanted`, unless memory was refused.
+-- The result `wanted` is this fault. If memory was refused, nothing is claimed.
 abbrev pub FailsAs : {Y : Type 0} → FileFault → Result Y FileFault → Type 0
 FailsAs NoMemory wanted = Unit {0}
 FailsAs NotJson wanted = wanted ≡ Err NotJson
@@ -35,7 +35,7 @@ FailsAs Member wanted = wanted ≡ Err Member
 FailsAs (Piece part i) wanted = wanted ≡ Err (Piece part i)
 FailsAs Limit wanted = wanted ≡ Err Limit
 
--- The result of a reader, as `seen` shows it, is `wanted`, unless memory was refused.
+-- The reader's result, converted by `seen`, is `wanted`. If memory was refused, nothing is claimed.
 abbrev pub Gives : {X Y : Type 0} → (X → Y) → Result X FileFault → Result Y FileFault → Type 0
 Gives seen (Ok x) wanted = wanted ≡ Ok (seen x)
 Gives seen (Err e) wanted = FailsAs e wanted

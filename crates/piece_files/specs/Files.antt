@@ -10,9 +10,10 @@ use Rattle.piece_files.specs.Faults.{◌>>=◌, or_fault}
 use Rattle.piece_files.specs.Json.{json_of, number_named}
 use Rattle.piece_files.specs.Pieces.{pieces_member, old_of, in_version}
 
--- A kind of file: the names of its numbers, in the order in which `contents` gives them, the name
--- of the member with its pieces, and what a piece is. Also whether a piece exists in version 1 too,
--- what a fault calls a piece, and how many pieces there may be.
+-- A kind of file: the names of its numbers, the name of the member that has its pieces, and the
+-- function `of` that reads a piece. `is_old` says whether a piece also exists in version 1, `part`
+-- is what a fault calls a piece, and `most` is the highest number of pieces. The result of
+-- `contents` has the numbers in the order of their names.
 pub record FileKind (P : Type 0) : Type 0 where
   pub numbers : List (List ℕ)
   pub pieces : List ℕ
@@ -34,12 +35,12 @@ abbrev pub are_apart : List (List ℕ) → Bool
 are_apart [] = true
 are_apart (name ∷ names) = list_all (λ other. not (bytes_eq name other)) names && are_apart names
 
--- The numbers, if all are there.
+-- The list of the numbers, if none is missing.
 abbrev pub all_of : List (Option ℕ) → Option (List ℕ)
 all_of [] = Some []
 all_of (number ∷ numbers) = option_and_then (λ n. option_map (λ ns. n ∷ ns) (all_of numbers)) number
 
--- The last version of a file that can be read.
+-- The highest version of a file that can be read.
 abbrev pub max_version : ℕ
 max_version = 3
 
@@ -47,10 +48,10 @@ max_version = 3
 abbrev pub is_version : ℕ → Bool
 is_version v = nat_le 1 v && nat_le v max_version
 
--- The version, the numbers and the pieces, from what the members have: `old` has the pieces as
--- version 1 reads them, and `new` as all other versions read them. First the version is looked for,
--- then the numbers, then the pieces. Then it is tested whether files of the version can be read,
--- and whether there are at most `most` pieces.
+-- The version, the numbers and the pieces of a file, or its first fault. `old` is the result of
+-- reading the pieces in version 1, and `new` is the result in all other versions. The version, the
+-- numbers and the pieces are looked at in this order. The last two tests are that the version can
+-- be read, and that there are at most `most` pieces.
 unfoldable pub contents_from : {P : Type 0} → ℕ → Option ℕ → Option (List ℕ)
     → Result (List P) FileFault → Result (List P) FileFault
     → Result (ℕ × List ℕ × List P) FileFault
@@ -60,8 +61,8 @@ contents_from most version numbers old new = do
   ps ← in_version v old new
   if is_version v && nat_le (length ps) most then Ok (v, ns, ps) else Err Limit
 
--- Reads a value as a file of this kind: its version, its numbers and its pieces, or the first
--- fault.
+-- Reads a value as a file of this kind. The result is the file's version, numbers and pieces, or
+-- the first fault.
 unfoldable pub contents_of : {P : Type 0}
     → FileKind P → Data → Result (ℕ × List ℕ × List P) FileFault
 contents_of kind d =
@@ -70,6 +71,7 @@ contents_of kind d =
     (pieces_member (old_of kind.is_old kind.of) kind.part kind.pieces d)
     (pieces_member kind.of kind.part kind.pieces d)
 
--- Reads bytes as a file of this kind: its version, its numbers and its pieces, or the first fault.
+-- Reads bytes as a file of this kind. The result is the file's version, numbers and pieces, or the
+-- first fault.
 abbrev pub contents : {P : Type 0} → FileKind P → List ℕ → Result (ℕ × List ℕ × List P) FileFault
 contents kind bytes = json_of bytes >>= contents_of kind

@@ -1,4 +1,4 @@
--- The JSON value of bytes, and the members of an object.
+-- The JSON value that bytes stand for, and the members of an object.
 use Rattle.std.specs.Prelude.{ℕ, List, length, nat_le, Option, option_and_then, Result, Err, if◌then◌else◌}
 use Rattle.std.specs.Str.{is_utf8}
 use Rattle.serde_json.specs.Data.{Data}

@@ -52,7 +52,8 @@ kind_named names of is_old part most = record {
   most = most;
 }
 
--- For each name of the kind, what was found is what the last member with this name has.
+-- For each member that the file kind names, the value that was found is the value of the last
+-- member with this name.
 pub record AreFound {P : Type 0} (kind : FileKind P) (n : Option ℕ) (numbers : List (Option ℕ))
     (pieces : Option (Pieces P)) (ms : Members) : Type 0 where
   pub the_version : n ≡ last_number ms version

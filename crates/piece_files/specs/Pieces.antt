@@ -9,7 +9,7 @@ use Rattle.piece_files.specs.Elements.{elements_of}
 use Rattle.piece_files.specs.Json.{array_member}
 
 -- Reads the value at index `i` as a piece. If it is no piece, the result is a fault with this
--- index. `of` says which piece has the value's elements.
+-- index. `of` reads a piece from the value's elements.
 abbrev pub piece_at : {P : Type 0} → (List Data → Option P) → Part → ℕ → Data → Result P FileFault
 piece_at of part i d = or_fault (Piece part i) (option_and_then of (elements_of d))
 
@@ -23,12 +23,12 @@ pieces_from of part i (d ∷ ds) = do
   others ← pieces_from of part (suc i) ds
   Ok (first ∷ others)
 
--- The piece that has these elements in version 1, if there is one. A piece of version 2 is also a
--- piece of version 1 exactly if `is_old` is true for it.
+-- The piece that version 1 reads from these elements, if there is one. Version 1 has exactly the
+-- pieces of version 2 for which `is_old` is true.
 abbrev pub old_of : {P : Type 0} → (P → Bool) → (List Data → Option P) → List Data → Option P
 old_of is_old of ds = option_and_then (λ p. if is_old p then Some p else None) (of ds)
 
--- What is right for a file of this version: `old` for version 1, `new` for all others.
+-- Returns `old` for version 1, and `new` for all other versions.
 abbrev pub in_version : {A : Type 0} → ℕ → A → A → A
 in_version version old new = if version == 1 then old else new
 

@@ -93,8 +93,8 @@ AreTaken depth start ds rest =
     (es : List Data) (others : List Token)
     → Begin depth rest es others → Begin depth start (ds ++ es) others
 
--- The tokens are the remaining members of an object, and nothing follows the object. If they are
--- added to the members `old`, the result is `all`.
+-- The tokens are the remaining members of an object, and nothing follows the object. If these
+-- members are added to the members `old`, the result is `all`.
 abbrev pub AreMembers : List Token → Members → Members → Type 0
 AreMembers ts old all =
     (n : ℕ) → length ts ≤ n

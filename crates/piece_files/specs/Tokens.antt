@@ -12,8 +12,8 @@ use Rattle.std.specs.Prelude.{Result, Ok, Err}
 use Rattle.piece_files.specs.declared.file_fault.FileFault.{FileFault}
 use Rattle.piece_files.specs.declared.file_fault.FileFault.TheVariants.{Piece}
 
--- The value that tokens begin with, if its arrays and objects nest at most `depth` levels deep, and
--- the tokens after it.
+-- The value that the tokens begin with, and the tokens after this value. The result is `None` if
+-- the arrays and objects of the value nest more than `depth` levels deep.
 abbrev pub value_at : ℕ → List Token → Option (Data × List Token)
 value_at depth ts = converted of_json (value depth ts)
 
@@ -85,7 +85,7 @@ abbrev pub FindsOld : {P : Type 0} → Part → Option ℕ
 FindsOld part None old new = old ≡ new
 FindsOld part (Some i) old new = old ≡ Err (Piece part i)
 
--- The pieces that were found, with the result in version 2 (`new`) and in version 1 (`old`).
+-- `new` is the result of reading these pieces in version 2, and `old` is the result in version 1.
 abbrev pub FindsBoth : {P : Type 0} → Part → ℕ → Pieces P
     → Result (List P) FileFault → Result (List P) FileFault → Type 0
 FindsBoth part most p old new =

@@ -76,7 +76,8 @@ distinct (Full k v ∷ slots) one = (
   distinct slots (λ key i j li lj a b. let e = one key (suc i) (suc j) (omega arith) (omega arith) a b in omega arith),
 )
 
--- The pairs of the slots from place `i` on are those of the slot at `i` and of the slots after it.
+-- The pairs in the slots from place `i` on are the pair in slot `i`, if it has one, and the pairs
+-- in the slots after it.
 pub pairs_of-drop : (slots : List Slot) (i : ℕ) (d : Slot) → i < length slots → pairs_of (drop i slots) ≡ pairs_of (get_or slots i d ∷ drop (i + 1) slots)
 pairs_of-drop slots i d lt = ap pairs_of (drop_more slots i d lt)
 

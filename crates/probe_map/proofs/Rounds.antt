@@ -17,7 +17,7 @@ either : (home i j : ℕ) → i ≢ j → ReachesBefore home i j ⊎ ReachesBefo
 either home i j other = ⊎_elim (λ (l : i < j). from_less home i j l)
     (λ (h : j ≤ i). let l : j < i = omega arith in ⊎_elim (λ b. inr b) (λ b. inl b) (from_less home j i l)) (cases_lt i j)
 
--- The probe does not reach a place before itself.
+-- If a probe reaches `j` before `i`, then `j` and `i` are different.
 not_before : (home i j : ℕ) → ReachesBefore home j i → j ≢ i
 not_before home i j (inl b) same = let low = b.0 in let high = b.1 in absurd (omega arith)
 not_before home i j (inr (inl b)) same = let low = b.0 in let high = b.1 in absurd (omega arith)

@@ -60,8 +60,8 @@ key_at-set_here slots place slot lt = ap key_in (get_or-set_same slots place slo
 key_at-set_other : (slots : List Slot) (place : ℕ) (slot : Slot) (j : ℕ) → j ≢ place → key_at (set slots place slot) j ≡ key_at slots j
 key_at-set_other slots place slot j ne = ap key_in (get_or-set_other slots place j slot Empty ne)
 
--- After the write, the key has the value of the new slot, and each other key has the value that it
--- had before.
+-- If a slot with a key is written at the place where the probe for this key stops, the key gets the
+-- value of the slot. Each other key keeps its value.
 pub content_set : (slots : List Slot) (room len shift key place : ℕ) (slot : Slot) → IsTable slots room len shift → StopsAt slots (begins slots shift key) key place
     → key_in slot ≡ Some key → content (set slots place slot) ≡ set_at (content slots) key (value_in slot)
 content_set slots room len shift key place slot table at is = set_lookups (pairs_of slots) (pairs_of later) key (value_in slot) (λ q. ⊎_elim
@@ -88,9 +88,10 @@ content_set slots room len shift key place slot table at is = set_lookups (pairs
     was q ne there = ⊎_elim (λ (none : key_at slots place ≡ None). let both : None ≡ Some q = sym none ∙ there in absurd (cc))
         (λ (same : key_at slots place ≡ Some key). ne (ap num (sym same ∙ there))) (stopped (key_at slots place) key at.stops)
 
--- After the write, the slots are sound with `fewer` in place of `room` and `more` in place of
--- `len`. `fewer` is at most `room`, and below `room` if the old slot was empty. `more` is `len`,
--- minus 1 if the old slot had a value, plus 1 if the new slot has one.
+-- If a slot with a key is written at the place where the probe for this key stops, the slots are
+-- still sound, with `fewer` in place of `room` and `more` in place of `len`. `fewer` is at most
+-- `room`, and below `room` if the old slot was empty. `more` is `len`, minus 1 if the old slot had
+-- a value, plus 1 if the new slot has one.
 pub table_set : (slots : List Slot) (room len shift key place : ℕ) (slot : Slot) (fewer more : ℕ) → IsTable slots room len shift → StopsAt slots (begins slots shift key) key place
     → key_in slot ≡ Some key → fewer + tally (is_empty (slot_at slots place)) ≤ room
     → more + tally (is_full (slot_at slots place)) ≡ len + tally (is_full slot)
@@ -150,7 +151,8 @@ all_empty slots room shift none few full = record {
   len_is = sym full;
 }
 
--- If there is such a place, what the code reads there is `slot_at`.
+-- If the place is below the number of slots, the slot that the code reads there is the one that
+-- `slot_at` gives.
 read_is : (slots : List Slot) (place : ℕ) (slot : Slot) → place < length slots → slot ≡ get_or slots place slot → slot ≡ slot_at slots place
 read_is slots place slot lt read = read ∙ get_or_default slots place slot Empty lt
 

@@ -7,7 +7,7 @@ use Rattle.clap.specs.declared.builder.command.Command.{Command}
 use Rattle.clap.specs.declared.builder.command.Command.TheViews.{out-Command}
 use Rattle.clap.specs.Words.{App, Rule, Text, app_of, new_rule}
 
--- A command that `clap` built is this application.
+-- The command that `clap` built equals this application's definition.
 abbrev pub IsApp : Command → App → Type 0
 IsApp command app = (app_of command ≡ app) × ((out-Command command).has_globals ≡ false)
 

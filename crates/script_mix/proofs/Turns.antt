@@ -105,7 +105,7 @@ member_keeps scripts tries count w h crew worker within at is =
     let member : IsMember scripts tries count h w worker = rw at (is.each w worker within) in
     subst (λ n. KeepsScripts scripts tries worker (own n h)) (sym member.number) member.keeps
 
--- If one more member is added, each worker is a member.
+-- If each worker is a member and one more member is added, each worker is still a member.
 pub crew_more : (scripts : List (List Action)) (tries count : ℕ) (crew : List Worker) (worker : Worker) → IsMember scripts tries count [] (length crew) worker
     → ((w : ℕ) (other : Worker) → w < length crew → IsMember scripts tries count [] w (get_or crew w other))
     → (w : ℕ) (other : Worker) → w < length (crew ++ worker ∷ []) → IsMember scripts tries count [] w (get_or (crew ++ worker ∷ []) w other)
@@ -117,8 +117,8 @@ crew_more scripts tries count crew worker member each w other less = elim (cases
       rw (last, get_or-append_seam crew worker [] other) member
 ]
 
--- If the workers are a crew, each worker's scripts have outcomes that are true of the history, and
--- each worker's committed transactions play its scripts.
+-- If the workers are a crew and the history is legal, each worker's scripts have outcomes that
+-- agree with the history (`AreTrue`), and each worker's committed transactions play its scripts.
 pub crew_told : {rule : Holder} (limits : Sizes) (scripts : List (List Action)) (tries count stripes : ℕ) (h : List Entry) (crew : List Worker) → IsLegal rule stripes h → IsCrew scripts tries count h crew
     → (c : ℕ) → c < count → (outcomes : List Outcome) × AreTrue c tries h (tolds_of (every count c scripts) outcomes)
 crew_told limits scripts tries count stripes h crew legal is c below =

@@ -37,11 +37,12 @@ pub record MovesOn (scripts : List (List Action)) (tries : ℕ) (old new : State
   pub others : (c : ℕ) → c ≢ before.number → own c new.history ≡ own c old.history
   pub keeps : KeepsScripts scripts tries after (own after.number new.history)
 
--- The core has the limits asked for, and its stripes are not words. Workers were drawn and took
+-- The core has the limits asked for, and it locks its stripes itself. Workers were drawn and took
 -- turns on it, until no worker had a step or a script left, or 2^64 - 1 turns were taken. In the
--- core's history each worker's committed transactions play its scripts, and the numbers of these
--- scripts rise. For each worker there is a list of its scripts' outcomes, from the first script on.
--- The list is true of the history. A script that did not begin has no outcome in the list.
+-- core's history, each worker's committed transactions play its scripts, and the numbers of these
+-- scripts rise. For each worker there is a list of its scripts' outcomes, from the first script on,
+-- which agrees with the history (`AreTrue`). A script that did not begin has no outcome in the
+-- list.
 pub record IsMixed (work : Work) (seed : ℕ) (state : State) : Type 0 where
   pub limits : state.limits ≡ work.sizes
   pub words : state.words ≡ false

@@ -48,8 +48,6 @@ past_later next turn fed next' turn' fed' n (Committed place entry) a b d past =
 past_later next turn fed next' turn' fed' n (Aborted entry) a b d past = let x = past.0 in let y = past.1 in (omega arith, omega arith)
 past_later next turn fed next' turn' fed' n GivenUp a b d past = tt
 
--- If each number of the caller's scripts that is at least `low` is also at least `low'`, then the
--- bound `low` of `PlayInOrder` may be replaced by `low'`.
 pub play_lower : (w : ℕ) (scripts : List (List Action)) (c low low' : ℕ) (parts : List (List Entry)) → ((n : ℕ) → low ≤ n → n % w ≡ c → low' ≤ n)
     → PlayInOrder w scripts c low parts → PlayInOrder w scripts c low' parts
 play_lower w scripts c low low' [] less play = tt
@@ -259,7 +257,6 @@ module _ (w : ℕ) (scripts : List (List Action)) (h : List Entry) (c fed : ℕ)
     commit_play place ends play =
         subst (PlayInOrder w scripts c old.next) (taken_in old.part.items mine ∙ ap (λ b. cond b (grown old.part.items e ∷ committed_from c (grown old.part.items e) (drop (fed + 1) h)) (committed_from c (grown old.part.items e) (drop (fed + 1) h))) (ap is_commit ends)) play
 
-    -- The script `number` is not after the script that the transaction plays according to `play`.
     no_later : (number : ℕ) → IsFirstPlayed w scripts new.part.items old.next number → (parts : List (List Entry)) → (play : PlayInOrder w scripts c old.next (grown old.part.items e ∷ parts)) → number ≤ play.0
     no_later number first parts play = elim (cases_lt play.0 number) [
       | inl early ↦ absurd (first.passed play.0 play.1 play.2 early (play.3.mine ∙ sym f.next) play.3.there (subst (IsPlayed play.1) (sym grows) play.4))

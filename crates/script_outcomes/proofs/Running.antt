@@ -16,7 +16,7 @@ use Rattle.script_outcomes.proofs.Following.{Follows, AllFollow, own_follows, ot
 apart : (n m : ℕ) → n ≢ m → (n == m) ≡ false
 apart n m not = elim (cases_Bool (n == m)) [ inl is ↦ absurd (not (eqb-true n m is)) | inr is ↦ is ]
 
--- An outcome is written only at a script of the entry's caller.
+-- Either no outcome is written, or one outcome is written, for a script of the entry's caller.
 abbrev pub WritesOwn : ℕ → List (List Action) → Entry → List Outcome → List Outcome → Type 0
 WritesOwn w scripts e os os' = (os' ≡ os) ⊎ ((number : ℕ) × (o : Outcome) × (number % w ≡ caller_of e) × (os' ≡ set os number o))
 
@@ -37,7 +37,7 @@ module _ (w : ℕ) (scripts : List (List Action)) (h : List Entry) (fed : ℕ) (
       let size = all.size in
       record { some = omega arith; one_each = all.one_each; order = f.order; mine = f.next ∙ sym f.turn }
 
-  -- An entry of a caller without a worker changes nothing.
+  -- If the entry's caller has no worker, `AllFollow` still holds after the entry.
   pub all_skip : length ways ≤ caller_of e → AllFollow w scripts h (fed + 1) os ways
   all_skip past = record {
     size = all.size;
@@ -84,7 +84,6 @@ module _ (w : ℕ) (scripts : List (List Action)) (h : List Entry) (fed : ℕ) (
             | inr wrote ↦ ap (λ ys. slice_get ys n) wrote.3 ∙ get-set_other os wrote.0 n wrote.1 (λ same. not (sym mine ∙ ap (λ k. k % w) same ∙ wrote.2))
           ]
 
--- `MayCount` and `TakesEntry` still hold if their arguments are replaced by equal ones.
 pub may_same : (w w' : ℕ) (ss ss' : List (List Action)) (way : Way) (os os' : List Outcome) → w' ≡ w → ss' ≡ ss → os' ≡ os → MayCount w ss way os → MayCount w' ss' way os'
 may_same w w' ss ss' way os os' a b d may =
     subst (λ k. MayCount k ss' way os') (sym a) (subst (λ k. MayCount w k way os') (sym b) (subst (MayCount w ss way) (sym d) may))
@@ -93,7 +92,7 @@ pub goes_same : (w w' : ℕ) (ss ss' : List (List Action)) (e : Entry) (k : ℕ)
 goes_same w w' ss ss' e k old new os os' now a b d goes =
     subst (λ x. TakesEntry x ss e k old new os now) a (subst (λ x. TakesEntry w' x e k old new os now) b (subst (λ x. TakesEntry w' ss' e k old new x now) d goes))
 
--- A list that is overwritten by a list of the same length becomes that list.
+-- If a list is overwritten by a list of the same length, the result is the second list.
 pub whole_written : (os now : List Outcome) (len : ℕ) → length now ≡ length os → len ≡ length os → take len (now ++ drop (length now) os) ≡ now
 whole_written os now len same is =
     ap (λ more. take len (now ++ more)) (drop_all (length now) os (omega (arith, same))) ∙ ap (take len) (append-nil now) ∙ take_all len now (omega (arith, same, is))

@@ -22,12 +22,9 @@ not_played w scripts part low number here d read is same mine not before n scrip
   | inr (inr late) ↦ let far = stride w number n (mine ∙ sym its) late in absurd (omega arith)
 ]
 
--- No script has a number past the end of the list.
 pub past_all : (scripts : List (List Action)) (number : ℕ) (script : List Action) → length scripts ≤ number → slice_get scripts number ≡ Some script → ⊥
 past_all scripts number script past there = let inside = slice_get_within scripts number script there in omega arith
 
--- The script `here` was read at `number`. If `scripts` has a script with this number, it is `here`.
--- So if `here` is played, the script with this number is played.
 pub plays_there : (scripts : List (List Action)) (part : List Entry) (number : ℕ) (here d : List Action) (read : List Entry) → here ≡ get_or scripts number d → read ≡ part → IsPlayed here read
     → (script : List Action) → slice_get scripts number ≡ Some script → IsPlayed script part
 plays_there scripts part number here d read is same played script there =

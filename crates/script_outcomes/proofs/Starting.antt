@@ -14,8 +14,6 @@ use Rattle.script_outcomes.specs.Outcomes.{HasCome, AreInOrder, PlayInOrder, Com
 use Rattle.script_outcomes.specs.Ways.{AreFresh, AreNone}
 use Rattle.script_outcomes.proofs.Following.{IsPast, Known, Follows, AllFollow, the_one}
 
--- If `x` is added at the end of a list, each element of the new list is `x`, at the end, or an
--- element of the old list.
 pub read_push : {X : Type 0} (xs : List X) (x y : X) (n : ℕ) → slice_get (xs ++ x ∷ []) n ≡ Some y → ((n ≡ length xs) × (y ≡ x)) ⊎ (slice_get xs n ≡ Some y)
 read_push [] x y zero there = inl (refl, sym (ap (the_one x) there))
 read_push [] x y (suc n) there = absurd (cc (there))

@@ -34,7 +34,8 @@ pub record AbortsScript (c : ℕ) (script : List Action) (entry : ℕ) (h : List
   pub at : slice_get h entry ≡ Some (entries.Aborted c)
   pub did : AbortsItself script (latest_entries c (take (entry + 1) h))
 
--- The outcome of a script is true of the history.
+-- The script's outcome fits the history, as `CommitsScript` or `AbortsScript` says. The outcome
+-- `GivenUp` fits every history.
 abbrev pub HasCome : ℕ → List Action → List Entry → Outcome → Type 0
 HasCome c script h (Committed place entry) = CommitsScript c script place entry h
 HasCome c script h (Aborted entry) = AbortsScript c script entry h
@@ -77,8 +78,8 @@ CommitsCounted callers c fed h outcomes =
     (entry place : ℕ) → entry < fed → slice_get h entry ≡ Some (entries.Committed c place)
     → (n : ℕ) × (n % callers ≡ c) × (slice_get outcomes n ≡ Some (Committed place entry))
 
--- The outcomes of a caller's scripts in a history. Each outcome is true of the history. Commits are
--- in the order of the scripts, and so are aborts, so each transaction is counted for at most one
+-- The outcomes of a caller's scripts in a history. `HasCome` holds for each outcome. Commits are in
+-- the order of the scripts, and so are aborts. So each transaction is counted for at most one
 -- script. If the caller's transactions that commit play its scripts in order, each of these
 -- transactions is counted.
 pub record AreOutcomesOf (callers : ℕ) (scripts : List (List Action)) (h : List Entry)

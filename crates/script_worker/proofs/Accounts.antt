@@ -11,7 +11,7 @@ pub tolds_of-none : (scripts : List (List Action)) → tolds_of scripts [] ≡ [
 tolds_of-none [] = refl
 tolds_of-none (script ∷ scripts) = refl
 
--- What `tolds_of` becomes when one more outcome is appended.
+-- If one more outcome is appended, `tolds_of` appends the pair of the next script and this outcome.
 pub tolds_of-push : (scripts : List (List Action)) (outcomes : List Outcome) (script : List Action) (outcome : Outcome) → slice_get scripts (length outcomes) ≡ Some script
     → tolds_of scripts (outcomes ++ outcome ∷ []) ≡ tolds_of scripts outcomes ++ record { script = script; outcome = outcome } ∷ []
 tolds_of-push [] outcomes script outcome is = absurd (cc (get_empty (length outcomes), is))

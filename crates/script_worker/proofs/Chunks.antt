@@ -15,7 +15,8 @@ use Rattle.script_worker.proofs.Every.{get_none}
 pub how_many-append : (test : Entry → Bool) (xs ys : List Entry) → how_many test (xs ++ ys) ≡ how_many test xs + how_many test ys
 how_many-append test xs ys = ap length (filter-append test xs ys) ∙ length-append (filter test xs) (filter test ys)
 
--- If one more attempt found a stripe held, `AreBusy` holds for one more attempt.
+-- If `AreBusy` holds for `n` attempts and one more attempt found a stripe held, it holds for `n +
+-- 1` attempts.
 busy_more : (n : ℕ) (es fs : List Entry) → AreBusy n es → AreBusy 1 fs → AreBusy (n + 1) (es ++ fs)
 busy_more n es fs busy one = record {
   nothing = append_quiet es fs busy.nothing one.nothing;
@@ -33,7 +34,6 @@ undone_replies : (c k : ℕ) (rest : List Entry) → replies_in (undone_by c k +
 undone_replies c zero rest = refl
 undone_replies c (suc k) rest = undone_replies c k rest
 
--- The part of a script from position `i` on begins with the action at `i`.
 from_here : (script : List Action) (i : ℕ) (action : Action) → slice_get script i ≡ Some action → drop i script ≡ action ∷ drop (i + 1) script
 from_here script i action is =
     rw (drop-cons script i action (slice_get_within script i action is), get_or_from_slice_get script i action action is, add-one i)
@@ -42,8 +42,9 @@ from_here script i action is =
 pub chunk_begun : (c : ℕ) (script : List Action) → IsChunk c script first_heard []
 chunk_begun c script = record { before = []; part = []; whole = refl; busy = record { nothing = refl; enough = omega arith }; at = refl }
 
--- Describes the entries since the script began, after a call. If another call follows, they are the
--- chunk of its attempt. If the script is over, they are the account of the script.
+-- The condition on the entries since the script began, after a call. If another call follows, the
+-- entries are the chunk of this call's attempt. If the script is over, the entries are the account
+-- of the script.
 abbrev pub ChunkAfter : ℕ → ℕ → List Action → Heard → List Entry → End → Progress → Type 0
 ChunkAfter c tries script heard chunk end (Next attempt) = IsChunk c script (heard_then heard end attempt) chunk
 ChunkAfter c tries script heard chunk end (Over finish) = IsAccount c tries script (outcome_by finish end heard) chunk
@@ -58,7 +59,7 @@ module _ (c tries : ℕ) (script : List Action) (heard : Heard) (before part : L
   all_quiet : (added : List Entry) → CommitNothing part → CommitNothing added → CommitNothing (before ++ (part ++ added))
   all_quiet added quiet silent = append_quiet before (part ++ added) busy.nothing (append_quiet part added quiet silent)
 
-  -- A call that found a stripe held is an attempt for `AreBusy`.
+  -- If a call finds its stripe held by another caller, `AreBusy` counts it as an attempt.
   busy_one : (call : Call) (x : ℕ) (added : List Entry) → IsMade c call (End.Busy x) added → AreBusy 1 added
   busy_one (Call.Op op) x added (undone, is) =
       let none = ap length (filter_undone is_busy c undone (Entry.Aborted c ∷ []) refl) in
@@ -75,7 +76,7 @@ module _ (c tries : ℕ) (script : List Action) (heard : Heard) (before part : L
       at true is = record { before = _; part = []; whole = sym (append-nil _); busy = more; at = refl }
       at false is = record { nothing = more.nothing; enough = omega (arith, more.enough, ltb-false again tries is) }
 
-  -- After an action that was done, `ChunkAfter` holds: the same attempt moves to its next action.
+  -- If an action is done, `ChunkAfter` holds for the same attempt at its next action.
   goes : (i : ℕ) (action : Action) (end : End) (es added : List Entry) → slice_get script i ≡ Some action → added ≡ es
       → txn_then heard.txn end ≡ heard.txn → replies_then heard.replies end ≡ heard.replies ++ replies_in es → CommitNothing es
       → ((rest : List Entry) → ArePlayed (drop (i + 1) script) rest → ArePlayed (action ∷ drop (i + 1) script) (without_undone es ++ rest))
@@ -99,8 +100,8 @@ module _ (c tries : ℕ) (script : List Action) (heard : Heard) (before part : L
   aborted added made quiet =
       all_quiet added quiet (ap (filter is_commit) made.1 ∙ filter_undone is_commit c made.0 (Entry.Aborted c ∷ []) refl)
 
-  -- After a call that was done, `ChunkAfter` holds. The cases are the stage of the attempt, the
-  -- action (or the commit, after the last action), and the answer.
+  -- If a call is done, `ChunkAfter` holds. The proof goes through the stages, the actions and the
+  -- answers.
   done_told : (stage : Stage) (a : Answer) (added : List Entry) → IsMade c (call_at script stage) (End.Answered a) added → IsAtStage c script heard part stage → After added (End.Answered a) (done_at script again stage)
   done_told Beginning (Answer.Began t) added made none =
       let front : IsFront c script script t [] added =
@@ -135,7 +136,7 @@ module _ (c tries : ℕ) (script : List Action) (heard : Heard) (before part : L
   done_told (Leaving refusal) Answer.Aborted added made quiet = aborted added made quiet
   done_told stage a added made at = absurd made
 
-  -- After a call of help that was done, `ChunkAfter` holds.
+  -- If a call for help is done, `ChunkAfter` holds.
   helped_told : (stage : Stage) (added : List Entry) → IsMade c (call_at script stage) End.Helped added → IsAtStage c script heard part stage → After added End.Helped (done_at script again stage)
   helped_told (Acting i) added made front = by (slice_get script i) refl made
     where
@@ -171,8 +172,8 @@ module _ (c tries : ℕ) (script : List Action) (heard : Heard) (before part : L
   told_at stage (End.Busy x) added made silent at = after_busy x added (stage_quiet stage at) (busy_one (call_at script stage) x added made)
   told_at stage (End.Refused refusal) added made silent at = refused_told stage refusal added made silent (stage_quiet stage at)
 
--- After a call of a script, `ChunkAfter` holds for the entries of the script with those of the
--- call.
+-- If `IsChunk` holds for the entries of a script before a call, `ChunkAfter` holds for these
+-- entries followed by those that the call adds.
 pub after_call : (c tries : ℕ) (script : List Action) (heard : Heard) (chunk added : List Entry) (end : End) (p : Progress)
     → IsMade c (call_at script heard.attempt.stage) end added → IsQuiet end added → IsChunk c script heard chunk
     → progress_of script tries heard.attempt end ≡ p → ChunkAfter c tries script heard (chunk ++ added) end p

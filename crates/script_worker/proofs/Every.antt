@@ -4,7 +4,6 @@ use Rattle.std.proofs.Common.{◌≡◌, ℕ, ◌+◌, ◌<◌, ◌≤◌, List,
 use Rattle.std.proofs.Common.{◌-◌, ◌*◌, ◌/◌, ◌%◌, map, refl, mod-eq_of_lt}
 use Rattle.script_worker.proofs.Vocabulary.{add-mul-mod_self_right, every, mod-add-div', slice_get_past, slice_get_within}
 
--- A list with no elements has no element at any place.
 pub get_empty : {X : Type 0} (k : ℕ) → slice_get {X = X} [] k ≡ None
 get_empty k = slice_get_past [] k (omega arith)
 
@@ -14,7 +13,7 @@ get_none [] k none = omega arith
 get_none (x ∷ xs) zero none = absurd (cc none)
 get_none (x ∷ xs) (suc k) none = omega (arith, get_none xs k none)
 
--- A list has an element at each place within it.
+-- If a position is below the length of a list, the list has an element at this position.
 pub get_within : {X : Type 0} (xs : List X) (k : ℕ) → k < length xs → (x : X) × (slice_get xs k ≡ Some x)
 get_within [] k within = absurd (omega (arith, within))
 get_within (x ∷ xs) zero within = (x, refl)
@@ -36,8 +35,8 @@ get-every n some (x ∷ xs) (suc after) k =
     let same : suc (after + k * n) ≡ suc after + k * n = omega arith in
     rw (← same) (get-every n some xs after k)
 
--- An element is appended to the list. If its position is `after + k * n`, it is also appended to
--- the list of every n-th element.
+-- If the position of an appended element is `after + k * n`, the element is also appended to the
+-- list of every n-th element.
 pub every-hit : {X : Type 0} (n : ℕ) → 0 < n → (xs : List X) (x : X) (after k : ℕ) → length xs ≡ after + k * n → every n after (xs ++ x ∷ []) ≡ every n after xs ++ x ∷ []
 every-hit n some [] x zero k at = refl
 every-hit n some [] x (suc after) k at = absurd (omega arith)
@@ -45,8 +44,8 @@ every-hit n some (y ∷ xs) x zero zero at = absurd (omega (arith, at))
 every-hit n some (y ∷ xs) x zero (suc k) at = ap (λ ys. y ∷ ys) (every-hit n some xs x (n - 1) k (omega (arith, at)))
 every-hit n some (y ∷ xs) x (suc after) k at = every-hit n some xs x after k (omega (arith, at))
 
--- An element is appended to the list. If its position is `after + k * n` for no `k`, the list of
--- every n-th element is unchanged.
+-- If the position of an appended element is `after + k * n` for no `k`, the list of every n-th
+-- element is unchanged.
 pub every-miss : {X : Type 0} (n : ℕ) → 0 < n → (xs : List X) (x : X) (after : ℕ) → ((k : ℕ) → length xs ≡ after + k * n → ⊥) → every n after (xs ++ x ∷ []) ≡ every n after xs
 every-miss n some [] x zero never = absurd (never 0 (omega arith))
 every-miss n some [] x (suc after) never = refl
@@ -75,8 +74,8 @@ pub one_remainder : (n a b k j : ℕ) → a < n → b < n → a + k * n ≡ b + 
 one_remainder n a b k j low high same =
     sym (add-mul-mod_self_right a k n ∙ mod-eq_of_lt low) ∙ ap (λ m. m % n) same ∙ add-mul-mod_self_right b j n ∙ mod-eq_of_lt high
 
--- A shorter list has fewer elements in `every n c` than a longer list, if `c` is the remainder of
--- the shorter list's length modulo `n`.
+-- Let `xs` be shorter than `ys`, and let `c` be the remainder of the length of `xs` modulo `n`.
+-- Then `every n c xs` is shorter than `every n c ys`.
 pub every-fewer : {X Y : Type 0} (n : ℕ) → 0 < n → (xs : List X) (ys : List Y) → length xs < length ys → length (every n (length xs % n) xs) < length (every n (length xs % n) ys)
 every-fewer n some xs ys fewer =
     let c : ℕ = length xs % n in

@@ -138,7 +138,7 @@ new_keeps scripts tries w limits below =
     let first : w ≡ w + 0 * limits.callers = omega arith in
     record { number = below; at = keeps_started tries limits.callers limits.half scripts w [] w [] first (no_account w tries (every limits.callers w scripts)) }
 
--- Settling does not change a task with a step to take.
+-- If a task has a step to take, settling does not change the task.
 stays : (scripts : List (List Action)) (tries w : ℕ) (limits : Sizes) (step : Step) (task : Option Task) → task_step task ≡ Some step → settled scripts tries w limits task ≡ task
 stays scripts tries w limits step None is = refl
 stays scripts tries w limits step (Some task) is = ap (settled_in scripts tries w limits task) (goes_on task.drive step is)

@@ -21,8 +21,8 @@ played (Action.Back n ∷ script) (Leave c (Some level) ∷ Returned d reached �
 played (Action.Help k ∷ script) es plays = played script es plays
 played _ _ plays = absurd plays
 
--- If no Undone entry passes a test, the same entries pass the test with and without the Undone
--- entries.
+-- If no Undone entry passes a test, removing the Undone entries does not change which entries pass
+-- the test.
 with_undone : (test : Entry → Bool) → ((c : ℕ) → test (Undone c) ≡ false) → (es : List Entry)
     → filter test es ≡ filter test (without_undone es)
 with_undone test never [] = refl
@@ -43,8 +43,7 @@ module _ (c : ℕ) (script : List Action) (txn place : ℕ) (inner : List Entry)
       (same_from_push (filter is_commit inner) [] (Committed c place) e
       (sym (filter-append is_commit inner (Committed c place ∷ [])) ∙ with_undone is_commit (λ c. refl) rest ∙ one)).0
 
--- The seat after one more entry. By `seat_front`, if every entry of a list has a row, then every
--- entry of a front part of the list has a row.
+-- The seat after one more entry, or None if `row` does not allow the entry.
 abbrev seat_step : Option Seat → Entry → Option Seat
 seat_step seat e = option_and_then (λ s. row s s.phase e) seat
 
@@ -59,8 +58,8 @@ seat_front es fs some = at (seat_after es) (ap is_some (sym (fold-append seat_st
     at None some = absurd (false≢true (sym (ap is_some (none_stays fs)) ∙ some))
     at (Some s) some = refl
 
--- Reads the committed transactions from a caller's own entries: each Committed entry commits the
--- transaction of the last Began entry before it.
+-- The transaction of the last Began entry, after one more entry. `ended_txns` lists this
+-- transaction for each Committed entry.
 abbrev pub next_txn : Option ℕ → Entry → Option ℕ
 next_txn o (Began c t) = Some t
 next_txn o _ = o

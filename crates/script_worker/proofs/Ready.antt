@@ -34,7 +34,7 @@ called_started half scripts w n =
     elim (nat_lt n (length scripts)) as (λ b. IsCalledIfAny scripts (if b then Some (record { script = n; attempt = first_attempt; drive = new_drive half w Call.Begin }) else None)) [ true ↦ inl refl | false ↦ tt ]
 
 module _ (scripts : List (List Action)) (tries w : ℕ) (limits : Sizes) where
-  -- After the first settling the task's drive has a step to take, or is new.
+  -- When a task has been settled once, its drive has a step to take, or is new.
   called_followed : (task : Task) (script : List Action) (progress : Progress) → slice_get scripts task.script ≡ Some script → IsCalledIfAny scripts (followed scripts w limits task script progress)
   called_followed task script (Next attempt) there = inr (limits.half, w, script, there, refl)
   called_followed task script (Over outcome) there = called_started limits.half scripts w (task.script + limits.callers)
@@ -45,8 +45,8 @@ module _ (scripts : List (List Action)) (tries w : ℕ) (limits : Sizes) where
   called_in task (Some outcome) None ended there = rw there tt
   called_in task (Some outcome) (Some script) ended there = rw there (called_followed task script _ there)
 
-  -- The task that follows has a step to take. A new drive that has already ended is the drive of a
-  -- help with a bad key, and then an abort follows, which takes a step.
+  -- The task that follows has a step to take. Only a call for help with a bad key ends before its
+  -- first step. In that case an abort follows, which has a step to take.
   abbrev FollowsReady : Task → List Action → Progress → Type 0
   FollowsReady task script progress = IsReadyTask (followed scripts w limits task script progress)
 
@@ -66,7 +66,7 @@ module _ (scripts : List (List Action)) (tries w : ℕ) (limits : Sizes) where
   ready_stage half again task script c (Stage.Acting i) outcome ended = ready_action half again task script i c (slice_get script i) outcome refl ended
   ready_stage half again task script c stage outcome ended = absurd (cc ended)
 
-  -- After the second settling the task's drive has a step to take.
+  -- When a task has been settled twice, its drive has a step to take.
   ready_in : (task : Task) (o : Option End) → end_of task.drive ≡ o → HasStep task.drive ⊎ IsCalled scripts task
       → IsReadyTask (settled_in scripts tries w limits task o)
   ready_in task None ended called = steps_in task.drive.caller task.drive.call task.drive.phase ended

@@ -10,8 +10,8 @@ taken_in : {X : Type 0} (takes : X → Step → Answer → X → Type 0) (script
 taken_in takes scripts tries w x (Ended outcome) y is taken = absurd is
 taken_in takes scripts tries w x turn y is taken = taken
 
--- If the turn that `turn_by` names is taken on a state, the worker has taken its next turn. `p`
--- gives the worker's part of the state; each step of the turn is the worker's step on this part.
+-- If the turn that `turn_by` gives is taken on a state, the worker has taken its next turn. `p`
+-- gives the worker's part of the state. Each step of the turn is the worker's step on this part.
 pub turn_next : {X F : Type 0} (takes : X → Step → Answer → X → Type 0) (R : F → Step → Answer → F → Type 0) (I : F → F → Type 0)
     (p : F → Working X) (size : ℕ) (scripts : List (List Action)) (tries : ℕ) (before w : Standing) (o : Option Turn) (turn : Turn)
     (x y : F) → w ≡ sized_by size before → o ≡ turn_by w → IsTurnBy w o → o ≡ Some turn → w ≡ (p x).worker → (p x).finish ≡ None

@@ -41,8 +41,8 @@ committed_placed h shape t c p front is =
     none : IsPlaced []
     none t c p front is = absurd (omega (arith, length-append front (Committed c p ∷ []), ap length is))
 
--- The outcome of one account is true of the history, wherever the account is among the caller's own
--- entries.
+-- The outcome of one account agrees with the history, wherever the account stands among the
+-- caller's own entries.
 module _ (c tries : ℕ) (h : List Entry) (shape : IsShaped h) (replies : RepliesHold h) where
   has_come : (script : List Action) (outcome : Outcome) (front here later : List Entry) → own c h ≡ front ++ (here ++ later) → IsAccount c tries script outcome here → HasCome c h script outcome
   has_come script (accounts.Committed txn place told) front here later own_is (before, part, here_is, quiet, p) =
@@ -69,8 +69,8 @@ module _ (c tries : ℕ) (h : List Entry) (shape : IsShaped h) (replies : Replie
     have_come tolds (front ++ here) later (rw (es_is, ← append_assoc front here later) at own_is) rest,
   )
 
--- The Committed entries in an account are those of the account's outcome. `commits_told` says the
--- same of several accounts.
+-- The Committed entries in an account are those of the account's outcome. `commits_told` is the
+-- same lemma for several accounts.
 account_commits : (c tries : ℕ) (script : List Action) (outcome : Outcome) (here : List Entry) → IsAccount c tries script outcome here → filter is_commit here ≡ cons_option (accounts.commit_in c outcome) []
 account_commits c tries script (accounts.Committed txn place replies) here (before, part, here_is, quiet, p) =
     let silent = inner_commits c script txn place p.inner (rw p.whole at p.plays) in
@@ -100,8 +100,8 @@ busy_told c tries (told ∷ tolds) es (here, later, es_is, account, rest) =
     at accounts.Busy account below = omega (arith, account.enough)
     at outcome account below = omega arith
 
--- The committed transactions that an account shows are those of the account's outcome. `txns_told`
--- says the same of several accounts.
+-- The committed transactions that are read from an account are those of the account's outcome.
+-- `txns_told` is the same lemma for several accounts.
 account_txns : (c tries : ℕ) (script : List Action) (outcome : Outcome) (here : List Entry) (o : Option ℕ) → IsAccount c tries script outcome here → ended_txns o here ≡ cons_option (accounts.committed_txn outcome) []
 account_txns c tries script (accounts.Committed txn place replies) here o (before, part, here_is, quiet, p) =
     let plays = rw p.whole at p.plays in
@@ -118,8 +118,8 @@ txns_told c tries (told ∷ tolds) es o (here, later, es_is, account, rest) =
     rw (es_is, ended-append, account_txns c tries told.script told.outcome here o account, others)
     (sym (cons_append (accounts.committed_txn told.outcome) [] (filter_map (λ told. accounts.committed_txn told.outcome) tolds)))
 
--- If a caller's own entries are the accounts of its scripts, the outcomes of these scripts are true
--- of the history.
+-- If a caller's own entries are the accounts of its scripts, the outcomes of these scripts agree
+-- with the history: `AreTrue` holds.
 pub accounts_true : (c tries : ℕ) (h : List Entry) (tolds : List Told) → IsShaped h → RepliesHold h → AreAccounts c tries tolds (own c h) → AreTrue c tries h tolds
 accounts_true c tries h tolds shape replies all = record {
   each = have_come c tries h shape replies tolds [] (own c h) refl all;

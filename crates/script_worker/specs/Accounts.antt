@@ -40,8 +40,8 @@ reply_in _ = None
 abbrev pub replies_in : List Entry → List (Option ℕ)
 replies_in es = filter_map reply_in es
 
--- This number of attempts found a stripe held. The entries commit nothing, and at least this many
--- of them are Busy entries.
+-- The entries commit nothing, and at least `attempts` of them are Busy entries. `attempts` counts
+-- the attempts that found a stripe held.
 pub record AreBusy (attempts : ℕ) (es : List Entry) : Type 0 where
   pub nothing : CommitNothing es
   pub enough : attempts ≤ how_many is_busy es
@@ -56,8 +56,8 @@ pub record IsPlayedBy (c : ℕ) (script : List Action) (txn place : ℕ) (replie
   pub replied : replies_in es ≡ replies
 
 -- The entries that a caller has added while it ran a script that has this outcome. If the script is
--- committed, they are first entries that commit nothing, and then those of the committed
--- transaction. If not, none of them commits. A Busy outcome also needs at least `tries + 1` Busy
+-- committed, the last of them are those of the committed transaction, and the entries before commit
+-- nothing. If not, none of them commits. A Busy outcome also needs at least `tries + 1` Busy
 -- entries.
 abbrev pub IsAccount : ℕ → ℕ → List Action → Outcome → List Entry → Type 0
 IsAccount c tries script (Committed txn place replies) es =
@@ -85,13 +85,14 @@ pub record IsCommittedAs (c : ℕ) (script : List Action) (txn place : ℕ)
   pub placed : slice_get (commits h) (place - 1) ≡ Some txn
   pub replied : replies_in (of txn h) ≡ replies
 
--- What an outcome says about the history. Only a committed outcome says something.
+-- The outcome agrees with the history. A committed outcome must stand for a committed transaction
+-- of the history, as `IsCommittedAs` says. Any other outcome agrees with every history.
 abbrev pub HasCome : ℕ → List Entry → List Action → Outcome → Type 0
 HasCome c h script (Committed txn place replies) = IsCommittedAs c script txn place replies h
 HasCome c h script outcome = Unit {0}
 
--- The Committed entry of an outcome, and the transaction of an outcome. Only a committed outcome
--- has them.
+-- The Committed entry of an outcome, or None if the outcome is not committed. `committed_txn` gives
+-- the transaction in the same way.
 abbrev pub commit_in : ℕ → Outcome → Option Entry
 commit_in c (Committed txn place replies) = Some (entries.Committed c place)
 commit_in c outcome = None
@@ -105,10 +106,10 @@ abbrev pub is_busy_outcome : Outcome → Bool
 is_busy_outcome Busy = true
 is_busy_outcome outcome = false
 
--- The outcomes of a caller's scripts are true of the history. Each committed outcome stands for a
+-- The outcomes of a caller's scripts agree with the history. Each committed outcome stands for a
 -- committed transaction of the caller. The caller's Committed entries are those of its committed
--- outcomes, in order, and so are its committed transactions. The caller has at least `tries + 1`
--- Busy entries for each busy outcome.
+-- outcomes, in order. The caller's committed transactions are those of the committed outcomes, in
+-- order. The caller has at least `tries + 1` Busy entries for each busy outcome.
 pub record AreTrue (c tries : ℕ) (h : List Entry) (tolds : List Told) : Type 0 where
   pub each : AllByRecursion (λ told. HasCome c h told.script told.outcome) tolds
   pub entries_are : filter is_commit (own c h) ≡ filter_map (λ told. commit_in c told.outcome) tolds
@@ -129,7 +130,7 @@ tolds_of (script ∷ scripts) (outcome ∷ outcomes) =
     record { script = script; outcome = outcome } ∷ tolds_of scripts outcomes
 tolds_of scripts outcomes = []
 
--- The outcomes of all scripts are true of the history. Caller `c` runs every `callers`-th script,
+-- The outcomes of all scripts agree with the history. Caller `c` runs every `callers`-th script,
 -- beginning with script `c`, counted from 0.
 abbrev pub AreAllTrue : ℕ → ℕ → List (List Action) → List Outcome → List Entry → Type 0
 AreAllTrue callers tries scripts outcomes h = (c : ℕ) → c < callers

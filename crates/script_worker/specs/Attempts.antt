@@ -54,8 +54,8 @@ done_at script again Beginning = Next (attempt_at again (Acting 0))
 done_at script again (Acting i) = done_with again i (slice_get script i)
 done_at script again (Leaving refusal) = Over (finishes.Refused refusal)
 
--- A script that found a stripe held is attempted again if fewer than `tries` attempts were made
--- before this one.
+-- The progress after an attempt that found a stripe held. The script is attempted again if fewer
+-- than `tries` attempts were made before this attempt.
 abbrev pub busy_at : ℕ → ℕ → Progress
 busy_at tries again =
     if nat_lt again tries then Next (attempt_at (again + 1) Beginning) else Over finishes.Busy

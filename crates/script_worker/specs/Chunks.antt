@@ -31,7 +31,8 @@ heard_at attempt txn replies = record { attempt = attempt; txn = txn; replies = 
 abbrev pub first_heard : Heard
 first_heard = heard_at first_attempt 0 []
 
--- The transaction after a call with this end, and the replies after it.
+-- The transaction after a call that ended with this end. `replies_then` gives the replies after
+-- such a call.
 abbrev pub txn_then : ℕ → End → ℕ
 txn_then txn (ends.Answered (answers.Began t)) = t
 txn_then txn outcome = txn
@@ -47,7 +48,8 @@ abbrev pub heard_then : Heard → End → Attempt → Heard
 heard_then heard outcome next =
     heard_at next (txn_then heard.txn outcome) (replies_then heard.replies outcome)
 
--- The outcome of a script with this finish, if its last call had this end.
+-- The outcome of a script, made from its finish, the end of its last call, and what was known
+-- before this end.
 abbrev pub outcome_by : Finish → End → Heard → Outcome
 outcome_by finishes.Committed (ends.Answered (answers.Committed place)) heard =
     accounts.Committed heard.txn place heard.replies
@@ -56,8 +58,8 @@ outcome_by finishes.Aborted outcome heard = accounts.Aborted
 outcome_by finishes.Busy outcome heard = accounts.Busy
 outcome_by (finishes.Refused refusal) outcome heard = accounts.Refused refusal
 
--- The entries so far of a transaction. It has these replies, and has played all of the script
--- except the actions `left`.
+-- The entries that a transaction has added so far. The transaction has these replies, and has
+-- played all of the script except the actions `left`.
 pub record IsFront (c : ℕ) (script left : List Action) (txn : ℕ) (replies : List (Option ℕ))
     (es : List Entry) : Type 0 where
   pub inner : List Entry

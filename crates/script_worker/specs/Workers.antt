@@ -131,7 +131,7 @@ sized_by size worker = record worker { task = with_drive (sized_of size) worker.
 abbrev pub turn_by : Standing → Option Turn
 turn_by worker = option_map (λ task. turn_of task.drive) worker.task
 
--- The next step of a task, and of a worker.
+-- The next step of a task. `step_by` gives the next step of a worker.
 abbrev pub task_step : Option Task → Option Step
 task_step task = option_and_then (λ task. step_of task.drive) task
 

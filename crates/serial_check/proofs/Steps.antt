@@ -30,8 +30,8 @@ module _ (g : List Entry) (e : Entry) (shape : IsShaped g) (shaped : is_shaped g
   pub serial_grows : (t : ℕ) → is_commit e ≡ true → txn_at g e ≡ Some t → serial (g ++ e ∷ []) ≡ map_after (serial g) (of t g)
   serial_grows t commit at = serial-push_commit g e callers shape shaped shape_after t commit at ∙ ap (map_after (serial g)) (of-push_in t g e at) ∙ map_after-commit (serial g) (of t g) e commit
 
-  -- Suppose that the entry begins no transaction, and that a transaction of its caller is open
-  -- after it. Then this transaction was open before, and the entry is its newest entry.
+  -- If the entry begins no transaction, and a transaction of its caller is open after it, this
+  -- transaction was open before. The entry is the newest one of the transaction.
   pub was_there : is_began e ≡ false → (t : ℕ) → txn_in (g ++ e ∷ []) (caller_of e) ≡ Some t → is_open t (g ++ e ∷ []) ≡ true
       → (txn_in g (caller_of e) ≡ Some t) × (is_open t g ≡ true) × (of t (g ++ e ∷ []) ≡ of t g ++ e ∷ [])
   was_there began t in_t is_going = elim (step g e callers shaped (caller_of e) t in_t) [
@@ -53,7 +53,7 @@ module _ (g : List Entry) (e : Entry) (shape : IsShaped g) (shaped : is_shaped g
     | inr other ↦ absurd (other.0 refl)
   ]
 
-  -- If a transaction of another caller is open after the entry, it was open before with the same
+  -- If a transaction of another caller is open after the entry, it was open before, with the same
   -- entries.
   pub other_txn : (d : ℕ) → d ≢ caller_of e → (t : ℕ) → txn_in (g ++ e ∷ []) d ≡ Some t → is_open t (g ++ e ∷ []) ≡ true
       → (txn_in g d ≡ Some t) × (is_open t g ≡ true) × (of t (g ++ e ∷ []) ≡ of t g)

@@ -15,16 +15,16 @@ pub record Tells (h : List Entry) (state : State) : Type 0 where
   pub entered : HaveEntered h state.callers
   pub keeps : ShowsSerial h state.commits
 
--- `Tells` holds of the new state for every history for which it holds of the old state.
+-- If `Tells` holds for a history and the old state, it holds for this history and the new state.
 abbrev pub Stays : State → State → Type 0
 Stays old new = (h : List Entry) → Tells h old → Tells h new
 
 -- If a rule is named, the entry breaks this rule after the history. If none is named, `Tells` holds
--- of the new state for the history with the entry added.
+-- for the new state and the history with the entry added.
 abbrev pub Judged : List Entry → Entry → Option Rule → State → Type 0
 Judged h e None new = Tells (h ++ e ∷ []) new
 Judged h e (Some rule) new = broken h e ≡ Some (number_of rule)
 
--- For each history for which `Tells` holds of the old state, the entry is judged as `Judged` says.
+-- If `Tells` holds for a history and the old state, the entry is judged as `Judged` says.
 abbrev pub Judges : Entry → State → Option Rule → State → Type 0
 Judges e old rule new = (h : List Entry) → Tells h old → Judged h e rule new

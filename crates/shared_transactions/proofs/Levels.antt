@@ -17,8 +17,6 @@ use Rattle.shared_transactions.specs.Keeps.{Keeps}
 use Rattle.shared_transactions.specs.Within.{GoesOn, HoldsWithin, is_quiet}
 use Rattle.shared_transactions.proofs.Within.{Adds, BeginsNone, adds, adds_undoing, append_none, undone_none, same_txn, not_broken, steady_after, goes_on, holds_open}
 
--- Suppose that a call succeeded, that its entries neither commit nor begin a transaction and leave
--- nothing unfinished, and that `HoldsWithin` holds after the call. Then `GoesOn` holds.
 passed_on : {S : Type 0} (k : Token S) (call : Call) (l : Token S) (es : List Entry) → l.seen ≡ k.seen ++ es → Adds es → BeginsNone es → HoldsWithin l → Passed k call l → GoesOn k l
 passed_on k call l es seen which none holds passed = record {
   since = λ base since. adds base k l es since passed.whose seen which;

@@ -172,7 +172,7 @@ unclosed_otherwise stop unclosed is =
     let refusal_is : unclosed.refusal ≡ CallersMissing = cc (sym unclosed.is ∙ is) in
     subst IsUnclosed refusal_is unclosed.why
 
--- The number of the pass at an index is this index, and its limits are those of the map.
+-- The pass at each index has this index as its number, and the map's limits as its limits.
 pub ticket_at : (limits : Sizes) (items : List Ticket) (place : ℕ) (pass : Ticket) → place < limits.callers → AreTickets limits items → pass ≡ slice_index_or items place pass → (pass.number ≡ place) × (pass.limits ≡ limits)
 ticket_at limits items place pass less all value =
     let here : pass ≡ new_ticket limits all.words place = value ∙ ap (λ ts. slice_index_or ts place pass) all.are ∙ get_or-map-range_with_len (new_ticket limits all.words) 0 limits.callers place place pass less (omega arith) in

@@ -39,8 +39,8 @@ module _ {S X T : Type 0} (work : X → Result T Stop → X → Type 0) (me : X 
   failed_try old new txn t u answer stop began worked why goes_on back =
       inl (record { begun = t; left = u; txn = txn; answer = answer; began = began; worked = worked; why = why; goes_on = goes_on; back = back })
 
-  -- If `n` busy tries were made, `n` is at most `most`, and all tries together are undone
-  -- (`IsUndone`), `HasRetried` holds.
+  -- Suppose that `n` busy tries were made, that `n` is at most `most`, and that `IsUndone` holds
+  -- for all tries together. Then `HasRetried` holds.
   pub tried : (most n : ℕ) (old new : Token S) → n ≤ most → BusyTries work me n old new → IsUndone old new → HasRetried work me most old new
   tried most n old new within tries undone = record { busy = n; within = within; tries = tries; undone = undone }
 

@@ -52,7 +52,7 @@ none_stays (e ∷ es) = none_stays es
 seat_append : (xs ys : List Entry) → seat_after (xs ++ ys) ≡ fold (λ seat e. option_and_then (λ (s : Seat). row s s.phase e) seat) (seat_after xs) ys
 seat_append xs ys = fold-append (λ seat e. option_and_then (λ (s : Seat). row s s.phase e) seat) (Some closed_seat) xs ys
 
--- If all entries of a list have rows, all entries of each prefix of the list have rows too.
+-- If `row` allows all entries of a list, it allows all entries of each prefix of the list.
 rows_before : (xs ys : List Entry) → is_some (seat_after (xs ++ ys)) ≡ true → is_some (seat_after xs) ≡ true
 rows_before xs ys there = at (seat_after xs) (sym (ap is_some (seat_append xs ys)) ∙ there)
   where
@@ -165,8 +165,7 @@ adds_undoing c k opening closing first last ends = record {
   steady = λ xs. ap (λ es. is_steady (seat_after es)) (sym (append_assoc xs (opening ∷ undone_by c k) (closing ∷ []))) ∙ steady_after (xs ++ (opening ∷ undone_by c k)) closing ends;
 }
 
--- If a token has seen no more entries, `IsSince` still holds. `grows` is the lemma for a token that
--- has seen more.
+-- If a token has seen no further entries, `IsSince` still holds.
 stays : {S : Type 0} (base k l : Token S) → IsSince base k → IsSameCaller k l → l.seen ≡ k.seen → (l.broken ≡ false → k.broken ≡ false) → IsSince base l
 stays base k l since whose same sound = record {
   whose = record { number = whose.number ∙ since.whose.number; limits = whose.limits ∙ since.whose.limits };
@@ -420,7 +419,6 @@ holds_open l xs e ends seen =
     at None = refl
     at (Some s) = row_open s.phase s.standing s.kept e ends
 
--- After all rights have been given back, the caller holds no stripe.
 given_none : (l k : Claimed) → l ≡ given_back k → HoldsNone l
 given_none l k is = (ap (λ (c : Claimed). c.held) is, ap (λ (c : Claimed). c.seat.held) is)
 
@@ -511,7 +509,7 @@ goes_further k l m first second = record {
 pub keeps_by : {S : Type 0} (words : S → List ℕ) (old new : MutBor (Token S)) (call : Call) (outcome : End) → new.ghost_name ≡ old.ghost_name → is_quiet call ≡ true → Ended words old.now call outcome new.now → Keeps old new
 keeps_by words old new call outcome same inner ended = record { same_token = same; goes_on = goes_on words old.now call outcome new.now inner ended }
 
--- If a work makes no call, `Keeps` holds. `keeps_on` joins one part of a work to the next.
+-- If a work makes no call, `Keeps` holds.
 pub keeps_stay : {S : Type 0} (me : MutBor (Token S)) → Keeps me me
 keeps_stay me = record { same_token = refl; goes_on = record { since = λ base since. since; whose = record { number = refl; limits = refl }; sound = λ sound. sound; txn = λ sound. refl; holds = λ holds. holds } }
 
@@ -521,7 +519,7 @@ keeps_on old between new first second = record {
   goes_on = goes_further old.now between.now new.now first.goes_on second.goes_on;
 }
 
--- If no transaction is open and all entries have rows, the seat is idle.
+-- If there is a seat and no transaction is open, the seat is idle (`is_idle`).
 idle_of : (seat : Option Seat) → is_over seat ≡ true → is_some seat ≡ true → is_idle seat ≡ true
 idle_of None over rows = absurd (false≢true rows)
 idle_of (Some s) over rows = over
@@ -628,8 +626,8 @@ undone_after k t u m txn begun goes_on back = record {
   holds = λ _. back.goes_on.holds (goes_on.holds (holds_open t k.seen (entries.Began k.number txn) tt begun.seen));
 }
 
--- If a transaction was begun, continued and committed, `IsRun` holds, and the receipt has the
--- transaction's number.
+-- If a transaction was begun, continued and committed, `IsRun` holds with the transaction number of
+-- the commit.
 pub run : {S : Type 0} (base t u l : Token S) (began txn place : ℕ) → IsBegun base began t → GoesOn t u → IsCommitted txn place u l → IsRun base t u l txn place
 run base t u l began txn place begun goes_on committed =
     let same : began ≡ txn = sym (committed.numbered ∙ goes_on.txn committed.sound ∙ ap last_txn begun.seen ∙ fold-append began_by 0 base.seen (entries.Began base.number began ∷ [])) in
@@ -642,7 +640,7 @@ run base t u l began txn place begun goes_on committed =
       given = given_none l.claims u.claims committed.claims;
     }
 
--- If the token is unchanged, `IsUndone` holds. `undone_on` joins one try to the next.
+-- If the token is unchanged, `IsUndone` holds.
 pub undone_same : {S : Type 0} (k : Token S) → IsUndone k k
 undone_same k = record { since = λ base since. since; over = λ over. over; holds = λ holds. holds }
 

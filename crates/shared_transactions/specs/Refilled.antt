@@ -99,7 +99,7 @@ abbrev pub IsNotRefilled : {S : Type 0} → (S → List ℕ) → List (ℕ × �
 IsNotRefilled words pairs k stop l =
     ((stop ≡ Refused NoMemory) × (l ≡ k)) ⊎ StopsRefilling words pairs k stop l
 
--- The stop is a refusal, because memory was refused or the map does not close.
+-- The stop is a refusal that is returned if the map cannot be closed (`IsUnclosed`).
 pub record IsUnclosedBy (stop : Stop) : Type 0 where
   pub refusal : Refusal
   pub is : stop ≡ Refused refusal

@@ -30,7 +30,8 @@ is_steady (Some s) = is_steady_in s.phase
 abbrev pub IsOver : {S : Type 0} → Token S → Type 0
 IsOver k = k.broken ≡ false → is_over (seat_after k.seen) ≡ true
 
--- Whether there is a seat and it has no open transaction. There is a seat if all entries have rows.
+-- True if there is a seat and it has no open transaction. There is a seat exactly if `row` allows
+-- every entry.
 abbrev pub is_idle : Option Seat → Bool
 is_idle None = false
 is_idle (Some s) = is_closed s.phase
@@ -44,8 +45,8 @@ HoldsNone claims = (claims.held ≡ []) × (claims.seat.held ≡ [])
 abbrev pub HoldsWithin : {S : Type 0} → Token S → Type 0
 HoldsWithin k = k.broken ≡ false → is_idle (seat_after k.seen) ≡ true → HoldsNone k.claims
 
--- The token is `base` with added entries. If all entries have rows, none of the added entries
--- commits. Unless the token is broken, nothing is unfinished.
+-- The token is `base` with added entries. If `row` allows all entries that the token has seen, no
+-- added entry is a commit. Unless the token is broken, nothing is unfinished.
 pub record IsSince {S : Type 0} (base k : Token S) : Type 0 where
   pub whose : IsSameCaller base k
   pub added : List Entry
@@ -63,9 +64,9 @@ pub record GoesOn {S : Type 0} (k l : Token S) : Type 0 where
   pub holds : HoldsWithin k → HoldsWithin l
 
 -- A transaction was taken back, and no other was begun. If nothing was unfinished before, no
--- transaction is open now. Suppose also that stripes were held only within a transaction, that all
--- entries have rows, and that the token is not broken. Then all rights to stripes have been given
--- back.
+-- transaction is open now. Suppose also that stripes were held only within a transaction, that
+-- `row` allows all entries, and that the token is not broken. Then all rights to stripes have been
+-- given back.
 pub record IsTakenBack {S : Type 0} (k l : Token S) : Type 0 where
   pub goes_on : GoesOn k l
   pub over : (base : Token S) → IsSince base k → IsOver l

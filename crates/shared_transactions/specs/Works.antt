@@ -60,15 +60,15 @@ pub record AreDone {S W T : Type 0} (promises : W → T → Token S → Type 0) 
       → slice_get outcomes i ≡ Some outcome → IsDoneIn promises core.history i work outcome
   pub only : All (λ e. caller_of e < callers) core.history
 
--- The refusals if there is no closed map, because memory was refused or the map does not close.
+-- The refusals that are returned if the map cannot be closed: `NoMemory` or `OutOfStep`.
 abbrev pub IsUnclosed : Refusal → Type 0
 IsUnclosed NoMemory = Unit {0}
 IsUnclosed OutOfStep = Unit {0}
 IsUnclosed refusal = ⊥
 
--- The refusals of works that need `needed` callers on a map with `callers` callers. The refusal is
--- `CallersMissing` exactly if the map has too few callers. Otherwise, it is one that `IsUnclosed`
--- allows.
+-- Why works were not run. They need `needed` callers, and the map has `callers` callers. The
+-- refusal is `CallersMissing` exactly if the map has too few callers. Otherwise, it is one that
+-- `IsUnclosed` allows.
 abbrev pub IsUnrun : ℕ → ℕ → Refusal → Type 0
 IsUnrun callers needed CallersMissing = callers < needed
 IsUnrun callers needed refusal = (needed ≤ callers) × IsUnclosed refusal

@@ -18,8 +18,6 @@ exponent_below bit width small =
       | inr more ↦ let large : 2 ^ width ≤ 2 ^ bit = pow-le-pow_right {n = 2} (omega arith) more in absurd (omega arith)
     ]
 
--- If a number is cut to its lowest `j` bits and then to its lowest `k` bits, its lowest `bits` bits
--- remain, for some `bits` that is at most `j`.
 mod_pow_twice : (number j k : ℕ) → (bits : ℕ) × (bits ≤ j) × (number % 2 ^ j % 2 ^ k ≡ number % 2 ^ bits)
 mod_pow_twice number j k =
     elim (cases_lt j k) [
@@ -54,7 +52,6 @@ highest_cleared_is (suc width) number bit rest is below small =
           ]
     ]
 
--- `highest_cleared` gives the number's lowest `bits` bits, for some `bits`.
 highest_cleared_lowest : (width number : ℕ) → number < 2 ^ width → (bits : ℕ) × (highest_cleared width number ≡ number % 2 ^ bits)
 unfolding highest_cleared
 highest_cleared_lowest zero number small = (0, omega arith)
@@ -67,8 +64,6 @@ highest_cleared_lowest (suc width) number small =
       | inr under ↦ let below = highest_cleared_lowest width number under.1 in (below.0, rw (under.0) below.1)
     ]
 
--- The number of a bucket's ancestor is the lowest `bits` bits of the bucket's number, for some
--- `bits`.
 ancestor_of_lowest : (steps bucket : ℕ) → bucket < 2 ^ 32 → (bits : ℕ) × (bits ≤ 32) × (ancestor_of steps bucket ≡ bucket % 2 ^ bits)
 unfolding ancestor_of parent_of
 ancestor_of_lowest zero bucket small = (32, omega arith, omega arith)
@@ -89,7 +84,7 @@ pub IsAncestor-parent_of : (ancestor descendant : ℕ) → IsAncestor ancestor d
 unfolding ancestor_of
 IsAncestor-parent_of ancestor descendant is = record { steps = suc is.steps; reached = ap parent_of is.reached }
 
--- The dummy of an ancestor, other than the bucket itself, precedes the bucket's dummy.
+-- If an ancestor differs from the bucket, the ancestor's dummy precedes the bucket's dummy.
 pub ancestor_before : (ancestor bucket : ℕ) → bucket < 2 ^ 32 → IsAncestor ancestor bucket → ancestor ≢ bucket → reversed ancestor < reversed bucket
 ancestor_before ancestor bucket small is other =
     let lowest = ancestor_of_lowest is.steps bucket small in
@@ -109,8 +104,8 @@ ancestor_before_key ancestor key exponent small is =
     let low : ancestor ≡ key % 2 ^ twice.0 = is.reached ∙ lowest.2 ∙ twice.2 in
     rw low (lowest_before_key twice.0 key (omega (arith, twice.1)))
 
--- If a bucket's number is the lowest bits of a word, the split key of each ancestor's dummy is at
--- most the word's reversal. The bucket is one of its own ancestors.
+-- If a bucket's number consists of a word's lowest bits, the dummy of each ancestor of the bucket
+-- has a split key that is at most the reversed word.
 pub ancestor_not_behind : (ancestor word exponent : ℕ) → exponent ≤ 32 → word < 2 ^ 64 → IsAncestor ancestor (word % 2 ^ exponent) → reversed ancestor ≤ reversed word
 ancestor_not_behind ancestor word exponent small fits is =
     let within = mod_below word (2 ^ exponent) (pow_pos exponent) in
@@ -123,7 +118,6 @@ ancestor_not_behind ancestor word exponent small fits is =
       | inr longer ↦ let lower = lowest_before twice.0 word (omega (arith, twice.1)) fits longer in rw low (omega (arith, lower))
     ]
 
--- If `a` units are at most `b` units plus a rest below one unit, then `a` is at most `b`.
 whole_not_above : (a b unit rest : ℕ) → rest < unit → a * unit ≤ b * unit + rest → a ≤ b
 whole_not_above a b unit rest part below =
     elim (cases_lt b a) [
@@ -133,8 +127,8 @@ whole_not_above a b unit rest part below =
       | inr within ↦ within
     ]
 
--- Take all numbers of `exponent` bits whose reversal is at most the word's reversal. Among them,
--- the word's lowest `exponent` bits have the highest reversal.
+-- If the reversal of a number with at most `exponent` bits is at most the reversed word, it is also
+-- at most the reversal of the word's lowest `exponent` bits.
 pub lowest_is_last : (other word exponent : ℕ) → exponent ≤ 64 → other < 2 ^ exponent → reversed other ≤ reversed word → reversed other ≤ reversed (word % 2 ^ exponent)
 unfolding reversed
 lowest_is_last other word exponent small short below =

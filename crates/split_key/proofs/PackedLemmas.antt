@@ -35,7 +35,7 @@ bytes_are_small : (word place : ℕ) → slice_index_or (bytes_of word) place 0 
 unfolding bytes_of
 bytes_are_small word place = bytes_small 0 8 word place
 
--- If `is_upper` is true only for an odd word, the word's bytes and `is_upper` satisfy `IsPacked`.
+-- If the word is odd or `is_upper` is false, the word's bytes and `is_upper` satisfy `IsPacked`.
 packed : (word : ℕ) (is_upper : Bool) → word < 2 ^ 64 → (is_upper ≡ true → word % 2 ≡ 1) → IsPacked (bytes_of word) is_upper
 packed word is_upper fits odd = record {
   width = bytes_width word;
@@ -109,8 +109,6 @@ parts_of at bytes is_upper is packed =
       odd = λ upper. ap (λ split. split % 2) (sym split_is) ∙ packed.upper upper;
     }
 
--- Of two keys with the same split key, the first is below the second exactly if only the second is
--- 2^63 or more.
 upper_before : (at k l : ℕ) (is_upper others : Bool) → key_of_split at is_upper ≡ k → key_of_split at others ≡ l → (is_upper ≡ true → at % 2 ≡ 1) → (others ≡ true → at % 2 ≡ 1) → nat_lt k l ≡ (not is_upper && others)
 upper_before at k l false false k_is l_is odd others_odd = above_test k l (omega (arith, k_is, l_is))
 upper_before at k l false true k_is l_is odd others_odd =

@@ -127,7 +127,7 @@ before_behind a b c before not_before = elim (cases_before b c) [
   | inr not_behind ↦ subst (λ k. IsBefore a k) (before_total b c not_behind not_before) before
 ]
 
--- If `b` is not before `a`, and `b` is before `c`, `a` is before `c`.
+-- If `b` is not before `a`, and `b` is before `c`, then `a` is before `c`.
 pub not_before_before : (a b c : SortKey) → IsNotBefore b a → IsBefore b c → IsBefore a c
 not_before_before a b c not_before before = elim (cases_before a b) [
   | inl ahead ↦ before_transitive a b c ahead before
@@ -142,7 +142,7 @@ before_by_split a b less = before_from a b (inl less)
 pub before_by_key : (a b : SortKey) → a.split ≡ b.split → a.key < b.key → IsBefore a b
 before_by_key a b same less = before_from a b (inr (same, less))
 
--- If `a` is before `b`, its split key is not above that of `b`.
+-- If `a` is before `b`, the split key of `a` is at most the split key of `b`.
 pub split_before : (a b : SortKey) → IsBefore a b → a.split ≤ b.split
 split_before a b before = elim (lower_from a b before) [
   | inl less ↦ omega (arith, less)

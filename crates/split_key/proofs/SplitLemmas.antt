@@ -100,7 +100,6 @@ reversed_twice word within = reversed_low_twice 64 word within
 pub same_from_reversed : (a b : ℕ) → a < 2 ^ 64 → b < 2 ^ 64 → reversed a ≡ reversed b → a ≡ b
 same_from_reversed a b a_fits b_fits same = sym (reversed_twice a a_fits) ∙ ap reversed same ∙ reversed_twice b b_fits
 
--- Setting bit 63 of a key by `bit_or`, as the machine does, adds 2 ^ 63 to the key's lower bits.
 top_set_below : (key : ℕ) → key % 2 ^ 63 + 2 ^ 63 < 2 ^ 64
 top_set_below key = omega (arith, mod_below key (2 ^ 63) (pow_pos 63))
 
@@ -129,7 +128,7 @@ top_set_is key fits =
     let whole : 1 * 2 ^ 63 + key % 2 ^ 63 ≡ key % 2 ^ 63 + 2 ^ 63 = omega arith in
     same_from_bits_below 64 (bit_or key (2 ^ 63)) (1 * 2 ^ 63 + key % 2 ^ 63) (or_lt 64 key (2 ^ 63) fits (omega arith)) (omega (arith, top_set_below key)) (top_set_bits key) ∙ whole
 
--- Two keys share a split key exactly if they agree below bit 63.
+-- Two keys have the same split key exactly if all their bits below bit 63 are the same.
 pub same_from_split : (a b : ℕ) → split a ≡ split b → a % 2 ^ 63 ≡ b % 2 ^ 63
 unfolding split
 same_from_split a b same =
@@ -152,8 +151,8 @@ split_odd key =
 pub reversed_even : (bucket : ℕ) → bucket < 2 ^ 63 → reversed bucket % 2 ≡ 0
 reversed_even bucket fits = omega (arith, bit_at_lowest (reversed bucket), bit_at-reversed bucket 0 (omega arith))
 
--- If a word has a 1 above its lowest `j` bits, the reversal of these bits is below the reversal of
--- the word.
+-- If a word is 2 ^ `j` or more, the reversal of its lowest `j` bits is below the reversal of the
+-- whole word.
 pub lowest_before : (j word : ℕ) → j ≤ 64 → word < 2 ^ 64 → 2 ^ j ≤ word → reversed (word % 2 ^ j) < reversed word
 unfolding reversed
 lowest_before j word small fits longer =

@@ -7,8 +7,7 @@ use Rattle.std.proofs.lemmas.Nat.Bits.{bit_at_and, bit_at_or, bit_at-lt, bit_at-
 use Rattle.std.specs.Int.{bit_at}
 use Rattle.split_key.specs.Swap.{swapped_place}
 
--- If `agree_below` finds `f` and `g` equal at all 64 positions of a word, they are equal at each
--- one.
+-- If `agree_below` is true for `f` and `g`, they are equal at each of a word's 64 positions.
 pub same_at_places : (f g : ℕ → ℕ) → agree_below (λ place. nat_eq (f place) (g place)) (λ _. true) 64 ≡ true → (place : ℕ) → place < 64 → f place ≡ g place
 same_at_places f g e place within = eqb-true (f place) (g place) (agree_below_at (λ k. nat_eq (f k) (g k)) (λ _. true) 64 place e within)
 
@@ -33,8 +32,6 @@ swapped_place_of_lower width place lower = rw (eq-eqb (place / width % 2) 0 lowe
 swapped_place_of_upper : (width place : ℕ) → place / width % 2 ≡ 1 → swapped_place width place ≡ place - width
 swapped_place_of_upper width place upper = rw (ne_eqb (place / width % 2) 0 (λ none. omega arith)) refl
 
--- The group before an upper group is a lower group, and the group before a lower group is an upper
--- group.
 group_before : (width place : ℕ) → 0 < width → width ≤ place → (place - width) / width % 2 ≡ 1 - place / width % 2
 group_before width place some above = omega (arith, div-eq-sub-div some above)
 
@@ -70,7 +67,7 @@ IsSwap width word new = (place : ℕ) → place < 64 → bit_at new place ≡ bi
 swapped_place_below : (width place : ℕ) → agree_below (λ k. nat_lt (swapped_place width k) 64) (λ _. true) 64 ≡ true → place < 64 → swapped_place width place < 64
 swapped_place_below width place e within = ltb-true _ 64 (agree_below_at (λ k. nat_lt (swapped_place width k) 64) (λ _. true) 64 place e within)
 
--- Swaps of groups of 1, 2, 4, 8, 16 and 32 bits reverse a word.
+-- Swapping neighbouring groups of 1, 2, 4, 8, 16 and 32 bits, one after the other, reverses a word.
 pub bit_at-six_swaps : (word pairs nibbles bytes double_bytes halves reversal : ℕ) → IsSwap 1 word pairs → IsSwap 2 pairs nibbles → IsSwap 4 nibbles bytes → IsSwap 8 bytes double_bytes → IsSwap 16 double_bytes halves
     → IsSwap 32 halves reversal → (place : ℕ) → place < 64 → bit_at reversal place ≡ bit_at word (63 - place)
 bit_at-six_swaps word pairs nibbles bytes double_bytes halves reversal bits_swap pairs_swap nibbles_swap bytes_swap double_bytes_swap halves_swap place within =

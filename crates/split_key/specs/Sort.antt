@@ -3,7 +3,7 @@ use Rattle.std.specs.Prelude.{ℕ, ◌≡◌, Bool, true, false, ◌==◌, ◌&&
 use Rattle.split_key.specs.declared.sort.SortKey.{SortKey}
 use Rattle.split_key.specs.Split.{reversed, split}
 
--- True if the first sort key precedes the second. They are ordered by split key, and by key where
+-- True if the first sort key precedes the second. Sort keys are ordered by split key, and by key if
 -- the split keys are equal.
 unfoldable pub is_before : SortKey → SortKey → Bool
 is_before a b = if a.split == b.split then nat_lt a.key b.key else nat_lt a.split b.split
@@ -20,7 +20,7 @@ IsNotBefore a b = is_before a b ≡ false
 abbrev pub is_same : SortKey → SortKey → Bool
 is_same a b = a.split == b.split && a.key == b.key
 
--- The sort key of a key's node.
+-- The sort key of the regular node with this key.
 abbrev pub regular_at : ℕ → SortKey
 regular_at key = record { split = split key; key = key }
 

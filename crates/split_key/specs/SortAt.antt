@@ -20,14 +20,15 @@ word_of bytes = from_le_bytes w64 bytes
 unfoldable pub bytes_of : ℕ → List ℕ
 bytes_of word = to_le_bytes w64 word
 
--- For a regular node's split key, the key that has it and is 2^63 or more exactly if `is_upper`.
--- For a dummy's split key, 0.
+-- The key that belongs to a split key. A regular node's split key belongs to two keys, and
+-- `is_upper` says whether the key is the one that is 2^63 or more. For a dummy's split key, the
+-- result is 0.
 unfoldable pub key_of_split : ℕ → Bool → ℕ
 key_of_split split is_upper =
     if split % 2 == 0 then 0 else reversed split % 2 ^ 63 + (if is_upper then 2 ^ 63 else 0)
 
--- The sort key whose split key is the number that these bytes stand for. Its key is what
--- `key_of_split` gives for this split key and `is_upper`.
+-- The sort key with the split key that these bytes stand for. `key_of_split` gives its key from
+-- this split key and `is_upper`.
 abbrev pub sort_seen : List ℕ → Bool → SortAt
 sort_seen bytes is_upper = record {
   split = word_of bytes;
@@ -52,8 +53,8 @@ pub key_in_regular : (split : ℕ) (is_upper : Bool) → split % 2 ≡ 1
 unfolding key_of_split
 key_in_regular split is_upper odd = rw (ne_eqb (split % 2) 0 (λ even. omega arith)) refl
 
--- If `is_upper` is true only for split keys of regular nodes, `key_of_split` is 2^63 or more
--- exactly if `is_upper`.
+-- The key that `key_of_split` returns is 2^63 or more exactly if `is_upper` is true. This needs
+-- that `is_upper` is false for a dummy's split key.
 pub upper_is : (split : ℕ) (is_upper : Bool) → (is_upper ≡ true → split % 2 ≡ 1)
     → nat_le (2 ^ 63) (key_of_split split is_upper) ≡ is_upper
 upper_is split true odd =
@@ -70,7 +71,8 @@ upper_is split false odd =
       | inr under ↦ under.0
     ]
 
--- Bytes that are turned into their number and back are unchanged.
+-- If eight bytes are turned into a number, and this number into bytes, the result is the same eight
+-- bytes.
 pub bytes_are : (bytes : List ℕ) (is_upper : Bool) → IsPacked bytes is_upper
     → bytes_of (word_of bytes) ≡ bytes
 unfolding word_of bytes_of

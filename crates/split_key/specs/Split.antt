@@ -2,7 +2,7 @@
 use Rattle.std.specs.Prelude.{ℕ, ◌≡◌, ◌+◌, ◌*◌, ◌-◌, ◌/◌, ◌%◌, ◌^◌, ◌<◌, nat_le, if◌then◌else◌}
 use Prim.Native.Nat.{zero, suc}
 
--- The lowest bits of a word in reverse order; the first number says how many.
+-- The lowest bits of a word, in reverse order. The first argument is the number of bits.
 unfoldable pub reversed_low : ℕ → ℕ → ℕ
 reversed_low zero word = 0
 reversed_low (suc width) word = word % 2 * 2 ^ width + reversed_low width (word / 2)
@@ -12,7 +12,7 @@ reversed_low (suc width) word = word % 2 * 2 ^ width + reversed_low width (word 
 unfoldable pub reversed : ℕ → ℕ
 reversed word = reversed_low 64 word
 
--- The split key of a key: its 64 bits, bit 63 set, in reverse order.
+-- The split key of a key: the key's 64 bits in reverse order, after bit 63 has been set.
 unfoldable pub split : ℕ → ℕ
 split key = reversed (key % 2 ^ 63 + 2 ^ 63)
 
@@ -26,14 +26,15 @@ highest_cleared (suc width) number =
 unfoldable pub parent_of : ℕ → ℕ
 parent_of bucket = highest_cleared 32 bucket
 
--- The bucket is its parent plus one more 1 bit, which is above all 1 bits of the parent.
+-- The bucket's number is the parent's number with one more 1 bit, which is above all 1 bits of the
+-- parent's number.
 pub record IsParent (bucket parent : ℕ) : Type 0 where
   pub bit : ℕ
   pub splits : bucket ≡ 2 ^ bit + parent
   pub below : parent < 2 ^ bit
 
--- The bucket that is reached from the given bucket by this many steps. Each step goes to the
--- parent.
+-- The bucket that is reached from the given bucket in `steps` steps. Each step goes from a bucket
+-- to its parent.
 unfoldable pub ancestor_of : ℕ → ℕ → ℕ
 ancestor_of zero bucket = bucket
 ancestor_of (suc steps) bucket = parent_of (ancestor_of steps bucket)

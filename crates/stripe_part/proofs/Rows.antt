@@ -22,8 +22,7 @@ below_is a b less = from (nat_cmp a b) refl less
     from Equal is less = absurd less
     from Greater is less = absurd less
 
--- Two lists with exactly the same pairs are equal, if the keys of one list rise and the keys of the
--- other list do not fall.
+-- 1 if the two pairs are equal, else 0.
 abbrev occurs : Pair → Pair → ℕ
 occurs p x = cond (x.0 == p.0) (cond (x.1 == p.1) 1 0) 0
 
@@ -64,7 +63,6 @@ same_rows (x ∷ rows) (r ∷ found) rise up same = let parts = pair_parts (belo
     let more : r.0 ≤ x.0 = subst (λ (p : Pair). r.0 ≤ p.0) also.2 (up 0 (suc also.0) x (omega arith) (let within = also.1 in omega arith)) in
     absurd (omega arith)) (pair_cases r x)
 
--- In a sorted list of pairs the keys do not fall.
 first_less : (a b : Ordering) → is_lt (ordering_then a b) ≡ false → is_lt a ≡ false
 first_less Less b is = is
 first_less Equal b is = refl

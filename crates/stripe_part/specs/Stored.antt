@@ -3,6 +3,6 @@ use Rattle.std.specs.Prelude.{ℕ}
 use Rattle.txn_words.specs.Map.{Map}
 use Rattle.stripe_part.specs.PartAt.{PartAt}
 
--- The part with a map's content and the number of changes that can be taken back.
+-- The part with this content and this number of changes that can be taken back.
 abbrev pub part_of : Map → ℕ → PartAt
 part_of content owed = record { content = content; owed = owed }

@@ -59,7 +59,6 @@ cut_own c es e mine was running = cut_more c es e refl (was (ran_before (seat_af
 own-mine : (c : ℕ) (g : List Entry) (e : Entry) → caller_of e ≡ c → own c (g ++ e ∷ []) ≡ own c g ++ e ∷ []
 own-mine c g e mine = own-append c g (e ∷ []) ∙ ap (λ b. own c g ++ cond b (e ∷ []) []) (eq-eqb (caller_of e) c mine)
 
--- If a caller is in a transaction, its last Began entry is the beginning of this transaction.
 open_cut : (c : ℕ) (g : List Entry) → IsShaped g → is_running (seat_after (own c g)) ≡ true → Cut c (own c g)
 open_cut c g shape = by_entries (λ h. is_running (seat_after (own c h)) ≡ true → Cut c (own c h)) step (λ none. absurd (false≢true none)) g shape
   where

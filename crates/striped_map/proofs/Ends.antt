@@ -23,7 +23,8 @@ use Rattle.striped_map.proofs.Sounds.{due_same}
 pub moved : (map : StripedMap) (a b : Hand) (es : List Entry) (left : StateAfter) → AddsIn (stripes_of map) (known a.seat) es left (known b.seat) → MovesHand map a es b
 moved map a b es left x = record { number_is = ap (λ (v : View). v.number) x.view_is; retired_is = ap (λ (v : View). v.retired) x.view_is; made_is = ap (λ (v : View). v.made) x.view_is; goes = x.goes }
 
--- If entries are added and the stripes are then given back, this is one step that adds the entries.
+-- If a hand adds entries and then gives its stripes back, both together are one step that adds
+-- these entries.
 pub moved_idle : (map : StripedMap) (a b : Hand) (w : View) (es : List Entry) (left : StateAfter) → AddsIn (stripes_of map) (known a.seat) es left w → known b.seat ≡ idle w → MovesHand map a es b
 moved_idle map a b w es left x is = record {
   number_is = ap (λ (v : View). v.number) is ∙ ap (λ (v : View). v.number) x.view_is;
@@ -32,8 +33,8 @@ moved_idle map a b w es left x is = record {
   goes = subst (Extends (stripes_of map) (known a.seat).number (known a.seat).seen es) (sym (ap (λ (v : View). v.seen) is)) x.goes;
 }
 
--- A step that adds nothing, followed by a step that adds these entries, is together one step that
--- adds these entries.
+-- A step that adds no entry, followed by a step that adds the entries `es`, is together one step
+-- that adds `es`.
 pub moved_then : (map : StripedMap) (a b c : Hand) (es : ℕ → List Entry) → MovesHand map a [] b → MovesHand map b (es (known b.seat).number) c → MovesHand map a (es (known a.seat).number) c
 moved_then map a b c es x y = record {
   number_is = y.number_is ∙ x.number_is;
@@ -47,7 +48,8 @@ pub cons_at : (l : List ℕ) (level : ℕ) → level ≢ 0 → get_or l (level -
 cons_at l zero ne = absurd (ne refl)
 cons_at l (suc k) ne = ap (λ (i : ℕ). get_or l i 0) (omega arith)
 
--- `moved_then` for an operation that was done, and for one whose stripe another caller held.
+-- If a hand makes a step that adds no entry and then does an operation, both together are one step
+-- that does the operation.
 pub moved_did : (map : StripedMap) (a b c : Hand) (op : Op) (reply : Option ℕ) → MovesHand map a [] b → MovesHand map b (Asked (known b.seat).number op ∷ Did (known b.seat).number reply ∷ []) c → MovesHand map a (Asked (known a.seat).number op ∷ Did (known a.seat).number reply ∷ []) c
 moved_did map a b c op reply x y = moved_then map a b c (λ k. Asked k op ∷ Did k reply ∷ []) x y
 
@@ -57,7 +59,8 @@ moved_busy map a b c op holder x y = moved_then map a b c (λ k. Busy k op holde
     (subst (λ (jobs : List (ℕ × Option ℕ)). MovesHand map b (Busy (known b.seat).number op holder ∷ undoing (known b.seat).number jobs (Aborted (known b.seat).number)) c)
     (due_same (known a.seat) (known b.seat) x.number_is (own_same (stripes_of map) (known a.seat).number (known a.seat).seen (known b.seat).seen x.goes)) y)
 
--- A step to a hand is also a step to any other hand whose seat has the same view.
+-- If a hand makes a step to the hand `b`, it also makes a step to each hand whose seat has the same
+-- view as the seat of `b`.
 pub moved_known : (map : StripedMap) (a b : Hand) (es : List Entry) → MovesHand map a es b → (c : Hand) → known c.seat ≡ known b.seat → MovesHand map a es c
 moved_known map a b es x c same = record {
   number_is = ap (λ (v : View). v.number) same ∙ x.number_is;
@@ -66,22 +69,20 @@ moved_known map a b es x c same = record {
   goes = subst (λ (v : View). Extends (stripes_of map) (known a.seat).number (known a.seat).seen es v.seen) (sym same) x.goes;
 }
 
--- If a hand does not change, this is a step that adds nothing. Two steps that add nothing are
--- together one step that adds nothing.
+-- If a hand does not change, it makes a step that adds no entry.
 pub moved_still : (map : StripedMap) (a : Hand) → IsOf a.seat map → MovesHand map a [] a
 moved_still map a of = record { number_is = refl; retired_is = refl; made_is = refl; goes = extends_none (stripes_of map) (known a.seat).number (known a.seat).seen (subst (λ z. IsLegal Begun z.slots (known a.seat).seen) of a.sound.legal) }
 
 pub moved_on : (map : StripedMap) (a b c : Hand) → MovesHand map a [] b → MovesHand map b [] c → MovesHand map a [] c
 moved_on map a b c x y = moved_then map a b c (λ k. []) x y
 
--- A stripe that was held is still held after another stripe was taken, and after a stripe was found
--- to be held by another caller.
+-- If a seat takes another stripe, it still holds each stripe that it held before.
 pub holds_taken : (n k : ℕ) (v w : View) (part : PartAt) → GainsStripe n k v part w → (other : ℕ) → Holds v other → Holds w other
 holds_taken n k v w part t other hold = subst (λ (u : View). Holds u other) (sym t.view_is) (let h : 0 < times other v.held = hold in let more : 0 < times other (k ∷ v.held) = omega arith in more)
 
 pub holds_found : (n holder : ℕ) (v w : View) → SeesHolder n v holder w → (other : ℕ) → Holds v other → Holds w other
 holds_found n holder v w f other hold = subst (λ (u : View). Holds u other) (sym f.sees.view_is) hold
 
--- A look at the history is a step that adds nothing.
+-- If a hand only sees more of the history, it makes a step that adds no entry.
 pub moved_seen : (map : StripedMap) (a b : Hand) → SeesIn (stripes_of map) (known a.seat) (known b.seat) → MovesHand map a [] b
 moved_seen map a b x = record { number_is = ap (λ (v : View). v.number) x.view_is; retired_is = ap (λ (v : View). v.retired) x.view_is; made_is = ap (λ (v : View). v.made) x.view_is; goes = x.goes }

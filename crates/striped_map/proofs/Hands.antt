@@ -35,7 +35,8 @@ use Rattle.striped_map.proofs.Lands.{own-append, own-none}
 abbrev pub Job : Type 0
 Job = ℕ × Option ℕ
 
--- The elements of a list after one is appended, and after one is replaced.
+-- If an element is appended to a list, each element of the new list is an old element or the
+-- appended one.
 pub push_at : {A : Type 0} (xs : List A) (x a : A) (i : ℕ) → slice_get (xs ++ x ∷ []) i ≡ Some a → (slice_get xs i ≡ Some a) ⊎ ((i ≡ length xs) × (x ≡ a))
 push_at [] x a zero e = inr (refl, same_Some x a e)
 push_at [] x a (suc i) e = absurd (none-some a e)
@@ -63,7 +64,7 @@ read_at [] k h lt e = absurd (omega arith)
 read_at (x ∷ xs) zero h lt e = ap (λ (y : ℕ). Some y) (sym e)
 read_at (x ∷ xs) (suc k) h lt e = read_at xs k h (omega arith) e
 
--- Lemmas on the stripes of a list of parts.
+-- If a part is appended to a list of parts, its stripe is appended to the list of their stripes.
 pub stripes_push : (held : List HeldPart) (h : HeldPart) → stripes_in (held ++ h ∷ []) ≡ stripes_in held ++ h.stripe ∷ []
 stripes_push [] h = refl
 stripes_push (x ∷ held) h = ap (λ (l : List ℕ). x.stripe ∷ l) (stripes_push held h)
@@ -78,7 +79,7 @@ stripes_set [] j h new at same = refl
 stripes_set (x ∷ held) zero h new at same = ap (λ (k : ℕ). k ∷ stripes_in held) (same ∙ ap (λ (y : HeldPart). y.stripe) (sym (same_Some x h at)))
 stripes_set (x ∷ held) (suc j) h new at same = ap (λ (l : List ℕ). x.stripe ∷ l) (stripes_set held j h new at same)
 
--- Lemmas on lists of stripes with their parts.
+-- If each stripe of a list is paired with its part, the stripes of the pairs are the list again.
 pub stripes_with : (f : ℕ → PartAt) (ks : List ℕ) → stripes_in (map (with_part f) ks) ≡ ks
 stripes_with f [] = refl
 stripes_with f (k ∷ ks) = ap (λ (l : List ℕ). k ∷ l) (stripes_with f ks)
@@ -92,8 +93,8 @@ pub with_push : (f : ℕ → PartAt) (ks : List ℕ) (k : ℕ) → map (with_par
 with_push f [] k = refl
 with_push f (x ∷ ks) k = ap (λ (l : List HeldPart). with_part f x ∷ l) (with_push f ks k)
 
--- If `f` and `g` give all stripes of `ks` the same parts, the lists of stripes with their parts are
--- equal. If they give only the stripe `k` another part, the lists differ only at its place `j`.
+-- If `f` and `g` give each stripe of `ks` the same part, the lists of these stripes with their
+-- parts are equal.
 pub with_same : (f g : ℕ → PartAt) (ks : List ℕ) → ((i k : ℕ) → slice_get ks i ≡ Some k → g k ≡ f k) → map (with_part g) ks ≡ map (with_part f) ks
 with_same f g [] same = refl
 with_same f g (x ∷ ks) same = ap (λ (p : PartAt). (record { stripe = x; part = p }) ∷ map (with_part g) ks) (same 0 x refl) ∙ ap (λ (l : List HeldPart). with_part f x ∷ l) (with_same f g ks (λ i k at. same (suc i) k at))
@@ -105,16 +106,16 @@ with_set f g (x ∷ ks) zero k at apart same = ap (λ (y : ℕ). with_part g y �
 with_set f g (x ∷ ks) (suc j) k at apart same = ap (λ (p : PartAt). (record { stripe = x; part = p }) ∷ map (with_part g) ks) (same x (λ e. absurd (let z = apart 0 (ap (λ (y : ℕ). Some y) e) in omega arith)))
     ∙ ap (λ (l : List HeldPart). with_part f x ∷ l) (with_set f g ks j k at (λ i there. let z = apart (suc i) there in omega arith) same)
 
--- The seat holds the stripe of each part.
+-- If `AreHeld` holds for a list of parts, the seat holds the stripe of each part.
 pub holds_at : (n : ℕ) (v : View) (held : List HeldPart) (m : Map) → AreHeld n v held m → (i k : ℕ) → slice_get (stripes_in held) i ≡ Some k → Holds v k
 holds_at n v held m s i k at = subst (λ (ks : List ℕ). 0 < times k ks) (sym s.kept) (let t : 0 < times k (stripes_in held) = times_at (stripes_in held) i k at in omega (arith, times_reverse k (stripes_in held)))
 
--- The seat holds only the stripes of the parts in `held`.
+-- If `AreHeld` holds for a list of parts, the seat holds only stripes of these parts.
 pub not_held : (n : ℕ) (v : View) (held : List HeldPart) (m : Map) → AreHeld n v held m → (k : ℕ) → ((i : ℕ) → slice_get (stripes_in held) i ≢ Some k) → Holds v k → ⊥
 not_held n v held m s k none hold = let h : 0 < times k (reverse (stripes_in held)) = subst (λ (ks : List ℕ). 0 < times k ks) s.kept hold in
     let at = at_times (stripes_in held) k (omega (arith, times_reverse k (stripes_in held))) in none at.0 at.1
 
--- Parts that fit a map also fit any map with the same values in the stripes that are held.
+-- If parts fit a map, they also fit each map that has the same values in the held stripes.
 pub parts_on : (n : ℕ) (v w : View) (held : List HeldPart) (m k : Map) → AreHeld n v held m → w.held ≡ v.held → ((key : ℕ) → Holds v (stripe_of n key) → get k key ≡ get m key) → AreHeld n w held k
 parts_on n v w held m k s same have = record {
   kept = same ∙ s.kept;
@@ -122,8 +123,7 @@ parts_on n v w held m k s same have = record {
   fits = λ i h at q in_k. s.fits i h at q in_k ∙ sym (have q (subst (Holds v) (sym in_k) (holds_at n v held m s i h.stripe (stripe_at held i h at))));
 }
 
--- If a stripe is taken and its part is added to the held parts, these are again the parts of all
--- held stripes (`AreHeld`).
+-- If a seat takes a stripe and the stripe's part is added to the held parts, `AreHeld` still holds.
 pub parts_taken : (n k : ℕ) (v w : View) (held : List HeldPart) (part : PartAt) → AreHeld n v held (now v.seen) → ((i : ℕ) → slice_get (stripes_in held) i ≢ Some k) → GainsStripe n k v part w → AreHeld n w (held ++ (record { stripe = k; part = part }) ∷ []) (now w.seen)
 parts_taken n k v w held part s none t = let new : HeldPart = record { stripe = k; part = part } in let ks : List ℕ = stripes_in held in
     let is : stripes_in (held ++ new ∷ []) ≡ ks ++ k ∷ [] = stripes_push held new in
@@ -140,7 +140,7 @@ parts_taken n k v w held part s none t = let new : HeldPart = record { stripe = 
           (λ (x : (i ≡ length held) × (new ≡ h)). subst (λ (y : HeldPart). IsPartOf n y.stripe y.part (now w.seen)) x.1 t.part_is.fits) (push_at held new h i at);
     }
 
--- The stripes of a seat's parts.
+-- The part at each place of `held_parts` has the stripe at the same place of the list of stripes.
 pub stripe_in : (seat : MapSeat) (ks : List ℕ) (i k : ℕ) → slice_get ks i ≡ Some k → slice_get (stripes_in (held_parts seat ks)) i ≡ Some k
 stripe_in seat ks i k at = ap (λ (l : List ℕ). slice_get l i) (stripes_with (part_in seat) ks) ∙ at
 
@@ -153,8 +153,8 @@ apart_in n v seat ks m s i j k x y = s.apart i j k (stripe_in seat ks i k x) (st
 pub holds_in : (n : ℕ) (v : View) (seat : MapSeat) (ks : List ℕ) (m : Map) → AreHeld n v (held_parts seat ks) m → HoldsAll v ks
 holds_in n v seat ks m s i k at = holds_at n v (held_parts seat ks) m s i k (stripe_in seat ks i k at)
 
--- The parts of a seat after it took a stripe, after it worked on one part, and after it gave a
--- stripe back.
+-- If a seat takes a stripe and its other parts are unchanged, the stripe's part is appended to the
+-- list of held parts.
 pub parts_pushed : (a b : MapSeat) (ks : List ℕ) (k : ℕ) → ((i : ℕ) → slice_get ks i ≢ Some k) → LeavesOthers k a b → held_parts b (ks ++ k ∷ []) ≡ held_parts a ks ++ with_part (part_in b) k ∷ []
 parts_pushed a b ks k none others = with_push (part_in b) ks k ∙ ap (λ (l : List HeldPart). l ++ with_part (part_in b) k ∷ [])
     (with_same (part_in a) (part_in b) ks (λ i other at. others other (λ e. none i (at ∙ ap (λ (x : ℕ). Some x) e))))
@@ -167,7 +167,6 @@ parts_less n v a b ks k m s others = with_same (part_in a) (part_in b) ks (λ i 
     let last : i ≡ length ks = apart_in n v a (ks ++ k ∷ []) m s i (length ks) k (push_old ks k k i (at ∙ ap (λ (x : ℕ). Some x) e)) (push_last ks k) in
     let lt : i < length ks = slice_get_within ks i other at in omega arith))
 
--- How many changes a stripe has after one more change, in this stripe or in another.
 owed_mine : (n k : ℕ) (job : Job) (jobs : List Job) → stripe_of n job.0 ≡ k → owed_on n k (job ∷ jobs) ≡ owed_on n k jobs + 1
 owed_mine n k job jobs is = ap (λ b. cond b (owed_on n k jobs + 1) (owed_on n k jobs)) (eq-eqb (stripe_of n job.0) k is)
 
@@ -326,7 +325,7 @@ logged_noted n v held m order jobs p s j h part op reply at in_k does = let b : 
     (λ k ne. owed_split b n k job jobs (λ e. ne (sym e ∙ sym in_k)))
     (order_grows b n j (stripes_in held) order job jobs (stripe_at held j h at ∙ ap (λ (x : ℕ). Some x) in_k) s.ordered)
 
--- The newest change of the list `order` is at its end.
+-- If `AreLogged` holds, the change at the end of `order` is the newest change of `jobs`.
 pub newest : (n : ℕ) (held : List HeldPart) (order : List Change) (change : Change) (jobs : List Job) → AreLogged n held (order ++ change ∷ []) jobs → Newest n change (stripes_in held) (reverse order) jobs
 newest n held order change jobs s = newest_of n change (stripes_in held) (reverse order) jobs (ap (map (at_place (stripes_in held))) (sym (reverse-append order (change ∷ []))) ∙ s.ordered)
 
@@ -355,8 +354,7 @@ logged_back n v held m order jobs p change s h part at owed = let new = newest n
     logged_changed n v held m (order ++ change ∷ []) order jobs new.older p s change.0 h (record { stripe = h.stripe; part = part }) at refl owed
     (λ k ne. sym (ap (owed_on n k) new.jobs_are ∙ owed_other n k new.job new.older (λ e. ne (sym e ∙ in_k)))) new.ordered
 
--- Lemmas about giving back the stripe of the part `h`, which was taken last and is the last of the
--- list.
+-- If `AreHeld` holds for a list of parts, the seat holds the stripe of the last part.
 pub newest_stripe : (n : ℕ) (v : View) (held : List HeldPart) (m : Map) (h : HeldPart) → AreHeld n v (held ++ h ∷ []) m → Holds v h.stripe
 newest_stripe n v held m h s = holds_at n v (held ++ h ∷ []) m s (length held) h.stripe (stripe_at (held ++ h ∷ []) (length held) h (push_last held h))
 
@@ -371,7 +369,7 @@ parts_given n v held m h s = let ks : List ℕ = stripes_in held in let is = str
   fits = λ i other at. s.fits i other (push_old held h other i at);
 }
 
--- `AreHeld` and `AreLogged` if nothing is held.
+-- If a seat holds no stripe, `AreHeld` holds for the empty list of parts.
 pub parts_none : (n : ℕ) (v : View) (m : Map) → v.held ≡ [] → AreHeld n v [] m
 parts_none n v m is = record { kept = is; apart = λ i j k a b. absurd (none-some k a); fits = λ i h at. absurd (none-some h at) }
 
@@ -388,7 +386,8 @@ own_extends n c seen es log x whole =
 pub own_same : (n c : ℕ) (seen log : List Entry) → Extends n c seen [] log → own c log ≡ own c seen
 own_same n c seen log x = own_extends n c seen [] log x refl ∙ append-nil (own c seen)
 
--- A step that adds nothing and then a step that adds the entries `es` are one step that adds them.
+-- If `mid` extends `seen` by no entries of the caller, and `log` extends `mid` by the entries `es`,
+-- then `log` extends `seen` by `es` (`Extends`).
 pub extends_then : (n c : ℕ) (seen mid es log : List Entry) → Extends n c seen [] mid → Extends n c mid es log → Extends n c seen es log
 extends_then n c seen mid es log a b = record {
   between = a.between ++ b.between;

@@ -11,7 +11,7 @@ use Rattle.std.proofs.lemmas.Option.{none-some, same_Some}
 use Rattle.striped_map.specs.Sound.{IsIndexed}
 use Rattle.striped_map.proofs.Hands.{push_at}
 
--- The elements of a longer list, and of one with an element replaced.
+-- If a list is made longer at its end, each of its elements keeps its place.
 pub resized_at : (xs ys : List ℕ) (n i a : ℕ) → length xs ≤ n → slice_get xs i ≡ Some a → slice_get (take n xs ++ ys) i ≡ Some a
 resized_at [] ys n i a le e = absurd (none-some a e)
 resized_at (x ∷ xs) ys zero i a le e = absurd (omega arith)
@@ -30,8 +30,7 @@ set_away (x ∷ xs) zero (suc j) a b ne e = e
 set_away (x ∷ xs) (suc i) zero a b ne e = e
 set_away (x ∷ xs) (suc i) (suc j) a b ne e = set_away xs i j a b (λ same. ne (ap suc same)) e
 
--- A stripe is not in `ks` in three cases: the index has no place for the stripe, it has a place
--- past the end of `ks`, or it has a place where `ks` has another stripe.
+-- If the index has no place for a stripe, the stripe is not in the list `ks`.
 pub none_indexed : (ks index : List ℕ) → IsIndexed ks index → (stripe : ℕ) → slice_get index stripe ≡ None → (other : ℕ) → slice_get ks other ≢ Some stripe
 none_indexed ks index is stripe none other at = none-some other (sym none ∙ is other stripe at)
 
@@ -45,8 +44,8 @@ none_other ks index is stripe place k found there ne other at =
     let same : other ≡ place = same_Some other place (sym (is other stripe at) ∙ found) in
     ne (same_Some k stripe (sym there ∙ ap (slice_get ks) (sym same) ∙ at))
 
--- The index is right if there are no stripes. It stays right when it gets longer, and when a stripe
--- is appended and its place is put into the index.
+-- If an index is right for the stripes `ks` (`IsIndexed`), a later index that keeps all its places
+-- is right for them too.
 pub indexed_longer : (ks index later : List ℕ) → ((stripe place : ℕ) → slice_get index stripe ≡ Some place → slice_get later stripe ≡ Some place) → IsIndexed ks index → IsIndexed ks later
 indexed_longer ks index later keeps is place stripe at = keeps stripe place (is place stripe at)
 
@@ -61,7 +60,6 @@ indexed_taken ks index k place none lt long is i stripe at =
     ap (slice_get (set index k place)) (sym last.1) ∙ set_here index k place lt ∙ ap (λ (x : ℕ). Some x) (long ∙ sym last.0))
     (push_at ks k stripe i at)
 
--- A list of different numbers below n has at most n elements.
 others_apart : (k : ℕ) (ks : List ℕ) → ((i : ℕ) → slice_get ks i ≢ Some k) → AllByRecursion (λ other. eqb k other ≡ false) ks
 others_apart k [] none = tt
 others_apart k (x ∷ ks) none = (ne_eqb k x (λ e. none 0 (ap (λ (y : ℕ). Some y) (sym e))), others_apart k ks (λ i. none (suc i)))

@@ -43,7 +43,6 @@ own-append d es fs = filter-append (λ e. caller_of e == d) es fs
 pub own-none : (d : ℕ) (es fs : List Entry) → own d es ≡ [] → own d fs ≡ [] → own d (es ++ fs) ≡ []
 own-none d es fs a b = own-append d es fs ∙ ap (λ (l : List Entry). l ++ own d fs) a ∙ b
 
--- `Grows` for one entry that may follow (`Next`).
 grows_one : (n : ℕ) (P : ℕ → Type 0) (g : List Entry) (e : Entry) (seat : Seat) (jobs : List Job) (serial current : Map) (held : ℕ → Option ℕ)
     → Next Begun n g e seat jobs serial current held
     → ((k d : ℕ) → held k ≡ Some d → (holder_of n k g ≡ Some d) ⊎ ((d ≡ caller_of e) × P k))
@@ -57,7 +56,6 @@ grows_one n P g e seat jobs serial current held next from still = record {
   still = λ q apart. ap (λ (m : Map). get m q) next.now_is ∙ still q apart;
 }
 
--- `Grows` for two lists of entries, one after the other.
 grows_both : (n c : ℕ) (P : ℕ → Type 0) (m k : ℕ) (g es fs : List Entry) → Grows n c P m g es → Grows n c P k (g ++ es) fs → Grows n c P (m + k) g (es ++ fs)
 grows_both n c P m k g es fs a b = let is : (g ++ es) ++ fs ≡ g ++ (es ++ fs) = append_assoc g es fs in record {
   legal = subst (IsLegal Begun n) is b.legal;
@@ -67,7 +65,7 @@ grows_both n c P m k g es fs a b = let is : (g ++ es) ++ fs ≡ g ++ (es ++ fs) 
   still = λ q apart. ap (λ (l : List Entry). get (now l) q) (sym is) ∙ b.still q apart ∙ a.still q apart;
 }
 
--- `Grows` for no entries.
+-- If a history is legal, `Grows` holds for it with no new entries.
 pub grows_none : (n c : ℕ) (P : ℕ → Type 0) (g : List Entry) → IsLegal Begun n g → Grows n c P 0 g []
 grows_none n c P g legal = let is : g ++ [] ≡ g = append-nil g in record {
   legal = subst (IsLegal Begun n) (sym is) legal;
@@ -77,7 +75,6 @@ grows_none n c P g legal = let is : g ++ [] ≡ g = append-nil g in record {
   still = λ q apart. ap (λ (l : List Entry). get (now l) q) is;
 }
 
--- `Lands` for one entry that may follow (`Next`).
 lands_one : (n : ℕ) (P : ℕ → Type 0) (g : List Entry) (e : Entry) (seat : Seat) (jobs : List Job) (serial current : Map) (held : ℕ → Option ℕ)
     → Next Begun n g e seat jobs serial current held
     → ((k d : ℕ) → held k ≡ Some d → (holder_of n k g ≡ Some d) ⊎ ((d ≡ caller_of e) × P k))
@@ -90,7 +87,6 @@ lands_one n P g e seat jobs serial current held next from still = record {
   have = λ q hold. ap (λ (m : Map). get m q) next.now_is;
 }
 
--- `Lands` for two lists of entries, the second after the first.
 lands_both : (n c : ℕ) (P : ℕ → Type 0) (m k : ℕ) (g es fs : List Entry) (left : StateAfter) → Grows n c P m g es → Lands n c P k (g ++ es) fs left → Lands n c P (m + k) g (es ++ fs) left
 lands_both n c P m k g es fs left a b = let is : (g ++ es) ++ fs ≡ g ++ (es ++ fs) = append_assoc g es fs in record {
   grows = grows_both n c P m k g es fs a b.grows;
@@ -99,8 +95,6 @@ lands_both n c P m k g es fs left a b = let is : (g ++ es) ++ fs ≡ g ++ (es ++
   have = λ q hold. ap (λ (l : List Entry). get (now l) q) (sym is) ∙ b.have q hold;
 }
 
--- `Lands` also holds with another map in the state, if the two maps have the same values in the
--- stripes that P names.
 lands_as : (n c : ℕ) (P : ℕ → Type 0) (m : ℕ) (g es : List Entry) (left : StateAfter) (jobs : List Job) (seat : Seat) (map : Map) → Lands n c P m g es left → left.seat ≡ seat → left.log ≡ jobs
     → ((q : ℕ) → P (stripe_of n q) → get left.map q ≡ get map q) → Lands n c P m g es (record { seat = seat; log = jobs; map = map })
 lands_as n c P m g es left jobs seat map l seat_is log_is same = record {
@@ -126,7 +120,6 @@ may_ask n g legal c op only = is_locked-asked Begun n g c op legal.shape legal.l
     at None only = refl
     at (Some d) only = eq-eqb d c (only d refl)
 
--- `Lands` for an operation and its reply, if P names the operation's stripe.
 notes : (n : ℕ) (P : ℕ → Type 0) (g : List Entry) → IsLegal Begun n g → (c : ℕ) (op : Op) (reply : Option ℕ) (seat : Seat) → seat_after (own c g) ≡ Some seat → seat.phase ≡ Opened
     → is_locked Begun n g (Asked c op) ≡ true → P (stripe_of n (key_of op)) → reply ≡ reply_of (now g) op
     → Lands n c P 0 g (Asked c op ∷ Did c reply ∷ []) (record { seat = record seat { phase = Opened; standing = cond (changes op reply) (seat.standing + 1) seat.standing }; log = cond (changes op reply) ((key_of op, reply) ∷ log_of c g) (log_of c g); map = after (now g) op })
@@ -140,7 +133,7 @@ notes n P g legal c op reply seat seat_is opened free mine right =
     (lands_one n P (g ++ a ∷ []) e _ _ _ _ _ two (λ k d h. inl h) (λ q no. get-after_other (now (g ++ a ∷ [])) op q (λ same. no (subst (λ (x : ℕ). P (stripe_of n x)) (sym same) mine)))) in
     lands_as n c P 0 g (a ∷ e ∷ []) _ _ _ _ lands refl (ap (λ (l : List Job). cond (changes op reply) ((key_of op, reply) ∷ l) l) one.log_is) (λ q hold. ap (λ (m : Map). get (after m op) q) one.now_is)
 
--- `Lands` for the beginning of a transaction, and for its commit.
+-- If a caller is in no transaction, `Lands` holds for the entry that begins one.
 pub begins : (n : ℕ) (P : ℕ → Type 0) (g : List Entry) → IsLegal Begun n g → (c : ℕ) (seat : Seat) → seat_after (own c g) ≡ Some seat → seat.phase ≡ Closed
     → Lands n c P 0 g (Began c (how_many is_began g + 1) ∷ []) (at_begin g)
 begins n P g legal c seat seat_is closed =
@@ -153,20 +146,19 @@ commits n P g legal c seat seat_is opened =
     let next = committed n g legal c (how_many is_commit g + 1) seat seat_is opened refl in
     lands_one n P g (Committed c (how_many is_commit g + 1)) _ _ _ _ _ next (λ k d h. inl (none_cond (option_eq nat_eq (holder_of n k g) (Some c)) (holder_of n k g) d h)) (λ q no. refl)
 
--- Taking back the same changes keeps two maps equal at a key.
+-- If two maps have the same value at a key, they still have the same value there after the same
+-- changes are taken back in both.
 pub undone_same : (q : ℕ) (jobs : List Job) (a b : Map) → get a q ≡ get b q → get (rolled_back a jobs) q ≡ get (rolled_back b jobs) q
 undone_same q [] a b same = same
 undone_same q (job ∷ jobs) a b same = undone_same q jobs (set_at a job.0 job.1) (set_at b job.0 job.1)
     (get-set_at a job.0 job.1 q ∙ ap (λ (o : Option ℕ). cond (q == job.0) job.1 o) same ∙ sym (get-set_at b job.0 job.1 q))
 
--- `Grows` for one Undone entry, which takes one change back.
 undoes_one : (n : ℕ) (P : ℕ → Type 0) (c : ℕ) (job : Job) (g : List Entry) (seat : Seat) (jobs : List Job) (serial : Map) (held : ℕ → Option ℕ)
     → Next Begun n g (Undone c) seat jobs serial (set_at (now g) job.0 job.1) (λ s. holder_of n s g) → P (stripe_of n job.0) → Grows n c P 0 g (Undone c ∷ [])
 undoes_one n P c job g seat jobs serial held next mine =
     grows_one n P g (Undone c) _ _ _ _ _ next (λ k d h. inl h)
     (λ q no. get-set_at (now g) job.0 job.1 q ∙ ap (λ b. cond b job.1 (get (now g) q)) (ne_eqb q job.0 (λ same. no (subst (λ (x : ℕ). P (stripe_of n x)) (sym same) mine))))
 
--- `Lands` for the entries that take all standing changes back and abort the transaction.
 undoes_to_end : (n : ℕ) (P : ℕ → Type 0) (c : ℕ) (jobs : List Job) (g : List Entry) → IsLegal Begun n g → (seat : Seat) → seat_after (own c g) ≡ Some seat → seat.phase ≡ LeavingToEnd → log_of c g ≡ jobs
     → AllByRecursion (λ (job : Job). P (stripe_of n job.0)) jobs → Lands n c P 0 g (undoing c jobs (Aborted c)) (at_end (rolled_back (now g) jobs))
 undoes_to_end n P c [] g legal seat seat_is leaving log_is mine =
@@ -180,8 +172,6 @@ undoes_to_end n P c (job ∷ jobs) g legal seat seat_is leaving log_is mine =
     lands_as n c P 0 g (undoing c (job ∷ jobs) (Aborted c)) _ _ _ _
     (lands_both n c P 0 0 g (Undone c ∷ []) (undoing c jobs (Aborted c)) _ (undoes_one n P c job g _ _ _ (λ s. holder_of n s g) next mine.0) more) refl refl (λ q hold. ap (λ (m : Map). get (rolled_back m jobs) q) next.now_is)
 
--- `Lands` for the entries that take the changes above a level back and return the caller to the
--- level.
 undoes_to_level : (n : ℕ) (P : ℕ → Type 0) (c level : ℕ) (jobs kept : List Job) (g : List Entry) → IsLegal Begun n g → (seat : Seat) → seat_after (own c g) ≡ Some seat → seat.phase ≡ LeavingTo level → log_of c g ≡ jobs ++ kept
     → slice_index seat.kept level ≡ length kept → AllByRecursion (λ (job : Job). P (stripe_of n job.0)) jobs
     → Lands n c P 0 g (undoing c jobs (Returned c level)) (record { seat = record { phase = Opened; standing = length kept; kept = take (level + 1) seat.kept }; log = kept; map = rolled_back (now g) jobs })
@@ -207,7 +197,7 @@ first_pass : (Q : Job → Type 0) (jobs kept : List Job) → AllByRecursion Q (j
 first_pass Q [] kept all = tt
 first_pass Q (job ∷ jobs) kept all = (all.0, first_pass Q jobs kept all.1)
 
--- A caller's own entries in the history are those that it has seen.
+-- If a seat acts, it has seen all entries that it added to the history.
 pub own_seen : (n : ℕ) (log : List Entry) (v : View) → HasSeen n log v → v.acts ≡ true → own v.number log ≡ own v.number v.seen
 own_seen n log v h acting = ap (own v.number) h.goes ∙ own-append v.number v.seen h.rest ∙ ap (λ (l : List Entry). own v.number v.seen ++ l) (h.others acting) ∙ append-nil (own v.number v.seen)
 
@@ -216,7 +206,8 @@ own_seen n log v h acting = ap (own v.number) h.goes ∙ own-append v.number v.s
 pub begun_on : (c : ℕ) (log es : List Entry) → has_begun c log ≡ true → has_begun c (log ++ es) ≡ true
 begun_on c log es is = list_any-append (λ e. is_began e && caller_of e == c) log es ∙ or_left (has_begun c log) (has_begun c es) is
 
--- If a caller is in a transaction, it has begun a transaction.
+-- If a caller is in a transaction after a legal history, the history has a Began entry of this
+-- caller.
 pub open_begun : (n c : ℕ) (g : List Entry) → IsLegal Begun n g → (seat : Seat) → seat_after (own c g) ≡ Some seat → seat.phase ≡ Opened → has_begun c g ≡ true
 open_begun n c g legal seat seat_is opened =
     txn_begun c g legal.shape (ap is_some (in_txn n g legal (Saved c) seat (record seat { kept = seat.kept ++ seat.standing ∷ [] }) seat_is (ap (λ q. row seat q (Saved c)) opened) refl (ap runs opened)))

@@ -109,8 +109,8 @@ forgotten n s kept other seen front at =
     (λ a. absurd (idles log u w a), λ j r has. absurd (retired_none log u w j r has)))
     (λ ne. none i u (set_else s.views other i blank ne ∙ there)))
 
--- The rule still holds if a witness is merged into a seat. The seat has then met what the witness
--- has seen.
+-- The rule still holds if a witness is merged into a seat. The seat's `met` is then the history
+-- that the witness has seen.
 pub hears : (id other : ℕ) (v : View) (seen : List Entry) → v.acts ≡ true → Joins IsKept id v other (witness seen) (heard v (witness seen)) blank
 hears id other v seen acting s kept me ne at =
     let n = length s.homes in let w = heard v (witness seen) in
@@ -122,8 +122,7 @@ hears id other v seen acting s kept me ne at =
     let heard_of : IsPrefix seen met.0 = (met.3.seen id w (set_here s.views id w (within s.views id v me))).met in
     forgotten n (board s.words s.homes (set s.views id w)) met other seen heard_of at
 
--- If `SeesIn` holds for a view, it also holds for the view that differs only in what it had met
--- before.
+-- If `SeesIn` holds for a view, it also holds for each view that differs from it only in `met`.
 pub sees_met : (n : ℕ) (v u w : View) (front : List Entry) → u ≡ record v { met = front } → SeesIn n u w → SeesIn n v w
 sees_met n v u w front is sees =
     let x : SeesIn n (record v { met = front }) w = subst (λ (y : View). SeesIn n y w) is sees in

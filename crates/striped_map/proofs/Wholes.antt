@@ -41,7 +41,7 @@ sub_rows n k rows = map (sub n) (filter (is_in n k) rows)
 is_below : (a b : ℕ) → a < b → T (is_lt (nat_cmp a b))
 is_below a b less = subst (λ o. T (is_lt o)) (nat_cmp_is a b Less less) tt
 
--- Two keys of one stripe are in the order of their sub-keys, and equal if the sub-keys are equal.
+-- If two keys are in the same stripe, the lower key has the lower sub-key.
 sub_less : (n a b : ℕ) → stripe_of n a ≡ stripe_of n b → a < b → a / n < b / n
 sub_less n a b same less = lt_of_not-le (λ (le : b / n ≤ a / n).
     let whole_a : a / n * n + a % n ≡ a = div-add-mod' a n in
@@ -52,8 +52,6 @@ sub_less n a b same less = lt_of_not-le (λ (le : b / n ≤ a / n).
 sub_same : (n a b : ℕ) → stripe_of n a ≡ stripe_of n b → a / n ≡ b / n → a ≡ b
 sub_same n a b same is = sym (div-add-mod' a n) ∙ ap (λ (x : ℕ). x * n + a % n) is ∙ ap (λ (x : ℕ). b / n * n + x) same ∙ div-add-mod' b n
 
--- If the map's rows are sorted, the rows of a stripe (`sub_rows`) are sorted. In the rows of its
--- stripe, a key's sub-key has the value that the key has in the map's rows.
 below_sub : (n k key : ℕ) → stripe_of n key ≡ k → (rows : List Pair) → T (below_all nat_cmp key rows) → T (below_all nat_cmp (key / n) (sub_rows n k rows))
 below_sub n k key in_k [] below = tt
 below_sub n k key in_k (row ∷ rows) below =
@@ -177,9 +175,8 @@ all_pairs n v held m some s all inside = subst (IsPermutation m.rows)
     once k lt = let some : 0 < times k (reverse (stripes_in held)) = subst (λ (ks : List ℕ). 0 < times k ks) s.kept (all k lt) in
         omega (arith, some, times_reverse k (stripes_in held), times_once k (stripes_in held) s.apart)
 
--- The count of the parts from the place i on is the count of part i plus the count of the parts
--- after it. The pairs of the parts up to the place i are the pairs of the parts before it and then
--- the pairs of part i.
+-- The number of pairs in the parts from the place `i` on is the number of pairs in part `i` plus
+-- the number of pairs in the parts after it.
 pub sum_drop : (f : ℕ → PartAt) (ks : List ℕ) (i k : ℕ) → slice_get ks i ≡ Some k → sum_by count_at (map (with_part f) (drop i ks)) ≡ count_at (with_part f k) + sum_by count_at (map (with_part f) (drop (suc i) ks))
 sum_drop f [] i k at = absurd (none-some k at)
 sum_drop f (x ∷ ks) zero k at = sum_by-cons count_at (with_part f x) (map (with_part f) ks) ∙ ap (λ (y : ℕ). count_at (with_part f y) + sum_by count_at (map (with_part f) ks)) (same_Some x k at)
@@ -191,8 +188,7 @@ pairs_take n f (x ∷ ks) zero k at = append-nil (pairs_at n (with_part f x)) �
 pairs_take n f (x ∷ ks) (suc i) k at = ap (λ (l : List Pair). pairs_at n (with_part f x) ++ l) (pairs_take n f ks i k at)
     ∙ sym (append_assoc (pairs_at n (with_part f x)) (pairs_in n (map (with_part f) (take i ks))) (pairs_at n (with_part f k)))
 
--- The number of pairs in the parts is the sum of the parts' counts. If these pairs are the map's,
--- the sum is the number of the map's rows.
+-- The number of pairs in several parts is the sum of the parts' counts.
 length_pairs : (n : ℕ) (held : List HeldPart) → length (pairs_in n held) ≡ sum_by count_at held
 length_pairs n [] = refl
 length_pairs n (h ∷ held) = length-append (pairs_at n h) (pairs_in n held) ∙ ap (λ (c : ℕ). c + length (pairs_in n held)) (length-map h.part.content.rows (whole n h.stripe))

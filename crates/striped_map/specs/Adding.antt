@@ -13,9 +13,9 @@ use Rattle.striped_map.specs.declared.view.View.{View}
 use Rattle.striped_map.specs.Rule.{Holds, HasSeen}
 use Rattle.striped_map.specs.Steps.{StateAfter}
 
--- The history `log` continues with the entries `es`, all of them entries of caller c, and is legal
--- with them. `commits_more` of these entries are commits. By these entries c becomes the holder
--- only of stripes that P names, and only keys of such stripes change.
+-- The history `log ++ es` is legal, and all entries of `es` are entries of caller `c`.
+-- `commits_more` of them are commits. Through these entries, `c` becomes the holder only of stripes
+-- in `P`, and only keys of stripes in `P` change.
 pub record Grows (stripes c : ℕ) (P : ℕ → Type 0) (commits_more : ℕ) (log es : List Entry) : Type 0
   where
     pub legal : IsLegal Begun stripes (log ++ es)
@@ -26,9 +26,8 @@ pub record Grows (stripes c : ℕ) (P : ℕ → Type 0) (commits_more : ℕ) (lo
     pub still : (key : ℕ) → (P (stripe_of stripes key) → ⊥)
         → get (now (log ++ es)) key ≡ get (now log) key
 
--- The history is legal, and continues what the seat has seen. If a stripe is in the view's list
--- `held`, no other seat holds it by the history. If the seat holds a stripe by the history, the
--- stripe is in this list.
+-- The history is legal, and continues what the seat has seen. In this history, no other seat holds
+-- a stripe of the view's list `held`, and the seat itself holds only stripes of this list.
 pub record GoesOnFrom (stripes : ℕ) (v : View) (log : List Entry) : Type 0 where
   pub legal : IsLegal Begun stripes log
   pub seen : HasSeen stripes log v
@@ -37,8 +36,9 @@ pub record GoesOnFrom (stripes : ℕ) (v : View) (log : List Entry) : Type 0 whe
   pub mine : (stripe : ℕ) → stripe < stripes → holder_of stripes stripe log ≡ Some v.number
       → Holds v stripe
 
--- The history `log` grows by the entries `es` as `Grows` says. After them, caller c and the stripes
--- that P names are in the state `left`.
+-- The history `log` grows by the entries `es` as `Grows` says. After these entries, the seat and
+-- the changes of caller `c` are those of `left`, and the keys of stripes in `P` have the values of
+-- the map of `left`.
 pub record Lands (stripes c : ℕ) (P : ℕ → Type 0) (commits_more : ℕ) (log es : List Entry)
     (left : StateAfter) : Type 0 where
   pub grows : Grows stripes c P commits_more log es

@@ -8,15 +8,15 @@ use Rattle.map_answers.specs.declared.stop.Stop.{Stop}
 use Rattle.map_answers.specs.declared.stop.Stop.TheVariants.{Busy, Refused}
 use Rattle.striped_map.specs.Callers.{number, IsStep, IsSince}
 
--- Turns a relation between values that hold a caller into a relation between the callers that they
--- hold.
+-- Turns a relation between values, each of which holds a caller, into a relation between these
+-- callers.
 abbrev pub on_callers : {H A : Type 0} → (H → Caller) → (H → A → H → Type 0)
     → Caller → A → Caller → Type 0
 on_callers caller_of relation a answer b =
     (h : _) × (k : _) × relation h answer k × (caller_of h ≡ a) × (caller_of k ≡ b)
 
--- Why an attempt failed. Either the work failed. Or the work succeeded although one of its calls
--- was busy, so that there was no transaction to commit.
+-- Why an attempt failed. If the work returned an error, `stop` is this error. If the work succeeded
+-- although one of its calls had ended the transaction, `stop` is `NotOpen`.
 abbrev pub IsWhy : {T : Type 0} → Result T Stop → Caller → Stop → Type 0
 IsWhy (Err found) left stop = stop ≡ found
 IsWhy (Ok value) left stop = (stop ≡ Refused NotOpen) × (left.is_open ≡ false)

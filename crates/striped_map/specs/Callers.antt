@@ -43,8 +43,8 @@ changes_made c = due (known c.hand.seat)
 abbrev pub changes_above : ℕ → Caller → List (ℕ × Option ℕ)
 changes_above level c = above level (known c.hand.seat)
 
--- A step of one caller: other callers may have added entries, and then the caller has added the
--- entries `es`.
+-- From `a` to `b`, the caller added exactly the entries `es` to the history. Other callers may have
+-- added entries before them.
 pub record IsStep (a : Caller) (es : List Entry) (b : Caller) : Type 0 where
   pub map_is : b.map ≡ a.map
   pub number_is : number b ≡ number a
@@ -63,8 +63,8 @@ IsStopped a op b (Refused NotOpen) = (a.is_open ≡ false) × (b ≡ a)
 IsStopped a op b (Refused refusal) = (refusal ≡ NoMemory) × (a.is_open ≡ true)
     × (b.is_open ≡ true) × IsStep a [] b
 
--- The caller did not do a call that takes every stripe. The outcome is the same as if a get of some
--- key had failed (`IsStopped`).
+-- A call that takes every stripe failed. The outcome is the same as if a get of some key had failed
+-- (`IsStopped`).
 abbrev pub IsCut : Caller → Caller → Stop → Type 0
 IsCut a b stop = (key : ℕ) × IsStopped a (Get key) b stop
 
@@ -77,8 +77,8 @@ pub record IsSince (a b : Caller) : Type 0 where
   pub commits : how_many is_commit (own (number a) (seen b))
       ≡ how_many is_commit (own (number a) (seen a))
 
--- Caller `b` is caller `a` later: it may have seen more of the history, and it has begun and
--- committed nothing in between.
+-- Caller `b` is caller `a` later. In between, it may have seen more of the history, but it has
+-- begun no transaction and committed nothing.
 pub record IsWithin (a b : Caller) : Type 0 where
   pub since : IsSince a b
   pub begins : how_many is_began (own (number a) (seen b))

@@ -7,14 +7,15 @@ use Rattle.striped_map.specs.Sound.{HeldPart}
 abbrev pub count_at : HeldPart → ℕ
 count_at h = count_of h.part.content
 
--- A pair of a stripe's part, under its whole key.
+-- A pair of a stripe's part, with the map's key in place of the sub-key.
 abbrev pub whole : ℕ → ℕ → ℕ × ℕ → ℕ × ℕ
 whole stripes stripe pair = (pair.0 * stripes + stripe, pair.1)
 
--- The pairs of a part, under their whole keys.
+-- The pairs of a part, with the map's keys in place of the sub-keys.
 abbrev pub pairs_at : ℕ → HeldPart → List (ℕ × ℕ)
 pairs_at stripes h = map (whole stripes h.stripe) h.part.content.rows
 
--- The pairs of several parts, with their whole keys, one part after the other.
+-- The pairs of several parts, one part after the other, with the map's keys in place of the
+-- sub-keys.
 abbrev pub pairs_in : ℕ → List HeldPart → List (ℕ × ℕ)
 pairs_in stripes held = flat_map (pairs_at stripes) held

@@ -11,7 +11,7 @@ use Rattle.striped_map.specs.declared.addition.Addition.TheVariants.{Abort, Yiel
 use Rattle.map_answers.specs.declared.stop.Stop.{Stop}
 use Rattle.map_answers.specs.declared.stop.Stop.TheVariants.{Busy, Refused}
 
--- The operation under another key.
+-- The same operation, but on the key `key`.
 abbrev pub under : Op → ℕ → Op
 under (Put k value) key = Put key value
 under (Take k) key = Take key

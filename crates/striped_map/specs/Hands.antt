@@ -15,7 +15,8 @@ use Rattle.striped_map.specs.Additions.{due}
 use Rattle.map_answers.specs.declared.stop.Stop.{Stop}
 use Rattle.map_answers.specs.declared.stop.Stop.TheVariants.{Busy, Refused}
 
--- A step of one hand: others may have added entries, and then the hand has added the entries `es`.
+-- From `a` to `b`, the hand added exactly the entries `es` to the history. Other callers may have
+-- added entries before them.
 pub record MovesHand (map : StripedMap) (a : Hand) (es : List Entry) (b : Hand) : Type 0 where
   pub number_is : (known b.seat).number ≡ (known a.seat).number
   pub retired_is : (known b.seat).retired ≡ (known a.seat).retired
@@ -34,8 +35,8 @@ IsStopped map a op b (Busy holder) = IsAt Closed (known b.seat) × ((known b.sea
 IsStopped map a op b (Refused refusal) =
     (refusal ≡ NoMemory) × IsAt Opened (known b.seat) × MovesHand map a [] b
 
--- The hand did not do a call that takes every stripe. The outcome is the same as if a get of some
--- key had failed (`IsStopped`).
+-- A call that takes every stripe failed. The outcome is the same as if a get of some key had failed
+-- (`IsStopped`).
 abbrev pub IsCut : StripedMap → Hand → Hand → Stop → Type 0
 IsCut map a b stop = (key : ℕ) × IsStopped map a (Get key) b stop
 

@@ -9,9 +9,9 @@ use Rattle.txn_words.specs.Kinds.{is_commit}
 use Rattle.txn_trace.specs.Serial.{serial}
 use Rattle.txn_words.specs.Shape.{how_many}
 
--- A transaction of caller `c` commits in the history, and `place` is the place of the commit. The
--- place is one more than the number of earlier commits. The transaction has the same replies as if
--- it ran alone on the map that the earlier commits leave.
+-- A transaction of caller `c` commits in the history with the commit number `place`. This number is
+-- one more than the number of earlier commits. The transaction has the same replies as if it ran
+-- alone on the map that the earlier commits leave.
 pub record RunsAlone (c place : ℕ) (log : List Entry) : Type 0 where
   pub txn : ℕ
   pub inner : List Entry

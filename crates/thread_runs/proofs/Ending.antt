@@ -30,8 +30,8 @@ MayBeOver half script Finish.Aborted = IsTrue (list_any is_abort script)
 MayBeOver half script (Finish.Refused refusal) = MayBeRefused half script refusal
 MayBeOver half script over = Unit {0}
 
--- What holds after a call with this progress: the caller is in the phase that the progress needs
--- (`IsIn`). If the progress names a refusal or an end, the script allows it.
+-- The condition after a call with this progress. The caller is in the phase that the progress needs
+-- (`IsIn`). If the progress has a refusal or an end, the script allows it.
 abbrev pub Stands : Bool → List Action → Bool → List Entry → Progress → Type 0
 Stands half script broken seen (Next attempt) = IsIn (phase_at attempt.stage) broken seen × MayLeave half script attempt.stage
 Stands half script broken seen (Over over) = IsIn Closed broken seen × MayBeOver half script over
@@ -111,8 +111,7 @@ seat_refused half script (Acting i) s refusal is = by (slice_get script i) refl 
     by o at is = absurd (cc is)
 seat_refused half script stage s refusal is = absurd (cc is)
 
--- A call that its token does not refuse may still have a refusal (`may_refuse`). The script may
--- have each such refusal of one of its calls.
+-- If `may_refuse` allows a refusal for a call of the script, the script may have this refusal.
 want_good : (half : Bool) (script : List Action) (stage : Stage) (refusal : Refusal) → may_refuse (call_at script stage) refusal ≡ true → IsGoodAt half script refusal stage
 want_good half script Beginning NoMemory may = tt
 want_good half script (Acting i) refusal may = by (slice_get script i) refl refusal may
@@ -125,7 +124,7 @@ want_good half script (Acting i) refusal may = by (slice_get script i) refl refu
     by o at r may = absurd (false≢true may)
 want_good half script stage refusal may = absurd (false≢true may)
 
--- If a token does not refuse a call, it is not broken, so its seat has the phase.
+-- If a token does not refuse a call, the token is not broken, so the caller's seat has this phase.
 sound_in : (half b : Bool) (seen : List Entry) (call : Call) (phase : Phase) → refused_token half b (seat_after seen) call ≡ None → IsIn phase b seen → HasPhase phase (seat_after seen)
 sound_in half b seen call phase free (inr at) = at
 sound_in half b seen call phase free (inl broken) = absurd (cc (ap (λ (x : Bool). refused_token half x (seat_after seen) call) broken, free))
@@ -159,7 +158,7 @@ module _ {S : Type 0} (half : Bool) (script : List Action) (tries again : ℕ) (
       let (plain, good) = seat_refused half script stage s refusal (rw seat_at at is) in
       refused_stands half script tries again false k.seen refusal stage plain here good
 
-  -- The caller's phase after a call of a script's attempt.
+  -- If a call of a script's attempt has ended, `Stands` holds for the progress after the call.
   pub stands_at : (outcome : End) → HasEnded k call outcome l
       → Stands half script l.broken l.seen (progress_at script tries again stage outcome)
   stands_at (End.Answered a) (inl ended) =

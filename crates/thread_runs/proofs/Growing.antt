@@ -31,8 +31,8 @@ run_call c tries script heard base seen seen' end (Over finish) adds is (chunk, 
     let account = after_call c tries script heard chunk adds.added end (Over finish) adds.made in
     (chunk ++ adds.added, grown, λ whole. account (adds.quiet whole) so_far is)
 
--- If a help does not end with `OutOfStep`, the entries that the token has seen are unchanged, and
--- the token is broken exactly if it was before.
+-- If a call for help does not end with `OutOfStep`, the entries that the token has seen are
+-- unchanged, and the token is broken exactly if it was before.
 pub grown_by : {S : Type 0} (words : S → List ℕ) (k : Token S) (last : End) (key : ℕ) (outcome : End) (l : Token S)
     → last ≡ End.Answered (Answer.Done None) → Ended words k (Call.Help key) outcome l → IsAfterHelp k last (not (is_out outcome)) l
 grown_by words k last key (End.Refused OutOfStep) l done ended = (done, key, words, ended)
@@ -52,8 +52,8 @@ pub before_first : (c : ℕ) (half : Bool) (script : List Action) (base : List E
     → IsIn Closed broken base → IsBefore c half script base heard broken base
 before_first c half script base heard broken is at = rw is (([], sym (append-nil base), chunk_begun c script), (at, tt))
 
--- The invariant still holds after a call and the help that may follow it, unless this help ends
--- with `OutOfStep`.
+-- The invariant still holds after a call and the call for help that may follow it, unless the call
+-- for help ends with `OutOfStep`.
 pub called : {S : Type 0} (c : ℕ) (half : Bool) (tries : ℕ) (script : List Action) (base : List Entry) (heard heard' : Heard) (j k l : Token S) (call : Call) (end : End) (p : Progress)
     → j.number ≡ c → j.limits.half ≡ half → call ≡ call_at script heard.attempt.stage → heard' ≡ heard → p ≡ progress_of script tries heard'.attempt end
     → Adds j.number call end j.seen k.seen → HasEnded j call end k → (k.broken ≡ false → is_some (seat_after k.seen) ≡ true) → IsAfterHelp k end true l
@@ -70,7 +70,7 @@ out_if_refused half true seat key rows is = refl
 out_if_refused half false None key rows is = absurd (false≢true (rows refl))
 out_if_refused half false (Some s) key rows is = absurd (cc (if_bad (is_bad_key half key) BadKey OutOfStep is).1)
 
--- If a help ends with `OutOfStep`, the token is broken.
+-- If a call for help ends with `OutOfStep`, the token is broken.
 broken_by : {S : Type 0} (words : S → List ℕ) (k : Token S) (key : ℕ) (l : Token S)
     → (k.broken ≡ false → is_some (seat_after k.seen) ≡ true) → Ended words k (Call.Help key) (End.Refused OutOfStep) l → l.broken ≡ true
 broken_by words k key l rows (inl (refused, same)) =
@@ -82,7 +82,8 @@ done_quiet : (c : ℕ) (call : Call) (reply : Option ℕ) (added : List Entry) �
 done_quiet c (Call.Op op) reply added made = rw made
 done_quiet c call reply added made = absurd made
 
--- If the help after a put ends with `OutOfStep`, the script's outcome is the refusal `OutOfStep`.
+-- If the call for help after a put ends with `OutOfStep`, the script's outcome is the refusal
+-- `OutOfStep`.
 pub fell_out : {S : Type 0} (c c' tries : ℕ) (script : List Action) (heard : Heard) (base seen : List Entry) (call : Call) (last : End)
     (k l : Token S) → Adds c' call last seen k.seen → (k.broken ≡ false → is_some (seat_after k.seen) ≡ true) → IsAfterHelp k last false l
     → IsRunning c script heard base seen → HasRunTo c tries script (Outcome.Refused OutOfStep) base l.seen × IsIn Closed l.broken l.seen

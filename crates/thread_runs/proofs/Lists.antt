@@ -3,8 +3,8 @@ use Rattle.std.proofs.Common.{◌≡◌, ℕ, zero, suc, List, [], ◌∷◌, �
 use Rattle.thread_runs.proofs.Vocabulary.{Each, get_empty}
 use Rattle.script_worker.proofs.Vocabulary.{get_or_from_slice_get, slice_get-map, slice_get_within}
 
--- Let a statement hold of each element of `xs` at its position, and of `y` at the next position.
--- Then it holds of each element of `xs ++ y ∷ []`.
+-- Let a statement be true for each element of `xs` at its position, and for `y` at the next
+-- position. Then it is true for each element of `xs ++ y ∷ []`.
 pub each_push : {X : Type 0} (P : ℕ → X → Type 0) (xs : List X) (y : X) → Each P xs → P (length xs) y → Each P (xs ++ y ∷ [])
 each_push P [] y each here zero x is = let same : y ≡ x = cc is in rw same at here
 each_push P [] y each here (suc i) x is = absurd (cc is)
@@ -20,8 +20,8 @@ get_map f (r ∷ rs) (suc k) x is = get_map f rs k x is
 pub map_get : {R X : Type 0} (f : R → X) (rs : List R) (xs : List X) → xs ≡ map f rs → (k : ℕ) (r : R) → slice_get rs k ≡ Some r → slice_get xs k ≡ Some (f r)
 map_get f rs xs are k r is = rw (are, slice_get-map f rs k, is)
 
--- If a statement holds of all elements of `map f rs`, it holds of `f r` for each element `r` of
--- `rs`.
+-- If a statement is true for all elements of `map f rs`, it is true for `f r` for each element `r`
+-- of `rs`.
 pub all_at : {R K : Type 0} (P : K → Type 0) (f : R → K) (rs : List R) (ks : List K) → ks ≡ map f rs → All P ks → (i : ℕ) (r : R) → slice_get rs i ≡ Some r → P (f r)
 all_at P f rs ks are all i r is =
     let here = map_get f rs ks are i r is in

@@ -59,7 +59,8 @@ left_some items n rows left out ys c row some as_many turn fewer whole is so_far
     let less : length (every n c out) < length (every n c ys) = rw turn (every-fewer n some out ys fewer) in
     omega (arith, parts, less, whole c was in_rows)
 
--- The next row, in terms of the values in the code.
+-- Row `k`, which the code reads next, has an element that is not out. Its number `k` is the length
+-- of `out` modulo the number of rows.
 pub row_at : {R X Y : Type 0} (items : R → List X) (rows left : List R) (out : List X) (ys : List Y) (number workers k : ℕ) (row : R)
     → k ≡ number % workers → 0 < length rows → workers ≡ length rows → length out ≡ number → number < length ys
     → AreWholeRows items (length rows) rows ys → IsLeft items (length rows) rows left out → row ≡ slice_index_or left k row

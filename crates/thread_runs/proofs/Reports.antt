@@ -11,8 +11,8 @@ use Rattle.script_worker.proofs.Vocabulary.{tolds_of}
 use Rattle.thread_runs.proofs.Lists.{all_at, get_map, map_get}
 use Rattle.thread_runs.specs.declared.outcome.Outcome as codes
 
--- If a statement holds of each script with its outcome, it holds of the script and the outcome at
--- any position.
+-- If a statement is true for each script with its outcome, it is true for the script and the
+-- outcome at any position.
 told_within : (P : Told → Type 0) (scripts : List (List Action)) (outcomes : List Outcome) (k : ℕ) (script : List Action) (outcome : Outcome) → slice_get scripts k ≡ Some script → slice_get outcomes k ≡ Some outcome
     → AllByRecursion P (tolds_of scripts outcomes) → P (record { script = script; outcome = outcome })
 told_within P [] outcomes k script outcome is js all = absurd (cc (get_empty k, is))
@@ -22,8 +22,8 @@ told_within P (first ∷ scripts) (o ∷ outcomes) zero script outcome is js all
     rw (same, equal) at all.0
 told_within P (first ∷ scripts) (o ∷ outcomes) (suc k) script outcome is js all = told_within P scripts outcomes k script outcome is js all.1
 
--- Reports stay true if the number of workers, the number of tries and the scripts are replaced by
--- equal ones.
+-- If `HasReported` holds for each report, it still holds after the number of workers, the number of
+-- tries and the scripts are replaced by equal ones.
 pub reported_as : {L : Type 0} (half : Bool) (workers workers' tries tries' : ℕ) (scripts scripts' : List (List Action)) (reports : List (WorkerReport L)) → workers' ≡ workers → tries' ≡ tries → scripts' ≡ scripts
     → Each (HasReported half workers' tries' scripts') reports → Each (HasReported half workers tries scripts) reports
 reported_as half workers workers' tries tries' scripts scripts' reports same again all each =
@@ -42,16 +42,16 @@ module _ {L W : Type 0} (items : W → List codes.Outcome) (half : Bool) (worker
       ap length (sym row_is) ∙ length-reverse r.outcomes.items ∙ sym (length-map r.outcomes.items outcome_told) ∙ ran.all ∙ ap (λ (n : ℕ). length (every n c scripts)) (sym as_many_rows)
 
   module _ (outcomes : List codes.Outcome) (order : Each (λ c row. every (length rows) c outcomes ≡ reverse (items row)) rows) where
-    -- Take from all outcomes those of a worker's scripts. They are the outcomes that this worker
-    -- has reported.
+    -- Among all outcomes, those of a worker's scripts are the outcomes that this worker has
+    -- reported.
     own_outcomes : (c : ℕ) (r : WorkerReport L) → slice_get reports c ≡ Some r → every workers c (map outcome_told outcomes) ≡ map outcome_told r.outcomes.items
     own_outcomes c r at =
         let (row, in_rows, row_is) = get_map items rows c (reverse r.outcomes.items) (map_get (λ q. reverse q.outcomes.items) reports _ rows_are c r at) in
         every-map outcome_told workers outcomes c
         ∙ ap (map outcome_told) (ap (λ (n : ℕ). every n c outcomes) (sym as_many_rows) ∙ order c row in_rows ∙ ap reverse row_is ∙ reverse-reverse r.outcomes.items)
 
-    -- If each worker has seen exactly its own entries of the history, the outcomes are true of the
-    -- history.
+    -- If each worker has seen exactly its own entries of the history, the outcomes agree with the
+    -- history: `AreAllTrue` holds.
     pub reports_true : (h : List Entry) → IsShaped h → RepliesHold h → ((c : ℕ) (r : WorkerReport L) → slice_get reports c ≡ Some r → own r.caller.number h ≡ r.caller.seen) → AreAllTrue workers tries scripts (map outcome_told outcomes) h
     reports_true h shape replies owns c below =
         let (r, at) = get_within reports c (rw as_many below) in

@@ -13,7 +13,7 @@ pub record IsSoFar (half : Bool) (workers tries c : ℕ) (scripts : List (List A
   pub may : MayAllCome half (every workers c scripts) outcomes
   pub within : length outcomes ≤ length (every workers c scripts)
 
--- The loop at its start, in terms of the fields in the code.
+-- At the start of the loop, when no script was run and no entry was seen, `IsSoFar` holds.
 pub so_far_start : (half : Bool) (workers tries c : ℕ) (scripts : List (List Action)) (number : ℕ) (outcomes : List Outcome) (seen : List Entry) → number ≡ c → outcomes ≡ [] → seen ≡ [] → IsSoFar half workers tries c scripts number outcomes seen
 so_far_start half workers tries c scripts number outcomes seen is empty none = rw (empty, none) (record {
   at = omega (arith, is);

@@ -39,8 +39,8 @@ MayBeRefused half script StampsUsedUp = Unit {0}
 MayBeRefused half script OutOfStep = Unit {0}
 MayBeRefused half script refusal = ⊥
 
--- The outcomes that a script may have. It is `Aborted` only if it has an abort, and `Refused` only
--- with a refusal that it may have.
+-- The outcomes that a script may have. `Aborted` is possible only if the script has an abort.
+-- `Refused` is possible only with a refusal that the script may have.
 abbrev pub MayCome : Bool → List Action → Outcome → Type 0
 MayCome half script Aborted = IsTrue (list_any is_abort script)
 MayCome half script (Refused refusal) = MayBeRefused half script refusal

@@ -47,23 +47,24 @@ HasPhase phase seat = (s : Seat) × (seat ≡ Some s) × (s.phase ≡ phase)
 abbrev pub IsIn : Phase → Bool → List Entry → Type 0
 IsIn phase broken seen = (broken ≡ true) ⊎ HasPhase phase (seat_after seen)
 
--- A call has this end, or it was not made. In the second case memory was refused for its reply.
+-- Either a call has this end, or it was not made, because memory was refused for its reply.
 abbrev pub HasEnded : {S : Type 0} → Token S → Call → End → Token S → Type 0
 HasEnded {S} k call outcome l =
     ((words : S → List ℕ) × Ended words k call outcome l)
     ⊎ ((outcome ≡ ends.Refused NoMemory) × (may_refuse call NoMemory ≡ true) × (l ≡ k))
 
--- A call has added the entries of its end. If the end is `OutOfStep`, and all entries that were
--- seen have rows in the table, the call has committed nothing.
+-- A call has added the entries of its end. If the end is `OutOfStep`, and the rule of shape allows
+-- all entries that the caller has seen, the call has committed nothing.
 pub record Adds (c : ℕ) (call : Call) (outcome : End) (seen seen' : List Entry) : Type 0 where
   pub added : List Entry
   pub entries : seen' ≡ seen ++ added
   pub made : IsMade c call outcome added
   pub quiet : is_some (seat_after seen') ≡ true → IsQuiet outcome added
 
--- The caller after a call with this end, and after the help that may have followed. If the flag is
--- true, the caller's entries are unchanged, and its token is broken exactly if it was before. If
--- the flag is false, the call's reply was None, and the help that followed ended with `OutOfStep`.
+-- The caller after a call with this end, and after the call for help that may have followed. If the
+-- flag is true, the caller's entries are unchanged, and its token is broken exactly if it was
+-- before. If the flag is false, the call's reply was None, and the call for help ended with
+-- `OutOfStep`.
 abbrev pub IsAfterHelp : {S : Type 0} → Token S → End → Bool → Token S → Type 0
 IsAfterHelp k outcome true l = (l.seen ≡ k.seen) × (l.broken ≡ k.broken)
 IsAfterHelp {S} k outcome false l =
@@ -80,25 +81,25 @@ abbrev pub HasRoomAt : End → ℕ → Type 0
 HasRoomAt (ends.Answered (answers.Done reply)) room = 0 < room
 HasRoomAt outcome room = Unit {0}
 
--- The `Heard` of the code as the `Heard` of the definitions.
+-- Converts the `Heard` of the code to the `Heard` of the definitions.
 abbrev pub heard_of : kept.Heard → Heard
 heard_of heard = heard_at heard.attempt heard.txn heard.replies.items
 
--- The `Outcome` of the code as the `Outcome` of accounts.
+-- Converts the `Outcome` of the code to the `Outcome` of accounts.
 abbrev pub outcome_told : codes.Outcome → Outcome
 outcome_told (outcomes.Committed txn place replies) = accounts.Committed txn place replies.items
 outcome_told outcomes.Aborted = accounts.Aborted
 outcome_told outcomes.Busy = accounts.Busy
 outcome_told (outcomes.Refused refusal) = accounts.Refused refusal
 
--- A script was run to an outcome. If all entries that were seen have rows in the table, the entries
--- that the script added are the account of this outcome.
+-- A script was run to an outcome. If the rule of shape allows all entries that the caller has seen,
+-- the entries that the script added are the account of this outcome.
 abbrev pub HasRunTo : ℕ → ℕ → List Action → Outcome → List Entry → List Entry → Type 0
 HasRunTo c tries script outcome base seen =
     (chunk : List Entry) × (seen ≡ base ++ chunk)
     × (is_some (seat_after seen) ≡ true → IsAccount c tries script outcome chunk)
 
--- If all entries that a caller has seen have rows in the table, they are the accounts of its
+-- If the rule of shape allows all entries that a caller has seen, they are the accounts of its
 -- scripts so far.
 abbrev pub AreToldIn : ℕ → ℕ → List (List Action) → List Outcome → List Entry → Type 0
 AreToldIn c tries scripts outcomes seen =
@@ -116,7 +117,7 @@ pub record HasRunAll (half : Bool) (workers tries c : ℕ) (scripts : List (List
   pub may : MayAllCome half (every workers c scripts) outcomes
   pub all : length outcomes ≡ length (every workers c scripts)
 
--- The worker with the number `c` reports its caller, and has run each of its scripts.
+-- The report is by the worker with the number `c`, which has run each of its scripts.
 pub record HasReported {L : Type 0} (half : Bool) (workers tries : ℕ)
     (scripts : List (List Action)) (c : ℕ) (report : WorkerReport L) : Type 0 where
   pub number_is : report.caller.number ≡ c
@@ -125,8 +126,9 @@ pub record HasReported {L : Type 0} (half : Bool) (workers tries : ℕ)
       (map outcome_told report.outcomes.items) report.caller.seen
 
 -- A run of scripts on a map with these limits. Its history is legal and has only entries of these
--- workers. There is one outcome for each script, and the script allows it. The outcomes are true of
--- the history. Each worker's committed transactions play its scripts, with rising numbers.
+-- workers. There is one outcome for each script, and the script allows it. The outcomes agree with
+-- the history (`AreAllTrue`). Each worker's committed transactions play its scripts, with rising
+-- numbers.
 pub record HasRunScripts (limits : Sizes) (workers tries : ℕ) (scripts : List (List Action))
     (outcomes : List Outcome) (trace : List Entry) : Type 0 where
   pub legal : IsLegal Begun limits.stripes trace

@@ -25,7 +25,6 @@ use Rattle.txn_drive.specs.Drives.{first_step, step_in, step_of, paired, turn_in
 use Rattle.txn_drive.specs.Made.{made_in, made, IsMade, HasMade}
 use Rattle.txn_drive.proofs.MadeLemmas.{ended-turn_of}
 
--- A drive with a step to take has not ended.
 paired_on : (again : ℕ) (seeking acting : Step) → ended_by (paired again seeking acting) ≡ None
 paired_on again seeking acting = elim (nat_lt again 8) as (λ b. ended_by (if b then One seeking else Two seeking acting) ≡ None) [ true ↦ refl | false ↦ refl ]
 
@@ -60,17 +59,17 @@ turn_of_end (Ended other) outcome is = let same : other ≡ outcome = cc is in a
 turn_of_end (One step) outcome is = absurd (cc is)
 turn_of_end (Two step next) outcome is = absurd (cc is)
 
--- If a drive is given the table's size, the entries that it has added are the same.
+-- If the table's size is stored in a phase, the entries that the drive has added do not change.
 pub made-sized : (size c : ℕ) (call : Call) (phase : Phase) → made_in c call (sized_in size phase) ≡ made_in c call phase
 made-sized size c call (Doubling seen) = refl
 made-sized size c call phase = refl
 
--- A new drive has no entries.
+-- A new drive has added no entries.
 pub made-new : (half : Bool) (c : ℕ) (call : Call) → made (new_drive half c call) ≡ []
 made-new half c (calls.Help key) = elim (is_bad_key half key) as (λ b. made_in c (calls.Help key) (if b then Refused BadKey else Doubling 0) ≡ []) [ true ↦ refl | false ↦ refl ]
 made-new half c call = refl
 
--- A step of a drive adds only entries of the drive's caller.
+-- The caller `c` takes the step.
 abbrev IsBy : ℕ → Step → Type 0
 IsBy c (Begin d) = d ≡ c
 IsBy c (Ask d op) = d ≡ c
@@ -116,8 +115,8 @@ entries_by c step answer by = tt
 pub entries_callers : (drive : Drive) (step : Step) (answer : Answer) → step_of drive ≡ Some step → AllByRecursion (λ e. caller_of e ≡ drive.caller) (entries_of step answer)
 entries_callers drive step answer is = entries_by drive.caller step answer (subst (IsByIfAny drive.caller) is (by_caller drive.caller drive.call drive.phase))
 
--- If all entries of a list belong to one caller, the list is this caller's own entries, and the
--- list has no own entry of another caller.
+-- If all entries of a list belong to one caller, this caller's own entries are the whole list.
+-- Another caller has no own entry in the list.
 pub own_all : (c : ℕ) (es : List Entry) → AllByRecursion (λ e. caller_of e ≡ c) es → own c es ≡ es
 own_all c [] all = refl
 own_all c (e ∷ es) all = rw (eq-eqb (caller_of e) c all.0, own_all c es all.1)

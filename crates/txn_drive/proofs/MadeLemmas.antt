@@ -27,7 +27,7 @@ use Rattle.txn_drive.specs.Drives.{first_step, step_in, step_of, end_first, end_
 use Rattle.txn_words.specs.Entries.{entries_of}
 use Rattle.txn_drive.specs.Made.{undone_by, entered_by, made_by, made_in, made, MakesNone, IsMade, HasMade}
 
--- After the answer to the first step, a call has the entry of that step.
+-- After its first step, a call has added exactly the entries of that step.
 made-told_first : (c : ℕ) (call : Call) (a : Answer) → made_in c call (told_first call a) ≡ entries_of (first_step c call) a
 made-told_first c calls.Begin (answers.Began t) = refl
 made-told_first c (calls.Op op) answers.Asked = refl
@@ -71,7 +71,6 @@ made-undone_more c call (Leaving k) = made-counted c call k (Leaving (k + 1)) (L
     more_leaving c calls.Abort k = one_undone_more c (entries.Leave c None ∷ []) k
     more_leaving c call k = one_undone_more c [] k
 
--- An act adds the entries of the step `Act` with its answer.
 made-told_act : (c : ℕ) (call : Call) (work : Work) (again : ℕ) (a : Answer) → made_in c call (told_act work again a) ≡ made_by c call work ++ entries_of (Act c) a
 made-told_act c call work again answers.Again = sym (append-nil (made_by c call work))
 made-told_act c call work again answers.Undone = made-undone_more c call work
@@ -143,7 +142,6 @@ made-told_by c call (Linking way again) step a is = made-told_link c call way ag
 made-told_by c call (Storing way) step a is = made-told_store c call way a
 made-told_by c call phase step a is = absurd (cc is)
 
--- The answer to the step of a phase adds the entries of this step with this answer.
 made-told_in : (c : ℕ) (call : Call) (phase : Phase) (step : Step) (a : Answer) → step_in c call phase ≡ Some step
     → made_in c call (told_in call phase a) ≡ made_in c call phase ++ entries_of step a
 made-told_in c call phase step a is =
@@ -152,7 +150,6 @@ made-told_in c call phase step a is =
 pub made-told_of : (d : Drive) (step : Step) (a : Answer) → step_of d ≡ Some step → made (told_of d a) ≡ made d ++ entries_of step a
 made-told_of d step a is = made-told_in d.caller d.call d.phase step a is
 
--- An ended drive has added the entries that belong to its end.
 ended-refused : (r : Refusal) → MakesNone r []
 ended-refused OutOfStep = tt
 ended-refused r = refl

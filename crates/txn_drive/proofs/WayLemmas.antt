@@ -13,7 +13,9 @@ pub parent_of-zero : parent_of 0 ≡ 0
 unfolding parent_of highest_cleared
 parent_of-zero = refl
 
--- One round of the search for the next bucket on the path, after `taken` of the 32 rounds.
+-- One round of the search for the bucket that follows `last` on a path. If the present bucket's
+-- parent is `last`, the present bucket is the result. Otherwise the search continues at the parent,
+-- with one round less.
 pub child_within-step : (taken last bucket : ℕ) → taken < 32
     → child_within (32 - taken) last bucket ≡ (if parent_of bucket == last then bucket else child_within (32 - (taken + 1)) last (parent_of bucket))
 unfolding child_within
@@ -37,8 +39,7 @@ pub child_within-missed : (taken last bucket : ℕ) → taken < 32 → (parent_o
 child_within-missed taken last bucket less differs =
     child_within-step taken last bucket less ∙ ap (λ b. if b then bucket else child_within (32 - (taken + 1)) last (parent_of bucket)) (ne_eqb (parent_of bucket) last differs)
 
--- If the highest 1 bit of a number is cleared, the result is at most the number, and fits in one
--- bit less.
+-- If the highest 1 bit of a number is cleared, the result is not larger than the number.
 highest_cleared-le : (width number : ℕ) → highest_cleared width number ≤ number
 unfolding highest_cleared
 highest_cleared-le zero number = omega arith

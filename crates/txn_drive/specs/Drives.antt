@@ -21,9 +21,9 @@ use Rattle.txn_drive.specs.declared.turn.Turn.TheVariants.{One, Two, Ended}
 use Rattle.txn_drive.specs.declared.way.Way.{Way}
 use Rattle.txn_drive.specs.Ways.{child_towards}
 
--- The first phase of a drive for this call. A `Help` begins with the step that doubles the table.
--- But if only half keys are allowed and its key is 2^63 or more, it is refused. Any other call
--- begins in `Fresh`.
+-- The first phase of a drive for this call. If only keys below 2^63 are allowed, a `Help` with a
+-- key of 2^63 or more is refused. Any other `Help` begins with the step that doubles the table. Any
+-- other call begins in `Fresh`.
 abbrev pub first_phase : Bool → Call → Phase
 first_phase half (calls.Help key) = if is_bad_key half key then Refused BadKey else Doubling 0
 first_phase half call = Fresh
@@ -31,7 +31,8 @@ first_phase half call = Fresh
 abbrev pub new_drive : Bool → ℕ → Call → Drive
 new_drive half c call = record { caller = c; call = call; phase = first_phase half call }
 
--- The phase after the table's present size is stored. Only the phase `Doubling` stores the size.
+-- The phase with the table's present size stored in it. Only the phase `Doubling` stores the size.
+-- Any other phase stays as it is.
 abbrev pub sized_in : ℕ → Phase → Phase
 sized_in size (Doubling seen) = Doubling size
 sized_in size phase = phase
@@ -65,7 +66,7 @@ step_in c call phase = None
 abbrev pub step_of : Drive → Option Step
 step_of drive = step_in drive.caller drive.call drive.phase
 
--- The end of a call whose first step was its last.
+-- How a call ends if its first step was its last, given the answer to that step.
 abbrev pub end_first : Call → Answer → End
 end_first call (answers.Refused refusal) = ends.Refused refusal
 end_first calls.Begin (answers.Began t) = ends.Answered (answers.Began t)
@@ -73,13 +74,13 @@ end_first calls.Save (answers.Saved n) = ends.Answered (answers.Saved n)
 end_first calls.Commit (answers.Committed p) = ends.Answered (answers.Committed p)
 end_first call answer = ends.Refused OutOfStep
 
--- The end of a call that goes back to `level`, if the answer says that the caller is back at the
--- level `reached`.
+-- How a call that goes back to the level `level` ends, if its last answer says that the caller has
+-- reached the level `reached`. If the levels differ, the call is refused with `OutOfStep`.
 abbrev pub end_returned : ℕ → ℕ → End
 end_returned level reached =
     if reached == level then ends.Answered (answers.Returned reached) else ends.Refused OutOfStep
 
--- The end of a call whose last step was an act.
+-- How a call ends if its last step was an act, given the call's work and the answer to that act.
 abbrev pub end_last : Call → Work → Answer → End
 end_last (calls.Op op) Operation (answers.Done reply) = ends.Answered (answers.Done reply)
 end_last (calls.Op op) (Busy holder undone) answers.Aborted = ends.Busy holder
@@ -87,13 +88,13 @@ end_last (calls.Back level) (Leaving undone) (answers.Returned reached) = end_re
 end_last calls.Abort (Leaving undone) answers.Aborted = ends.Answered answers.Aborted
 end_last call work answer = ends.Refused OutOfStep
 
--- The end of a help after all buckets on the helper's path are initialised.
+-- How a help ends after all buckets on the helper's path are initialised.
 abbrev pub end_helped : Call → End
 end_helped (calls.Help key) = ends.Helped
 end_helped call = ends.Refused OutOfStep
 
--- The turn for a seek and for the step that acts at the position found. After eight answers `again`
--- in a row, the turn has both steps. Otherwise it has only the seek.
+-- The turn that seeks a position and may then act at it. After eight answers `again` in a row, the
+-- turn has both steps. Otherwise it has only the seek.
 abbrev pub paired : ℕ → Step → Step → Turn
 paired again seeking acting = if nat_lt again 8 then One seeking else Two seeking acting
 
@@ -116,7 +117,7 @@ turn_in c call (Refused refusal) = Ended (ends.Refused refusal)
 abbrev pub turn_of : Drive → Turn
 turn_of drive = turn_in drive.caller drive.call drive.phase
 
--- The count after one more answer `again` in a row. It stops at eight.
+-- The number of answers `again` in a row, after one more such answer. The count stops at eight.
 abbrev pub one_more_again : ℕ → ℕ
 one_more_again again = if nat_lt again 8 then again + 1 else again
 
@@ -159,8 +160,8 @@ told_act work again answers.Again = Seeking work (one_more_again again)
 told_act work again answers.Undone = undone_more work
 told_act work again answer = Last work answer
 
--- The phase after the bucket `last`, on the path to `bucket`, is initialised. Either the next
--- bucket on the path is begun, or the help ends.
+-- The phase after the bucket `last`, on the path to `bucket`, is initialised. If `last` is
+-- `bucket`, the help ends. Otherwise the next bucket on the path is initialised.
 abbrev pub towards : ℕ → ℕ → Phase
 towards last bucket =
     if last == bucket then Helped
@@ -172,8 +173,8 @@ abbrev pub heading : ℕ → ℕ → Phase
 heading key size =
     if nat_lt 0 size && nat_lt size (2 ^ 32) then towards 0 (key % size) else Refused OutOfStep
 
--- The phase after a helper's step was refused. The rules foresee refusals for lack of memory or of
--- a stamp, and no others.
+-- The phase after a helper's step was refused. If memory or stamps were used up, the help ends with
+-- this refusal. Otherwise it ends with `OutOfStep`.
 abbrev pub refused_help : Refusal → Phase
 refused_help NoMemory = Refused NoMemory
 refused_help StampsUsedUp = Refused StampsUsedUp
@@ -228,8 +229,9 @@ told_in call phase answer = Refused OutOfStep
 abbrev pub told_of : Drive → Answer → Drive
 told_of drive answer = record drive { phase = told_in drive.call drive.phase answer }
 
--- The turn's first step is the step of the drive. A second step is the step that the drive has
--- after the answer `placed`. If the turn is an end, the drive has no step.
+-- The turn is the drive's next turn. Its first step is the drive's next step. If it has a second
+-- step, this is the drive's step after the answer `placed`. If the turn is an end, the drive has no
+-- next step.
 abbrev pub IsTurnOf : Drive → Turn → Type 0
 IsTurnOf drive (One step) = step_of drive ≡ Some step
 IsTurnOf drive (Two step next) =

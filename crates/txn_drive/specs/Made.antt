@@ -21,17 +21,18 @@ use Rattle.txn_drive.specs.declared.turn.Turn.TheVariants.{Ended}
 use Rattle.txn_words.specs.Entries.{entries_of}
 use Rattle.txn_words.specs.Kinds.{is_commit}
 
--- How many changes are taken back.
+-- How many changes the call has taken back so far, given the work that it does.
 abbrev pub undone_in : Work → ℕ
 undone_in Operation = 0
 undone_in (Busy holder undone) = undone
 undone_in (Leaving undone) = undone
 
--- One entry for each change that is taken back.
+-- One `Undone` entry of the caller for each change that the caller has taken back.
 abbrev pub undone_by : ℕ → ℕ → List Entry
 undone_by c undone = replicate undone (entries.Undone c)
 
--- The entry that the first step of a call has added, if the call then had this work to do.
+-- The entry that a call's first step added to the history, if this is the work that the call does
+-- after that step.
 abbrev pub opened_by : ℕ → Call → Work → List Entry
 opened_by c (calls.Op op) Operation = entries.Asked c op ∷ []
 opened_by c (calls.Op op) (Busy holder undone) = entries.Busy c op holder ∷ []
@@ -39,7 +40,8 @@ opened_by c (calls.Back level) (Leaving undone) = entries.Leave c (Some level) �
 opened_by c calls.Abort (Leaving undone) = entries.Leave c None ∷ []
 opened_by c call work = []
 
--- The entry that the first step of a call has added, if this answer to the step has ended the call.
+-- The entry that a call's first step added to the history, if the call ended with this answer to
+-- that step.
 abbrev pub entered_by : ℕ → Call → Answer → List Entry
 entered_by c calls.Begin (answers.Began t) = entries.Began c t ∷ []
 entered_by c calls.Save (answers.Saved n) = entries.Saved c ∷ []
@@ -74,7 +76,8 @@ MakesNone refusal h = h ≡ []
 abbrev pub IsUndoing : ℕ → Entry → List Entry → Entry → Type 0
 IsUndoing c opening h closing = (undone : ℕ) × (h ≡ opening ∷ undone_by c undone ++ closing ∷ [])
 
--- The entries that a caller's call has added to the history, for each end that the call can have.
+-- The list holds the entries that the caller's call added to the history, if the call ended in this
+-- way.
 abbrev pub IsMade : ℕ → Call → End → List Entry → Type 0
 IsMade c call (ends.Refused refusal) h = MakesNone refusal h
 IsMade c calls.Begin (ends.Answered (answers.Began t)) h = h ≡ entries.Began c t ∷ []

@@ -6,8 +6,8 @@ use Rattle.txn_words.specs.declared.step.Step.{Step}
 use Rattle.txn_drive.specs.declared.turn.Turn.{Turn}
 use Rattle.txn_drive.specs.declared.turn.Turn.TheVariants.{One, Two, Ended}
 
--- If the answer to the first of two steps was `placed`, the second step is taken. Otherwise the
--- state is unchanged.
+-- If the answer to the first of two steps was `placed`, the second step is taken. Otherwise no
+-- second step is taken, and the state stays as it is.
 abbrev pub TakesSecond : {X : Type 0} → (X → Step → Answer → X → Type 0) → X → Step → Answer → X
     → Type 0
 TakesSecond takes old second Placed new = (answer : Answer) × takes old second answer new

@@ -14,8 +14,8 @@ join_with_byte_cons c f x (y ∷ ys) = ap (λ (rest : List ℕ). f x ++ (c ∷ r
 regrouped : (a x s y v b c : List ℕ) → ((a ++ codes "]") ++ (x ++ (s ++ (y ++ (v ++ b))))) ++ c ≡ a ++ (codes "]" ++ (x ++ (s ++ (y ++ (v ++ (b ++ c))))))
 regrouped a x s y v b c = simp append_assoc refl
 
--- Before any part of a history's line was handed out, the rest of the line is the text of the
--- history and a line feed.
+-- Before `HistoryPieces` hands out any part of a history's line, the rest of the line is the text
+-- of the history and a line feed.
 pub whole_line : (version stripes : ℕ) (entries : List Entry) → rest_of false false version stripes entries ≡ text_of_history version stripes entries ++ 10 ∷ []
 whole_line version stripes entries =
     sym (ap (λ (rest : List ℕ). codes "{\"entries\":[" ++ rest) (regrouped (join_with_byte comma (map entry_text entries)) (codes ",\"stripes\":") (decimal stripes) (codes ",\"version\":") (decimal version) (codes "}") (10 ∷ [])))

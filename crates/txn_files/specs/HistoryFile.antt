@@ -25,7 +25,7 @@ max_caller = max_callers - 1
 abbrev pub max_entries : ℕ
 max_entries = 1000000
 
--- History files.
+-- The file kind of history files.
 abbrev pub history_file : FileKind Entry
 history_file = record {
   numbers = codes "stripes" ∷ [];
@@ -54,7 +54,8 @@ entries_from version (stripes ∷ []) entries =
     if is_history stripes entries then Ok (stripes, entries, version) else Err Limit
 entries_from version other entries = Err Member
 
--- The bytes as a history file: its stripes, its entries and its version, or the first fault.
+-- Reads the bytes as a history file. The result is its number of stripes, its entries and its
+-- version, or the first fault.
 abbrev pub history_of : List ℕ → Result (ℕ × List Entry × ℕ) FileFault
 history_of bytes = contents history_file bytes >>= λ file. entries_from file.0 file.1 file.2
 
@@ -87,7 +88,7 @@ kept_file = record {
   most = max_entries;
 }
 
--- The bytes as a history file, read with the entries that are kept. The result equals that of
+-- Reads the bytes as a history file, and applies `kept` to each entry. The result equals that of
 -- `history_of`.
 abbrev pub kept_history_of : List ℕ → Result (ℕ × List Entry × ℕ) FileFault
 kept_history_of bytes =

@@ -1,4 +1,4 @@
--- The line of a history, and the rest of the line after a part of it was handed out.
+-- The line of a history, and the part of the line that `HistoryPieces` has not handed out yet.
 use Rattle.std.specs.Prelude.{ℕ, Bool, true, false, List, [], ◌∷◌, ◌++◌, map, codes, decimal}
 use Rattle.std.specs.List.{flat_map, join_with_byte}
 use Rattle.txn_words.specs.declared.entry.Entry.{Entry}
@@ -8,10 +8,10 @@ use Rattle.txn_files.specs.HistoryText.{comma, entry_text}
 abbrev pub further_text : List Entry → List ℕ
 further_text entries = flat_map (λ e. comma ∷ entry_text e) entries
 
--- The part of the line that was not handed out yet, up to the last entry. `entries` are the entries
--- of this part. If the line is not begun (`false`), the part also has the start of the line. If the
--- line is begun (`true`), an entry was handed out before, so a comma precedes each of these
--- entries.
+-- The part of the line that `HistoryPieces` has not handed out yet, up to the last entry. `entries`
+-- are the entries of this part. If nothing of the line was handed out (`false`), the part also has
+-- the start of the line. Otherwise (`true`) an entry was handed out before, so a comma precedes
+-- each of these entries.
 abbrev pub entries_text : Bool → List Entry → List ℕ
 entries_text false entries = codes "{\"entries\":[" ++ join_with_byte comma (map entry_text entries)
 entries_text true entries = further_text entries
@@ -22,8 +22,9 @@ end_text version stripes =
     codes "],\"stripes\":" ++ (decimal stripes
     ++ (codes ",\"version\":" ++ (decimal version ++ codes "}\n")))
 
--- The part of the line that was not handed out yet. The first flag says whether the line is begun,
--- the second whether all of it was handed out. `entries` are the entries of this part.
+-- The part of the line that `HistoryPieces` has not handed out yet. The first flag says whether
+-- some of the line was handed out, the second whether all of it was. `entries` are the entries of
+-- this part.
 abbrev pub rest_of : Bool → Bool → ℕ → ℕ → List Entry → List ℕ
 rest_of is_begun true version stripes entries = []
 rest_of is_begun false version stripes entries =

@@ -17,7 +17,7 @@ array_text elements = codes "[" ++ (join_with_byte comma elements ++ codes "]")
 abbrev pub quoted : List ℕ → List ℕ
 quoted word = codes "\"" ++ (word ++ codes "\"")
 
--- A number, or null.
+-- The decimal text of a number, or `null` if there is no number.
 abbrev pub optional_text : Option ℕ → List ℕ
 optional_text None = codes "null"
 optional_text (Some n) = decimal n
@@ -36,7 +36,7 @@ elements_of_entry (Busy c op x) =
     quoted (codes "busy") ∷ decimal c ∷ elements_of_op op ++ decimal x ∷ []
 elements_of_entry (Aborted c) = quoted (codes "aborted") ∷ decimal c ∷ []
 
--- An entry as an array.
+-- The text of an entry: an array of its elements.
 abbrev pub entry_text : Entry → List ℕ
 entry_text e = array_text (elements_of_entry e)
 

@@ -33,7 +33,7 @@ op_of ds = do
   op ← op_at ds
   if length op.1 == 0 then Some op.0 else None
 
--- Whether version 1 has this operation too.
+-- Whether version 1 of the files has this operation too.
 abbrev pub is_old_op : Op → Bool
 is_old_op (PutIf k expected v) = false
 is_old_op _ = true

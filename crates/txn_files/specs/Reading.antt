@@ -1,7 +1,7 @@
 -- How much is read of a file.
 use Rattle.std.specs.Prelude.{ℕ}
 
--- The most bytes that are read of a file. This is one byte more than a file may have, so a reader
--- finds that a file is too long without reading all of it.
+-- The greatest number of bytes that are read from a file. This is one byte more than a file may
+-- have, so a reader finds that a file is too long without reading all of it.
 abbrev pub max_read : ℕ
 max_read = 16777217

@@ -23,7 +23,7 @@ max_scripts = 10000
 abbrev pub max_actions : ℕ
 max_actions = 10000
 
--- Script files.
+-- The file kind of script files.
 abbrev pub script_file : FileKind (List Action)
 script_file = record {
   numbers = codes "workers" ∷ codes "stripes" ∷ codes "buckets" ∷ codes "tries" ∷ [];
@@ -52,6 +52,6 @@ work_from version (workers ∷ stripes ∷ buckets ∷ tries ∷ []) scripts = d
       else Err Limit
 work_from version other scripts = Err Member
 
--- The bytes as a script file: its work, or the first fault.
+-- Reads the bytes as a script file. The result is its work, or the first fault.
 abbrev pub scripts_of : List ℕ → Result Work FileFault
 scripts_of bytes = contents script_file bytes >>= λ file. work_from file.0 file.1 file.2

@@ -15,7 +15,7 @@ use Rattle.txn_files.specs.Steps.{is_old_step, step_of}
 abbrev pub max_steps : ℕ
 max_steps = 1000000
 
--- Step files.
+-- The file kind of step files.
 abbrev pub step_file : FileKind Step
 step_file = record {
   numbers = codes "callers" ∷ codes "stripes" ∷ codes "buckets" ∷ [];
@@ -30,8 +30,8 @@ abbrev in_limits : Result Sizes Refusal → Result Sizes FileFault
 in_limits (Ok sizes) = Ok sizes
 in_limits (Err refusal) = Err Limit
 
--- These limits, as they apply to a file of this version. In version 1 they allow only half keys,
--- which are the keys below 2^63.
+-- The given limits, for a file of this version. In version 1 they allow only half keys, which are
+-- the keys below 2^63.
 abbrev pub with_keys_of : ℕ → Sizes → Sizes
 with_keys_of version sizes = in_version version (record sizes { half = true }) sizes
 
@@ -39,7 +39,7 @@ with_keys_of version sizes = in_version version (record sizes { half = true }) s
 abbrev pub max_run_version : ℕ
 max_run_version = 2
 
--- Makes limits of the numbers of a step file or script file. If the version or a number is out of
+-- Makes limits from the numbers of a step file or script file. If the version or a number is out of
 -- range, the result is the fault `Limit`.
 abbrev pub sizes_at : ℕ → ℕ → ℕ → ℕ → Result Sizes FileFault
 sizes_at version callers stripes buckets =
@@ -54,6 +54,6 @@ steps_from version (callers ∷ stripes ∷ buckets ∷ []) steps =
     sizes_at version callers stripes buckets >>= λ sizes. Ok (sizes, steps)
 steps_from version other steps = Err Member
 
--- The bytes as a step file: its limits and its steps, or the first fault.
+-- Reads the bytes as a step file. The result is its limits and its steps, or the first fault.
 abbrev pub file_of : List ℕ → Result (Sizes × List Step) FileFault
 file_of bytes = contents step_file bytes >>= λ file. steps_from file.0 file.1 file.2

@@ -28,7 +28,7 @@ use Rattle.txn_trace.proofs.Judging.{shape_push, locks_push}
 use Rattle.txn_trace.proofs.Others.{now_at-push_mine, now_at-push_else, serial_is, entries_stay}
 use Rattle.txn_trace.proofs.Seated.{none_before, are_seated}
 
--- The first of a run's maps.
+-- The first map of a run, given its last map and its earlier maps, newest first.
 abbrev pub first_map : Map → List Map → Map
 first_map last [] = last
 first_map last (m ∷ ms) = first_map m ms
@@ -60,8 +60,7 @@ fold_starts m [] o is = is
 fold_starts m (e ∷ es) None is = fold_starts m es None tt
 fold_starts m (e ∷ es) (Some r) is = fold_starts m es (act r e) (act_starts m r e is)
 
--- The first map of a run is the map that it starts with. If no change remains, this map is also the
--- last.
+-- If no change of a run remains, the last map of the run is the map that the run starts with.
 pub alone_starts : (m : Map) (es : List Entry) → StartsAt m (alone m es)
 alone_starts m es = fold_starts m es (Some (start m)) refl
 

@@ -36,7 +36,7 @@ use Rattle.txn_trace.proofs.Running.{has_seat}
 use Rattle.txn_trace.proofs.Next.{txn, going, at_txn, run, run_is, run_fits, run_logs, last_is}
 use Rattle.txn_trace.proofs.Entries.{began, did}
 
--- If an entry that is no Began has a row in the table, its caller is not closed.
+-- If `row` allows an entry that is not a Began, the caller's phase is not `Closed`.
 pub row_active : (s : Seat) (q : Phase) (e : Entry) → is_began e ≡ false → is_some (row s q e) ≡ true → runs q ≡ true
 row_active s Closed (Began c t) b h = absurd (false≢true (sym b))
 row_active s Closed _ b h = absurd (false≢true h)
@@ -195,8 +195,8 @@ did_holds {holder} stripes g legal c x shaped op waits = elim (cases_Bool (optio
         ∙ run_after stripes g legal e shaped refl None (acts_none wrong) in
         false≢true (sym (ap is_some none) ∙ runs_on)
 
--- After a legal history an entry in right shape breaks the rule of replies exactly if it is a Did
--- with a wrong reply.
+-- If an entry of the right shape follows a legal history, it breaks the rule of replies exactly if
+-- it is a Did with a wrong reply.
 pub replies_hold-push : {holder : Holder} (stripes : ℕ) (g : List Entry) → IsLegal holder stripes g → (e : Entry) → is_shaped g e ≡ true → replies_hold (g ++ e ∷ []) ≡ is_right g e
 replies_hold-push stripes g legal (Did c x) shaped =
     let p = shaped_by g (Did c x) legal.shape shaped in

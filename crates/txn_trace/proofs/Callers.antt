@@ -109,8 +109,8 @@ pub began_or_not : (e : Entry) → (is_began e ≡ true) ⊎ (is_began e ≡ fal
 began_or_not (Began c t) = inl refl
 began_or_not _ = inr refl
 
--- After an entry in right shape, the number of its transaction is at most the number of Began
--- entries.
+-- If an entry has the right shape, the number of its transaction is at most the number of Began
+-- entries up to this entry.
 pub number_in : (g : List Entry) (e : Entry) (t : ℕ) → Callers g → is_shaped g e ≡ true → txn_at g e ≡ Some t → t ≤ how_many is_began (g ++ e ∷ [])
 number_in g e t callers shaped at = elim (began_or_not e) [
   | inl b ↦

@@ -104,8 +104,9 @@ aborted_take_restores_now = refl
 aborted_take_restores_erased : erase aborted_take_restores ≡ Began 0 1 ∷ Asked 0 (Put 3 30) ∷ Did 0 None ∷ Committed 0 1 ∷ Began 1 4 ∷ Asked 1 (Get 3) ∷ Did 1 (Some 30) ∷ Committed 1 2 ∷ []
 aborted_take_restores_erased = refl
 
--- The number of entries that all callers together still owe, at two moments: while the take waits
--- for its reply, and after caller 1 has found that caller 0 holds the stripe.
+-- The number of entries that all callers together may still append without a new reservation, at
+-- two moments: while the take waits for its reply, and after caller 1 has found that caller 0 holds
+-- the stripe.
 aborted_take_restores_owed : owed 2 (take 6 aborted_take_restores) ≡ 4
 aborted_take_restores_owed = refl
 
@@ -164,7 +165,7 @@ callers_undone_holder = refl
 callers_undone_free : holder_of 8 3 callers_undone ≡ None
 callers_undone_free = refl
 
--- Two transactions commit in the reverse order of their beginnings.
+-- The transaction that begins second commits first.
 abbrev crossed : List Entry
 crossed = Began 0 1 ∷ Began 1 2 ∷ Asked 0 (Put 2 20) ∷ Asked 1 (Put 4 40) ∷ Did 1 None ∷ Did 0 None ∷ Committed 1 1 ∷ Committed 0 2 ∷ []
 
@@ -237,7 +238,7 @@ checker_locks_busy = refl
 checker_locks_busy_itself : verdict Now 8 (Began 0 1 ∷ Asked 0 (Put 1 10) ∷ Did 0 None ∷ Busy 0 (Get 9) 0 ∷ []) ≡ Illegal 3 2
 checker_locks_busy_itself = refl
 
--- Forged histories.
+-- The verdicts on forged histories.
 forged_none : verdict Now 8 [] ≡ Legal 0 0
 forged_none = refl
 
@@ -256,7 +257,7 @@ forged_level = refl
 forged_reply : verdict Now 8 (Began 0 1 ∷ Asked 0 (Get 5) ∷ Did 0 (Some 7) ∷ Leave 0 None ∷ []) ≡ Illegal 2 1
 forged_reply = refl
 
--- Two keys that share a stripe if there are eight stripes, but not if there are sixteen.
+-- The keys 1 and 9 share a stripe if there are eight stripes, but not if there are sixteen.
 abbrev forged_stripes : List Entry
 forged_stripes = Began 0 1 ∷ Asked 0 (Get 1) ∷ Began 1 2 ∷ Asked 1 (Get 9) ∷ []
 

@@ -34,8 +34,6 @@ pub record HasCommitted (c txn place : ℕ) (part h : List Entry) : Type 0 where
 abbrev IsCut : {X : Type 0} → (X → Bool) → List X → List X → X → List X → Type 0
 IsCut {X} p h xs x ys = (g : List X) × (rest : List X) × (h ≡ g ++ x ∷ rest) × (filter p g ≡ xs) × (filter p rest ≡ ys)
 
--- If the elements of `h` that pass a test are cut at one of them, `h` can be cut at the same
--- element.
 cut : {X : Type 0} (p : X → Bool) (h xs : List X) (x : X) (ys : List X) → filter p h ≡ xs ++ x ∷ ys → IsCut p h xs x ys
 cut p [] [] x ys is = absurd (cc is)
 cut p [] (z ∷ xs) x ys is = absurd (cc is)
@@ -89,13 +87,13 @@ own_goes c t g (e ∷ rest) callers shape in_it quiet =
           (ap (of t) (sym assoc) ∙ of_is ∙ ap (λ es. es ++ own c rest) out ∙ ap (λ es. of t g ++ es) (sym own_is), ap (λ h. txn_in h c) (sym assoc) ∙ in_is)
     ]
 
--- A run that is defined is still defined after a commit.
+-- If a run is not None before a Committed, it is not None after it.
 pub commits_so : (c p : ℕ) (o : Option AloneRun) → is_some o ≡ true → is_some (option_and_then (λ r. act r (Committed c p)) o) ≡ true
 commits_so c p None some = some
 commits_so c p (Some r) some = refl
 
--- If a part of a caller's own entries goes from a Began to a Committed with no other Began in it, a
--- transaction with exactly these entries has committed.
+-- If a part of a caller's own entries starts with a Began, ends with a Committed and has no other
+-- Began, it has exactly the entries of a committed transaction.
 pub has_committed : (c txn place : ℕ) (h front inner later : List Entry) → IsShaped h → RepliesHold h
     → own c h ≡ front ++ ((Began c txn ∷ inner ++ Committed c place ∷ []) ++ later) → filter is_began inner ≡ [] → HasCommitted c txn place (Began c txn ∷ inner ++ Committed c place ∷ []) h
 has_committed c txn place h front inner later shape replies own_is quiet =

@@ -181,7 +181,8 @@ length-open_txns n h shape within =
     length-filter (λ t. is_open t h) (txns_of is_began h) ∙ ap (sum_by (λ t. one_if (is_open t h))) (began_txns h shape) ∙ counted n h shape within
     ∙ sym (length-filter (λ c. is_running (seat_after (own c h))) (range_with_len 0 n))
 
--- Callers beyond those of the history do not change the number of callers that are not closed.
+-- If `n` is at least `callers_in h`, the number of callers below `n` that are not closed is the
+-- same as the number of those below `callers_in h`.
 pub length-running : (n : ℕ) (h : List Entry) → IsShaped h → callers_in h ≤ n → length (running n h) ≡ length (running (callers_in h) h)
 length-running n h shape within = let same : callers_in h ≤ callers_in h = omega arith in sym (length-open_txns n h shape within) ∙ length-open_txns (callers_in h) h shape same
 

@@ -42,8 +42,8 @@ use Rattle.txn_trace.proofs.Settled.{settled, settled_out, settled_in, same_as_f
 abbrev is_active : Seat → Type 0
 is_active seat = runs seat.phase ≡ true
 
--- Asked: an open caller may ask for a key if no other caller holds the key's stripe. After the
--- Asked, the caller holds this stripe.
+-- The entry `Asked` is allowed if the caller is open and no other caller holds the stripe of the
+-- key. After the entry, the caller holds this stripe.
 pub asked : {holder : Holder} (stripes : ℕ) (g : List Entry) → IsLegal holder stripes g → (c : ℕ) (op : Op) (seat : Seat) → seat_after (own c g) ≡ Some seat → seat.phase ≡ Opened → is_locked holder stripes g (Asked c op) ≡ true
     → Next holder stripes g (Asked c op) (record seat { phase = Waiting op }) (log_of c g) (serial g) (now g) (λ s. cond (stripe_of stripes (key_of op) == s) (Some c) (holder_of stripes s g))
 asked {holder} stripes g legal c op seat seat_is opened locked =
@@ -54,33 +54,36 @@ asked {holder} stripes g legal c op seat seat_is opened locked =
     (holder_of-asked holder stripes g c (txn stripes g legal (Asked c op) seat next seat_is goes refl active) op (callers_of g legal.shape) (shaped_by_row stripes g legal (Asked c op) seat next seat_is goes refl) locked
     (at_txn stripes g legal (Asked c op) seat next seat_is goes refl active refl))
 
--- Saved: an open caller sets a savepoint. Its seat notes the number of its standing changes.
+-- The entry `Saved` is allowed if the caller is open. The seat then notes the number of the
+-- caller's standing changes.
 pub saved : {holder : Holder} (stripes : ℕ) (g : List Entry) → IsLegal holder stripes g → (c : ℕ) (seat : Seat) → seat_after (own c g) ≡ Some seat → seat.phase ≡ Opened
     → Next holder stripes g (Saved c) (record seat { kept = seat.kept ++ seat.standing ∷ [] }) (log_of c g) (serial g) (now g) (λ s. holder_of stripes s g)
 saved stripes g legal c seat seat_is opened =
     still_next stripes g legal (Saved c) seat (record seat { kept = seat.kept ++ seat.standing ∷ [] }) seat_is (ap (λ q. row seat q (Saved c)) opened) refl (ap runs opened) refl refl (λ s. refl)
 
--- Leave to the end: an open caller starts to abort.
+-- The entry `Leave` without a level is allowed if the caller is open. It starts an abort.
 pub left_to_end : {holder : Holder} (stripes : ℕ) (g : List Entry) → IsLegal holder stripes g → (c : ℕ) (seat : Seat) → seat_after (own c g) ≡ Some seat → seat.phase ≡ Opened
     → Next holder stripes g (Leave c None) (record seat { phase = LeavingToEnd }) (log_of c g) (serial g) (now g) (λ s. holder_of stripes s g)
 left_to_end stripes g legal c seat seat_is opened =
     still_next stripes g legal (Leave c None) seat (record seat { phase = LeavingToEnd }) seat_is (ap (λ q. row seat q (Leave c None)) opened) refl (ap runs opened) refl refl (λ s. refl)
 
--- Leave to the end, by a caller whose operation has no reply yet: this withdraws the operation.
+-- The entry `Leave` without a level is allowed if the caller waits for the reply to an operation.
+-- It withdraws the operation and starts an abort.
 pub withdrawn : {holder : Holder} (stripes : ℕ) (g : List Entry) → IsLegal holder stripes g → (c : ℕ) (op : Op) (seat : Seat) → seat_after (own c g) ≡ Some seat → seat.phase ≡ Waiting op
     → Next holder stripes g (Leave c None) (record seat { phase = LeavingToEnd }) (log_of c g) (serial g) (now g) (λ s. holder_of stripes s g)
 withdrawn stripes g legal c op seat seat_is waits =
     still_next stripes g legal (Leave c None) seat (record seat { phase = LeavingToEnd }) seat_is (ap (λ q. row seat q (Leave c None)) waits) refl (ap runs waits) refl refl (λ s. refl)
 
--- Leave to a level: an open caller starts to go back to one of its levels.
+-- The entry `Leave` with a level is allowed if the caller is open and has this level. It starts the
+-- return to the level.
 pub left_to : {holder : Holder} (stripes : ℕ) (g : List Entry) → IsLegal holder stripes g → (c n : ℕ) (seat : Seat) → seat_after (own c g) ≡ Some seat → seat.phase ≡ Opened → n < length seat.kept
     → Next holder stripes g (Leave c (Some n)) (record seat { phase = LeavingTo n }) (log_of c g) (serial g) (now g) (λ s. holder_of stripes s g)
 left_to stripes g legal c n seat seat_is opened within =
     still_next stripes g legal (Leave c (Some n)) seat (record seat { phase = LeavingTo n }) seat_is
     (ap (λ q. row seat q (Leave c (Some n))) opened ∙ ap (λ b. cond b (Some (record seat { phase = LeavingTo n })) None) (lt-ltb n (length seat.kept) within)) refl (ap runs opened) refl refl (λ s. refl)
 
--- Returned: a caller that leaves to a level has returned when its standing changes are exactly
--- those of the level. Later savepoints are dropped.
+-- The entry `Returned` is allowed when the caller has taken back every change above the level that
+-- it is returning to. Later savepoints are dropped.
 pub returned : {holder : Holder} (stripes : ℕ) (g : List Entry) → IsLegal holder stripes g → (c n : ℕ) (seat : Seat) → seat_after (own c g) ≡ Some seat → seat.phase ≡ LeavingTo n → slice_index seat.kept n ≡ seat.standing
     → Next holder stripes g (Returned c n) (record seat { phase = Opened; kept = take (n + 1) seat.kept }) (log_of c g) (serial g) (now g) (λ s. holder_of stripes s g)
 returned stripes g legal c n seat seat_is leaving reached =
@@ -88,13 +91,15 @@ returned stripes g legal c n seat seat_is leaving reached =
     still_next stripes g legal (Returned c n) seat next seat_is
     (ap (λ q. row seat q (Returned c n)) leaving ∙ ap (λ b. cond b (Some next) None) (and_from (n == n) _ (eq-eqb n n refl) (eq-eqb _ _ reached))) refl (ap runs leaving) refl refl (λ s. refl)
 
--- Busy: an open caller finds that another caller holds the stripe, and starts to abort.
+-- The entry `Busy` is allowed if the caller is open and the rule of locks allows the entry. It
+-- starts an abort.
 pub busy : {holder : Holder} (stripes : ℕ) (g : List Entry) → IsLegal holder stripes g → (c : ℕ) (op : Op) (x : ℕ) (seat : Seat) → seat_after (own c g) ≡ Some seat → seat.phase ≡ Opened → is_locked holder stripes g (Busy c op x) ≡ true
     → Next holder stripes g (Busy c op x) (record seat { phase = LeavingToEnd }) (log_of c g) (serial g) (now g) (λ s. holder_of stripes s g)
 busy stripes g legal c op x seat seat_is opened locked =
     still_next stripes g legal (Busy c op x) seat (record seat { phase = LeavingToEnd }) seat_is (ap (λ q. row seat q (Busy c op x)) opened) refl (ap runs opened) refl locked (λ s. refl)
 
--- Began: a closed caller begins the next transaction.
+-- The entry `Began` is allowed if the caller is closed and the entry has the next transaction
+-- number.
 pub began : {holder : Holder} (stripes : ℕ) (g : List Entry) → IsLegal holder stripes g → (c t : ℕ) (seat : Seat) → seat_after (own c g) ≡ Some seat → seat.phase ≡ Closed → t ≡ how_many is_began g + 1
     → Next holder stripes g (Began c t) (record closed_seat { phase = Opened }) [] (serial g) (now g) (λ s. holder_of stripes s g)
 began {holder} stripes g legal c t seat seat_is closed numbered =
@@ -121,8 +126,8 @@ began {holder} stripes g legal c t seat seat_is closed numbered =
       holder_is = λ s. holder_of-other holder stripes g e callers shaped legal.shape legal.locks s refl refl;
     }
 
--- Aborted: if a caller leaves to the end and has no standing changes, the Aborted closes the caller
--- and frees its stripes.
+-- The entry `Aborted` is allowed if the caller is aborting and has no standing changes. It closes
+-- the caller and frees its stripes.
 pub aborted : {holder : Holder} (stripes : ℕ) (g : List Entry) → IsLegal holder stripes g → (c : ℕ) (seat : Seat) → seat_after (own c g) ≡ Some seat → seat.phase ≡ LeavingToEnd → seat.standing ≡ 0
     → Next holder stripes g (Aborted c) closed_seat [] (serial g) (now g) (λ s. cond (option_eq nat_eq (holder_of stripes s g) (Some c)) None (holder_of stripes s g))
 aborted {holder} stripes g legal c seat seat_is leaving none =
@@ -149,9 +154,9 @@ aborted {holder} stripes g legal c seat seat_is leaving none =
     no_elements [] is = refl
     no_elements (x ∷ xs) is = absurd (omega arith)
 
--- Did: a caller that waits receives the reply that the map `now` gives to its operation. The
--- operation is applied to the map `now`. If it makes a change, the change is added to the caller's
--- log.
+-- The entry `Did` is allowed if the caller waits, and the reply is the one that the map `now` gives
+-- to the caller's operation. The operation is applied to the map `now`. If it makes a change, the
+-- change is added to the caller's log.
 pub did : {holder : Holder} (stripes : ℕ) (g : List Entry) → IsLegal holder stripes g → (c : ℕ) (op : Op) (x : Option ℕ) (seat : Seat) → seat_after (own c g) ≡ Some seat → seat.phase ≡ Waiting op → x ≡ reply_of (now g) op
     → Next holder stripes g (Did c x) (record seat { phase = Opened; standing = cond (changes op x) (seat.standing + 1) seat.standing })
     (cond (changes op x) ((key_of op, x) ∷ log_of c g) (log_of c g)) (serial g) (after (now g) op) (λ s. holder_of stripes s g)
@@ -216,8 +221,9 @@ undone_by {holder} stripes g legal c seat seat_is active goes job jobs log_is =
       holder_is = λ s. holder_of-other holder stripes g e (callers_of g legal.shape) shaped legal.shape legal.locks s refl refl;
     }
 
--- Undone to a level: if the caller has more standing changes than the level, the newest change is
--- taken back. Its key gets the value before the change, and every other key is unchanged.
+-- The entry `Undone` is allowed if the caller is returning to a level and has more standing changes
+-- than the level. It takes the newest change back: the change's key gets the value from before the
+-- change, and every other key is unchanged.
 pub undone_to : {holder : Holder} (stripes : ℕ) (g : List Entry) → IsLegal holder stripes g → (c n : ℕ) (seat : Seat) → seat_after (own c g) ≡ Some seat → seat.phase ≡ LeavingTo n → slice_index seat.kept n < seat.standing
     → (job : ℕ × Option ℕ) (jobs : List (ℕ × Option ℕ)) → log_of c g ≡ job ∷ jobs
     → Next holder stripes g (Undone c) (record seat { standing = seat.standing - 1 }) jobs (serial g) (set_at (now g) job.0 job.1) (λ s. holder_of stripes s g)
@@ -225,8 +231,9 @@ undone_to stripes g legal c n seat seat_is leaving more job jobs log_is =
     undone_by stripes g legal c seat seat_is (ap runs leaving)
     (ap (λ q. row seat q (Undone c)) leaving ∙ ap (λ b. cond b (Some (record seat { standing = seat.standing - 1 })) None) (lt-ltb (slice_index seat.kept n) seat.standing more)) job jobs log_is
 
--- Undone to the end: while a caller that leaves to the end has standing changes, the newest of them
--- is taken back. Its key gets the value before the change, and every other key is unchanged.
+-- The entry `Undone` is allowed if the caller is aborting and has standing changes. It takes the
+-- newest change back: the change's key gets the value from before the change, and every other key
+-- is unchanged.
 pub undone_to_end : {holder : Holder} (stripes : ℕ) (g : List Entry) → IsLegal holder stripes g → (c : ℕ) (seat : Seat) → seat_after (own c g) ≡ Some seat → seat.phase ≡ LeavingToEnd → 0 < seat.standing
     → (job : ℕ × Option ℕ) (jobs : List (ℕ × Option ℕ)) → log_of c g ≡ job ∷ jobs
     → Next holder stripes g (Undone c) (record seat { standing = seat.standing - 1 }) jobs (serial g) (set_at (now g) job.0 job.1) (λ s. holder_of stripes s g)
@@ -234,7 +241,7 @@ undone_to_end stripes g legal c seat seat_is leaving some job jobs log_is =
     undone_by stripes g legal c seat seat_is (ap runs leaving)
     (ap (λ q. row seat q (Undone c)) leaving ∙ ap (λ b. cond b (Some (record seat { standing = seat.standing - 1 })) None) (lt-ltb 0 seat.standing some)) job jobs log_is
 
--- If a caller has standing changes, its log has a newest change.
+-- If a caller's seat counts at least one standing change, the caller's log is not empty.
 pub newest : (g : List Entry) (c : ℕ) (seat : Seat) → seat_after (own c g) ≡ Some seat → 0 < seat.standing → (job : ℕ × Option ℕ) × (jobs : List (ℕ × Option ℕ)) × (log_of c g ≡ job ∷ jobs)
 newest g c seat seat_is some = at (log_of c g) refl
   where
@@ -242,8 +249,9 @@ newest g c seat seat_is some = at (log_of c g) refl
     at [] is = let none : seat.standing ≡ 0 = sym (length-log_of g c seat seat_is) ∙ ap length is in absurd (omega arith)
     at (job ∷ jobs) is = (job, jobs, is)
 
--- Committed: an open caller commits, with the next commit number. The map `now` is unchanged, and
--- the caller's standing changes are added to the committed map. The caller's stripes become free.
+-- The entry `Committed` is allowed if the caller is open and the entry has the next commit number.
+-- The map `now` is unchanged, and the caller's standing changes are added to the committed map. The
+-- caller's stripes become free.
 pub committed : {holder : Holder} (stripes : ℕ) (g : List Entry) → IsLegal holder stripes g → (c p : ℕ) (seat : Seat) → seat_after (own c g) ≡ Some seat → seat.phase ≡ Opened → p ≡ how_many is_commit g + 1
     → Next holder stripes g (Committed c p) closed_seat [] (settled (serial g) (now g) (log_of c g)) (now g) (λ s. cond (option_eq nat_eq (holder_of stripes s g) (Some c)) None (holder_of stripes s g))
 committed {holder} stripes g legal c p seat seat_is opened numbered =

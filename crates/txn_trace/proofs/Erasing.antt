@@ -14,7 +14,7 @@ use Rattle.txn_trace.proofs.Table.{overlaid}
 use Rattle.txn_trace.proofs.Lists.{filter_within, fold_filter, map_filter}
 use Rattle.txn_trace.proofs.Pushes.{of_is}
 
--- The lines whose transaction passes the test, and the history of their entries.
+-- The lines whose transaction passes the test `keep`. `kept` gives the entries of these lines.
 abbrev pub kept_lines : (Option ℕ → Bool) → (ℕ → Option ℕ) → List Entry → List Line
 kept_lines keep before h = filter (λ line. keep line.txn) (lines_from before h)
 
@@ -42,7 +42,8 @@ agree_left keep before there (Began c t) same out x is =
     ] is
 agree_left keep before there _ same out x is = same x is
 
--- The lines of the kept entries are the kept lines: each kept entry still has its transaction.
+-- If `Agree` holds before the first entry, each kept entry belongs to the same transaction in the
+-- kept history as in the whole history.
 pub lines_from-kept : (keep : Option ℕ → Bool) (before there : ℕ → Option ℕ) → Agree keep before there → (h : List Entry) → lines_from there (kept keep before h) ≡ kept_lines keep before h
 lines_from-kept keep before there same [] = refl
 lines_from-kept keep before there same (e ∷ h) =
@@ -86,7 +87,7 @@ map_cond : {X Y : Type 0} (f : X → Y) (b : Bool) (xs : List X) → map f (cond
 map_cond f true xs = refl
 map_cond f false xs = refl
 
--- In the kept history a kept transaction has all its entries, and any other transaction has none.
+-- In the kept history, a kept transaction has all its entries, and any other transaction has none.
 pub of-kept : (keep : Option ℕ → Bool) (t : ℕ) (h : List Entry) → of t (kept_of keep h) ≡ cond (keep (Some t)) (of t h) []
 of-kept keep t h =
     ap (λ ls. map (λ (l : Line). l.entry) (filter (is_of t) ls)) (lines_of-kept keep h)
@@ -99,8 +100,7 @@ of-kept_in keep t h is = of-kept keep t h ∙ ap (λ b. cond b (of t h) []) is
 pub of-kept_out : (keep : Option ℕ → Bool) (t : ℕ) (h : List Entry) → keep (Some t) ≡ false → of t (kept_of keep h) ≡ []
 of-kept_out keep t h is = of-kept keep t h ∙ ap (λ b. cond b (of t h) []) is
 
--- The transactions of the entries that pass a test. In the kept history, they are those of the
--- whole history that are kept.
+-- The transactions of the entries that pass a test.
 abbrev picked : (Entry → Bool) → List Line → List ℕ
 picked test ls = filter_map (λ l. cond (test l.entry) l.txn None) ls
 

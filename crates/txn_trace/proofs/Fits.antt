@@ -16,7 +16,8 @@ use Rattle.txn_words.proofs.Effects.{changes-reply}
 use Rattle.txn_trace.proofs.Callers.{is_end}
 use Rattle.txn_trace.proofs.Now.{same_is}
 
--- What a phase says about the run.
+-- The condition on the seat and the run that depends on the phase. If an operation waits in the
+-- seat, it waits in the run. If the caller returns to a level, the seat has this level.
 abbrev pub PhaseFits : Phase → Seat → AloneRun → Type 0
 PhaseFits (Waiting op) s r = r.pending ≡ Some op
 PhaseFits (LeavingTo n) s r = n < length s.kept
@@ -86,8 +87,8 @@ when : {A : Type 0} (b : Bool) (x : A) → is_some (cond b (Some x) None) ≡ tr
 when true x h = refl
 when false x h = absurd (false≢true h)
 
--- If an entry has a row in the table and its reply is right, the run allows the entry. The run and
--- the seat agree after it.
+-- If `row` allows an entry in a seat that fits the run, and the entry's reply is right, the run
+-- allows the entry too. Afterwards, the seat still fits the run.
 pub fits_act : (s : Seat) (r : AloneRun) (e : Entry) (q : Phase) → s.phase ≡ q → is_began e ≡ false → is_end e ≡ false → Fits s r → IsReply r e → is_some (row s q e) ≡ true → FitsAfter (row s q e) (act r e)
 fits_act s r (Began c t) q at b n fits right h = absurd (false≢true (sym b))
 fits_act s r (Committed c p) q at b n fits right h = absurd (false≢true (sym n))

@@ -1,4 +1,4 @@
--- The holders of a stripe. One more entry changes them in a known way, and a stripe has at most one
+-- The holders of a stripe: how one more entry changes them, and why a stripe has at most one
 -- holder.
 use Rattle.std.proofs.Common.{◌≡◌, ◌≢◌, ℕ, ◌==◌, Bool, true, false, cond, not, ◌&&◌, List, [], ◌∷◌, ◌++◌, map, slice_get, refl, ap, sym, subst, ◌∙◌, Some, None, Option}
 use Rattle.std.specs.Option.{option_eq}
@@ -95,7 +95,7 @@ module _ (stripes : ℕ) (g : List Entry) (e : Entry) (callers : Callers g) (sha
     in_t : txn_in g (caller_of e) ≡ Some t
     in_t = not_began_is g e t (end_not_began e ends) (at_is g e t at)
 
-    -- An open transaction other than the one that ends stays open.
+    -- An open transaction stays open, unless it is the one that ends.
     stays_if : (line : Line) → IsOwned g line → (o : Option ℕ) → line.txn ≡ o → is_in_open g line ≡ true → is_in_open (g ++ e ∷ []) line ≡ not (caller_on line == caller_of e)
     stays_if line owned None is opened = absurd (false≢true (ap (λ o. is_in_open g (record { txn = o; entry = line.entry })) (sym is) ∙ opened))
     stays_if line owned (Some u) is opened =
@@ -227,8 +227,8 @@ is_locked-asked holder stripes g c op shape locks = at (holders stripes (stripe_
       | inr other ↦ ap (λ b. b && list_all (λ x. x == c) xs) (ne_eqb x c other) ∙ sym (ne_eqb x c other)
     ]
 
--- The rule of locks allows a Busy exactly if the named caller is not the Busy's own and meets a
--- condition. By `Now` the named caller must hold the stripe. By `Begun` it must have begun a
+-- The rule of locks allows a Busy exactly if it names another caller, and this caller meets a
+-- condition. By the rule `Now`, it must hold the stripe. By the rule `Begun`, it must have begun a
 -- transaction.
 pub is_locked-busy : (holder : Holder) (stripes : ℕ) (g : List Entry) (c : ℕ) (op : Op) (x : ℕ) → IsShaped g → LocksHold holder stripes g
     → is_locked holder stripes g (Busy c op x) ≡ (not (x == c) && elim holder [ Now ↦ option_eq nat_eq (holder_of stripes (stripe_of stripes (key_of op)) g) (Some x) | Begun ↦ has_begun x g ])

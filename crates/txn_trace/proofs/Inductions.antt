@@ -16,8 +16,8 @@ module _ (P : List Entry → Type 0) (step : (g : List Entry) (e : Entry) → Is
       subst P (append_assoc g (e ∷ []) rest)
       (by_entries_from (g ++ e ∷ []) rest (callers_push g e callers shaped) (step g e (shape_front (g ++ e ∷ rest) g shape (e ∷ rest, refl)) callers shaped is) (subst IsShaped (sym (append_assoc g (e ∷ []) rest)) shape))
 
-  -- If a statement holds of the empty history, and each entry in right shape preserves it, then it
-  -- holds of each history in right shape.
+  -- If a statement is true for the empty history, and each entry of the right shape preserves it,
+  -- the statement is true for each history of the right shape.
   pub by_entries : P [] → (h : List Entry) → IsShaped h → P h
   by_entries none h shape = by_entries_from [] h callers_none none shape
 

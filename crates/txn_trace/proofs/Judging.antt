@@ -63,7 +63,7 @@ legal_push {holder} stripes h e legal shaped locked hold = record {
   ];
 }
 
--- A transaction that has not ended has a caller, or no entries.
+-- If a transaction has entries and has not ended, some caller is in it.
 pub empty_or_owned : (t : ℕ) (g : List Entry) (going : ended t g ≡ false) (ls : List Line) → AllByRecursion (IsOwned g) ls
     → (map (λ l. l.entry) (filter (is_of t) ls) ≡ []) ⊎ ((c : ℕ) × (txn_in g c ≡ Some t))
 empty_or_owned t g going [] owned = inl refl

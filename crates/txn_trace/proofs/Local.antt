@@ -13,8 +13,8 @@ use Rattle.txn_words.specs.Map.{Map, get, insert, remove, key_of, reply_of, afte
 use Rattle.txn_trace.specs.Alone.{AloneRun, start, number_of_maps, with_op, act_did, act_undone, act_returned, act, alone}
 use Rattle.txn_words.proofs.Maps.{get-insert, get-remove}
 
--- The maps a and b agree at each key that passes the test. At every other key a agrees with m, and
--- b agrees with n.
+-- The maps `a` and `b` agree at each key that passes the test. At every other key, `a` agrees with
+-- `m`, and `b` agrees with `n`.
 pub record Alike (keys : ℕ → Bool) (m n a b : Map) : Type 0 where
   pub inside : (k : ℕ) → keys k ≡ true → get a k ≡ get b k
   pub left : (k : ℕ) → keys k ≡ false → get a k ≡ get m k

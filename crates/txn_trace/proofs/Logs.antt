@@ -29,7 +29,8 @@ use Rattle.txn_trace.proofs.Seated.{none_before, AreSeated, seated_push, alone_b
 use Rattle.txn_trace.proofs.Undoing.{IsLogged, logged_add}
 use Rattle.txn_trace.proofs.Inductions.{by_entries}
 
--- The log after one more entry of the caller, and after an entry of another caller.
+-- An entry changes the log of its caller by `log_step`, and leaves the logs of all other callers
+-- unchanged.
 pub log_after-push : (es : List Entry) (e : Entry) → log_after (es ++ e ∷ []) ≡ log_step (log_after es) e
 log_after-push es e = fold-append log_step no_log es (e ∷ [])
 
@@ -39,7 +40,7 @@ log_after-own g e = ap log_after (own-push_in (caller_of e) g e refl) ∙ log_af
 pub log_after-other : (c : ℕ) (g : List Entry) (e : Entry) → c ≢ caller_of e → log_after (own c (g ++ e ∷ [])) ≡ log_after (own c g)
 log_after-other c g e other = ap log_after (own-push_out c g e (not_equal c (caller_of e) other))
 
--- What a phase says about the log.
+-- If an operation waits in this phase, the same operation waits in the log.
 abbrev pub PhaseLogged : Phase → Log → Type 0
 PhaseLogged (Waiting op) log = log.pending ≡ Some op
 PhaseLogged _ log = Unit {0}
@@ -172,7 +173,8 @@ act_logs keys log r r' (Returned c k) b n asks is goes =
 act_logs keys log r r' (Leave c n) b m asks is goes = subst (Logs keys log) (cc (goes)) is
 act_logs keys log r r' (Busy c op x) b n asks is goes = subst (Logs keys log) (cc (goes)) is
 
--- On whatever map a transaction runs, its caller's log agrees with the run.
+-- Each caller's log agrees with the run of the caller's open transaction, on whatever map this
+-- transaction runs.
 abbrev pub AreLogged : ℕ → List Entry → Type 0
 AreLogged stripes g = (c t : ℕ) → txn_in g c ≡ Some t → ended t g ≡ false → (m : Map) (r : AloneRun) → alone m (of t g) ≡ Some r → Logs (keys_in stripes (of t g)) (log_after (own c g)) r
 

@@ -32,7 +32,6 @@ and_false : (b : Bool) → (b && false) ≡ false
 and_false true = refl
 and_false false = refl
 
--- Whether a caller has begun a transaction, after one more entry.
 has_begun-push : (c : ℕ) (g : List Entry) (e : Entry) → has_begun c (g ++ e ∷ []) ≡ (has_begun c g || (is_began e && caller_of e == c))
 has_begun-push c g e = list_any-append (λ f. is_began f && caller_of f == c) g (e ∷ []) ∙ ap (λ b. has_begun c g || b) (or_false (is_began e && caller_of e == c))
 
@@ -48,7 +47,7 @@ has_begun-own g e = has_begun-push (caller_of e) g e ∙ ap (λ b. has_begun (ca
 pub has_begun-other : (c : ℕ) (g : List Entry) (e : Entry) → c ≢ caller_of e → has_begun c (g ++ e ∷ []) ≡ has_begun c g
 has_begun-other c g e other = has_begun-push c g e ∙ ap (λ b. has_begun c g || b) (ap (λ b. is_began e && b) (ne_eqb (caller_of e) c (λ is. other (sym is))) ∙ and_false (is_began e)) ∙ or_false (has_begun c g)
 
--- A caller that has a transaction has begun one.
+-- If `txn_in` gives a transaction for a caller, `has_begun` is true for this caller.
 pub txn_begun : (c : ℕ) (g : List Entry) → IsShaped g → is_some (txn_in g c) ≡ true → has_begun c g ≡ true
 txn_begun c g shape = by_entries (λ h. is_some (txn_in h c) ≡ true → has_begun c h ≡ true) step (λ none. absurd (false≢true none)) g shape
   where

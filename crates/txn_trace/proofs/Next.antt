@@ -54,8 +54,7 @@ seat-other d g e other = ap seat_after (own-other d g e other)
 pub log_of-other : (d : ℕ) (g : List Entry) (e : Entry) → d ≢ caller_of e → log_of d (g ++ e ∷ []) ≡ log_of d g
 log_of-other d g e other = ap (λ (l : Log). l.standing) (log_after-other d g e other)
 
--- After an entry, its caller has the seat that the entry's row in the table gives, and the log that
--- `log_step` gives.
+-- After an entry, its caller has the seat that `row` gives, and the log that `log_step` gives.
 pub seat-own : (g : List Entry) (e : Entry) → seat_after (own (caller_of e) (g ++ e ∷ [])) ≡ option_and_then (λ s. row s s.phase e) (seat_after (own (caller_of e) g))
 seat-own g e = ap seat_after (own-push_in (caller_of e) g e refl) ∙ seat_after-push (own (caller_of e) g) e
 
@@ -118,7 +117,7 @@ module _ {holder : Holder} (stripes : ℕ) (g : List Entry) (legal : IsLegal hol
   pub next_seat : seat_after (own (caller_of e) (g ++ e ∷ [])) ≡ Some next
   next_seat = seat-own g e ∙ ap (option_and_then (λ (s : Seat). row s s.phase e)) seat_is ∙ goes
 
-  -- An entry with a row in the table and the right number has the right shape.
+  -- If `row` allows the entry and the entry's number is right, the entry has the right shape.
   pub shaped_by_row : is_shaped g e ≡ true
   shaped_by_row = and_from (is_some (seat_after (own (caller_of e) (g ++ e ∷ [])))) (is_numbered g e) (ap is_some next_seat) numbered
 
@@ -186,7 +185,8 @@ module _ {holder : Holder} (stripes : ℕ) (g : List Entry) (legal : IsLegal hol
     pub serial_next : is_began e ≡ false → is_commit e ≡ false → is_locked holder stripes g e ≡ true → serial (g ++ e ∷ []) ≡ serial g
     serial_next began commit locked = serial_is g e txn legal.shape shape_next shaped_by_row commit (at_txn began)
 
-    -- A quiet entry leaves the committed map, the map `now` and the log unchanged.
+    -- If `is_quiet` is true for an entry, the entry leaves the committed map, the map `now` and the
+    -- log unchanged.
     pub quiet_next : (held : ℕ → Option ℕ) → is_quiet e ≡ true → is_locked holder stripes g e ≡ true → ((s : ℕ) → holder_of stripes s (g ++ e ∷ []) ≡ held s)
         → Next holder stripes g e next (log_of (caller_of e) g) (serial g) (now g) held
     quiet_next held quiet locked holds =
@@ -206,7 +206,8 @@ module _ {holder : Holder} (stripes : ℕ) (g : List Entry) (legal : IsLegal hol
           holder_is = holds;
         }
 
-    -- A quiet entry that asks for no key also leaves the holders of all stripes unchanged.
+    -- If `is_quiet` is true for an entry and the entry asks for no key, it also leaves the holders
+    -- of all stripes unchanged.
     pub still_next : is_quiet e ≡ true → is_locked holder stripes g e ≡ true → ((s : ℕ) → asks_in stripes s e ≡ false) → Next holder stripes g e next (log_of (caller_of e) g) (serial g) (now g) (λ s. holder_of stripes s g)
     still_next quiet locked asks = quiet_next (λ s. holder_of stripes s g) quiet locked (λ s. holder_of-other holder stripes g e callers shaped_by_row legal.shape legal.locks s (quiet_goes e quiet).1 (asks s))
 
@@ -227,7 +228,7 @@ run-own stripes g legal e t shaped commit at =
     ap (λ m. alone m (of t (g ++ e ∷ []))) (serial_is g e t legal.shape (shape_push g e legal.shape shaped) shaped commit at)
     ∙ ap (alone (serial g)) (of-push_in t g e at) ∙ alone-push (serial g) (of t g) e
 
--- An entry has the right shape if the table has a row for it and its number is right.
+-- An entry has the right shape exactly if `row` allows it and its number is right.
 pub is_shaped_is : (g : List Entry) (e : Entry) (seat : Seat) → seat_after (own (caller_of e) g) ≡ Some seat → is_shaped g e ≡ (is_some (row seat seat.phase e) && is_numbered g e)
 is_shaped_is g e seat seat_is =
     ap (λ o. is_some o && is_numbered g e) (seat-own g e ∙ ap (option_and_then (λ (s : Seat). row s s.phase e)) seat_is)

@@ -92,7 +92,7 @@ going_open t g is = turn (ended t g) (sym (is_open-ended t g) ∙ is)
     turn true h = absurd (false≢true h)
     turn false h = refl
 
--- A caller's transaction runs until it ends.
+-- If a caller is in a transaction that has not ended, `IsRunning` holds for this transaction.
 pub running_of : (g : List Entry) (c t : ℕ) → txn_in g c ≡ Some t → ended t g ≡ false → IsRunning g t
 running_of g c t is going = record { began = are_listed g c t is; going = going }
 

@@ -12,7 +12,7 @@ use Rattle.txn_trace.proofs.Shaped.{step, same as one_caller}
 use Rattle.txn_trace.proofs.Inductions.{by_entries}
 use Rattle.txn_trace.proofs.Seated.{none_before, are_seated}
 
--- The parts of a caller's entries after one more entry.
+-- One more entry changes the parts of a caller's entries by `part_after`.
 pub parts_of-push : (es : List Entry) (e : Entry) → parts_of (es ++ e ∷ []) ≡ part_after (parts_of es) e
 parts_of-push es e = fold-append part_after [] es (e ∷ [])
 

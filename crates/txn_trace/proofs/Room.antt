@@ -1,4 +1,4 @@
--- The room that is kept for the entries that callers still owe.
+-- The room that is reserved for the entries that callers may still append.
 use Rattle.std.proofs.Common.{◌≡◌, ℕ, ◌+◌, ◌-◌, ◌<◌, ◌≤◌, ◌==◌, ◌&&◌, Bool, true, false, cond, List, [], ◌∷◌, ◌++◌, length, take, slice_index, refl, ap, sym, subst, ◌∙◌, Some, None, Option, is_some, arith}
 use Rattle.std.specs.Prelude.{nat_eq, nat_lt}
 use Rattle.std.specs.List.{AllByRecursion}
@@ -25,8 +25,9 @@ use Rattle.txn_trace.proofs.Running.{has_seat}
 use Rattle.txn_trace.proofs.Seated.{the_some}
 use Rattle.txn_trace.proofs.Sums.{sum_at}
 
--- The number of places reserved for an entry: one for the entry itself, and one for each further
--- entry that its caller owes after it. No place is reserved for an entry that is owed already.
+-- The number of places that are reserved before an entry: one for the entry itself, and one for
+-- each further entry that its caller may append because of it. If a place for the entry is reserved
+-- already, the number is 0.
 abbrev pub reserved_for : Entry → ℕ
 reserved_for (Began c t) = 3
 reserved_for (Asked c op) = 1 + owed_for op
@@ -34,7 +35,7 @@ reserved_for (Saved c) = 1
 reserved_for (Leave c (Some n)) = 2
 reserved_for _ = 0
 
--- A step reserves enough for its entry, whatever its answer.
+-- Whatever a step's answer is, the step reserves at least as many places as its entry needs.
 pub reserved_enough : (step : Step) (answer : Answer) → AllByRecursion (λ e. reserved_for e ≤ reserved step) (entries_of step answer)
 reserved_enough (Begin c) (answers.Began t) = (omega arith, tt)
 reserved_enough (Ask c op) answers.Asked = (omega arith, tt)
@@ -83,15 +84,13 @@ row_fits s LeavingToEnd (Undone c) at = fits_if (1 + s.standing + 0) (nat_lt 0 s
 row_fits s LeavingToEnd (Aborted c) at = fits_if (1 + s.standing + 0) (s.standing == 0) closed_seat (λ b. omega arith)
 row_fits s q e at = tt
 
--- Before an entry, its caller has one place for each entry that it owes, and the places that are
--- reserved for the new entry. The new entry takes one of these places. The others are enough for
--- the entries that the caller owes afterwards.
+-- For the caller of an entry: `owed_by` after the entry, plus 1, is at most `owed_by` before the
+-- entry plus `reserved_for` of the entry.
 pub owed_by-row : (s next : Seat) (e : Entry) → row s s.phase e ≡ Some next → owed_by (Some next) + 1 ≤ owed_by (Some s) + reserved_for e
 owed_by-row s next e is = subst (FitsIn (owed_in s.standing s.phase + reserved_for e)) is (row_fits s s.phase e refl)
 
--- For all callers together, the new entry takes one place, and so does each entry that is owed
--- after it. The places for the entries owed before the new entry, with those reserved for the new
--- entry, are enough.
+-- For all callers together: `owed` after an entry, plus 1, is at most `owed` before the entry plus
+-- `reserved_for` of the entry.
 pub owed-push : (callers : ℕ) (g : List Entry) (e : Entry) → IsShaped g → is_shaped g e ≡ true → caller_of e < callers → owed callers (g ++ e ∷ []) + 1 ≤ owed callers g + reserved_for e
 owed-push callers g e shape shaped within =
     let c : ℕ = caller_of e in

@@ -70,7 +70,7 @@ running_txn g shape c runs = from (txn_in g c) refl
       | inr going ↦ record { txn = t; in_it = is; going = going }
     ]
 
--- An entry in right shape belongs to a transaction.
+-- An entry of the right shape belongs to a transaction.
 pub has_txn : (g : List Entry) (e : Entry) → IsShaped g → is_shaped g e ≡ true → (t : ℕ) × (txn_at g e ≡ Some t)
 has_txn g e shape shaped = from (txn_at g e) refl
   where

@@ -56,7 +56,7 @@ committed_all g (e ∷ rest) callers all shape =
 pub are_committed : (g : List Entry) → IsShaped g → AreCommitted g (txns_of is_commit g)
 are_committed g shape = committed_all [] g callers_none tt shape
 
--- In a history of the right shape each Committed entry is the last of its transaction.
+-- In a history of the right shape, `commits` lists the transactions of all Committed entries.
 pub commits_are : (g : List Entry) → IsShaped g → commits g ≡ txns_of is_commit g
 commits_are g shape = filter_all (λ t. is_committed t g) (txns_of is_commit g) (are_committed g shape)
 
@@ -104,7 +104,7 @@ any-append_last : (p : ℕ → Bool) (xs : List ℕ) (y : ℕ) → p y ≡ true 
 any-append_last p [] y is = or_left (p y) false is
 any-append_last p (x ∷ xs) y is = or_right (p x) (list_any p (xs ++ y ∷ [])) (any-append_last p xs y is)
 
--- The transaction that a caller is in is one of those with a Began entry.
+-- If a caller is in a transaction, this transaction has a Began entry.
 pub listed_push : (g : List Entry) (e : Entry) → IsListed g → IsListed (g ++ e ∷ [])
 listed_push g e listed c t is =
     subst (λ ts. list_any (λ u. u == t) ts ≡ true) (sym (txns_of-push is_began g e))

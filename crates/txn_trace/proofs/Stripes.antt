@@ -121,7 +121,7 @@ asks_more keys wide to (e ∷ es) all = (at e all.0, asks_more keys wide to es a
     at (Asked c op) h = to (key_of op) h
     at _ h = tt
 
--- The entries ask only for keys of stripes that they hold.
+-- If one of the entries asks for a key, the entries hold the stripe of this key.
 pub asks_own : (stripes : ℕ) (es : List Entry) → AllAskFor (keys_in stripes es) es
 asks_own stripes [] = tt
 asks_own stripes (e ∷ es) = (at e, asks_more (keys_in stripes es) (keys_in stripes (e ∷ es)) (λ k is. or_right (asks_in stripes (stripe_of stripes k) e) _ is) es (asks_own stripes es))

@@ -43,7 +43,7 @@ any-push_same : (p : Entry → Bool) (es : List Entry) (e : Entry) → p e ≡ f
 any-push_same p [] e is = ap (λ b. b || false) is
 any-push_same p (x ∷ es) e is = ap (λ b. p x || b) (any-push_same p es e is)
 
--- Lemmas on a caller that leaves and takes back its newest change.
+-- Lemmas on a caller that takes back its newest change.
 module _ {holder : Holder} (stripes : ℕ) (g : List Entry) (legal : IsLegal holder stripes g) (c t : ℕ) (run : AloneRun) (job : ℕ × Option ℕ) (jobs : List (ℕ × Option ℕ)) (m : Map) (ms : List Map)
     (in_t : txn_in g c ≡ Some t) (going : ended t g ≡ false) (run_is : alone (serial g) (of t g) ≡ Some run) (earlier : run.earlier ≡ m ∷ ms)
     (logged : IsLogged (keys_in stripes (of t g)) (job ∷ jobs) run.last (m ∷ ms)) (shaped : is_shaped g (Undone c) ≡ true) where
@@ -65,14 +65,14 @@ module _ {holder : Holder} (stripes : ℕ) (g : List Entry) (legal : IsLegal hol
       ⊎ ((now_at (g ++ Undone c ∷ []) q ≡ get (map_after (serial g) (of t g ++ Undone c ∷ [])) q) × (now_at g q ≡ get (map_after (serial g) (of t g)) q))
   each q = now_at-push holder stripes g (Undone c) t legal.shape legal.locks (shape_push g (Undone c) legal.shape shaped) (locks_push holder stripes g (Undone c) legal.locks refl) shaped refl in_t q refl (running_of g c t in_t going)
 
-  -- The key of the newest job gets its value from before the change.
+  -- After the Undone, the key of the newest job has the value from before the change.
   pub get-now_undone : get (now (g ++ Undone c ∷ [])) job.0 ≡ job.1
   get-now_undone = get-now (g ++ Undone c ∷ []) job.0 ∙ elim (each job.0) [
     | inl w ↦ absurd (false≢true (sym w.1 ∙ logged.0))
     | inr w ↦ w.0 ∙ ap (λ n. get n job.0) afterwards ∙ logged.1
   ]
 
-  -- Each key other than that of the newest job is unchanged.
+  -- The Undone leaves every key except that of the newest job unchanged.
   pub get-now_undone_other : (q : ℕ) → q ≢ job.0 → get (now (g ++ Undone c ∷ [])) q ≡ get (now g) q
   get-now_undone_other q other = get-now (g ++ Undone c ∷ []) q ∙ elim (each q) [
     | inl w ↦ w.0

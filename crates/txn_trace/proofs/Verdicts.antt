@@ -69,7 +69,9 @@ first_bad-found {holder} stripes h i rule bad =
     let index : 0 + length bad.front ≡ i = (let n = bad.index in omega arith) in
     ap (λ w. first_bad holder stripes [] w 0) bad.is ∙ found_after stripes [] bad.front bad.entry bad.back 0 rule bad.legal bad.breaks ∙ ap (λ n. Some (n, rule)) index
 
--- The verdict on a legal history, and on a history that is not legal.
+-- The verdict on a legal history gives the number of commits and the number of callers that are not
+-- closed. The verdict on any other history gives its first bad entry and the rule that this entry
+-- breaks.
 pub verdict-legal : {holder : Holder} (stripes : ℕ) (h : List Entry) → IsLegal holder stripes h → verdict holder stripes h ≡ Legal (how_many is_commit h) (length (running (callers_in h) h))
 verdict-legal stripes h legal = rw ((legal_iff stripes h).0 legal, verdict) refl
 
@@ -84,6 +86,7 @@ legal_or_bad {holder} stripes h = from (first_bad holder stripes [] h 0) refl
     from None is = inl ((legal_iff stripes h).1 is)
     from (Some bad) is = inr (bad.0, bad.1, first_bad_is stripes h bad.0 bad.1 is)
 
--- After a legal history one more entry is legal exactly if it breaks no rule.
+-- If one more entry follows a legal history, the history is still legal exactly if the entry breaks
+-- no rule.
 pub legal-push : {holder : Holder} (stripes : ℕ) (g : List Entry) → IsLegal holder stripes g → (e : Entry) → IsLegal holder stripes (g ++ e ∷ []) ↔ (broken holder stripes g e ≡ None)
 legal-push {holder} stripes g legal e = (λ after. fine_head holder stripes g e [] 0 (none_bad stripes g (e ∷ []) 0 after), λ fine. legal_after stripes g e legal fine)

@@ -32,8 +32,8 @@ with_op run op =
     then record run { last = after run.last op; earlier = run.last ∷ run.earlier }
     else run
 
--- Did: an operation must be waiting, and the reply must be the one that the last map gives to this
--- operation.
+-- The run after a Did. An operation must be waiting, and the reply must be the one that the last
+-- map gives to this operation.
 abbrev pub act_did : AloneRun → Option Op → Option ℕ → Option AloneRun
 act_did run None r = None
 act_did run (Some op) r =
@@ -41,13 +41,14 @@ act_did run (Some op) r =
     then Some (record (with_op run op) { pending = None })
     else None
 
--- Undone: the last map is dropped. A run that has only its first map allows no Undone.
+-- The run after an Undone, which drops the last map. A run that has only its first map allows no
+-- Undone.
 abbrev pub act_undone : AloneRun → List Map → Option AloneRun
 act_undone run [] = None
 act_undone run (m ∷ ms) = Some (record run { last = m; earlier = ms })
 
--- Returned: the run must have as many maps as the note of level `n` says. The notes of later levels
--- are dropped.
+-- The run after a Returned to level `n`. The run must have as many maps as the note of level `n`
+-- says. The notes of later levels are dropped.
 abbrev pub act_returned : AloneRun → ℕ → Option AloneRun
 act_returned run n =
     if option_eq nat_eq (slice_get run.notes n) (Some (number_of_maps run))
@@ -63,11 +64,12 @@ act run (Saved c) = Some (record run { notes = run.notes ++ number_of_maps run �
 act run (Returned c n) = act_returned run n
 act run _ = Some run
 
--- The run of a list of entries that starts with the map `m`, or None if an entry is not allowed.
+-- The run that starts with the map `m` and goes through these entries, or None if an entry is not
+-- allowed.
 abbrev pub alone : Map → List Entry → Option AloneRun
 alone m es = fold (λ run e. option_and_then (λ r. act r e) run) (Some (start m)) es
 
--- The last map of a run, or the map `m` that it began with if the run is None.
+-- The last map of a run, or the map `m` if the run is None.
 abbrev pub last_map : Map → Option AloneRun → Map
 last_map m None = m
 last_map m (Some run) = run.last

@@ -28,7 +28,7 @@ lines_from before (e ∷ h) =
 abbrev pub lines_of : List Entry → List Line
 lines_of h = lines_from (λ c. None) h
 
--- Whether an entry belongs to a transaction.
+-- Whether an entry belongs to the transaction `t`.
 abbrev pub is_of : ℕ → Line → Bool
 is_of t line = option_eq nat_eq line.txn (Some t)
 

@@ -46,7 +46,7 @@ may_name Begun stripes s g x = has_begun x g
 
 -- Whether the rule of locks allows an entry after the history `g`. An Asked is allowed if no other
 -- caller holds the stripe of its key. A Busy is allowed if it names another caller, and `may_name`
--- is true of this caller. An entry of another kind is always allowed.
+-- allows this caller. An entry of another kind is always allowed.
 abbrev pub is_locked : Holder → ℕ → List Entry → Entry → Bool
 is_locked holder stripes g (Asked c op) =
     list_all (λ x. x == c) (holders stripes (stripe_of stripes (key_of op)) g)

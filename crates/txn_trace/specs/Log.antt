@@ -27,7 +27,7 @@ log_did log (Some op) r = record {
   standing = if changes op r then (key_of op, r) ∷ log.standing else log.standing;
 }
 
--- The log after an entry. Undone takes back the newest change; the beginning and the end of a
+-- The log after an entry. An Undone removes the newest change. The beginning and the end of a
 -- transaction empty the log.
 abbrev pub log_step : Log → Entry → Log
 log_step log (Asked c op) = record log { pending = Some op }

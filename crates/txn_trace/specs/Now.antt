@@ -1,4 +1,4 @@
--- The map `now`: the committed map with the changes of the open transactions that are not taken
+-- The map `now`: the committed map, with those changes of the open transactions that are not taken
 -- back.
 use Rattle.std.specs.Prelude.{ℕ, Option, List, [], ◌∷◌, map, nat_eq, if◌then◌else◌}
 use Rattle.std.specs.Option.{option_eq}

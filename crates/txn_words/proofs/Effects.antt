@@ -10,7 +10,7 @@ use Rattle.txn_words.specs.Map.{Map, get, insert, remove, after, reply_of, key_o
 use Rattle.txn_words.specs.Shape.{changes}
 use Rattle.txn_words.proofs.Maps.{same_map, none_is, get-insert, get-remove}
 
--- An operation that is no change leaves the map unchanged.
+-- If `is_change` is false for an operation on a map, the operation leaves the map unchanged.
 pub after_unchanged : (m : Map) (op : Op) → is_change m op ≡ false → after m op ≡ m
 after_unchanged m (Put k v) h = absurd (false≢true (sym h))
 after_unchanged m (Take k) h = same_map (remove m k) m (λ q. get-remove m k q ∙ at q)
@@ -23,7 +23,7 @@ after_unchanged m (Take k) h = same_map (remove m k) m (λ q. get-remove m k q �
 after_unchanged m (Get k) h = refl
 after_unchanged m (PutIf k expected v) h = ap (λ b. cond b (insert m k v) m) h
 
--- An operation leaves every other key unchanged.
+-- An operation leaves the value at every key but its own unchanged.
 pub get-after_other : (m : Map) (op : Op) (q : ℕ) → q ≢ key_of op → get (after m op) q ≡ get m q
 get-after_other m (Put k v) q other = get-insert m k v q ∙ ap (λ b. cond b (Some v) (get m q)) (ne_eqb q k other)
 get-after_other m (Take k) q other = get-remove m k q ∙ ap (λ b. cond b None (get m q)) (ne_eqb q k other)
@@ -47,7 +47,7 @@ get-after_same m n (PutIf k expected v) q same at =
       | false ↦ same
     ])
 
--- The operation's reply shows whether the operation is a change on the map.
+-- If an operation gets its right reply, `changes` is true exactly if `is_change` is true.
 pub changes-reply : (m : Map) (op : Op) → changes op (reply_of m op) ≡ is_change m op
 changes-reply m (Put k v) = refl
 changes-reply m (Take k) = refl

@@ -37,13 +37,11 @@ pub times_reverse : (k : ℕ) (ks : List ℕ) → times k (reverse ks) ≡ times
 times_reverse k [] = refl
 times_reverse k (x ∷ ks) = ap (times k) (reverse-append (x ∷ []) ks) ∙ times_append k (reverse ks) (x ∷ []) ∙ omega (arith, times_reverse k ks)
 
--- A stripe at some position of a list occurs in the list.
 pub times_at : (ks : List ℕ) (i k : ℕ) → slice_get ks i ≡ Some k → 0 < times k ks
 times_at [] i k e = absurd (none-some k e)
 times_at (x ∷ ks) zero k e = subst (λ (j : ℕ). 0 < times k (j ∷ ks)) (sym (same_Some x k e)) (omega (arith, times_same k ks))
 times_at (x ∷ ks) (suc i) k e = omega (arith, times_at ks i k e)
 
--- A stripe that occurs in a list is at some position of the list.
 pub at_times : (ks : List ℕ) (k : ℕ) → 0 < times k ks → (i : ℕ) × (slice_get ks i ≡ Some k)
 at_times [] k h = absurd (omega arith)
 at_times (x ∷ ks) k h = dite (ℕ_discrete x k) (λ (e : x ≡ k). (0, ap (λ (y : ℕ). Some y) e))
@@ -72,7 +70,7 @@ times_removed_other k j (x ∷ ks) ne = dite (ℕ_discrete x k)
     (λ (e : x ≡ k). subst (λ (y : ℕ). times j (removed k (y ∷ ks)) ≡ times j (y ∷ ks)) (sym e) (ap (times j) (removed_same k ks) ∙ sym (times_other j k ks (λ y. ne (sym y)))))
     (λ no. let a : times j (removed k (x ∷ ks)) ≡ times j (x ∷ removed k ks) = ap (times j) (removed_other k x ks no) in a ∙ ap (λ (n : ℕ). cond (eqb x j) 1 0 + n) (times_removed_other k j ks ne))
 
--- No stripe occurs more often after a removal.
+-- If a stripe is removed from a list, no stripe occurs more often than before.
 pub times_removed_le : (k j : ℕ) (ks : List ℕ) → times j (removed k ks) ≤ times j ks
 times_removed_le k j ks = dite (ℕ_discrete j k)
     (λ (e : j ≡ k). subst (λ (i : ℕ). times i (removed k ks) ≤ times i ks) (sym e) (omega (arith, times_removed_same k ks))) (λ ne. omega (arith, times_removed_other k j ks ne))
@@ -110,19 +108,19 @@ zeros (suc n) zero = refl
 zeros (suc n) (suc k) = zeros n k
 
 module _ {A : Type 0} where
-  -- A position that has an element is within the list.
+  -- If a list has an element at position `i`, `i` is below the length of the list.
   pub within : (l : List A) (i : ℕ) (a : A) → get_elem? l i ≡ some a → i < length l
   within [] i a e = absurd (some-ne-none a (sym e))
   within (x ∷ xs) zero a e = omega arith
   within (x ∷ xs) (suc i) a e = let h : i < length xs = within xs i a e in omega arith
 
-  -- After an element is added at the end of a list, each element is an old element or the new one.
+  -- If `a` is added at the end of a list, each element of the new list is `a` at the last position,
+  -- or an element of the old list at its old position.
   pub at_end : (l : List A) (a b : A) (i : ℕ) → get_elem? (l ++ a ∷ []) i ≡ some b → (get_elem? l i ≡ some b) ⊎ ((i ≡ length l) × (a ≡ b))
   at_end [] a b zero e = inr (refl, some-injective a b e)
   at_end [] a b (suc i) e = absurd (some-ne-none b (sym e))
   at_end (x ∷ xs) a b zero e = inl e
   at_end (x ∷ xs) a b (suc i) e = ⊎_elim (λ (t : get_elem? xs i ≡ some b). inl t) (λ (t : (i ≡ length xs) × (a ≡ b)). inr (omega arith, t.1)) (at_end xs a b i e)
 
-  -- An element that is read from a list of one element is that element, and its position is 0.
   pub only : (a b : A) (i : ℕ) → get_elem? (a ∷ []) i ≡ some b → (i ≡ 0) × (a ≡ b)
   only a b i e = ⊎_elim (λ z. absurd (some-ne-none b (sym z))) (λ t. t) (at_end [] a b i e)

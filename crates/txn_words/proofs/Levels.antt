@@ -17,7 +17,7 @@ use Rattle.txn_words.specs.Shape.{Seat, closed_seat, changes, row, seat_after}
 abbrev pub IsRisingList : List ℕ → Type 0
 IsRisingList kept = (i j : ℕ) → i ≤ j → j < length kept → get_or kept i 0 ≤ get_or kept j 0
 
--- Each level keeps at most this number of changes.
+-- Each level keeps at most `standing` changes.
 abbrev pub AreWithin : ℕ → List ℕ → Type 0
 AreWithin standing kept = (i : ℕ) → i < length kept → get_or kept i 0 ≤ standing
 

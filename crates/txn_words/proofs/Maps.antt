@@ -36,7 +36,8 @@ get-remove m k q =
     find-where_key nat_cmp (λ x. not (eq_by_cmp nat_cmp k x)) q (λ x t. ap (λ r. not (is_eq r)) (sym (alike_right nat_cmp_total q x k t))) m.rows
     ∙ cond_not (eq_by_cmp nat_cmp k q) _ _ ∙ ap (λ b. cond b None (get m q)) ((eq_by_cmp_equiv nat_cmp_total).symm k q ∙ unsigned_tied q k)
 
--- An inserted key has a value, and a removed one has none.
+-- After an insert, the inserted key has the inserted value. After a remove, the removed key has no
+-- value.
 pub get-insert-here : (m : Map) (k v : ℕ) → get (insert m k v) k ≡ Some v
 get-insert-here m k v = get-insert m k v k ∙ ap (λ b. cond b (Some v) (get m k)) (eq-eqb k k refl)
 

@@ -17,8 +17,8 @@ use Rattle.split_key.proofs.SortLemmas.{lower_from, before_by_split, before_by_k
 use Rattle.txn_words.specs.Map.{Map, get, count_of}
 use Rattle.txn_words.specs.Ordered.{split_cmp, ordered}
 
--- The order of keys by their split keys is total. So is `split_cmp`, by which only equal keys
--- compare as equal.
+-- Comparing keys by their split keys is a total order. So is `split_cmp`, and two keys that are
+-- equal by `split_cmp` are the same key.
 by_split_total : IsTotalOrder (λ a b. nat_cmp (split a) (split b))
 by_split_total = record {
   antisymm = λ a b. nat_cmp_total.antisymm (split a) (split b);
@@ -60,7 +60,7 @@ split_cmp_less a b before = elim (lower_from (regular_at a) (regular_at b) befor
 abbrev pub value_at : ℕ → List (ℕ × ℕ) → Option ℕ
 value_at k es = find split_cmp k es
 
--- The keys rise strictly by split_cmp.
+-- The keys of the pairs rise strictly by `split_cmp`.
 abbrev pub IsSortedBySplit : List (ℕ × ℕ) → Type 0
 IsSortedBySplit es = T (is_sorted split_cmp es)
 
@@ -74,7 +74,7 @@ sorted-puts : (rows es : List (ℕ × ℕ)) → IsSortedBySplit es → IsSortedB
 sorted-puts [] es is = is
 sorted-puts (row ∷ rows) es is = sorted-puts rows (put split_cmp row.0 row.1 es) (is_sorted-put split_cmp split_cmp_total row.0 row.1 es is)
 
--- The ordered pairs of a map rise strictly.
+-- The pairs in `ordered m` rise strictly by `split_cmp`.
 pub sorted-ordered : (m : Map) → IsSortedBySplit (ordered m)
 sorted-ordered m = sorted-puts m.rows [] tt
 
@@ -119,12 +119,12 @@ pub or_else_none : (o : Option ℕ) → or_else o None ≡ o
 or_else_none None = refl
 or_else_none (Some v) = refl
 
--- At each key, the ordered pairs have the same value as the map.
+-- Looking a key up in the list `ordered m` and in the map `m` gives the same value.
 pub value_at-ordered : (m : Map) (k : ℕ) → value_at k (ordered m) ≡ get m k
 value_at-ordered m k = value_at-puts k m.rows [] m.rising ∙ or_else_none (get m k)
 
--- If a list rises by `split_cmp` and has the map's value at each key, it is the list of the map's
--- ordered pairs.
+-- If a list of pairs rises strictly by `split_cmp`, and looking a key up in the list and in the map
+-- `m` always gives the same value, the list equals `ordered m`.
 pub ordered_is : (m : Map) (es : List (ℕ × ℕ)) → IsSortedBySplit es → ((k : ℕ) → value_at k es ≡ get m k) → es ≡ ordered m
 ordered_is m es sorted same = same_entries split_cmp split_cmp_total split_cmp-IsAntisymmetric es (ordered m) sorted (sorted-ordered m) (λ k. same k ∙ sym (value_at-ordered m k))
 
@@ -147,7 +147,7 @@ length-puts (row ∷ rows) es rows_rise es_rise fresh =
           ∙ fresh k (ap (λ b. is_some (cond b (Some row.1) (find nat_cmp k rows))) (unsigned_tied k row.0 ∙ ne_eqb k row.0 other) ∙ there)
     ]
 
--- There are as many ordered pairs as the map has keys.
+-- The list `ordered m` has as many pairs as the map `m` has keys.
 pub length-ordered : (m : Map) → length (ordered m) ≡ count_of m
 length-ordered m = let same : length (puts [] m.rows) ≡ 0 + length m.rows = length-puts m.rows [] m.rising tt (λ k there. refl) in omega arith
 
@@ -160,13 +160,13 @@ below_sorted : (pair : ℕ × ℕ) (rest : List (ℕ × ℕ)) → AllByRecursion
 below_sorted pair [] below = tt
 below_sorted pair (other ∷ rest) below = pair_both _ _ (subst (λ o. T (is_lt o)) (sym (split_cmp_less pair.0 other.0 below.0)) tt) (below_sorted pair rest below.1)
 
--- A list that rises by sort keys rises by split_cmp too.
+-- If a list of pairs rises by sort keys, it rises by `split_cmp` too.
 pub sorted-rises : (es : List (ℕ × ℕ)) → Rises es → IsSortedBySplit es
 sorted-rises [] rises = tt
 sorted-rises (pair ∷ rest) rises = pair_both _ _ (below_sorted pair rest rises.0) (sorted-rises rest rises.1)
 
--- If a list rises strictly by sort keys and has the map's value at each key, it is the list of the
--- map's ordered pairs.
+-- If a list of pairs rises strictly by sort keys, and looking a key up in the list and in the map
+-- `m` always gives the same value, the list equals `ordered m`.
 pub ordered_rising : (m : Map) (es : List (ℕ × ℕ)) → Rises es → ((k : ℕ) → value_at k es ≡ get m k) → es ≡ ordered m
 ordered_rising m es rises same = ordered_is m es (sorted-rises es rises) same
 
@@ -188,7 +188,7 @@ above_sorted k (other ∷ rest) below =
         by_keys (nat_cmp k other.0) refl same (subst (λ o. T (is_lt (ordering_then o (nat_cmp k other.0)))) is less)
     from Greater is less = absurd (subst (λ o. T (is_lt (ordering_then o (nat_cmp k other.0)))) is less)
 
--- A list that rises by split_cmp rises by sort keys too.
+-- If a list of pairs rises by `split_cmp`, it rises by sort keys too.
 pub rises-sorted : (es : List (ℕ × ℕ)) → IsSortedBySplit es → Rises es
 rises-sorted [] sorted = tt
 rises-sorted (pair ∷ rest) sorted =
@@ -232,8 +232,8 @@ value_at-among k v (other ∷ rest) sorted among =
           ∙ value_at-among k v rest parts.1 later
     ]
 
--- If a list rises strictly by sort keys and has exactly the map's pairs, it is the list of the
--- map's ordered pairs.
+-- If a list of pairs rises strictly by sort keys and has exactly the pairs of the map `m`, the list
+-- equals `ordered m`.
 pub ordered_of_pairs : (m : Map) (es : List (ℕ × ℕ)) → Rises es → ((k v : ℕ) → IsAmong (k, v) es → get m k ≡ Some v) → ((k v : ℕ) → get m k ≡ Some v → IsAmong (k, v) es) → es ≡ ordered m
 ordered_of_pairs m es rises within all = ordered_rising m es rises (λ k. from k (value_at k es) refl)
   where

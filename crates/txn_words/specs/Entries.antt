@@ -7,7 +7,7 @@ use Rattle.txn_words.specs.declared.answer.Answer.TheVariants as answers
 use Rattle.txn_words.specs.declared.entry.Entry.{Entry}
 use Rattle.txn_words.specs.declared.entry.Entry.TheVariants as entries
 
--- The entries, at most one, that a step with this answer adds to the history.
+-- The entries that a step with this answer adds to the history. There is at most one.
 abbrev pub entries_of : Step → Answer → List Entry
 entries_of (Begin c) (answers.Began t) = entries.Began c t ∷ []
 entries_of (Ask c op) answers.Asked = entries.Asked c op ∷ []

@@ -19,8 +19,8 @@ use Rattle.txn_words.specs.declared.step.Step.{Step}
 use Rattle.txn_words.specs.declared.step.Step.TheVariants as steps
 use Rattle.txn_words.specs.Kinds.{caller_of}
 
--- The operation of this kind with key `k`, value `v` and expected value `e`. A number that the kind
--- lacks is ignored.
+-- The operation of this kind with key `k`, value `v` and expected value `e`. A number that this
+-- kind of operation does not have is ignored.
 abbrev pub packed_op : OpKind → ℕ → ℕ → ℕ → Op
 packed_op op_kinds.Put k v e = ops.Put k v
 packed_op op_kinds.Take k v e = ops.Take k
@@ -37,7 +37,7 @@ packed_action action_kinds.Help op n v e = actions.Help n
 packed_action action_kinds.Abort op n v e = actions.Abort
 
 -- The entry of this kind by caller `c`. `n` is its operation's key, its reply, its level, or the
--- number of a transaction or a commit. `x` is the holder that it names.
+-- number of a transaction or a commit. `x` is the holder that the entry names.
 abbrev pub packed_entry : Kind → OpKind → ℕ → ℕ → ℕ → ℕ → ℕ → Entry
 packed_entry kinds.Began op c n v e x = entries.Began c n
 packed_entry kinds.Asked op c n v e x = entries.Asked c (packed_op op n v e)

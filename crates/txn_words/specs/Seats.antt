@@ -37,7 +37,8 @@ has_job seat = elim seat.phase [
 abbrev pub has_target : Seat → Bool
 has_target seat = is_waiting seat.phase || has_job seat
 
--- The tests of a step that needs an open transaction with nothing unfinished.
+-- The tests that refuse a step if the caller has no open transaction, is taking changes back, or
+-- has an unfinished operation.
 abbrev pub unready_tests : Phase → List (Bool × Refusal)
 unready_tests phase =
     (is_closed phase, NotOpen) ∷ (is_leaving phase, Leaving)

@@ -12,8 +12,8 @@ use Rattle.txn_words.specs.declared.seat.Phase.{Phase}
 use Rattle.txn_words.specs.declared.seat.Phase.TheVariants.{Closed, Opened, Waiting, LeavingTo, LeavingToEnd}
 use Rattle.txn_words.specs.Kinds.{caller_of, is_began, is_commit}
 
--- A caller's phase, how many of its changes stand, and how many changes stood at each level. No
--- change stood at level 0.
+-- A caller's phase, the number of its standing changes, and, for each of its levels, the number of
+-- changes that stood when the level was set. For level 0 this number is 0.
 pub record Seat : Type 0 where
   pub phase : Phase
   pub standing : ℕ

@@ -31,14 +31,15 @@ max_stripes = 4096
 abbrev pub max_buckets : ℕ
 max_buckets = 65536
 
--- There are 1 to `max_callers` callers and 1 to `max_stripes` stripes, and the number of buckets is
--- a power of two from 2 to `max_buckets`.
+-- True if there are 1 to `max_callers` callers and 1 to `max_stripes` stripes, and the number of
+-- buckets is a power of two from 2 to `max_buckets`.
 abbrev pub are_limits : ℕ → ℕ → ℕ → Bool
 are_limits callers stripes buckets =
     is_within 1 max_callers callers && is_within 1 max_stripes stripes
     && is_within 2 max_buckets buckets && is_power_of_two buckets
 
--- The limits with these numbers, which allow every key, or an error if a number is out of range.
+-- The limits with these numbers, or an error if a number is out of range. The limits allow every
+-- key.
 abbrev pub limits_of : ℕ → ℕ → ℕ → Result Sizes Refusal
 limits_of callers stripes buckets =
     if are_limits callers stripes buckets

@@ -18,7 +18,8 @@ module _ {J : Type 0} where
   jobs_in-push (None ∷ rest) job = jobs_in-push rest job
   jobs_in-push (Some first ∷ rest) job = ap (λ jobs. first ∷ jobs) (jobs_in-push rest job)
 
-  -- If one more place with a job is added, each place still has its job.
+  -- If every place holds a job and one more place with a job is added, every place still holds a
+  -- job.
   pub AreThere-push : (places : List (Option J)) (job : J) → AreThere places → AreThere (places ++ Some job ∷ [])
   AreThere-push [] job there = tt
   AreThere-push (None ∷ rest) job there = absurd there
@@ -43,7 +44,7 @@ module _ {J : Type 0} where
       let same : length (jobs ++ job ∷ []) - 1 ≡ length jobs = omega (arith, length_push jobs job) in
       ap (slice_get (jobs ++ job ∷ [])) same ∙ slice_get-push jobs job
 
-  -- The newest place was taken out with its job. The places `rest` remain.
+  -- The last place was removed. It held the newest job, which is `job`. The places `rest` remain.
   pub record IsPopped (places rest : List (Option J)) (job : Option J) : Type 0 where
     pub some : IsSome job
     pub one : length (option_to_list job) ≡ 1
@@ -51,7 +52,7 @@ module _ {J : Type 0} where
     pub jobs : jobs_in places ≡ jobs_in rest ++ option_to_list job
     pub there : AreThere rest
 
-  -- If the last place is taken out of places that each hold a job, `IsPopped` holds.
+  -- If every place holds a job and the last place is removed, `IsPopped` holds.
   pub popped : (places rest : List (Option J)) (job : Option J) → places ≡ rest ++ job ∷ [] → AreThere places → IsPopped places rest job
   popped places rest None is there = absurd (none_newest rest (subst AreThere is there))
   popped places rest (Some job) is there =
@@ -74,13 +75,13 @@ module _ {J : Type 0} where
   found_inside None job same = let none : ⊥ = cc in absurd none
   found_inside (Some inside) job same = let is : job ≡ Some inside = cc in (is, subst IsSome (sym is) refl)
 
-  -- The newest place holds this job, which is the newest job.
+  -- `job` is the job in the last place, and it is the newest job.
   pub record IsNewest (places : List (Option J)) (job : Option J) : Type 0 where
     pub some : IsSome job
     pub last : job ≡ slice_get (jobs_in places) (length (jobs_in places) - 1)
     pub any : 0 < length (jobs_in places)
 
-  -- If each place holds a job and this job is in the last place, `IsNewest` holds.
+  -- If every place holds a job, the job in the last place is the newest: `IsNewest` holds.
   pub newest : (places : List (Option J)) (job : Option J) → AreThere places → slice_get places (length places - 1) ≡ Some job → IsNewest places job
   newest places job there is =
       let many : length (jobs_in places) ≡ length places = length_jobs_in places there in

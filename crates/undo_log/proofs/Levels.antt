@@ -22,7 +22,7 @@ IsRising-take low ks high zero there rising = omega arith
 IsRising-take low [] high (suc n) there rising = absurd (omega (arith, there))
 IsRising-take low (k ∷ ks) high (suc n) there rising = (rising.0, IsRising-take k ks high n (omega (arith, there)) rising.1)
 
--- No number is above the bound.
+-- If `IsRising` holds, no number is above the upper bound.
 rising_within : (low : ℕ) (ks : List ℕ) (high n : ℕ) → n ≤ length ks → IsRising low ks high → get_or (low ∷ ks) n 0 ≤ high
 rising_within low [] high zero there rising = rising
 rising_within low [] high (suc n) there rising = absurd (omega (arith, there))
@@ -71,7 +71,8 @@ module _ {J : Type 0} (before after : J → List ℕ) where
   IsChain_pop now (first ∷ jobs) job chain =
       (chain.0 ∙ words_at-push now jobs job 0 (omega arith), IsChain_pop now jobs job chain.1)
 
-  -- A log stays undoable with one more job, whose change led from the words `was` to `now`.
+  -- If a log is undoable and a change leads from the words `was` to the words `now`, the log is
+  -- still undoable after the job of this change is pushed.
   pub IsUndoable-push : (was now : List ℕ) (log pushed : LogAt J) (job : J) → was ≡ before job → now ≡ after job → pushed.jobs ≡ log.jobs ++ job ∷ [] → pushed.kept ≡ log.kept → IsUndoable before after was log → IsUndoable before after now pushed
   IsUndoable-push was now log pushed job fits gives jobs kept undoable =
       let chain : AreConnected before after (before job) log.jobs = subst (λ w. AreConnected before after w log.jobs) fits undoable.chain in
@@ -89,7 +90,7 @@ module _ {J : Type 0} (before after : J → List ℕ) where
       λ k within. ap (λ js. words_at before now js k) jobs ∙ words_at-push now log.jobs job k within ∙ ap (λ w. words_at before w log.jobs k) (sym fits) in
       ap (λ ks. map (words_at before now pushed.jobs) (0 ∷ ks)) kept ∙ map_rising (words_at before now pushed.jobs) (words_at before was log.jobs) 0 log.kept (length log.jobs) nested same
 
-  -- A log stays undoable with one more savepoint, which keeps all jobs.
+  -- If a log is undoable, it is still undoable after a savepoint is added that keeps all jobs.
   IsUndoable-save : (now : List ℕ) (log saved : LogAt J) → saved.jobs ≡ log.jobs → saved.kept ≡ log.kept ++ length log.jobs ∷ [] → IsUndoable before after now log → IsUndoable before after now saved
   IsUndoable-save now log saved jobs kept undoable = record {
     chain = subst (AreConnected before after now) (sym jobs) undoable.chain;
@@ -143,7 +144,7 @@ module _ {J : Type 0} (before after : J → List ℕ) where
             ∙ way.words k (omega (arith, within, shorter));
       }
 
-  -- The words after the job that is taken out are the current words.
+  -- While `IsOnTheWay` holds, the current words are the words after the newest job.
   pub on_the_way_fits : (start now : List ℕ) (old log : LogAt J) (jobs : List J) (job : J) (level : ℕ) → IsOnTheWay start now old log level → log.jobs ≡ jobs ++ job ∷ [] → now ≡ after job
   on_the_way_fits start now old log jobs job level way is = newest_fits now jobs job (subst (AreConnected before after now) is way.chain)
 
@@ -154,7 +155,8 @@ module _ {J : Type 0} (before after : J → List ℕ) where
     pub levels : levels_of before now cut ≡ take (level + 1) (levels_of before start old)
     pub words : slice_get (levels_of before start old) level ≡ Some now
 
-  -- If `IsOnTheWay` holds and no job above the level is left, a cut at the level gives `IsCutAt`.
+  -- If `IsOnTheWay` holds and no job above the level remains, cutting the log at the level gives
+  -- `IsCutAt`.
   pub on_the_way_end : (start now : List ℕ) (old log cut : LogAt J) (level : ℕ) → level ≤ length old.kept → IsUndoable before after start old → IsOnTheWay start now old log level → length log.jobs ≤ kept_at log.kept level → log.jobs ≡ cut.jobs → cut.kept ≡ take level log.kept → IsCutAt start now old cut level
   on_the_way_end start now old log cut level there undoable way none_above jobs kept =
       let all_kept : length cut.jobs ≡ kept_at old.kept level =

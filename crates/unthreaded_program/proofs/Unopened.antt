@@ -10,8 +10,8 @@ use Rattle.command_line.specs.declared.no_call.NoCall.TheVariants as reasons
 use Rattle.command_line.specs.Words.{asked, asked_of}
 use Rattle.unthreaded_program.specs.Opening.{IsUnopened, memory_or, of_words}
 
--- If `spoken` has words, they are equal to `words`. So if `P` holds of `words`, it holds of the
--- words in `spoken`.
+-- Assume that the words of `spoken`, if it has any, are equal to `words`. If `P` holds for `words`,
+-- it then holds for the words of `spoken`.
 pub of_known : (spoken : Option (List (List ℕ))) (words : List (List ℕ)) (P : List (List ℕ) → Type 0) → IfSome spoken (λ known. words ≡ known) → P words → IfSome spoken P
 of_known None words P same holds = tt
 of_known (Some known) words P same holds = subst P same holds

@@ -73,7 +73,7 @@ all_answered limits callers visits core answers done = record {
       got_at_close visit reply its.me core.limits.stripes core.history its.promised done.legal its.own;
 }
 
--- The visitor has put the value, and has then got the value at the key.
+-- If the visitor has put the value and has then got the value at the key, `HasDone` holds.
 pub has_done : {S E : Type 0} (visit : Visit) (before : Option ℕ) (k m l : MutBor (Token S)) (result : Result (Option ℕ) E)
     → m.now.seen ≡ k.now.seen ++ Asked k.now.number (Put visit.key visit.value) ∷ Did k.now.number before ∷ [] → Keeps k m
     → IfOk result (λ reply. l.now.seen ≡ m.now.seen ++ Asked m.now.number (Get visit.key) ∷ Did m.now.number reply ∷ []) → Keeps m l
@@ -90,7 +90,7 @@ has_done visit before k m l (Ok reply) put first got second =
     }
 has_done visit before k m l (Err e) put first got second = got
 
--- The visit was made in a transaction, and this transaction was committed.
+-- If the visit was made in a transaction, and this transaction was committed, `HasVisited` holds.
 pub has_visited : {S : Type 0} (visit : Visit) (reply : Option ℕ) (base opened done l : Token S) (txn place : ℕ) → IsRun base opened done l txn place → HasDone visit reply opened done → HasVisited visit reply l
 has_visited visit reply base opened done l txn place run work =
     let c : ℕ = base.number in

@@ -5,12 +5,10 @@ use Rattle.split_key.specs.Split.{IsAncestor, ancestor_of}
 use Rattle.list_steps.proofs.SweepLemmas.{before_marks, head_before_marks}
 use Rattle.map_ops.proofs.table.sweep_start.Goals as goal
 
--- A bucket is its own ancestor.
 own_ancestor : (bucket : ℕ) → IsAncestor bucket bucket
 unfolding ancestor_of
 own_ancestor bucket = record { steps = 0; reached = refl }
 
--- If an option is `Some x` and a statement holds of the option's value, the statement holds of `x`.
 at_some : {A : Type 0} (P : A → Type 0) (o : Option A) (x : A) → o ≡ Some x → IfSome o P → P x
 at_some {A = A} P o x is holds = subst (λ (o : Option A). IfSome o P) is holds
 

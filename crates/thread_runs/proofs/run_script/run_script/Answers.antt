@@ -19,7 +19,7 @@ loop-preserved g c =
       subst (λ (h : Heard). IsBefore c.args.me.now.number c.args.me.now.limits.half c.args.script.now c.args.me.now.seen h c.grow.new.me.broken c.grow.new.me.seen) (sym c.go_on.ensures) next,
     )
 
--- If a help ends with `OutOfStep`, the script ends.
+-- If a call for help ends with `OutOfStep`, the script ends.
 pub returns-then-not-grow : goal.returns-then-not-grow
 returns-then-not-grow g c =
     let inv = c.loop.invariant in
