@@ -159,8 +159,8 @@ array_is x ds is = ap (or_fault faults.Member) is
 abbrev read_of : Bool → List Data → Result (List TheEntry) FileFault
 read_of o ds = pieces_from (entry_in o false) parts.Entry 0 ds
 
--- The version, the number of stripes and the entries if `taken` is true, and the fault `Limit`
--- otherwise. `taken` means that the version and the number of entries are in range.
+-- If `taken` is true, the result is the version, the number of stripes and the entries. Otherwise
+-- it is the fault `Limit`. `taken` means that the version and the number of entries are in range.
 abbrev numbered : ℕ → ℕ → List TheEntry → Bool → Result (ℕ × List ℕ × List TheEntry) FileFault
 numbered v s ps taken = if taken then Ok (v, s ∷ [], ps) else Err faults.Limit
 

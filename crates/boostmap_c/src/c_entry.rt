@@ -49,7 +49,7 @@ pub struct CEntry {
     pub caller: u64,
     /// The operation's key.
     pub key: u64,
-    /// The operation's value or, for did, the reply.
+    /// The operation's value. For a `did`, the reply.
     pub value: u64,
     /// The value that a `put if` operation expects.
     pub expected: u64,

@@ -108,14 +108,15 @@ impl Table {
         Ok(Table { list, buckets })
     }
 
-    /// Prepares an operation. Unless the operation is a get, this takes the spare that it needs, so
-    /// that it needs no memory from here on. The content and the list of pairs are unchanged.
+    /// Prepares an operation. Unless the operation is a get, this takes its spare, so that the
+    /// operation needs no memory from here on. The content and the list of pairs are unchanged.
     ///
     /// # Errors
     ///
-    /// A get is never refused. Any other operation is refused with `StampsUsedUp` if no stamp is
-    /// left, since the last one was 2^64 - 2; else with `NoMemory` if memory is refused or the list
-    /// has no place left. Each leaves the table unchanged.
+    /// A get is never refused. Any other operation may be refused. The table is then unchanged.
+    ///
+    /// - `StampsUsedUp` if no stamp is left. The last stamp is 2^64 - 2.
+    /// - Otherwise `NoMemory` if memory is refused, or if the list has no place left.
     ///
     /// # Cost
     ///

@@ -181,8 +181,8 @@ module _ (old : Slab SlotAt) (head changes last count marked : ℕ) (is : IsKept
       let place_is = next_is (get old) (nodes_in old head) pred before is.laid_out.chain linked is_before ∙ next in
       linked_node (get old) (nodes_in old head) place is.laid_out.chain (linked_more _ _ (next_linked (nodes_in old head) pred place place_is).1)
 
-  -- If the node at `pred` names `place` as its next place, the marked node right after `pred` has
-  -- the sort key of the node in the slot at `place`.
+  -- `place` is the place that follows `pred` in the list, and the node there is marked. Its sort
+  -- key is the one that its slot has.
   pub behind_at : (pred place : ℕ) (before node : Node) (behind : IsBeforeMarked (nodes_in old head) pred) → get old pred ≡ Some (Linked before) → before.next ≡ Some place → get old place ≡ Some (Linked node) → behind.node.at ≡ node.at
   behind_at pred place before node behind is_before next is_node =
       let nodes = nodes_in old head in

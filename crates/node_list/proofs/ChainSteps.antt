@@ -71,8 +71,9 @@ starts_changed (n ∷ rest) head place change same starts = elim (eqb_tells n.pl
       rw apart.0 (record { node = starts.node; is = starts.is; place = starts.place; at = starts.at; kind = starts.kind })
 ]
 
--- If the slot at `pred` gets the new node's place as its next place, and the new node's slot gets
--- the old next place of `pred`, the chain becomes `linked_after`.
+-- A node is linked after `pred` by two writes: the slot of `pred` gets the new node's place, and
+-- the slot of the new node gets the place that followed `pred` before. The chain is then
+-- `linked_after`.
 pub chain_linked : (at new : ℕ → Option SlotAt) (nodes : List NodeAt) (pred : ℕ) (x : NodeAt) (before : Node) → IsChain at nodes → IsSpread nodes → AbsentFrom x.place nodes → at pred ≡ Some (Linked before) → new pred ≡ Some (Linked (record before { next = Some x.place })) → new x.place ≡ Some (Linked (stored_node x before.next)) → ((other : ℕ) → other ≢ pred → other ≢ x.place → new other ≡ at other) → IsChain new (linked_after nodes pred x)
 unfolding IsChain IsSpread linked_after
 chain_linked at new [] pred x before chain apart absent is written x_is others = tt
@@ -97,8 +98,8 @@ chain_linked at new (n ∷ rest) pred x before chain apart absent is written x_i
 renamed : (before behind : Node) (n m : NodeAt) (next after : Option ℕ) → before ≡ stored_node n next → behind ≡ stored_node m after → record before { next = behind.next } ≡ stored_node n after
 renamed before behind n m next after first second = ap₂ (λ (b c : Node). record b { next = c.next }) first second
 
--- If the slot at `pred` gets the next place of the node right after `pred`, the chain becomes
--- `unlinked_after`.
+-- The node right after `pred` is unlinked by a write to the slot of `pred`: this slot gets the
+-- place that follows the unlinked node. The chain is then `unlinked_after`.
 pub chain_unlinked : (at new : ℕ → Option SlotAt) (nodes : List NodeAt) (pred place : ℕ) (before behind : Node) → IsChain at nodes → IsSpread nodes → at pred ≡ Some (Linked before) → before.next ≡ Some place → at place ≡ Some (Linked behind) → new pred ≡ Some (Linked (record before { next = behind.next })) → ((other : ℕ) → other ≢ pred → new other ≡ at other) → IsChain new (unlinked_after nodes pred)
 unfolding IsChain IsSpread unlinked_after
 chain_unlinked at new [] pred place before behind chain apart is next_is is_behind written others = tt

@@ -80,7 +80,8 @@ impl NodeRef {
 /// the place of the next node.
 #[derive(Clone, Copy, Debug)]
 pub struct Node {
-    /// The node's position in the order of the list. The key of a regular node is part of it.
+    /// The node's position in the order of the list. The position of a regular node contains the
+    /// node's key.
     pub at: SortKey,
     /// A dummy or a regular node.
     pub kind: Kind,

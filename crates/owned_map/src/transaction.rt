@@ -241,9 +241,9 @@ impl Transaction<'_> {
         self.map.save(caller)
     }
 
-    /// Takes back every change since a savepoint, newest first. The map is then the one at which
-    /// the savepoint was set. That savepoint is kept, later ones are dropped, and stripes stay
-    /// held. Level 0 is the beginning of the transaction.
+    /// Takes back every change since a savepoint, newest first. The map then has the content that
+    /// it had when the savepoint was set. That savepoint is kept, later ones are dropped, and
+    /// stripes stay held. Level 0 is the beginning of the transaction.
     ///
     /// # Errors
     ///

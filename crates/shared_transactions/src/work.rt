@@ -130,7 +130,7 @@ fn go_all<L: Ledger + Send + Sync, R: Threads + Wait + Sync, W: Work<R> + Send +
     thread::map_vec(rt, seated, &|s| go(rt, map, s))
 }
 
-/// Splits works that are done into a list of their callers and a list of their outcomes.
+/// Splits a list of finished works into a list of their callers and a list of their outcomes.
 ///
 /// # Errors
 ///

@@ -59,8 +59,8 @@ moved_busy map a b c op holder x y = moved_then map a b c (λ k. Busy k op holde
     (subst (λ (jobs : List (ℕ × Option ℕ)). MovesHand map b (Busy (known b.seat).number op holder ∷ undoing (known b.seat).number jobs (Aborted (known b.seat).number)) c)
     (due_same (known a.seat) (known b.seat) x.number_is (own_same (stripes_of map) (known a.seat).number (known a.seat).seen (known b.seat).seen x.goes)) y)
 
--- If a hand makes a step to the hand `b`, it also makes a step to each hand whose seat has the same
--- view as the seat of `b`.
+-- Steps of a hand depend only on the views of seats: if a step leads to the hand `b`, it also leads
+-- to any hand whose seat has the same view as the seat of `b`.
 pub moved_known : (map : StripedMap) (a b : Hand) (es : List Entry) → MovesHand map a es b → (c : Hand) → known c.seat ≡ known b.seat → MovesHand map a es c
 moved_known map a b es x c same = record {
   number_is = ap (λ (v : View). v.number) same ∙ x.number_is;

@@ -22,8 +22,8 @@ module _ (g : List Entry) (e : Entry) (callers : Callers g) (shaped : is_shaped 
   pub ended_out : (t : ℕ) → (txn_at g e ≡ Some t → ⊥) → ended t (g ++ e ∷ []) ≡ ended t g
   ended_out t out = ap (ends_in is_end) (of-push_out t g e out)
 
-  -- If a transaction has ended before the entry, its entries are unchanged. If a transaction has
-  -- not ended after the entry, it had not ended before the entry.
+  -- Two facts about one more entry. If a transaction has ended, its entries stay the same. If a
+  -- transaction is open after the entry, it was not ended before.
   pub ended_stays : (t : ℕ) → ended t g ≡ true → of t (g ++ e ∷ []) ≡ of t g
   ended_stays t done = of-push_out t g e (not_after_end g e t callers shaped done)
 

@@ -1,6 +1,6 @@
 //! Makes room in a list before the list needs it. Three lists use this: a core's history, a
 //! caller's list of the entries that it has seen, and the savepoints of a seat. Invariant: the
-//! elements of the list stay the same, even if the room is written.
+//! elements of the list stay the same, even if the memory of the new room is written.
 ghost use Rattle.std.specs.Prelude.{◌≡◌, ◌+◌, ◌≤◌, ◌<◌, OnErr, OnOk, vec_capacity, vec_len};
 
 use crate::entry::Entry;

@@ -9,8 +9,8 @@ use Rattle.boostmap_c.specs.Members.{IsFirstMember}
 use Rattle.boostmap_c.specs.declared.member.Member.{Member}
 use Rattle.boostmap_c.proofs.striped.first_member.Goals as goal
 
--- A member is the first of its map if its caller is the map's last caller, and all other callers
--- wait in the member.
+-- The member of the map's last caller is the first member of its map if all other callers wait in
+-- it.
 first_of : (map : StripedMap) (callers stripes : ℕ) (before : List Caller) (last : Caller) → length before + 1 ≡ callers
     → ((place : ℕ) → place < callers → HoldsAt (IsNew map stripes (place + 1)) (before ++ last ∷ []) place)
     → (m : Member) → m.caller ≡ last → m.waiting.items ≡ before → IsFirstMember callers stripes m
