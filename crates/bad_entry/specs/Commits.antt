@@ -27,7 +27,7 @@ last_commit k h =
 abbrev pub IsTornIn : List Entry → ℕ → Type 0
 IsTornIn h c = (t : ℕ) → txn_in h c ≡ Some t → is_open t h ≡ true → IsTorn h t
 
--- Some map gives the caller's open transaction all of its replies.
+-- There is a map on which the caller's open transaction, run alone, gets all of its replies.
 abbrev pub IsWholeIn : List Entry → ℕ → Type 0
 IsWholeIn h c = (t : ℕ) → txn_in h c ≡ Some t → is_open t h ≡ true → RunsSomewhere h t
 

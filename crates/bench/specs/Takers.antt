@@ -1,4 +1,4 @@
--- Idle seats at the words.
+-- Seats of the words that hold nothing.
 use Rattle.std.specs.Prelude.{◌≡◌, []}
 use Rattle.key_words.specs.declared.seat.KeySeat.{KeySeat}
 use Rattle.key_words.specs.declared.words.KeyWords.{KeyWords}

@@ -1,4 +1,4 @@
--- The entry of a history that C's numbers stand for.
+-- The entry of a history that the numbers given by C stand for.
 use Rattle.std.specs.Prelude.{ℕ, nat_eq, nat_le, Option, Some, None, if◌then◌else◌}
 use Rattle.txn_words.specs.declared.op.Op.{Op}
 use Rattle.txn_words.specs.declared.op.Op.TheVariants.{Put, PutIf, Take, Get}
@@ -29,8 +29,8 @@ abbrev pub busy_entry_of : CEntry → Option Op → Option Entry
 busy_entry_of e None = None
 busy_entry_of e (Some op) = Some (Busy e.caller op e.number)
 
--- The entry that the numbers stand for. None if there is no kind of entry with the number `kind`,
--- or if the kind is Asked or Busy and `operation` stands for no operation.
+-- The entry that the numbers stand for. None if the number `kind` stands for no kind of entry. Also
+-- None if the kind is Asked or Busy, and `operation` stands for no operation.
 abbrev pub entry_of : CEntry → Option Entry
 entry_of e =
     if nat_eq e.kind 1 then Some (Began e.caller e.number)

@@ -6,7 +6,7 @@ use Rattle.boostmap_c.specs.contracts.member.Member.{the_row as member_row}
 use Rattle.boostmap_c.specs.declared.member_pointer.MemberPointer.{MemberPointer}
 use Rattle.boostmap_c.specs.contracts.member_pointer.MemberPointer.{the_row}
 
--- The pointer with the same address, and with this member there.
+-- A pointer that has the same address as `pointer`, and the given member behind it.
 abbrev pub with_member : MemberPointer → Member → MemberPointer
 with_member pointer member = record { at = pointer.at; member = Some member }
 

@@ -1,4 +1,4 @@
--- The history that results if the scripts of a file are run with mixed turns of the workers.
+-- The history that results if workers run the scripts of a file and take turns on one core.
 use Rattle.std.specs.Prelude.{◌≡◌, ℕ, ◌<◌, List, Ok, Err}
 use Rattle.std.specs.List.{All}
 use Rattle.txn_words.specs.declared.holder.Holder.TheVariants.{Now}
@@ -15,7 +15,8 @@ use Rattle.boostmap_engine.specs.Report.{line}
 
 -- There is a core on which the workers took turns as this seed draws them. The core's history is
 -- legal and has only entries of these workers. Each worker's committed transactions play its
--- scripts, in rising order. `text` is the text of the history, with the version of the script file.
+-- scripts, and the numbers of these scripts rise. `text` is the line of the history (its text and a
+-- line feed), with the version of the script file.
 pub record IsMixture (work : Work) (seed : ℕ) (text : List ℕ) : Type 0 where
   pub core : State
   pub mixed : IsMixed work seed core

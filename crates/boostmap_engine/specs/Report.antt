@@ -20,7 +20,7 @@ line text = text ++ 10 ∷ []
 abbrev pub answers_text : List Answer → List ℕ
 answers_text answers = flat_map (λ answer. line (text_of answer)) answers
 
--- The line that gives the size and the count.
+-- The line that gives the table's size and the number of keys.
 abbrev pub size_text : ℕ → ℕ → List ℕ
 size_text size count = line (codes "size " ++ (decimal size ++ (codes " count " ++ decimal count)))
 
@@ -28,7 +28,8 @@ size_text size count = line (codes "size " ++ (decimal size ++ (codes " count " 
 abbrev pub pairs_text : List (ℕ × ℕ) → List ℕ
 pairs_text pairs = flat_map (λ pair. line (decimal pair.0 ++ (codes " " ++ decimal pair.1))) pairs
 
--- The size and the count of the last state of a run, then the pairs of its map in list order.
+-- The text of the last state of a run: the line with the table's size and the number of keys, and
+-- then the pairs of the map in list order.
 abbrev pub last_text : State → List ℕ
 last_text last =
     size_text last.size (count_of (now last.history))

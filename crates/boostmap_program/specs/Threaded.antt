@@ -24,13 +24,14 @@ pub record IsThreaded (work : Work) (text : List ℕ) : Type 0 where
   pub run : HasRunScripts work.sizes work.sizes.callers work.tries work.scripts outcomes trace
   pub whole : text ≡ line (text_of_history 3 work.sizes.stripes trace)
 
--- The bytes are a script file, and the text is that of the history of a run of its scripts in
--- threads.
+-- The bytes are a script file. Its scripts were run in threads, and the text is the line of the
+-- history of this run.
 abbrev pub IsThreadedOf : List ℕ → List ℕ → Type 0
 IsThreadedOf bytes text = (work : Work) × (scripts_of bytes ≡ Ok work) × IsThreaded work text
 
--- The reason why there is no such text for the bytes. Either a thread was not started, or the
--- history is not what the workers saw, or the reason is one that a mixed run can have too.
+-- The reason why there is no text for the bytes as in `IsThreadedOf`. Either a thread was not
+-- started, or the history is not what the workers saw, or the reason is one that a mixed run can
+-- have too.
 abbrev pub HasNoneThreaded : List ℕ → Fault → Type 0
 HasNoneThreaded bytes faults.NoThread = Unit {0}
 HasNoneThreaded bytes faults.OutOfStep = Unit {0}

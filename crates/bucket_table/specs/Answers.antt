@@ -1,4 +1,5 @@
--- The answer to each call. A `Table` of `map_ops` gives these answers too.
+-- The answer to each call on the buckets of a table. A `Table` of `map_ops` gives these answers
+-- too.
 use Rattle.std.specs.Prelude.{ℕ, ◌*◌, ◌-◌, ◌^◌, Bool, Option, Some, None, Result, Ok, Err, ◌==◌, not, nat_le, if◌then◌else◌}
 use Rattle.node_list.specs.Nodes.{Listing}
 use Rattle.split_key.specs.Split.{parent_of}

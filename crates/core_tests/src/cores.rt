@@ -44,7 +44,7 @@ fn make_call(alloc: Global, core: &mut Core, call: Call) -> Result<Answer, Fail>
     }
 }
 
-/// Makes the call of a row, which must have this answer.
+/// Makes the call of this row. The call must return the row's answer.
 fn call_is(
     rt: &impl Abort,
     alloc: Global,
@@ -70,7 +70,8 @@ fn play_calls(
     Ok(())
 }
 
-/// Checks that there are two buckets, and that the list, the map and the count have these pairs.
+/// Checks that there are two buckets, that the list and the map have exactly these pairs, and that
+/// the count is the number of these pairs.
 fn has_pairs(
     rt: &impl Abort,
     alloc: Global,
@@ -151,9 +152,10 @@ const EACH_KIND: [(Call, Answer); 17] = [
     (Call::Step(Step::Sweep), Answer::Clean),
 ];
 
-/// Plain aborts. An abort is refused if the caller has no transaction, if there is no such caller,
-/// and while the caller returns to a level. If the caller is already aborting, after a busy
-/// operation or after the step `Abort`, the plain abort takes the remaining steps.
+/// Each row with `Call::Abort` aborts with one call. The call is refused if the caller has no
+/// transaction, if there is no such caller, and while the caller returns to a level. If the caller
+/// is already aborting, after a busy operation or after the step `Abort`, the call takes the
+/// remaining steps.
 const ABORTS: [(Call, Answer); 15] = [
     (Call::Abort(0), Answer::Refused(Refusal::NotOpen)),
     (Call::Abort(3), Answer::Refused(Refusal::NoSuchCaller)),
@@ -198,8 +200,8 @@ const SWEEPS_AND_CURSORS: [(Call, Answer); 20] = [
     (Call::Run(Step::InitLink(0)), Answer::Linked),
 ];
 
-/// The transaction of `examples/keys_of_64_bits.json`, made with calls and committed. A `PutIf`
-/// that expects another value puts nothing.
+/// Makes the transaction of `examples/keys_of_64_bits.json` with plain calls, and commits it. A
+/// `PutIf` that expects another value puts nothing.
 const WIDE_KEYS: [(Call, Answer); 9] = [
     (Call::Step(Step::Begin(0)), Answer::Began(1)),
     (
@@ -229,7 +231,8 @@ const WIDE_PAIRS: [(u64, u64); 4] = [
     (18_446_744_073_709_551_615, 7),
 ];
 
-/// The transaction of `WIDE_KEYS`, made and aborted with steps. Five changes are taken back.
+/// Makes the transaction of `WIDE_KEYS` step by step, and aborts it. The abort takes back five
+/// changes.
 const WIDE_KEYS_ABORTED: [(Call, Answer); 34] = [
     (Call::Step(Step::Begin(0)), Answer::Began(1)),
     (
@@ -285,8 +288,8 @@ const WIDE_KEYS_ABORTED: [(Call, Answer); 34] = [
     (Call::Step(Step::Act(0)), Answer::Aborted),
 ];
 
-/// If a core takes only half keys, every operation and every call for help with a key of 2^63 or
-/// more is refused.
+/// A core that accepts only half keys refuses every operation and every call for help with a key of
+/// 2^63 or more.
 const HALF_KEYS: [(Call, Answer); 8] = [
     (Call::Step(Step::Begin(0)), Answer::Began(1)),
     (
@@ -319,8 +322,9 @@ const HALF_KEYS: [(Call, Answer); 8] = [
     ),
 ];
 
-/// A run on a new core of two buckets: the number of callers, whether the core takes only half
-/// keys, the calls, the pairs at the end, and the expected history, if the run has one.
+/// A run begins with a new core of two buckets. It has the number of callers, whether the core
+/// accepts only half keys, the calls, the pairs at the end, and the expected history, if the run
+/// has one.
 #[derive(Drop)]
 struct Run {
     callers: u64,
@@ -438,7 +442,8 @@ fn large_core(rt: &impl Abort, alloc: Global) -> Core {
     core_with(rt, alloc, limits_of(rt, 1, 64, 65_536))
 }
 
-/// Caller 0 takes back its newest change, which is the put of `key`. Only the lower keys remain.
+/// Caller 0 takes back its newest change, which is the put of `key`. After this, exactly the lower
+/// keys must remain.
 fn undo_newest(rt: &impl Abort, alloc: Global, core: &mut Core, key: u64) -> Result<(), Fail> {
     step_is(rt, core, Step::Seek(0), Answer::Placed)?;
     step_is(rt, core, Step::Act(0), Answer::Undone)?;
@@ -458,7 +463,7 @@ fn undo_nine(rt: &impl Abort, alloc: Global, core: &mut Core) -> Result<(), Fail
     Ok(())
 }
 
-/// Caller 0 puts a key that is not there.
+/// Caller 0 puts a key that the core does not have.
 fn put(rt: &impl Abort, core: &mut Core, key: u64) -> Result<(), Fail> {
     assert_eq!(rt; operate(core, 0, Op::Put(key, key))?, Answer::Done(None));
     Ok(())
@@ -490,10 +495,10 @@ fn nine_undone_newest_first(rt: HostRuntime) -> Result<(), Fail> {
     put_and_undo_nine(&rt, alloc, &mut small_core(&rt, alloc))
 }
 
-/// Steps, each with the number of entries owed after it. A caller with an open transaction owes two
-/// entries, and one more for each change that it has not taken back. While a put is unfinished, its
-/// caller owes two more. While a get is unfinished, its caller owes one more. A caller owes one
-/// more while it returns to a level, and one less while it aborts.
+/// Each row has a step, and the number of entries owed after it. A caller with an open transaction
+/// owes two entries, and one more for each change that it has not taken back. While a put is
+/// unfinished, its caller owes two more. While a get is unfinished, its caller owes one more. A
+/// caller owes one more while it returns to a level, and one less while it aborts.
 static OWED: [(Step, usize); 16] = [
     (Step::Begin(0), 2),
     (Step::Ask(0, Op::Put(1, 10)), 4),
@@ -541,7 +546,7 @@ static HELPED: [(u64, u32, u64); 9] = [
     (8, 8, 0),
 ];
 
-/// A caller calls for help with a key, and the call must have this result.
+/// The caller calls for help with the key. The call must have this result.
 fn help_is(
     rt: &impl Abort,
     core: &mut Core,

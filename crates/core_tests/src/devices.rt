@@ -8,7 +8,7 @@ use std::process::Abort;
 use std::test::Fail;
 use txn_words::{Answer, Entry, Limits, Op, Refusal, SmallEntry, Step, Unpacked};
 
-/// Limits with these numbers of callers, stripes and buckets. The limits take every key.
+/// Limits with these numbers of callers, stripes and buckets. The limits allow every key.
 pub(crate) fn limits_of(rt: &impl Abort, callers: u64, stripes: u64, buckets: u64) -> Limits {
     Limits::new(callers, stripes, buckets).expect(rt, "limits in range")
 }
@@ -40,7 +40,7 @@ pub(crate) fn take_step(core: &mut Core, step: Step) -> Result<Answer, Fail> {
     Ok(core.step(step))
 }
 
-/// Does an operation by a plain call, on a core whose stripes are not words.
+/// Does an operation with one plain call. If the stripes of the core are words, the test fails.
 pub(crate) fn operate(core: &mut Core, caller: u64, op: Op) -> Result<Answer, Fail> {
     if core.words() {
         return Err("stripes are words".into());
@@ -53,7 +53,7 @@ pub(crate) fn operate(core: &mut Core, caller: u64, op: Op) -> Result<Answer, Fa
     }
 }
 
-/// Takes steps by `run`, on a core whose stripes are not words.
+/// Takes these steps with one call of `run`. If the stripes of the core are words, the test fails.
 pub(crate) fn run_steps(
     alloc: Global,
     core: &mut Core,
@@ -65,7 +65,7 @@ pub(crate) fn run_steps(
     Ok(core.run(alloc, steps)?)
 }
 
-/// Takes one step by `run`.
+/// Takes one step with a call of `run`.
 pub(crate) fn run_step(alloc: Global, core: &mut Core, step: Step) -> Result<Answer, Fail> {
     let answers = run_steps(alloc, core, &[step])?;
     Ok(answers.first().copied().ok_or("no answer")?)
@@ -76,12 +76,12 @@ pub(crate) fn back(core: &mut Core, caller: u64, level: u64) -> Answer {
     core.back(caller, level)
 }
 
-/// Aborts, which needs no memory.
+/// Aborts the caller's transaction. This needs no memory.
 pub(crate) fn abort(core: &mut Core, caller: u64) -> Answer {
     core.abort(caller)
 }
 
-/// A caller's call for help with a key, which may grow the table.
+/// The caller calls for help with this key. The call may grow the table.
 pub(crate) fn help(core: &mut Core, caller: u64, key: u64) -> Result<(), Refusal> {
     core.help(caller, key)
 }
@@ -126,7 +126,7 @@ pub(crate) fn has_map(
     Ok(())
 }
 
-/// Takes a step, which must have this answer.
+/// Takes a step. Its answer must be the wanted one.
 pub(crate) fn step_is(
     rt: &impl Abort,
     core: &mut Core,

@@ -6,7 +6,7 @@ use std::process::Abort;
 use txn_drive::{Call, Drive, End, Turn};
 use txn_words::{Answer, Limits, Op, Refusal, Step};
 
-/// A drive for this caller and this call. Its limits take only half keys if `takes_half_keys` is
+/// A drive for this caller and this call. Its limits allow only half keys if `takes_half_keys` is
 /// true, and every key otherwise.
 fn drive_of(rt: &impl Abort, caller: u64, call: Call, takes_half_keys: bool) -> Drive {
     let limits = Limits::new(64, 64, 64).expect(rt, "limits in range");
@@ -43,14 +43,14 @@ enum Turns {
     Both(u32, u32, Step, Step, Answer),
 }
 
-/// The drive takes a turn with only this step, and is given this answer.
+/// The drive's next turn must have only this step. Then the drive is given this answer.
 fn takes(rt: &impl Abort, drive: &mut Drive, size: u32, step: Step, answer: Answer) {
     assert_eq!(rt; turn_at(drive, size), Turn::One(step));
     tell(drive, answer);
 }
 
-/// The drive takes the steps `seek` and `act` this number of times. Each time the position no
-/// longer fits when the drive acts.
+/// Takes two turns this number of times. The turns must have the steps `seek` and `act`. The answer
+/// to `seek` is `Placed`, and the answer to `act` is `Again`: the position no longer fits.
 fn takes_again(rt: &impl Abort, drive: &mut Drive, times: u32, seek: Step, act: Step) {
     for _ in 0..times {
         takes(rt, drive, 4, seek, Answer::Placed);
@@ -58,7 +58,8 @@ fn takes_again(rt: &impl Abort, drive: &mut Drive, times: u32, seek: Step, act: 
     }
 }
 
-/// The drive takes this number of turns with two steps each.
+/// Takes this number of turns. Each turn must be `both`. The answer to its first step is `Placed`,
+/// and the answer to its second step is `answer`.
 fn takes_both(rt: &impl Abort, drive: &mut Drive, turns: (u32, u32), both: Turn, answer: Answer) {
     let (times, size) = turns;
     for _ in 0..times {
@@ -79,12 +80,12 @@ fn take_turns(rt: &impl Abort, drive: &mut Drive, turns: Turns) {
     }
 }
 
-/// A caller, its call, whether the limits take only half keys, the turns of the call's drive, and
-/// the drive's end.
+/// Each row has a caller, its call, whether the limits allow only half keys, the turns of the
+/// call's drive, and the drive's end.
 type Row = (u64, Call, bool, &'static [Turns], End);
 
-/// Each drive takes its turns. Then the drive has ended: the next two turns, at two sizes of the
-/// table, must both be the row's end.
+/// Each drive takes the turns of its row, and must then have ended with the row's end. Two further
+/// turns on the ended drive, at two sizes of the table, must both return this end.
 fn drive_rows(rt: &impl Abort, rows: &[Row]) {
     for (caller, call, takes_half_keys, turns, end) in rows {
         let mut drive = drive_of(rt, *caller, *call, *takes_half_keys);
@@ -177,8 +178,8 @@ const ONE_STEP: [Row; 10] = [
     ),
 ];
 
-/// The drive of a put. Its position does not fit 8 times. Then its last two steps are taken in one
-/// turn.
+/// The turns of a put. Eight times, the put's position no longer fits when the drive acts. Then the
+/// drive takes its last two steps in one turn.
 const DRIVE_OF_A_PUT: &[Turns] = &[
     Turns::One(Step::Ask(0, Op::Put(2, 20)), Answer::Asked),
     Turns::Again(8, Step::Seek(0), Step::Act(0)),
@@ -231,7 +232,7 @@ const LOST_GET: &[Turns] = &[
     Turns::One(Step::Seek(0), Answer::Refused(Refusal::NothingToSeek)),
 ];
 
-/// A return to level 2. Its last answer wrongly says that it has returned to level 1.
+/// A return to level 2. The last answer wrongly says that the caller has returned to level 1.
 const LOST_BACK: &[Turns] = &[
     Turns::One(Step::Back(0, 2), Answer::Leaving),
     Turns::One(Step::Seek(0), Answer::Refused(Refusal::NothingToSeek)),
@@ -337,7 +338,7 @@ const TO_BUCKET_3: &[Turns] = &[
 ];
 
 /// A helper initialises the parent of a bucket first, so `ParentMissing` is not a possible answer
-/// to its seek.
+/// to the helper's seek for the bucket.
 const LOST_HELP: &[Turns] = &[
     Turns::One(Step::Double(4), Answer::Light),
     Turns::One(
@@ -346,8 +347,8 @@ const LOST_HELP: &[Turns] = &[
     ),
 ];
 
-/// Calls for help. If only half keys are taken, a call with a key of 2^63 or more is refused before
-/// any step.
+/// Calls for help. If the limits allow only half keys, a call with a key of 2^63 or more is refused
+/// before any step.
 const HELPERS: [Row; 10] = [
     (5, Call::Help(3), false, OVER_ANCESTORS, End::Helped),
     (0, Call::Help(0xb01b), false, PAST_READY, End::Helped),

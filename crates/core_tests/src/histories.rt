@@ -45,8 +45,8 @@ fn verdict_so_far(checker: &Checker) -> Verdict {
     checker.verdict()
 }
 
-/// The verdict of the plain program on the entries up to the one at `place`. If a rule is broken,
-/// `bad` is the first bad entry in all of the entries.
+/// The verdict of the plain program on the entries up to the one at `place`. `bad` is the first bad
+/// entry of the whole history, if there is one.
 fn plain_at(entries: &[Entry], place: usize, bad: Option<(usize, Rule)>) -> Verdict {
     match bad {
         Some(bad) if bad.0 <= place => plain::verdict(entries, Some(bad)),
@@ -74,7 +74,7 @@ fn feed_each(
     Ok(())
 }
 
-/// Feeds a new checker the entries, and tests each verdict.
+/// Feeds the entries to a new checker, and checks its verdict after each entry.
 fn feed_new(
     rt: &impl Abort,
     alloc: Global,
@@ -163,7 +163,8 @@ const ONE_STRIPE: [Entry; 4] = [
     Entry::Asked(1, Op::Get(9)),
 ];
 
-/// An operation on the stripe of another caller's standing change.
+/// A caller asks for a key of a stripe that another caller holds. The holder has changed a key of
+/// this stripe, and its transaction has not ended.
 const ON_A_CHANGE: [Entry; 5] = [
     Entry::Began(0, 1),
     Entry::Asked(0, Op::Put(1, 10)),
@@ -256,11 +257,12 @@ const WITH_SAVEPOINTS: [Entry; 16] = [
     Entry::Leave(0, Some(2)),
 ];
 
-/// A history, an entry that replaces one of its entries, the number of stripes, and the verdict.
+/// Each row has a history, an entry that replaces the entry at one place (if any), the number of
+/// stripes, and the wanted verdict.
 type Row = (&'static [Entry], Option<(usize, Entry)>, u64, Verdict);
 
-/// The verdicts if a Busy entry must name a caller that holds the stripe at that moment
-/// (`Holder::Now`).
+/// Histories with their verdicts. A Busy entry must name a caller that holds the stripe at that
+/// moment (`Holder::Now`).
 static BY_HOLDERS_OF_NOW: [Row; 19] = [
     // Histories about replies, like `checker_replies` in `crates/txn_trace/proofs/Cases.antt`.
     (
@@ -443,7 +445,8 @@ static BY_HOLDERS_OF_NOW: [Row; 19] = [
     ),
 ];
 
-/// The verdicts if a Busy entry may name any other caller that has begun (`Holder::Begun`).
+/// Histories with their verdicts. A Busy entry may name any other caller that has begun
+/// (`Holder::Begun`).
 static BY_HOLDERS_THAT_HAVE_BEGUN: [Row; 5] = [
     // `holder_has_begun`, and Busy entries that name the caller itself or a caller that has not
     // begun.
@@ -556,7 +559,7 @@ fn worked_histories(rt: HostRuntime) -> Result<(), Fail> {
     Ok(())
 }
 
-/// Whether memory is refused now.
+/// Returns true if an allocation is refused now.
 fn is_refused(alloc: Global) -> bool {
     Box::new(alloc, 0).is_err()
 }
@@ -573,8 +576,8 @@ fn start_checker(rt: &impl Abort, alloc: Global) -> Option<Checker> {
     None
 }
 
-/// Feeds a checker an entry. If the entry is refused, the verdict must be unchanged, and the entry
-/// is fed once more. Returns true if the checker accepted the entry.
+/// Feeds a checker an entry. If memory for the entry is refused, the verdict must be unchanged, and
+/// the entry is fed once more. Returns true if the checker accepted the entry.
 fn is_fed(rt: &impl Abort, checker: &mut Checker, entry: &Entry) -> bool {
     let before = verdict_so_far(checker);
     for _ in 0..2 {
@@ -603,7 +606,8 @@ fn end_refused(rt: &impl Abort, alloc: Global, checker: &mut Checker, taken: usi
     assert_eq!(rt; verdict_so_far(checker), wanted);
 }
 
-/// The verdict after an entry. Each row has a verdict, and the first entry after which it holds.
+/// The wanted verdict after the entry at `place`. Each row has the place of an entry, and the
+/// verdict from that entry on.
 fn verdict_at(rows: &[(usize, Verdict)], place: usize) -> Option<Verdict> {
     let mut found = None;
     for (first, verdict) in rows {
@@ -632,15 +636,16 @@ fn feed_rows(
     }
 }
 
-/// If there is memory for a checker, feeds a new checker the entries and tests each verdict.
+/// If there is memory for a checker, feeds the entries to a new checker and checks its verdict
+/// after each entry.
 fn feed_all(rt: &impl Abort, alloc: Global, entries: &[Entry], rows: &[(usize, Verdict)]) {
     if let Some(mut checker) = start_checker(rt, alloc) {
         feed_rows(rt, alloc, &mut checker, entries, rows);
     }
 }
 
-/// The verdicts on `REPLIES` with a stale last reply, each with the first entry after which it
-/// holds.
+/// The verdicts on `REPLIES` with a stale last reply. Each row has the place of an entry, and the
+/// verdict from that entry on.
 const OF_STALE_REPLIES: [(usize, Verdict); 6] = [
     (
         0,
@@ -695,7 +700,8 @@ fn fed_entry_by_entry(rt: HostRuntime) {
     feed_all(&rt, rt.alloc(), &stale, &OF_STALE_REPLIES);
 }
 
-/// The verdicts on `WITH_SAVEPOINTS`, each with the first entry after which it holds.
+/// The verdicts on `WITH_SAVEPOINTS`. Each row has the place of an entry, and the verdict from that
+/// entry on.
 const OF_SAVEPOINTS: [(usize, Verdict); 2] = [
     (
         0,

@@ -43,8 +43,8 @@ fn draw_is_the_next_word(rt: HostRuntime) -> Result<(), Fail> {
     Ok(())
 }
 
-/// A worker's turns in their order. A turn is the name of the entry that it adds to the history, or
-/// `None` if it adds no entry.
+/// A worker's turns in their order. Each turn is the name of the entry that the turn adds to the
+/// history, or `None` if the turn adds no entry.
 type Turns = &'static [Option<&'static str>];
 
 /// The turns of two empty scripts. Each script has the turns begin and commit.
@@ -129,9 +129,10 @@ fn mixed_history(alloc: Global, seed: u64, scripts: &str) -> Result<Vec<Entry>, 
     Ok(Unpacked::new(trace.as_slice()).collect(alloc)?)
 }
 
-/// Takes turns as long as a worker still has turns. For each turn, draws a place in the list of
-/// these workers, whose numbers rise, and takes the turn of the worker at that place. Checks that
-/// the turns add exactly the entries of the history.
+/// Takes turns until no worker has a turn left. For each turn, draws a place in the list of the
+/// workers that still have turns. The list is in the order of the workers' numbers. The worker at
+/// the drawn place takes its next turn. Checks that the turns add exactly the entries of the
+/// history.
 fn take_turns(
     rt: &impl Abort,
     history: &[Entry],
@@ -153,7 +154,8 @@ fn take_turns(
     Ok(())
 }
 
-/// Mixes scripts with a seed, and checks the turns of the workers.
+/// Mixes the scripts with this seed, and checks that the history has exactly the turns of these
+/// workers.
 fn mixes_so(
     rt: &impl Abort,
     alloc: Global,
@@ -210,7 +212,7 @@ const BAD_HELPS_BESIDE_A_PUT: Mix = Mix {
     workers: &[(0, BAD_HELPS), (1, BAD_HELP_AND_PUT)],
 };
 
-/// Mixes the scripts with each seed, and checks the turns of the workers.
+/// Mixes the scripts with each seed below `mix.seeds`, and checks the turns of the workers.
 fn mixes_by_each_seed(rt: &impl Abort, alloc: Global, mix: &Mix) -> Result<(), Fail> {
     for seed in 0..mix.seeds {
         mixes_so(rt, alloc, seed, mix.scripts, mix.workers)?;

@@ -6,7 +6,7 @@ use std::process::Abort;
 use std::test::Fail;
 use txn_words::{Answer, Entry, Limits, Op, Refusal, Reply, Seat, Step, answer_text};
 
-/// An answer and its text.
+/// Each row has an answer and its text.
 const ANSWERS: [(Answer, &str); 26] = [
     (Answer::Began(1), "began 1"),
     (Answer::Asked, "asked"),
@@ -44,7 +44,7 @@ fn text_of(alloc: Global, answer: &Answer) -> Result<String, AllocError> {
     answer_text(alloc, answer)
 }
 
-/// A refusal, its number and its text.
+/// Each row has a refusal, its number and its text.
 const REFUSALS: [(Refusal, u64, &str); 22] = [
     (Refusal::BadKey, 1, "1"),
     (Refusal::NoSuchCaller, 2, "2"),
@@ -145,8 +145,8 @@ fn open_seat(rt: &impl Abort, alloc: Global) -> Seat {
     seat
 }
 
-/// How a seat with an open transaction refuses a get of this key. The first refusal is for limits
-/// that take every key, and the second for limits that take only half keys.
+/// How a get of this key is refused at a seat with an open transaction. The first refusal is for
+/// limits that allow every key, and the second is for limits that allow only half keys.
 fn refusals_of_key(seat: &Seat, key: u64) -> Result<(Option<Refusal>, Option<Refusal>), Refusal> {
     let every = Limits::new(2, 8, 8)?;
     let ask = Step::Ask(0, Op::Get(key));
@@ -156,21 +156,21 @@ fn refusals_of_key(seat: &Seat, key: u64) -> Result<(Option<Refusal>, Option<Ref
     ))
 }
 
-/// Returns true if `half_keys` changes limits that take every key.
+/// Returns true if `half_keys` changes limits that allow every key.
 fn are_half_keys_others() -> Result<bool, Refusal> {
     let every = Limits::new(2, 8, 8)?;
     Ok(every.half_keys() != every)
 }
 
-/// Keys, each with its refusal if only half keys are taken.
+/// Each row has a key, and how a get of this key is refused if the limits allow only half keys.
 const KEYS: [(u64, Option<Refusal>); 3] = [
     (0x7fff_ffff_ffff_ffff, None),
     (0x8000_0000_0000_0000, Some(Refusal::BadKey)),
     (0xffff_ffff_ffff_ffff, Some(Refusal::BadKey)),
 ];
 
-/// Checks that limits may have these numbers if `are_in_range` is true, and may not have them
-/// otherwise.
+/// Makes limits with the numbers of each row. If `are_in_range` is true, this must succeed.
+/// Otherwise the numbers must be refused.
 fn limits_are(rt: &impl Abort, rows: &[(u64, u64, u64)], are_in_range: bool) {
     for (callers, stripes, buckets) in rows {
         let numbers = numbers_of(*callers, *stripes, *buckets);
@@ -183,7 +183,8 @@ fn limits_are(rt: &impl Abort, rows: &[(u64, u64, u64)], are_in_range: bool) {
     }
 }
 
-/// Checks which keys an open transaction may look up.
+/// For each row, checks how a get of its key is refused. Limits that allow every key must not
+/// refuse it.
 fn keys_are(rt: &impl Abort, seat: &Seat, rows: &[(u64, Option<Refusal>)]) -> Result<(), Refusal> {
     for (key, half) in rows {
         assert_eq!(rt; refusals_of_key(seat, *key)?, (None, *half), "of key {key}");
@@ -206,8 +207,8 @@ fn key_and_change(op: Op, reply: Reply) -> (u64, bool) {
     (op.key(), op.changes(reply))
 }
 
-/// Operations, each with a reply, the operation's key, and whether the operation is a change if it
-/// has this reply. A `PutIf` is a change if the reply is the value that it expects.
+/// Each row has an operation, a reply, the operation's key, and whether the operation is a change
+/// if it has this reply. A `PutIf` is a change if the reply is the value that it expects.
 const OPERATIONS: [(Op, Reply, u64, bool); 10] = [
     (Op::Put(1, 10), None, 1, true),
     (Op::Take(2), None, 2, false),

@@ -18,7 +18,7 @@ fn scripts_of(alloc: Global, scripts: &[&[Action]]) -> Result<Vec<Script>, Alloc
     Ok(all)
 }
 
-/// The worker with this number among `workers` workers. Its limits take only half keys if
+/// The worker with this number among `workers` workers. Its limits allow only half keys if
 /// `takes_half_keys` is true, and every key otherwise.
 fn worker_of(
     number: usize,
@@ -86,12 +86,12 @@ fn take_turn(
     (taken, outcome)
 }
 
-/// A step that the worker takes, its answer, the outcome of the script if the step ends the script,
-/// and the script that the worker is running after the step.
+/// Each row has a step that the worker takes, its answer, the outcome of the script if the step
+/// ends the script, and the script that the worker is running after the step.
 type Row = (Step, Answer, Option<Finish>, Option<usize>);
 
-/// A worker's number, the number of workers, whether the limits take only half keys, the actions of
-/// each script, the script that the worker runs first, and the worker's steps.
+/// Each case has a worker's number, the number of workers, whether the limits allow only half keys,
+/// the actions of each script, the script that the worker runs first, and the worker's steps.
 #[derive(Drop)]
 struct Case {
     number: usize,
@@ -107,8 +107,8 @@ fn worker_in(case: &Case, scripts: &[Script]) -> Result<Worker, Fail> {
     worker_of(case.number, case.workers, case.takes_half_keys, scripts)
 }
 
-/// The worker takes a step, with `take_turn` if `by_take_turn` is true, and otherwise with `turn`
-/// and `told`.
+/// The worker takes the step of this row, with `take_turn` if `by_take_turn` is true, and otherwise
+/// with `turn` and `told`. The step and what follows from it must be as in the row.
 fn takes(rt: &impl Abort, worker: &mut Worker, scripts: &[Script], row: &Row, by_take_turn: bool) {
     let (step, answer, ended, script) = *row;
     let (taken, outcome) = if by_take_turn {
@@ -240,7 +240,7 @@ static CASES: [Case; 9] = [
             (Step::Act(0), Answer::Aborted, Some(Finish::Busy), Some(1)),
         ],
     },
-    // The limits take every key, so an action `help` with the key 2^63 takes steps. An action
+    // The limits allow every key, so an action `help` with the key 2^63 takes steps. An action
     // `put_if` is an operation.
     Case {
         number: 0,
@@ -360,8 +360,8 @@ static CASES: [Case; 9] = [
     },
 ];
 
-/// Checks a worker whose first action is a `help` with a bad key. As soon as it has begun, its
-/// stage must be `Leaving`, with the refusal of the `help`.
+/// Checks a worker whose first action is a `help` with a bad key. Right after the worker has begun
+/// its transaction, its stage must be `Leaving`, with the refusal of the `help`.
 fn leaves_after_a_bad_help(rt: &impl Abort, alloc: Global) -> Result<(), Fail> {
     let scripts = scripts_of(alloc, &[&[Action::Help(1 << 63), Action::Save]])?;
     let mut worker = worker_of(0, 1, true, &scripts)?;
@@ -370,7 +370,7 @@ fn leaves_after_a_bad_help(rt: &impl Abort, alloc: Global) -> Result<(), Fail> {
     Ok(())
 }
 
-/// The workers take their steps.
+/// Plays each case twice: with `turn` and `told`, and with `take_turn`.
 fn play_all(rt: &impl Abort, alloc: Global, cases: &[Case]) -> Result<(), Fail> {
     for case in cases {
         play(rt, alloc, case, false)?;

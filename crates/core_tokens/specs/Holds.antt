@@ -34,7 +34,7 @@ pub data How : Type 0 where
   HadNoRoom : How
   TookTurn : How
 
--- Whether a call has ended with an end that it must not have.
+-- True if the call has ended in a way that is not allowed for it (`is_odd`).
 abbrev pub odd_if : Call → Option End → Bool
 odd_if call None = false
 odd_if call (Some outcome) = is_odd call outcome
@@ -93,9 +93,9 @@ TakesTurn tried m seen d (Two step next) n seen' e =
     × TakesSecond tried between middle half next answer n seen' e
 TakesTurn tried m seen d (Ended outcome) n seen' e = (n ≡ m) × (seen' ≡ seen) × (e ≡ d)
 
--- A hold that took the drive's turn. The core took only the steps of the turn, only their entries
--- were added to `seen`, and the drive was given their answers. The token breaks if the rule of
--- shape does not allow an entry, or if the call must not have this end.
+-- The hold took the drive's turn. The core took only the steps of the turn, only their entries were
+-- added to `seen`, and the drive was given their answers. The token breaks if the rule of shape
+-- does not allow an entry, or if the call must not end in this way.
 pub record TurnHeld {S : Type 0} (m : State) (k : Token S) (d : Drive) (outcome : Option End)
     (n : State) (l : Token S) (e : Drive) : Type 0 where
   pub sound : k.broken ≡ false
@@ -159,7 +159,7 @@ abbrev pub MayEnd : Call → End → Type 0
 MayEnd call (ends.Refused OutOfStep) = Unit {0}
 MayEnd call outcome = is_odd call outcome ≡ false
 
--- A call has ended with this end. Before the call, its caller had seen the entries `base`. If the
+-- A call has ended in this way. Before the call, its caller had seen the entries `base`. If the
 -- rule of shape allows each seen entry, and the call has ended with `OutOfStep`, it has committed
 -- nothing.
 pub record HasRun (base seen : List Entry) (c : ℕ) (call : Call) (outcome : End) : Type 0 where
@@ -169,7 +169,7 @@ pub record HasRun (base seen : List Entry) (c : ℕ) (call : Call) (outcome : En
   pub may : MayEnd call outcome
   pub quiet : is_some (seat_after seen) ≡ true → IsQuiet outcome added
 
--- A call that has not ended. It is in progress, and has committed nothing.
+-- The call is in progress (`IsUnderway`), and has committed nothing so far.
 pub record IsGoing (base seen : List Entry) (d : Drive) : Type 0 where
   pub on : IsUnderway base seen d
   pub quiet : CommitNothing (made d)

@@ -18,8 +18,9 @@ abbrev pub refusal_of_help : Bool → Call → Option Refusal
 refusal_of_help half (calls.Help key) = if is_bad_key half key then Some BadKey else None
 refusal_of_help half call = None
 
--- The token's refusal of a call: `OutOfStep` if the token is broken or its entries give it no seat;
--- else the refusal that this seat gives; else `BadKey` for help with a bad key.
+-- The refusal with which a token refuses a call, if it does. If the token is broken or its entries
+-- give it no seat, this is `OutOfStep`. Otherwise it is the refusal that this seat gives. If the
+-- seat gives none, it is `BadKey` for help with a bad key.
 abbrev pub refused_at : Bool → Bool → Option Seat → Call → Option Refusal
 refused_at half true seat call = Some OutOfStep
 refused_at half false None call = Some OutOfStep
@@ -29,9 +30,9 @@ refused_at half false (Some s) call =
 abbrev pub refused_by : {S : Type 0} → Token S → Call → Option Refusal
 refused_by k call = refused_at k.limits.half k.broken (seat_after k.seen) call
 
--- A token that does not refuse a call but is not ready for it. Either memory was refused for one
--- more right or one more level, and the token is unchanged. Or the side value does not have the
--- level to which the call returns, and the token breaks and is otherwise unchanged.
+-- The token does not refuse the call, but is not ready for it. Either memory was refused for one
+-- more right or one more level: then the token is unchanged. Or the side value does not have the
+-- level to which the call returns: then the token breaks, and is otherwise unchanged.
 abbrev pub Lacks : {S : Type 0} → Token S → Call → Refusal → Token S → Type 0
 Lacks k (calls.Op op) refusal l = (refusal ≡ NoMemory) × (l ≡ k)
 Lacks k calls.Save refusal l = (refusal ≡ NoMemory) × (l ≡ k)
@@ -39,8 +40,8 @@ Lacks k (calls.Back level) refusal l =
     (refusal ≡ OutOfStep) × (length k.side.levels ≤ level) × (l ≡ record k { broken = true })
 Lacks k call refusal l = ⊥
 
--- A token that was not made ready for a call. Either the token refuses the call and is unchanged,
--- or the token lacks what the call needs (`Lacks`).
+-- The token was not made ready for the call. Either the token refuses the call and is unchanged, or
+-- the token lacks what the call needs (`Lacks`).
 abbrev pub IsUnready : {S : Type 0} → Token S → Call → Refusal → Token S → Type 0
 IsUnready k call refusal l =
     ((refused_by k call ≡ Some refusal) × (l ≡ k))

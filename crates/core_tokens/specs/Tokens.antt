@@ -23,7 +23,7 @@ pub record Token (S : Type 0) : Type 0 where
   pub claims : Claimed
   pub broken : Bool
 
--- A pass: its number, its map's limits, and which words the map has.
+-- A pass: its number, its map's limits, and the identity of its map's words.
 pub record Ticket : Type 0 where
   pub number : ℕ
   pub limits : Sizes

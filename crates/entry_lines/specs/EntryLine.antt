@@ -1,5 +1,5 @@
--- The entry on a line. The line has the array that a history file of the newest version has for the
--- entry.
+-- The entry on a line. The line holds the entry's array, as in a history file of the newest
+-- version.
 use Rattle.std.specs.Prelude.{ℕ, ◌==◌, ◌||◌, Bool, nat_le, List, length, Option, Some, None, option_and_then, Result, Ok, Err, if◌then◌else◌}
 use Rattle.std.specs.List.{list_all}
 use Rattle.serde_json.specs.Data.{Data}

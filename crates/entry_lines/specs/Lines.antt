@@ -10,9 +10,9 @@ use Rattle.entry_lines.specs.EntryLine.{entry_on}
 abbrev pub split_lines : List ℕ → List (List ℕ)
 split_lines bytes = slice_split (λ byte. byte == 10) bytes
 
--- The entries on the lines before the first line that is refused, and that line's number and fault,
--- if there is such a line. The first of the given lines has the given number. A blank line is
--- skipped.
+-- Reads lines up to the first line that is refused. The result is the entries on the lines before
+-- it and, if a line is refused, the number and the fault of this line. The first of the given lines
+-- has the number `number`. A blank line is skipped.
 unfoldable pub history_from : ℕ → List (List ℕ) → List Entry × Option (ℕ × FileFault)
 history_from number [] = ([], None)
 history_from number (line ∷ lines) = elim (entry_on line) [

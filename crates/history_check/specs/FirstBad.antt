@@ -26,9 +26,9 @@ verdict_by broken h = elim (first_bad_by broken [] h 0) [
   | Some bad ↦ Illegal bad.0 bad.1
 ]
 
--- A checker was fed the entries `h`. If it noted no bad entry, `told` holds, which says that the
--- checker's state is the one after `h`, and `fed` is the number of all entries. If it noted a bad
--- entry, this is the first bad entry of `h`.
+-- A checker was fed the entries `h`. If it noted no bad entry, `fed` is the number of entries in
+-- `h`, and `told` holds. `told` says that the checker's state is the one after `h`. If the checker
+-- noted a bad entry, this is the first bad entry of `h`.
 abbrev pub FedBy : (List Entry → Entry → Option ℕ)
     → Type 0 → List Entry → ℕ → Option (ℕ × Rule) → Type 0
 FedBy broken told h fed None = told × (fed ≡ length h)

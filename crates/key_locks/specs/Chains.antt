@@ -1,5 +1,5 @@
--- The stripes of each caller, as a chain from the stripe that it took last to the one that it took
--- first.
+-- The stripes that each caller holds, as a chain. The chain begins with the stripe that the caller
+-- took last, and ends with the stripe that it took first.
 use Rattle.std.specs.Prelude.{◌≡◌, ℕ, ◌<◌, List, [], ◌∷◌, length, slice_index_or, Option, None, Some, Bool, false, ◌==◌}
 use Rattle.std.specs.List.{list_any}
 use Rattle.key_locks.specs.Locks.{holder_of, is_caller}

@@ -3,11 +3,13 @@ use Rattle.std.specs.Prelude.{◌≡◌, ℕ, Option, Some, None, ◌==◌, if�
 use Rattle.std.proofs.Common.{refl, sym, inl, inr, eq-eqb, ne_eqb}
 use Rattle.std.proofs.lemmas.Bool.{cases_eq}
 
--- The option that a number stands for: None if the number is `none`, else the number itself.
+-- The option that a number stands for. The number `none` stands for None, and any other number
+-- stands for itself.
 abbrev pub unpacked : ℕ → ℕ → Option ℕ
 unpacked none number = if number == none then None else Some number
 
--- The number that stands for an option: `none` for None, else the number itself.
+-- The number that stands for an option. The number `none` stands for None, and any other number
+-- stands for itself.
 abbrev pub packed : ℕ → Option ℕ → ℕ
 packed none None = none
 packed none (Some number) = number

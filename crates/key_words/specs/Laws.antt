@@ -1,4 +1,4 @@
--- Consequences of the rule.
+-- Consequences of the rule of the words, `IsOrderly`.
 use Rattle.std.specs.Prelude.{◌≡◌, ℕ, Option}
 use mathlib.Core.Option.{some}
 use lib.ListN.{get_elem?}

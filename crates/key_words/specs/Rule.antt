@@ -19,8 +19,8 @@ abbrev pub IsNamed : List View → ℕ → Type 0
 IsNamed views word =
     (word ≡ 0) ⊎ ((seat : ℕ) × (v : View) × (get_elem? views seat ≡ some v) × (word ≡ v.number + 1))
 
--- The word names a seat that has noted 0 as the stripe's word. So that seat has taken the stripe at
--- some time.
+-- The word names a seat that has noted 0 as the stripe's word. This means that the seat has taken
+-- the stripe at some time.
 abbrev pub WasTaken : List View → ℕ → ℕ → Type 0
 WasTaken views stripe word =
     (seat : ℕ) × (v : View) × (get_elem? views seat ≡ some v) × (word ≡ v.number + 1)
@@ -39,8 +39,8 @@ pub record IsOrderly (s : State (Option ℕ) View) : Type 0 where
   pub below : (i : ℕ) (v : View) → get_elem? s.views i ≡ some v → v.number < first.made
   pub apart : (i j : ℕ) (v w : View) → get_elem? s.views i ≡ some v → get_elem? s.views j ≡ some w
       → v.number ≡ w.number → i ≡ j
-  -- A word is 0 or names a seat. A seat holds a stripe exactly if the stripe's word names the seat,
-  -- and then it holds the stripe once.
+  -- A word is 0 or names a seat. A seat holds a stripe exactly if the stripe's word names the seat.
+  -- No seat holds a stripe twice.
   pub named : (stripe : ℕ) → stripe < length s.words → IsNamed s.views (slice_index s.words stripe)
   pub held : (i : ℕ) (v : View) → get_elem? s.views i ≡ some v → (stripe : ℕ)
       → times stripe v.held ≡ once_for v.number (slice_index s.words stripe)

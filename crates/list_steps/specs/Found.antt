@@ -1,5 +1,5 @@
--- Cursors: when a cursor has been found by a seek, when it was placed on the list, and when it
--- fits.
+-- Cursors. These definitions say when a cursor's position has just been found by a seek, when a
+-- cursor was placed on the list, and when it fits.
 use Rattle.std.specs.Prelude.{◌≡◌, ◌≢◌, ℕ, ◌<◌, ◌≤◌, ◌-◌, ◌^◌, min, Option, Some, None, Bool, true, false, ◌==◌, ◌&&◌, not, if◌then◌else◌, IsSomeAnd, IsTrue}
 use Rattle.split_key.specs.declared.sort.SortKey.{SortKey}
 use Rattle.split_key.specs.Sort.{is_same}
@@ -81,7 +81,7 @@ pub record IsPlaced (l : Listing) (c : Cursor) : Type 0 where
   pub changes_known : min (change_number_of c) (2 ^ 64 - 1) ≤ l.changes
   pub held : l.changes ≡ change_number_of c → l.changes < 2 ^ 64 - 1 → fits l c ≡ true
 
--- The node, if it has the sort key.
+-- The given node if it has the sort key, else None.
 abbrev pub with_key : Option NodeAt → SortKey → Option NodeAt
 with_key None at = None
 with_key (Some n) at = if is_same n.at at then Some n else None

@@ -73,7 +73,7 @@ pub record IsBeforeMarks (nodes : List NodeAt) (place : ℕ) : Type 0 where
   pub is : node_of nodes place ≡ Some node
   pub before : AllByRecursion (λ n. n.marked ≡ true → IsBefore node.at n.at) nodes
 
--- The nodes without the first marked one.
+-- The nodes without the first marked node.
 unfoldable pub without_first_marked : List NodeAt → List NodeAt
 without_first_marked [] = []
 without_first_marked (n ∷ rest) = if n.marked then rest else n ∷ without_first_marked rest

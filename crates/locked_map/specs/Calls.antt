@@ -31,7 +31,7 @@ HasHeld {S} (suc holds) k d l e =
     (between : Token S) × (half : Drive) × (m : State) × (n : State)
     × HasHeld holds k d between half × Held m between half None n l e
 
--- A call in progress, after some holds.
+-- The call is in progress, after some holds.
 pub record IsHolding {S : Type 0} (k : Token S) (call : Call) (l : Token S) (d : Drive) : Type 0
   where
     pub holds : ℕ
@@ -54,7 +54,7 @@ abbrev pub HoldsTo : {S : Type 0} → Token S → Call → Option End → Token 
 HoldsTo k call None l d = IsHolding k call l d
 HoldsTo k call (Some outcome) l d = IsHeld k call outcome l
 
--- A hold of the lock by a token `k` with a drive `d`. Either the drive's turn was taken, or the
+-- The token `k` held the lock once, with the drive `d`. Either the drive's turn was taken, or the
 -- history had no room for the turn's entries. In the second case the token and the drive are as
 -- before.
 pub record HeldOnce {S : Type 0} (k : Token S) (d : Drive) (result : Option End) (l : Token S)
@@ -67,10 +67,10 @@ pub record HeldOnce {S : Type 0} (k : Token S) (d : Drive) (result : Option End)
   pub goes : (base : List Entry) → IsGoing base k.seen d → GoesTo base l.seen e result
   pub holds : (t : Token S) (call : Call) → IsHolding t call k d → HoldsTo t call result l e
 
--- A call that took the lock. If the call is an operation, it first tried the word of its key's
--- stripe, unless the token had the right. The entries that the token has seen since are those that
--- the call's holds added. If the call ended the transaction, all rights were given back. Otherwise
--- the token's claims are those before the first hold.
+-- The call took the lock. If the call is an operation, it first tried the word of its key's stripe,
+-- unless the token had the right to the stripe. Since then, the token has seen exactly the entries
+-- that the call's holds added. If the call ended the transaction, all rights were given back.
+-- Otherwise the token's claims are those before the first hold.
 pub record WentOn {S : Type 0} (k : Token S) (call : Call) (outcome : End) (l : Token S) : Type 0
   where
     pub ready : Token S
@@ -81,9 +81,9 @@ pub record WentOn {S : Type 0} (k : Token S) (call : Call) (outcome : End) (l : 
     pub seen : l.seen ≡ last.seen
     pub claims : l.claims ≡ claims_at outcome ready.claims
 
--- A call that its token did not refuse. It did what it was asked to do, or it found a stripe held
--- and aborted the transaction. It added the entries that belong to its end, and changed the side
--- value and the rights to match.
+-- The token did not refuse the call. The call did what it was asked to do, or it found a stripe
+-- held and aborted the transaction. It added the entries that belong to its end, and changed the
+-- side value and the rights to match.
 pub record Ran {S : Type 0} (words : S → List ℕ) (k : Token S) (call : Call) (outcome : End)
     (l : Token S) : Type 0 where
   pub free : refused_by k call ≡ None
@@ -95,13 +95,14 @@ pub record Ran {S : Type 0} (words : S → List ℕ) (k : Token S) (call : Call)
   pub side : MovesSide words outcome k.side l.side
   pub went : WentOn k call outcome l
 
--- A call that did not take the lock, since memory was refused for one more right or one more level:
--- no word was tried.
+-- The call did not take the lock, because memory was refused for one more right or one more level.
+-- No word was tried.
 abbrev pub TriedNothing : {S : Type 0} → Token S → Refusal → Token S → Type 0
 TriedNothing k refusal l = (refusal ≡ NoMemory) × (l.claims ≡ k.claims)
 
--- A call that its token did not refuse, but that lacked memory or a stamp or found a stale word.
--- The call added no entry. If it took the lock, its last hold ended the call with this refusal.
+-- The token did not refuse the call. But memory or a stamp was lacking, or the call found a stale
+-- word. The call added no entry. If it took the lock, its last hold ended the call with this
+-- refusal.
 pub record FoundNone {S : Type 0} (k : Token S) (call : Call) (refusal : Refusal) (l : Token S) :
     Type 0 where
   pub may : may_refuse call refusal ≡ true
@@ -111,13 +112,14 @@ pub record FoundNone {S : Type 0} (k : Token S) (call : Call) (refusal : Refusal
   pub side : IsSameSide k.side l.side
   pub cause : TriedNothing k refusal l ⊎ WentOn k call (ends.Refused refusal) l
 
--- A return to a level that the side value does not have. No word was tried, and no entry was added.
+-- The call is a return to a level that the side value does not have. No word was tried, and no
+-- entry was added.
 abbrev pub LacksLevel : {S : Type 0} → Token S → Call → Token S → Type 0
 LacksLevel k (calls.Back level) l =
     (length k.side.levels ≤ level) × (l.seen ≡ k.seen) × (l.claims ≡ k.claims)
 LacksLevel k call l = ⊥
 
--- A call that its token did not refuse, but that ended with `OutOfStep`. The token is broken and
+-- The token did not refuse the call, but the call ended with `OutOfStep`. The token is broken and
 -- keeps its rights, and it has seen the entries that the call added. If the rule of shape allows
 -- all entries that the token has now seen, none of the added entries is a commit. The call's last
 -- hold ended it with `OutOfStep`, unless the call is a return to a missing level.
@@ -134,19 +136,19 @@ abbrev pub Failed : {S : Type 0} → Token S → Call → Refusal → Token S �
 Failed k call OutOfStep l = FellOut k call l
 Failed k call refusal l = FoundNone k call refusal l
 
--- A call that was refused. Either its token refused it, and is then unchanged, or the call failed
--- later.
+-- The call was refused. Either the token itself refused it: then the token is unchanged. Or the
+-- call failed later (`Failed`).
 abbrev pub WasRefused : {S : Type 0} → Token S → Call → Refusal → Token S → Type 0
 WasRefused k call refusal l =
     ((refused_by k call ≡ Some refusal) × (l ≡ k))
     ⊎ ((refused_by k call ≡ None) × Failed k call refusal l)
 
--- The caller after a call with this end.
+-- The caller after a call that ended in this way.
 abbrev pub Ended : {S : Type 0} → (S → List ℕ) → Token S → Call → End → Token S → Type 0
 Ended words k call (ends.Refused refusal) l = WasRefused k call refusal l
 Ended words k call outcome l = Ran words k call outcome l
 
--- An end of a call that did what it was asked to do.
+-- The end says that the call did what it was asked to do.
 abbrev pub IsDone : End → Type 0
 IsDone (ends.Answered answer) = Unit {0}
 IsDone ends.Helped = Unit {0}
@@ -157,8 +159,8 @@ abbrev pub Stopped : {S : Type 0} → (S → List ℕ) → Token S → Call → 
 Stopped words k call (stops.Busy holder) l = Ran words k call (ends.Busy holder) l
 Stopped words k call (stops.Refused refusal) l = WasRefused k call refusal l
 
--- A call that did what it was asked to do. Its token did not refuse it, and its last hold ended it
--- as answered or as helped (`IsDone`). The clauses of each call state its entries and its effect on
+-- The call did what it was asked to do. Its token did not refuse it, and its last hold ended it as
+-- answered or as helped (`IsDone`). The clauses of each call state its entries and its effect on
 -- the side value.
 pub record Passed {S : Type 0} (k : Token S) (call : Call) (l : Token S) : Type 0 where
   pub free : refused_by k call ≡ None

@@ -37,7 +37,7 @@ table_of list buckets = record { list = list; buckets = buckets }
 abbrev pub nodes_of : TableAt → List NodeAt
 nodes_of t = t.list.nodes
 
--- The map of these pairs.
+-- The map that has these pairs.
 abbrev pub map_of : List (ℕ × ℕ) → Map
 map_of rows = fold (λ m pair. insert m pair.0 pair.1) empty rows
 

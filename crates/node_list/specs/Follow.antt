@@ -4,15 +4,18 @@ use Rattle.node_list.specs.declared.node.Kind.TheVariants.{Dummy}
 use Rattle.node_list.specs.Nodes.{NodeAt, Listing, node_of, out_at}
 use Rattle.node_list.specs.Sound.{IsSound}
 
--- The two are one node at two times: only its value and its mark may differ.
+-- `n` and `m` are the same node at two times. Only its value and its mark may differ.
 pub record IsSameNode (n m : NodeAt) : Type 0 where
   pub place : n.place ≡ m.place
   pub at : n.at ≡ m.at
   pub kind : n.kind ≡ m.kind
   pub stamp : n.stamp ≡ m.stamp
 
--- The node was linked at this place before, or a spare with its stamp was out at this place, or its
--- stamp is above all earlier stamps.
+-- One of these three holds:
+--
+-- - The node was linked at this place before.
+-- - A spare with the node's stamp was out at this place.
+-- - The node's stamp is above all earlier stamps.
 abbrev pub WasThere : Listing → ℕ → NodeAt → Type 0
 WasThere old place n =
     ((m : NodeAt) × (node_of old.nodes place ≡ Some m) × IsSameNode m n)

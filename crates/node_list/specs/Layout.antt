@@ -53,7 +53,7 @@ abbrev pub slot_stamp : SlotAt → ℕ
 slot_stamp (Linked n) = n.stamp
 slot_stamp (Out stamp) = stamp
 
--- The stamp of the spare that a slot is kept for, or None if the slot is kept for no spare.
+-- If a slot is kept for a spare, the stamp of this spare.
 abbrev pub out_stamp : Option SlotAt → Option ℕ
 out_stamp None = None
 out_stamp (Some (Linked n)) = None

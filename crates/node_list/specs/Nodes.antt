@@ -157,17 +157,17 @@ unlinked_after [] place = []
 unlinked_after (n ∷ rest) place =
     if n.place == place then n ∷ without_first rest else n ∷ unlinked_after rest place
 
--- The list with a change to the node at a place.
+-- The list after `change` is applied to the node at a place.
 unfoldable pub changed_at : List NodeAt → ℕ → (NodeAt → NodeAt) → List NodeAt
 changed_at [] place change = []
 changed_at (n ∷ rest) place change =
     if n.place == place then change n ∷ rest else n ∷ changed_at rest place change
 
--- The list with the node at a place marked.
+-- The list after the node at a place is marked.
 abbrev pub marked_at : List NodeAt → ℕ → List NodeAt
 marked_at nodes place = changed_at nodes place (λ n. record n { marked = true })
 
--- The list with a value written into the node at a place.
+-- The list after a value is written into the node at a place.
 abbrev pub written_at : List NodeAt → ℕ → ℕ → List NodeAt
 written_at nodes place value = changed_at nodes place (λ n. record n { value = value })
 

@@ -7,7 +7,7 @@ use Rattle.std.proofs.lemmas.Bool.{cases_eq}
 abbrev pub unpacked : ℕ → Option ℕ
 unpacked number = if number == 2 ^ 32 - 1 then None else Some number
 
--- The number that stands for a place, or for None.
+-- The number that stands for a place or, if there is no place, for None.
 abbrev pub packed : Option ℕ → ℕ
 packed None = 2 ^ 32 - 1
 packed (Some place) = place

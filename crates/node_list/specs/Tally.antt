@@ -1,4 +1,4 @@
--- Counts of marked nodes by regions of the order.
+-- The number of marked nodes in each region of the order.
 use Rattle.std.specs.Prelude.{◌≡◌, ◌≢◌, ℕ, ◌+◌, ◌*◌, ◌/◌, ◌^◌, ◌<◌, ◌≤◌, List, [], ◌∷◌, Option, Some, None, Bool, true, length, ◌==◌, ◌&&◌, if◌then◌else◌, slice_index_or}
 use Rattle.std.specs.List.{AllByRecursion}
 use Prim.Native.Nat.{zero, suc}

@@ -13,7 +13,7 @@ use Rattle.boost_core.specs.Machine.{Happens}
 use Rattle.boost_core.specs.Plain.{Operates, Aborts}
 use Rattle.owned_map.specs.Within.{OnlyWorked, IsGrown}
 
--- The answer of the core that makes a call return this stop.
+-- If the core gives this answer, the call returns the given stop.
 abbrev pub answer_of : Stop → Answer
 answer_of (stops.Busy holder) = answers.Busy holder
 answer_of (stops.Refused refusal) = answers.Refused refusal

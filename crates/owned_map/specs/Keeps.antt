@@ -4,8 +4,8 @@ use Rattle.std.specs.Prelude.{◌≡◌}
 use Rattle.owned_map.specs.declared.transaction.Transaction.{Transaction}
 use Rattle.owned_map.specs.Within.{GoesOn}
 
--- The new transaction is the old one, with the same caller and the same map, and it continues
--- (`GoesOn`).
+-- `new` is the transaction `old` after some of its calls. The caller and the map are the same, and
+-- the transaction has continued as `GoesOn` says.
 pub record Keeps (old new : Transaction) : Type 0 where
   pub same_map : new.map.ghost_name ≡ old.map.ghost_name
   pub same_caller : new.caller ≡ old.caller

@@ -5,8 +5,8 @@ use Rattle.txn_words.specs.declared.entry.Entry.TheVariants.{Asked}
 use Rattle.txn_words.specs.Map.{Map, key_of, get}
 use Rattle.txn_words.specs.Sizes.{is_bad_key}
 
--- `false` exactly if the entry asks for a refused key. If `half` is true, the keys from 2^63 on are
--- refused. If not, no key is refused.
+-- Returns false exactly if the entry asks for a refused key. If `half` is true, the keys from 2^63
+-- on are refused. If not, no key is refused.
 abbrev pub is_well : Bool → Entry → Bool
 is_well half (Asked c op) = not (is_bad_key half (key_of op))
 is_well half e = true

@@ -19,8 +19,8 @@ use Rattle.owned_map.specs.Within.{IsIdle}
 abbrev pub put_new : ℕ × ℕ → List Entry
 put_new pair = Asked 0 (Put pair.0 pair.1) ∷ Did 0 None ∷ []
 
--- The entries of one committed transaction, the first, in which caller 0 puts these pairs into a
--- map without keys.
+-- The entries of one transaction, in which caller 0 puts these pairs into an empty map. It is the
+-- first transaction of its history, and it is committed.
 abbrev pub filling : List (ℕ × ℕ) → List Entry
 filling pairs = (Began 0 1 ∷ flat_map put_new pairs) ++ Committed 0 1 ∷ []
 

@@ -66,8 +66,8 @@ pub record KeepsSavepoints (c : ℕ) (old new : State) : Type 0 where
   pub levels : level_count c new.history ≡ level_count c old.history
   pub maps : KeepsLevels (level_count c old.history) c old new
 
--- A caller set a savepoint with this number at the present map. The savepoint is above all levels
--- that the caller had.
+-- A caller set a savepoint, which has this number and the present map. The savepoint is above all
+-- levels that the caller had.
 pub record IsSaved (c level : ℕ) (old new : State) : Type 0 where
   pub number : level ≡ level_count c old.history
   pub levels : level_count c new.history ≡ level + 1

@@ -14,7 +14,7 @@ None >>= f = None
 abbrev pub whole_number : Data → Option ℕ
 whole_number d = option_and_then as_u64 (as_number d)
 
--- Items as a list.
+-- The items of an array, as a list.
 abbrev pub list_of : Items → List Data
 list_of no_items = []
 list_of (item d ds) = d ∷ list_of ds
@@ -23,17 +23,17 @@ list_of (item d ds) = d ∷ list_of ds
 abbrev pub elements_of : Data → Option (List Data)
 elements_of d = option_map list_of (as_array d)
 
--- The first element, if it is a number, and the elements after it.
+-- If the first element is a number, the result is this number and the elements after it.
 unfoldable pub number_at : List Data → Option (ℕ × List Data)
 number_at [] = None
 number_at (d ∷ ds) = option_map (λ n. (n, ds)) (whole_number d)
 
--- The first element, if it is a text, and the elements after it.
+-- If the first element is a text, the result is this text and the elements after it.
 unfoldable pub leading_text : List Data → Option (List ℕ × List Data)
 leading_text [] = None
 leading_text (d ∷ ds) = option_map (λ s. (s, ds)) (as_str d)
 
--- The number, if the list has exactly one element and this element is a number.
+-- If the list has exactly one element, and this element is a number, the result is this number.
 unfoldable pub one_of : List Data → Option ℕ
 one_of ds = do
   n ← number_at ds
@@ -47,19 +47,20 @@ ends_here ds = if length ds == 0 then Some tt else None
 abbrev pub optional : Data → Option (Option ℕ)
 optional d = if is_some (as_null d) then Some None else option_map (λ n. Some n) (whole_number d)
 
--- The first element, if it is null or a number, and the elements after it.
+-- If the first element is null or a number, the result is this element, as `optional` reads it, and
+-- the elements after it.
 unfoldable pub optional_at : List Data → Option (Option ℕ × List Data)
 optional_at [] = None
 optional_at (d ∷ ds) = option_map (λ r. (r, ds)) (optional d)
 
--- The result of `optional`, if the list has exactly one element and this element is null or a
--- number.
+-- If the list has exactly one element, and this element is null or a number, the result is the
+-- element as `optional` reads it.
 unfoldable pub optional_of : List Data → Option (Option ℕ)
 optional_of ds = do
   r ← optional_at ds
   if length r.1 == 0 then Some r.0 else None
 
--- The two numbers, if the list consists of exactly two numbers.
+-- If the list consists of exactly two numbers, the result is these two numbers.
 unfoldable pub two_of : List Data → Option (ℕ × ℕ)
 two_of ds = do
   m ← number_at ds

@@ -15,19 +15,20 @@ words_of (Piece parts.Entry i) = codes "21 entry " ++ decimal i
 words_of Limit = codes "22"
 words_of NoMemory = codes "14"
 
--- Continues with what was read. If there is a fault instead, the fault is the result.
+-- Applies the function to the value that was read. If there is a fault instead of a value, the
+-- result is this fault.
 infixl 10 ◌>>=◌
 abbrev pub ◌>>=◌ : {A B : Type 0}
     → Result A FileFault → (A → Result B FileFault) → Result B FileFault
 (Ok x) >>= f = f x
 (Err e) >>= f = Err e
 
--- The option's value. If the option is `None`, this fault.
+-- The option's value, or this fault if the option is `None`.
 abbrev pub or_fault : {A : Type 0} → FileFault → Option A → Result A FileFault
 or_fault fault (Some x) = Ok x
 or_fault fault None = Err fault
 
--- The result `wanted` is this fault. If memory was refused, nothing is claimed.
+-- The result `wanted` is this fault. For the fault `NoMemory`, nothing is claimed.
 abbrev pub FailsAs : {Y : Type 0} → FileFault → Result Y FileFault → Type 0
 FailsAs NoMemory wanted = Unit {0}
 FailsAs NotJson wanted = wanted ≡ Err NotJson

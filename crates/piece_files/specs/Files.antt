@@ -1,4 +1,4 @@
--- A file: an object in JSON with its version, some numbers and an array of pieces.
+-- A file is a JSON object that has a version, some numbers and an array of pieces.
 use Rattle.std.specs.Prelude.{ℕ, List, [], ◌∷◌, length, Bool, true, ◌&&◌, not, nat_le, map, Option, Some, option_map, option_and_then, Result, Ok, Err, if◌then◌else◌, codes}
 use Rattle.std.specs.List.{list_all}
 use Rattle.std.specs.Str.{bytes_eq}
@@ -50,8 +50,8 @@ is_version v = nat_le 1 v && nat_le v max_version
 
 -- The version, the numbers and the pieces of a file, or its first fault. `old` is the result of
 -- reading the pieces in version 1, and `new` is the result in all other versions. The version, the
--- numbers and the pieces are looked at in this order. The last two tests are that the version can
--- be read, and that there are at most `most` pieces.
+-- numbers and the pieces are tested in this order. The last two tests are that the version can be
+-- read, and that there are at most `most` pieces.
 unfoldable pub contents_from : {P : Type 0} → ℕ → Option ℕ → Option (List ℕ)
     → Result (List P) FileFault → Result (List P) FileFault
     → Result (ℕ × List ℕ × List P) FileFault

@@ -1,4 +1,4 @@
--- A plain value, as a value of JSON.
+-- The JSON value that a plain value stands for.
 use Rattle.serde_json.specs.Data.{Data, null, number, string, unsigned}
 use Rattle.piece_files.specs.declared.plain.Plain.{Plain}
 use Rattle.piece_files.specs.declared.plain.Plain.TheVariants.{Null, Text, Number}

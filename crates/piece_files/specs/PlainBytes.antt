@@ -1,4 +1,5 @@
--- What bytes in plain form mean, given by the tokens into which the reader of JSON turns them.
+-- The meaning of bytes in plain form. It is given by the tokens that the JSON reader makes from the
+-- bytes.
 use Rattle.std.specs.Prelude.{◌≡◌, ℕ, ◌≤◌, true, false, List, [], ◌∷◌, ◌++◌, length, Some, None}
 use Rattle.json.specs.Token.{Token, begin_array, begin_object, end_array, end_object, key}
 use Rattle.json.specs.Json.{after_end_array, items, members, value}
@@ -15,7 +16,7 @@ tokens_at place bytes = punctuate place (lex between bytes)
 
 -- ---- the bytes between values
 
--- The bytes are white space, and then the rest.
+-- The bytes are white space, followed by the bytes `rest`.
 pub record PassesSpace (bytes rest : List ℕ) : Type 0 where
   pub same : lex between bytes ≡ lex between rest
   pub ended : ends_word rest ≡ true → ends_word bytes ≡ true
@@ -26,41 +27,43 @@ pub record EndsValue (bytes : List ℕ) : Type 0 where
   pub ended : ends_word bytes ≡ true
   pub no_colon : begins_colon (lex between bytes) ≡ false
 
--- The bytes after a value are a comma, and then the rest.
+-- These bytes follow a value. They are a comma, followed by the bytes `rest`.
 pub record Comma (bytes rest : List ℕ) : Type 0 where
   pub ends : EndsValue bytes
   pub left : tokens_at after_value bytes ≡ tokens_at after_comma rest
 
--- The bytes after a value are the bracket that closes an array, and then the rest.
+-- These bytes follow a value. They are the bracket that closes an array, followed by the bytes
+-- `rest`.
 pub record Closes (bytes rest : List ℕ) : Type 0 where
   pub ends : EndsValue bytes
   pub left : tokens_at after_value bytes ≡ end_array ∷ tokens_at after_value rest
 
--- The bytes after a value are the brace that closes an object, and nothing else.
+-- These bytes follow a value. They are the brace that closes an object, and nothing follows the
+-- brace.
 pub record Finishes (bytes : List ℕ) : Type 0 where
   pub ends : EndsValue bytes
   pub left : tokens_at after_value bytes ≡ end_object ∷ []
 
--- The bytes are the opening bracket of an array, and then the rest.
+-- The bytes are the opening bracket of an array, followed by the bytes `rest`.
 abbrev pub OpensArray : List ℕ → List ℕ → Type 0
 OpensArray bytes rest = lex between bytes ≡ token begin_array ∷ lex between rest
 
--- The bytes are the opening brace of an object, and then the rest.
+-- The bytes are the opening brace of an object, followed by the bytes `rest`.
 abbrev pub OpensObject : List ℕ → List ℕ → Type 0
 OpensObject bytes rest = lex between bytes ≡ token begin_object ∷ lex between rest
 
 -- ---- values and keys
 
--- If a value may begin at these bytes, and if `rest` may follow a value, the bytes are the value
--- `d` and then `rest`.
+-- The bytes are the value `d`, followed by the bytes `rest`. This is claimed only if a value may
+-- begin at these bytes, and if `rest` may follow a value.
 abbrev pub IsValue : ℕ → List ℕ → Data → List ℕ → Type 0
 IsValue depth bytes d rest =
     EndsValue rest → (place : Place) → may_begin place ≡ true
     → (value_at depth (tokens_at place bytes) ≡ Some (d, tokens_at after_value rest))
     × (after_end_array (tokens_at place bytes) ≡ None)
 
--- If a key may begin at these bytes, the bytes are the key `name` and then `rest`. A value may
--- begin at `rest`.
+-- The bytes are the key `name`, followed by the bytes `rest`. This is claimed only if a key may
+-- begin at these bytes. A value may begin at `rest`.
 abbrev pub IsKey : List ℕ → List ℕ → List ℕ → Type 0
 IsKey bytes name rest =
     (place : Place) → may_begin place ≡ true
@@ -81,8 +84,8 @@ abbrev pub Begin : ℕ → List ℕ → List Data → List Token → Type 0
 Begin depth bytes ds others =
     (place : Place) → may_begin place ≡ true → AreLeft depth (tokens_at place bytes) ds others
 
--- If an element is just before these bytes, the bytes are the elements `ds`, which are the rest of
--- an array. The tokens after the array are `others`.
+-- These bytes follow an element of an array. They are the elements `ds`, which are the rest of the
+-- array. The tokens after the array are `others`.
 pub record Follow (depth : ℕ) (bytes : List ℕ) (ds : List Data) (others : List Token) : Type 0 where
   pub ends : EndsValue bytes
   pub left : AreLeft depth (tokens_at after_value bytes) ds others

@@ -32,7 +32,8 @@ is_whole (unsigned n) = true
 is_whole (negative z) = false
 is_whole (float x) = false
 
--- Whether a value is null, a text, or a whole number below 2^64. Only such elements are kept.
+-- Whether a value is null, a text, or a whole number below 2^64. The reader keeps only such
+-- elements.
 abbrev pub is_plain : Data → Bool
 is_plain null = true
 is_plain (boolean b) = false
@@ -47,7 +48,8 @@ are_plain n [] = true
 are_plain zero (d ∷ ds) = false
 are_plain (suc n) (d ∷ ds) = is_plain d && are_plain n ds
 
--- The plain value `v` is the element `d`, or there is no plain value and `d` is not plain.
+-- If there is a plain value, it equals the element `d`, and `d` is plain. If there is no plain
+-- value, `d` is not plain.
 abbrev pub IsPlain : Option Plain → Data → Type 0
 IsPlain (Some v) d = (data_of v ≡ d) × (is_plain d ≡ true)
 IsPlain None d = is_plain d ≡ false
@@ -63,15 +65,16 @@ abbrev pub items_from : List Data → Items
 items_from [] = no_items
 items_from (d ∷ ds) = item d (items_from ds)
 
--- The result of reading pieces: the pieces if no element is wrong, else the fault of the first
--- wrong element. In the second case, `pieces` are the pieces before this element.
+-- The result of reading pieces. If the flag is true, every element is a piece, and the result is
+-- the pieces. If the flag is false, `pieces` are the pieces before the first element that is no
+-- piece, and the result is the fault of this element.
 abbrev pub outcome : {P : Type 0} → Part → Bool → List P → Result (List P) FileFault
 outcome part true pieces = Ok pieces
 outcome part false pieces = Err (Piece part (length pieces))
 
--- `wanted` is the result of reading some pieces. `count` is their number, and `pieces` are the
--- first `most` of them. If `are_all` is false, they are the pieces before the first element that is
--- no piece.
+-- `wanted` is the result of reading some pieces, `count` is the number of pieces that were read,
+-- and `pieces` are the first `most` of them. If `are_all` is false, only the pieces before the
+-- first element that is no piece were read.
 abbrev pub FindsPieces : {P : Type 0} → Part → ℕ → List P → ℕ → Bool → Result (List P) FileFault
     → Type 0
 FindsPieces {P} part most pieces count are_all wanted =

@@ -22,7 +22,7 @@ nothing = record { content = empty; spare = 0 }
 pub same_rows : (m n : Map) → m.rows ≡ n.rows → m ≡ n
 same_rows m n rows = same_map m n (λ k. ap (find nat_cmp k) rows)
 
--- A finite map is coded as its pairs, and a `MapAt` as the pair of its fields.
+-- Encodes a finite map as the list of its pairs, and a `MapAt` as the pair of its fields.
 abbrev pub content_code : Coded Map
 content_code = coded_via (coded_list (coded× coded_ℕ coded_ℕ)) (λ m. m.rows) same_rows
 

@@ -41,8 +41,8 @@ pairs_of (Empty ∷ slots) = pairs_of slots
 pairs_of (Removed key ∷ slots) = pairs_of slots
 pairs_of (Full key value ∷ slots) = (key, value) ∷ pairs_of slots
 
--- The place where the probe for a key begins. It is the number in the high bits of the key times a
--- constant, or 0 if there is no place with this number.
+-- The place where the probe for a key begins. It is the number in the high bits of the product of
+-- the key and a constant, or 0 if there is no place with this number.
 unfoldable pub home : ℕ → ℕ → ℕ → ℕ
 home count shift key =
     let high = key * 0x9E37_79B9_7F4A_7C15 % 2 ^ 64 / 2 ^ (shift % 64) in

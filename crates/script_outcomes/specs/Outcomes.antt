@@ -41,15 +41,15 @@ HasCome c script h (Committed place entry) = CommitsScript c script place entry 
 HasCome c script h (Aborted entry) = AbortsScript c script entry h
 HasCome c script h GivenUp = Unit {0}
 
--- If the outcomes of an earlier and of a later script are both commits or both aborts, the entry of
--- the earlier script's outcome comes first.
+-- The outcomes are those of an earlier and of a later script. If both are commits, or both are
+-- aborts, the entry of the earlier script's outcome comes first.
 abbrev pub AreInOrder : Outcome → Outcome → Type 0
 AreInOrder (Committed place entry) (Committed later_place later) = entry < later
 AreInOrder (Aborted entry) (Aborted later) = entry < later
 AreInOrder outcome other = Unit {0}
 
 -- The caller's transactions that commit in a history, each as the list of its entries. `part` has
--- the entries that the caller's transaction had already before the history.
+-- those entries of the caller's transaction that come before the history.
 abbrev pub committed_from : ℕ → List Entry → List Entry → List (List Entry)
 committed_from c part [] = []
 committed_from c part (e ∷ h) =
@@ -71,8 +71,8 @@ PlayInOrder callers scripts c low (part ∷ parts) =
     (n : ℕ) × (script : List Action) × (low ≤ n) × IsScriptOf callers scripts c n script
     × IsPlayed script part × PlayInOrder callers scripts c (suc n) parts
 
--- Each Committed entry of the caller among the first `fed` entries is counted: one of the caller's
--- scripts has the outcome committed, with the place and the index of this entry.
+-- Each Committed entry of the caller among the first `fed` entries is counted: the outcome of one
+-- of the caller's scripts is `Committed`, with the commit number and the index of this entry.
 abbrev pub CommitsCounted : ℕ → ℕ → ℕ → List Entry → List Outcome → Type 0
 CommitsCounted callers c fed h outcomes =
     (entry place : ℕ) → entry < fed → slice_get h entry ≡ Some (entries.Committed c place)

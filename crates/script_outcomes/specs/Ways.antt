@@ -34,8 +34,9 @@ SaysItself Itself P = P
 SaysItself Refused P = Unit {0}
 SaysItself Other P = Unit {0}
 
--- The number is the first of `low`, `low + workers` and so on whose script the transaction plays.
--- If the transaction plays none of these scripts, the number is past all scripts.
+-- Of the numbers `low`, `low + workers` and so on, this number is the first whose script the
+-- transaction plays. If the transaction plays none of these scripts, the number is past all
+-- scripts.
 pub record IsFirstPlayed (workers : ℕ) (scripts : List (List Action)) (part : List Entry)
     (low number : ℕ) : Type 0 where
   pub from : low ≤ number
@@ -63,8 +64,8 @@ pub record MayCount (workers : ℕ) (scripts : List (List Action)) (way : Way)
   pub order : way.next ≤ way.turn
   pub mine : way.next % workers ≡ way.turn % workers
 
--- `next` and `turn` do not fall, each keeps its remainder modulo `workers`, and afterwards `next`
--- is not after `turn`.
+-- Neither `next` nor `turn` becomes smaller, and each keeps its remainder modulo `workers`.
+-- Afterwards, `next` is at most `turn`.
 pub record Advances (workers : ℕ) (old new : Way) : Type 0 where
   pub next : old.next ≤ new.next
   pub turn : old.turn ≤ new.turn

@@ -55,10 +55,10 @@ pub record IsPlayedBy (c : ℕ) (script : List Action) (txn place : ℕ) (replie
   pub plays : IsPlayed script (without_undone es)
   pub replied : replies_in es ≡ replies
 
--- The entries that a caller has added while it ran a script that has this outcome. If the script is
--- committed, the last of them are those of the committed transaction, and the entries before commit
--- nothing. If not, none of them commits. A Busy outcome also needs at least `tries + 1` Busy
--- entries.
+-- The entries that a caller has added while it ran a script with this outcome. If the script is
+-- committed, the entries end with those of the committed transaction, and the entries before these
+-- commit nothing. If the script is not committed, no entry commits. A Busy outcome also needs at
+-- least `tries + 1` Busy entries.
 abbrev pub IsAccount : ℕ → ℕ → List Action → Outcome → List Entry → Type 0
 IsAccount c tries script (Committed txn place replies) es =
     (before : List Entry) × (part : List Entry) × (es ≡ before ++ part) × CommitNothing before
@@ -67,7 +67,8 @@ IsAccount c tries script Aborted es = CommitNothing es
 IsAccount c tries script Busy es = AreBusy (tries + 1) es
 IsAccount c tries script (Refused refusal) es = CommitNothing es
 
--- The entries are the accounts of these scripts, one after the other.
+-- The entries consist of one part for each of these scripts, in order. Each part is the account of
+-- its script (`IsAccount`).
 abbrev pub AreAccounts : ℕ → ℕ → List Told → List Entry → Type 0
 AreAccounts c tries [] es = es ≡ []
 AreAccounts c tries (told ∷ more) es =
@@ -107,9 +108,9 @@ is_busy_outcome Busy = true
 is_busy_outcome outcome = false
 
 -- The outcomes of a caller's scripts agree with the history. Each committed outcome stands for a
--- committed transaction of the caller. The caller's Committed entries are those of its committed
--- outcomes, in order. The caller's committed transactions are those of the committed outcomes, in
--- order. The caller has at least `tries + 1` Busy entries for each busy outcome.
+-- committed transaction of the caller. The caller's Committed entries and its committed
+-- transactions are exactly those of the committed outcomes, in the same order. The caller has at
+-- least `tries + 1` Busy entries for each busy outcome.
 pub record AreTrue (c tries : ℕ) (h : List Entry) (tolds : List Told) : Type 0 where
   pub each : AllByRecursion (λ told. HasCome c h told.script told.outcome) tolds
   pub entries_are : filter is_commit (own c h) ≡ filter_map (λ told. commit_in c told.outcome) tolds

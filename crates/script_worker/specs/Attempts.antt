@@ -76,7 +76,7 @@ abbrev pub progress_refused : List Action → ℕ → Stage → Refusal → Prog
 progress_refused script again stage OutOfStep = Over (finishes.Refused OutOfStep)
 progress_refused script again stage refusal = refused_in script again stage refusal
 
--- The progress after the call of this stage has ended with this end.
+-- The progress after the call of this stage has ended in this way.
 abbrev pub progress_at : List Action → ℕ → ℕ → Stage → End → Progress
 progress_at script tries again stage (ends.Answered answer) = done_at script again stage
 progress_at script tries again stage ends.Helped = done_at script again stage

@@ -31,8 +31,8 @@ heard_at attempt txn replies = record { attempt = attempt; txn = txn; replies = 
 abbrev pub first_heard : Heard
 first_heard = heard_at first_attempt 0 []
 
--- The transaction after a call that ended with this end. `replies_then` gives the replies after
--- such a call.
+-- The number of the transaction after a call that ended in this way. `replies_then` gives the
+-- replies after such a call.
 abbrev pub txn_then : ℕ → End → ℕ
 txn_then txn (ends.Answered (answers.Began t)) = t
 txn_then txn outcome = txn
@@ -42,8 +42,8 @@ replies_then replies (ends.Answered (answers.Began t)) = []
 replies_then replies (ends.Answered (answers.Done reply)) = replies ++ reply ∷ []
 replies_then replies outcome = replies
 
--- What is known after a call with this end. `next` is the same attempt at its next stage, or the
--- next attempt.
+-- What is known after a call that ended in this way. `next` is the same attempt at its next stage,
+-- or the next attempt.
 abbrev pub heard_then : Heard → End → Attempt → Heard
 heard_then heard outcome next =
     heard_at next (txn_then heard.txn outcome) (replies_then heard.replies outcome)

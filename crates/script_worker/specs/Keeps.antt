@@ -1,5 +1,5 @@
--- A worker keeps to its scripts: its entries so far are the accounts of its finished scripts, and
--- then the entries of its present script.
+-- A worker keeps to its scripts: its entries so far are first those of its finished scripts
+-- (`AreAccounts`), and then those of its present script.
 use Rattle.std.specs.Prelude.{◌≡◌, ℕ, ◌+◌, ◌*◌, ◌<◌, List, ◌++◌, length, Option, Some, None, slice_get}
 use Rattle.txn_words.specs.declared.action.Action.{Action}
 use Rattle.txn_words.specs.declared.entry.Entry.{Entry}
@@ -10,9 +10,9 @@ use Rattle.script_worker.specs.Attempts.{call_at}
 use Rattle.script_worker.specs.Chunks.{heard_at, IsChunk}
 use Rattle.script_worker.specs.Workers.{Standing}
 
--- The worker is at the task's script, which is one of the worker's scripts. The worker's entries
--- are first the accounts of its earlier scripts, then the entries of the calls of this script that
--- have ended, and then the entries of the present call.
+-- The worker runs the task's script, which is one of the worker's scripts. The worker's entries are
+-- first the accounts of its earlier scripts, then the entries of the calls of this script that have
+-- ended, and then the entries of the present call.
 pub record KeepsTask (tries workers : ℕ) (scripts : List (List Action)) (w : ℕ) (task : Task)
     (seen : List Entry) : Type 0 where
   pub outcomes : List Outcome

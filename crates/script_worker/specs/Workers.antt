@@ -1,4 +1,4 @@
--- A worker: the script that it is at, its next step, and its state after it is given the answer to
+-- A worker: the script that it runs, its next step, and its state after it is given the answer to
 -- that step.
 use Rattle.std.specs.Prelude.{◌≡◌, ℕ, ◌+◌, nat_lt, Bool, if◌then◌else◌, List, length, Option, Some, None, is_some, slice_get}
 use Rattle.std.specs.Option.{option_map, option_and_then, option_or}
@@ -20,7 +20,7 @@ use Rattle.script_worker.specs.declared.attempt.Progress.TheVariants.{Next, Over
 use Rattle.script_worker.specs.declared.task.Task.{Task}
 use Rattle.script_worker.specs.Attempts.{first_attempt, call_at, progress_of}
 
--- A worker as contracts see it: its number, the limits of the map, and the script that it is at, if
+-- A worker as contracts see it: its number, the limits of the map, and the script that it runs, if
 -- one is left. The map's callers are the workers.
 pub record Standing : Type 0 where
   pub number : ℕ
@@ -39,8 +39,8 @@ abbrev pub new_worker : List (List Action) → ℕ → Sizes → Standing
 new_worker scripts w limits =
     record { number = w; limits = limits; task = started limits.half scripts w w }
 
--- The worker's task after a call of its present script, if the script makes this progress: the next
--- call of this script, or the first call of the worker's next script.
+-- The worker's task after a call of its present script has led to this progress. It is the next
+-- call of this script or, if the script is over, the first call of the worker's next script.
 abbrev pub followed : List (List Action) → ℕ → Sizes → Task → List Action → Progress → Option Task
 followed scripts w limits task script (Next attempt) =
     Some (record {
@@ -58,7 +58,7 @@ progressed scripts tries w limits task outcome =
     option_and_then (λ script. followed scripts w limits task script
     (progress_of script tries task.attempt outcome)) (slice_get scripts task.script)
 
--- The task after its call has ended with this end, or the same task if the call has not ended.
+-- The task after its call has ended in this way. If the call has not ended, the task is unchanged.
 abbrev pub settled_in : List (List Action) → ℕ → ℕ → Sizes → Task → Option End → Option Task
 settled_in scripts tries w limits task None = Some task
 settled_in scripts tries w limits task (Some outcome) =
@@ -74,13 +74,15 @@ abbrev pub finish_of : Progress → Option Finish
 finish_of (Next attempt) = None
 finish_of (Over finish) = Some finish
 
--- How the task's script ended, if this end of the call ends the script.
+-- How the task's script ended, given the end of the task's call. None if the script continues after
+-- this call.
 abbrev pub finish_at : List (List Action) → ℕ → Task → End → Option Finish
 finish_at scripts tries task outcome =
     option_and_then (λ script. finish_of (progress_of script tries task.attempt outcome))
     (slice_get scripts task.script)
 
--- How the task's script ended, if the task's call has ended and its end ends the script.
+-- How the task's script ended. None if the task's call has not ended, or if the script continues
+-- after this call.
 abbrev pub finish_by : List (List Action) → ℕ → Option Task → Option Finish
 finish_by scripts tries None = None
 finish_by scripts tries (Some task) =
@@ -95,7 +97,7 @@ with_drive f (Some task) = Some (record task { drive = f task.drive })
 abbrev pub drive_told : Option Task → Answer → Option Task
 drive_told task answer = with_drive (λ drive. told_of drive answer) task
 
--- The task of a worker after it has been given this answer. The task is settled twice, since the
+-- The task of a worker after it has been given this answer. `settled` is applied twice, since the
 -- call that follows may end before its first step.
 abbrev pub task_told : List (List Action) → ℕ → ℕ → Sizes → Option Task → Answer → Option Task
 task_told scripts tries w limits task answer =
@@ -154,8 +156,8 @@ IsTurnBy worker (Some (Two step next)) =
     (step_by worker ≡ Some step) × (step_by (told_drive worker answers.Placed) ≡ Some next)
 IsTurnBy worker (Some (Ended outcome)) = ⊥
 
--- The state on which a worker takes its steps, the worker, and how its script ended, if it ended in
--- this turn.
+-- The state on which a worker takes its steps, and the worker. `finish` says how the worker's
+-- script ended, if it ended in this turn.
 pub record Working (X : Type 0) : Type 0 where
   pub taker : X
   pub worker : Standing

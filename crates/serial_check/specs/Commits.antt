@@ -1,4 +1,4 @@
--- The committed map and the footprints of a checker, as statements about the entries so far.
+-- What the committed map and the footprints of a checker say about the entries so far.
 use Rattle.std.specs.Prelude.{◌≡◌, ◌≢◌, ◌⊎◌, ℕ, Bool, true, false, List, [], ◌∷◌, ◌++◌, None, Some, IsSome, slice_get}
 use Rattle.std.specs.Option.{IfSome}
 use Rattle.txn_words.specs.declared.entry.Entry.{Entry}
@@ -25,7 +25,8 @@ IsOfTxn h c foot =
     (t : ℕ) → txn_in h c ≡ Some t → is_open t h ≡ true
     → FootsIf foot.is_torn (of t h) (cell_of foot) (log_of c h)
 
--- The footprint is that of the caller; it is empty if the caller is in no transaction.
+-- The footprint is that of the caller's open transaction. If the caller is in no transaction, the
+-- footprint is empty.
 pub record IsOfCaller (h : List Entry) (c : ℕ) (foot : Footprint) : Type 0 where
   pub idle : is_running (seat_after (own c h)) ≡ false → IsFresh foot
   pub of_txn : IsOfTxn h c foot
@@ -47,7 +48,7 @@ pub record JudgesAt (h : List Entry) (e : Entry) (right : Bool) (new : Commits) 
   pub right_is : commits_right h e ≡ right
   pub keeps : right ≡ true → ShowsSerial (h ++ e ∷ []) new
 
--- The entry is judged as `JudgesAt` says after each history `h` for which three facts hold:
+-- For each history `h` that meets these three conditions, the entry is judged as `JudgesAt` says:
 -- - The table `callers` has entered the entries `h` (`HaveEntered`).
 -- - `old` shows `h` (`ShowsSerial`).
 -- - The entry has the right shape after `h`.
@@ -63,15 +64,16 @@ pub record IsMisread (h : List Entry) (t : ℕ) (miss : Misread) : Type 0 where
   pub due_is : get (serial h) miss.key ≡ miss.due
   pub differs : miss.read ≢ miss.due
 
--- The replies of a transaction contradict one another: no map gives the transaction all of them.
+-- The replies of a transaction contradict one another: there is no map on which the transaction,
+-- run alone, gets all of them.
 abbrev pub IsTorn : List Entry → ℕ → Type 0
 IsTorn h t = (m : Map) → alone m (of t h) ≡ None
 
--- Some map gives a transaction all of its replies.
+-- There is a map on which the transaction, run alone, gets all of its replies.
 abbrev pub RunsSomewhere : List Entry → ℕ → Type 0
 RunsSomewhere h t = (m : Map) × IsSome (alone m (of t h))
 
--- A transaction has the same replies as if it ran alone on the committed map, or no map gives it
--- all of its replies.
+-- A transaction has the same replies as if it ran alone on the committed map, or there is no map on
+-- which it would get all of its replies.
 abbrev pub FitsOrTorn : List Entry → ℕ → Type 0
 FitsOrTorn h t = IsSome (alone (serial h) (of t h)) ⊎ IsTorn h t

@@ -1,4 +1,4 @@
--- The state of a checker, as a statement about the entries so far.
+-- What the state of a checker says about the entries so far.
 use Rattle.std.specs.Prelude.{◌≡◌, Option, None, Some, List, [], ◌∷◌, ◌++◌}
 use Rattle.txn_words.specs.declared.entry.Entry.{Entry}
 use Rattle.history_check.specs.declared.verdict.Rule.{Rule}

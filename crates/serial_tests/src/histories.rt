@@ -157,7 +157,8 @@ fn illegal(entry: u64, rule: Rule) -> Verdict {
     Verdict::Illegal { entry, rule }
 }
 
-/// A history, its verdict by locks with 8 stripes, and its verdict by the order of commits.
+/// Each row has a history, its verdict by locks with 8 stripes, and its verdict by the order of
+/// commits.
 type Row = (&'static [Entry], Verdict, Verdict);
 
 /// Checks that both judges give these verdicts.
@@ -180,8 +181,9 @@ fn feed(rt: &impl Abort, checker: &mut Checker, entry: &Entry) -> Result<(), All
     }
 }
 
-/// Feeds a checker the history entry by entry, and checks its verdict after each entry. The verdict
-/// must be legal before the first bad entry. From that entry on, it must be the row's verdict.
+/// Feeds the history to a new checker entry by entry, and checks the verdict after each entry. The
+/// verdict must be legal before the first bad entry. From that entry on, it must be the row's
+/// verdict.
 fn feed_each(rt: &impl Abort, alloc: Global, row: &Row) -> Result<(), AllocError> {
     match checker_again(alloc) {
         Ok(mut checker) => feed_to(rt, &mut checker, row.0, row.2),
@@ -197,7 +199,7 @@ fn checker_again(alloc: Global) -> Result<Checker, AllocError> {
     }
 }
 
-/// Feeds a checker entry by entry, and checks its verdict after each entry.
+/// Feeds the entries to a checker one by one, and checks its verdict after each entry.
 fn feed_to(
     rt: &impl Abort,
     checker: &mut Checker,
@@ -215,8 +217,9 @@ fn feed_to(
     Ok(())
 }
 
-/// Returns true if `found` is right after the entry at `place`, where `wanted` is the verdict on
-/// the whole history. It must be legal before the first bad entry, and `wanted` from that entry on.
+/// Returns true if `found` may be the verdict after the entry at `place`. `wanted` is the verdict
+/// on the whole history. Before the first bad entry, `found` must be legal. From that entry on, it
+/// must be `wanted`.
 fn may_be(found: Verdict, place: usize, wanted: Verdict) -> bool {
     match wanted {
         Verdict::Illegal { entry, .. } if entry <= place as u64 => found == wanted,

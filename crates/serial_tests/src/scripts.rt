@@ -7,7 +7,7 @@ use std::alloc::{AllocError, Global};
 use std::test::Fail;
 use txn_files::{read_packed_history, read_scripts};
 
-/// A script file, a history file, and the outcomes, separated by commas.
+/// Each row has a script file, a history file, and the wanted outcomes, separated by commas.
 type Row = (&'static str, &'static str, &'static str);
 
 /// Two workers use the same stripe. The second worker finds the stripe held, and tries its script
@@ -32,7 +32,7 @@ const USED_UP: Row = (
     "committed 2 entry 10, given up, given up, committed 1 entry 8",
 );
 
-/// A script whose tries are used up. The worker's next script aborts at once.
+/// A worker uses up the tries of its script. Its next script aborts at once.
 const USED_UP_BEFORE_AN_ABORT: Row = (
     r#"{"version":1,"workers":2,"stripes":8,"buckets":8,"tries":1,
         "scripts":[[["put",1,1],["put",2,2]],[["put",1,9]],[["abort"]]]}"#,
@@ -42,7 +42,8 @@ const USED_UP_BEFORE_AN_ABORT: Row = (
     "given up, committed 1 entry 12, aborted entry 11",
 );
 
-/// A savepoint, an abort after help, and a script without actions.
+/// The first script goes back to a savepoint. The second script aborts after a call for help. The
+/// third script has no actions.
 const SAVEPOINT: Row = (
     r#"{"version":1,"workers":1,"stripes":8,"buckets":8,"tries":3,"scripts":[
         [["put",1,10],["put",2,20],["save"],["take",1],["get",9],["back",1],["get",1]],
@@ -55,8 +56,8 @@ const SAVEPOINT: Row = (
     "committed 1 entry 15, aborted entry 21, committed 2 entry 23",
 );
 
-/// If a script is refused, its transaction has the entries of an abort. The last action of the next
-/// script is an abort.
+/// The first script is refused, so its transaction has the entries of an abort. The last action of
+/// the second script is an abort.
 const REFUSED: Row = (
     r#"{"version":1,"workers":1,"stripes":8,"buckets":8,"tries":3,
         "scripts":[[["put",1,1],["back",7]],[["put",1,1],["abort"]]]}"#,
@@ -66,7 +67,7 @@ const REFUSED: Row = (
     "given up, aborted entry 11",
 );
 
-/// Two scripts of one worker are equal. One transaction plays both scripts, and it is counted for
+/// Two scripts of one worker are equal. One transaction matches both scripts, and it is counted for
 /// the first script.
 const ALIKE: Row = (
     r#"{"version":2,"workers":1,"stripes":8,"buckets":8,"tries":3,

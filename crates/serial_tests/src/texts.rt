@@ -1,7 +1,7 @@
 //! The texts of verdicts and rules, also as errors, and the texts of the errors that say why a call
-//! on a map stopped. No history is judged here. Each value is made by hand beside its text. The
-//! contracts fix these texts by definitions. Each row of the tests has a text word for word, as the
-//! programs print it.
+//! on a map stopped. No history is judged here. Each row of the tests has a value that was made by
+//! hand, and its text word for word, as the programs print it. The contracts fix these texts by
+//! definitions.
 
 use anyhow::Result;
 use history_check::{Rule, Verdict};

@@ -1,5 +1,5 @@
--- The reasons why a call of a transaction fails, which are those of the map's call, and the token
--- after the call.
+-- The reasons why a call of a transaction fails, and the token after the call. The reasons are
+-- those of the map's call.
 use Rattle.std.specs.Prelude.{ℕ, ◌≡◌, ◌⊎◌, List, None}
 use Rattle.map_answers.specs.declared.stop.Stop.{Stop}
 use Rattle.map_answers.specs.declared.stop.Stop.TheVariants as stops
@@ -33,7 +33,7 @@ pub record IsOutGrowing {S : Type 0} (words : S → List ℕ) (k : Token S) (op 
   pub done : Ran words k (calls.Op op) (ends.Answered (answers.Done None)) between
   pub out : WasRefused between (calls.Help (key_of op)) OutOfStep l
 
--- Why a call failed that does an operation and may then grow the table. Either the operation
+-- Why a call failed. The call does an operation, and may then grow the table. Either the operation
 -- failed, or the operation was done and growing the table was refused as `OutOfStep`.
 abbrev pub StoppedGrowing : {S : Type 0} → (S → List ℕ) → Token S → Op → Stop → Token S → Type 0
 StoppedGrowing words k op stop l =

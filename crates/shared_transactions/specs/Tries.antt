@@ -24,8 +24,7 @@ abbrev pub IsWhy : {S T : Type 0} → Result T Stop → Stop → Token S → Tok
 IsWhy (Err found) stop done new = stop ≡ found
 IsWhy (Ok value) stop done new = IsNotCommitted stop done new
 
--- A try that failed: a transaction was begun, the work ran in it, and the transaction was taken
--- back.
+-- A try failed: a transaction was begun, the work ran in it, and the transaction was taken back.
 pub record IsFailedTry {S X T : Type 0} (work : X → Result T Stop → X → Type 0)
     (me : X → Token S) (stop : Stop) (old new : Token S) : Type 0 where
   pub begun : X
@@ -49,7 +48,7 @@ abbrev pub Fails : {S X T : Type 0} → (X → Result T Stop → X → Type 0) �
     → Token S → Token S → Type 0
 Fails work me stop old new = IsFailedTry work me stop old new ⊎ IsNotBegun stop old new
 
--- A number of tries in a row, each of which found a stripe held.
+-- The given number of tries were made, one after another, and each found a stripe held.
 abbrev pub BusyTries : {S X T : Type 0} → (X → Result T Stop → X → Type 0) → (X → Token S) → ℕ
     → Token S → Token S → Type 0
 BusyTries work me zero old new = new ≡ old

@@ -7,7 +7,7 @@ use Rattle.std.proofs.lemmas.Bool.Decides.{leb_tells}
 use Rattle.std.proofs.lemmas.Nat.{le_bytes_8}
 use Rattle.split_key.specs.Split.{reversed}
 
--- A split key and the key of its node; the key is 0 for a dummy.
+-- A split key, and the key of the node that has this split key. For a dummy, the key is 0.
 pub record SortAt : Type 0 where
   pub split : ℕ
   pub key : ℕ
@@ -27,8 +27,8 @@ unfoldable pub key_of_split : ℕ → Bool → ℕ
 key_of_split split is_upper =
     if split % 2 == 0 then 0 else reversed split % 2 ^ 63 + (if is_upper then 2 ^ 63 else 0)
 
--- The sort key with the split key that these bytes stand for. `key_of_split` gives its key from
--- this split key and `is_upper`.
+-- The sort key that these bytes and `is_upper` stand for. The bytes give its split key.
+-- `key_of_split` then gives its key.
 abbrev pub sort_seen : List ℕ → Bool → SortAt
 sort_seen bytes is_upper = record {
   split = word_of bytes;
@@ -53,8 +53,8 @@ pub key_in_regular : (split : ℕ) (is_upper : Bool) → split % 2 ≡ 1
 unfolding key_of_split
 key_in_regular split is_upper odd = rw (ne_eqb (split % 2) 0 (λ even. omega arith)) refl
 
--- The key that `key_of_split` returns is 2^63 or more exactly if `is_upper` is true. This needs
--- that `is_upper` is false for a dummy's split key.
+-- Assume that `is_upper` is false for a dummy's split key. Then the key that `key_of_split` returns
+-- is 2^63 or more exactly if `is_upper` is true.
 pub upper_is : (split : ℕ) (is_upper : Bool) → (is_upper ≡ true → split % 2 ≡ 1)
     → nat_le (2 ^ 63) (key_of_split split is_upper) ≡ is_upper
 upper_is split true odd =

@@ -16,7 +16,7 @@ reversed word = reversed_low 64 word
 unfoldable pub split : ℕ → ℕ
 split key = reversed (key % 2 ^ 63 + 2 ^ 63)
 
--- A number below 2 ^ width with its highest 1 bit cleared.
+-- The number after its highest 1 bit is cleared. The number must be below 2 ^ width.
 unfoldable pub highest_cleared : ℕ → ℕ → ℕ
 highest_cleared zero number = 0
 highest_cleared (suc width) number =

@@ -1,4 +1,4 @@
--- Positions of bits when groups of bits are swapped.
+-- The positions to which bits move when groups of bits are swapped.
 use Rattle.std.specs.Prelude.{ℕ, ◌+◌, ◌-◌, ◌/◌, ◌%◌, ◌==◌, if◌then◌else◌}
 
 -- The position that a bit gets when neighbouring groups of `width` bits are swapped.

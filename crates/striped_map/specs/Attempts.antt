@@ -21,8 +21,8 @@ abbrev pub IsWhy : {T : Type 0} → Result T Stop → Caller → Stop → Type 0
 IsWhy (Err found) left stop = stop ≡ found
 IsWhy (Ok value) left stop = (stop ≡ Refused NotOpen) × (left.is_open ≡ false)
 
--- One attempt that failed: a transaction was begun, and the work ran in it. Nothing is committed,
--- and no transaction is open.
+-- One attempt failed: a transaction was begun, and the work ran in it. Nothing is committed, and no
+-- transaction is open.
 pub record Fails {T : Type 0} (work : Caller → Result T Stop → Caller → Type 0) (a b : Caller)
     (stop : Stop) : Type 0 where
   pub txn : ℕ
@@ -35,7 +35,7 @@ pub record Fails {T : Type 0} (work : Caller → Result T Stop → Caller → Ty
   pub since : IsSince a b
   pub closed : b.is_open ≡ false
 
--- The given number of attempts in a row, each of which failed with `Busy`.
+-- The given number of attempts were made, one after another, and each failed with `Busy`.
 abbrev pub FailsBusy : {T : Type 0} → (Caller → Result T Stop → Caller → Type 0) → ℕ → Caller
     → Caller → Type 0
 FailsBusy work zero a b = b ≡ a

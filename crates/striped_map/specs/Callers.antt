@@ -63,8 +63,8 @@ IsStopped a op b (Refused NotOpen) = (a.is_open ≡ false) × (b ≡ a)
 IsStopped a op b (Refused refusal) = (refusal ≡ NoMemory) × (a.is_open ≡ true)
     × (b.is_open ≡ true) × IsStep a [] b
 
--- A call that takes every stripe failed. The outcome is the same as if a get of some key had failed
--- (`IsStopped`).
+-- A call that takes every stripe has failed. The outcome is one that a failed get of some key may
+-- have (`IsStopped`).
 abbrev pub IsCut : Caller → Caller → Stop → Type 0
 IsCut a b stop = (key : ℕ) × IsStopped a (Get key) b stop
 
@@ -94,8 +94,8 @@ pub record IsTakenBack (a b : Caller) : Type 0 where
       (Leave (number a) None ∷ undoing (number a) (changes_made a) (Aborted (number a))) b
   pub over : a.is_open ≡ false → b ≡ a
 
--- One transaction that committed. The caller is `b` before the transaction, `t` when the work
--- begins, `u` when the work ends, and `l` after the commit.
+-- One transaction was run and committed. The caller is `b` before the transaction, `t` when the
+-- work begins, `u` when the work ends, and `l` after the commit.
 pub record IsRun (b t u l : Caller) (found : ℕ) : Type 0 where
   pub txn : ℕ
   pub began : IsStep b (Began (number b) txn ∷ []) t

@@ -1,4 +1,5 @@
--- A relation that each call of a transaction keeps. So each work made of such calls keeps it too.
+-- A relation that holds between a transaction before a call and the transaction after the call. It
+-- also holds before and after a work that makes several such calls.
 use Rattle.std.specs.Prelude.{◌≡◌}
 use Rattle.striped_map.specs.declared.transaction.Transaction.{Transaction}
 use Rattle.striped_map.specs.Callers.{IsWithin}

@@ -10,14 +10,14 @@ use std::alloc::Global;
 use std::process::Abort;
 use std::test::Fail;
 
-/// Makes calls in turn, and compares their answers.
+/// Makes the calls in turn, and compares the answer to each call with the wanted one.
 fn make_all(rt: &impl Abort, home: &mut Home, calls: &[(Call, Answer)]) {
     for (row, (call, wanted)) in calls.iter().enumerate() {
         assert!(rt; home.make(*call) == *wanted, "row {row}");
     }
 }
 
-/// Whether memory is refused now.
+/// Returns true if an allocation is refused now.
 fn is_refused(alloc: Global) -> bool {
     Box::new(alloc, 0).is_err()
 }
@@ -61,14 +61,15 @@ const FEW_KEYS: [(Call, Answer); 2] = [
     (Call::Seek(0, 1), Answer::Seek(Ok(InitSeek::Placed))),
 ];
 
-/// The calls that `help_few_keys` makes after its first link, if that link is not refused memory.
+/// The calls that `help_few_keys` makes after its first link, if that link succeeds.
 const STORED: [(Call, Answer); 2] = [
     (Call::Store(0), Answer::Store(Ok(()))),
     (Call::Seek(0, 1), Answer::Seek(Ok(InitSeek::Ready))),
 ];
 
 /// With fewer than five keys the table does not double, but helper 0 can still initialise bucket 1.
-/// If the helper's link is refused memory, the helper keeps its cursor.
+/// If memory for the helper's link is refused, the helper keeps its cursor, and the link is tried
+/// once more.
 fn help_few_keys(rt: &impl Abort, home: &mut Home) {
     make_all(rt, home, &FEW_KEYS);
     let refused = Answer::Link(Err(InitRefusal::NoMemory));
@@ -81,15 +82,15 @@ fn help_few_keys(rt: &impl Abort, home: &mut Home) {
     }
 }
 
-/// The doublings while the table has five keys.
+/// Calls to double a table that has five keys, each with its answer.
 const DOUBLINGS: [(Call, Answer); 3] = [
     (Call::Double(2), Answer::Double(Double::Doubled(4))),
     (Call::Double(2), Answer::Double(Double::Moved(4))),
     (Call::Double(4), Answer::Double(Double::Light)),
 ];
 
-/// Puts keys 1 to 5 and doubles the size to 4. If memory is refused twice for a key, returns false.
-/// There are then fewer keys.
+/// Puts keys 1 to 5 and doubles the size to 4. If memory for a key is refused twice, puts no more
+/// keys, calls `help_few_keys` and returns false.
 fn has_five_keys(rt: &impl Abort, home: &mut Home) -> bool {
     if !has_put_all(rt, home, &[1, 2, 3, 4]) {
         help_few_keys(rt, home);
@@ -104,8 +105,8 @@ fn has_five_keys(rt: &impl Abort, home: &mut Home) -> bool {
     true
 }
 
-/// Four calls that are refused. Then helper 0 initialises bucket 1. Then both helpers initialise
-/// bucket 3, and their calls are interleaved.
+/// Each row has a call and its answer. The first four calls are refused. Then helper 0 initialises
+/// bucket 1. Then both helpers initialise bucket 3, and their calls are interleaved.
 const INITIALISED: [(Call, Answer); 16] = [
     (
         Call::Seek(0, 3),
@@ -137,8 +138,8 @@ const INITIALISED: [(Call, Answer); 16] = [
     (Call::Seek(1, 3), Answer::Seek(Ok(InitSeek::Ready))),
 ];
 
-/// Puts the five keys, and initialises buckets 1 and 3. If memory is refused twice for a key,
-/// returns false. There are then fewer keys.
+/// Puts the five keys, and initialises buckets 1 and 3. Returns false if memory for a key is
+/// refused twice.
 fn is_initialised(rt: &impl Abort, home: &mut Home) -> bool {
     if !has_five_keys(rt, home) {
         return false;
@@ -148,7 +149,7 @@ fn is_initialised(rt: &impl Abort, home: &mut Home) -> bool {
     true
 }
 
-/// A table for two helpers that can grow to size 8, if there is memory for it.
+/// A table for two helpers, which can grow to size 8. Returns `None` if memory is refused twice.
 fn home_for_two(alloc: Global) -> Option<Home> {
     home_again(alloc, 8, 2)
 }
@@ -168,7 +169,7 @@ fn bucket_initialisation(rt: HostRuntime) {
     assert!(rt; is_filled(&rt, rt.alloc()) || is_refused(rt.alloc()));
 }
 
-/// The nodes after the initialisation.
+/// The nodes of the list after `is_initialised`. Each row has a node's split key, kind and key.
 const NODES: [Option<(u64, Kind, u64)>; 9] = [
     Some((0x0000_0000_0000_0000, Kind::Dummy, 0)),
     Some((0x2000_0000_0000_0001, Kind::Regular, 4)),
@@ -181,7 +182,7 @@ const NODES: [Option<(u64, Kind, u64)>; 9] = [
     None,
 ];
 
-/// Checks the nodes after the initialisation.
+/// Calls `is_initialised`, and compares the nodes of the list with `NODES`.
 fn nodes_are(rt: &impl Abort, home: &mut Home) {
     assert!(rt; is_initialised(rt, home));
     for (rank, wanted) in NODES.iter().enumerate() {
@@ -208,7 +209,7 @@ const STAMPS_USED_UP: [(Call, Answer); 5] = [
     (Call::Link(1), Answer::Link(Err(InitRefusal::NoSuchHelper))),
 ];
 
-/// Doublings of a table of two buckets that may not grow.
+/// Calls to double a table of two buckets that may not grow, each with its answer.
 const AT_LIMIT: [(Call, Answer); 2] = [
     (Call::Double(4), Answer::Double(Double::Moved(2))),
     (Call::Double(2), Answer::Double(Double::AtLimit)),
@@ -242,14 +243,14 @@ const WORDS: [(InitRefusal, &str); 6] = [
     ),
 ];
 
-/// Uses up the stamps.
+/// Makes the calls of `STAMPS_USED_UP` on a list that has no stamp left.
 fn use_stamps_up(rt: &impl Abort, alloc: Global) {
     let mut home = Home::new(alloc, 18446744073709551614, 2, 1).expect(rt, "a table");
     make_all(rt, &mut home, &STAMPS_USED_UP);
     assert!(rt; home.nearest(1) == Some(0));
 }
 
-/// Doubles up to the limit.
+/// Makes the calls of `AT_LIMIT` on a table of two buckets that may not grow.
 fn double_to_the_limit(rt: &impl Abort, alloc: Global) {
     let mut home = Home::new(alloc, 0, 2, 2).expect(rt, "a table");
     make_all(rt, &mut home, &AT_LIMIT);
@@ -315,7 +316,7 @@ fn initialise_with(rt: &impl Abort, home: &mut Home, spares: u32) -> Result<(), 
     Ok(())
 }
 
-/// Initialises the buckets of a new table.
+/// Runs `initialise_with` on a new table of two buckets.
 fn initialise_anew(rt: &impl Abort, alloc: Global, spares: u32) -> Result<(), Fail> {
     match home_again(alloc, 2, 1) {
         Some(mut home) => initialise_with(rt, &mut home, spares),

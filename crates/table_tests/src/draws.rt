@@ -7,7 +7,7 @@
 #[derive(Drop)]
 pub(crate) struct Draws(pub(crate) u64);
 
-/// The next number, which is below `limit`, or 0 if `limit` is 0.
+/// The next number below `limit`. If `limit` is 0, returns 0.
 pub(crate) fn draw(draws: &mut Draws, limit: u64) -> u64 {
     draws.0 = draws
         .0

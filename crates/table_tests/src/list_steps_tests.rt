@@ -47,7 +47,8 @@ fn seek_from_head(list: &mut NodeList, at: SortKey) -> Cursor
     seek(list, head, at)
 }
 
-/// Returns true if the cursor fits and a regular node with the cursor's sort key is there.
+/// Returns true if the cursor fits the list, and the list has a regular node with the cursor's sort
+/// key.
 fn is_key_there(list: &NodeList, cursor: &Cursor) -> bool
     requires { IsPlaced list.now cursor.now }
     ensures { IsTrue result → IsKeyThere list.now cursor.now }
@@ -71,8 +72,8 @@ fn regular_there(list: &NodeList, cursor: &Cursor) -> Result<NodeRef, Fail>
     Err("the key is not there".into())
 }
 
-/// Links a spare at a cursor. Fails if the cursor does not fit, or if its sort key is already
-/// there.
+/// Links a spare at a cursor. Fails if the cursor does not fit the list, or if the list already has
+/// a node with the cursor's sort key.
 fn link_here(list: &mut NodeList, cursor: &Cursor, spare: Spare) -> Result<NodeRef, Fail>
     requires placed { IsPlaced list.old cursor.now }
     requires out { IsOut list.old spare }
@@ -85,13 +86,13 @@ fn link_here(list: &mut NodeList, cursor: &Cursor, spare: Spare) -> Result<NodeR
     }
 }
 
-/// Begins with a new list.
+/// Replaces the list by a new one.
 fn begin(alloc: Global, list: &mut NodeList) -> Result<Answer, Fail> {
     *list = NodeList::new(alloc, 0)?;
     Ok(Answer::Done)
 }
 
-/// Links the node of a key that is not there.
+/// Links a new node for a key that the list does not have.
 fn put(list: &mut NodeList, number: u64, value: u64) -> Result<Answer, Fail> {
     let at = at(number);
     let spare = regular_spare(list, at, value)?;
@@ -190,15 +191,15 @@ fn link_stale(
     Ok(Answer::Done)
 }
 
-/// Whether there is a node after this one.
+/// Returns true if a node follows this node in the list.
 fn is_followed(list: &NodeList, node: NodeRef) -> bool {
     list.linked_node(node)
         .and_then(|node| node.next())
         .is_some()
 }
 
-/// Seeks keys 2 and 4 in a new list, and links key 4 first, so that the cursor of key 2 no longer
-/// fits.
+/// Seeks keys 2 and 4 in a new list. Links key 4 first, so that the cursor of key 2 no longer fits.
+/// Then links key 2 with `link_stale`.
 fn put_both(list: &mut NodeList) -> Result<Answer, Fail> {
     let (at_two, at_four) = (at(2), at(4));
     let early = seek_from_head(list, at_two);
@@ -267,13 +268,13 @@ enum Call {
     Begin,
     /// Links the node of a key, with this value.
     Put(u64, u64),
-    /// Links keys 2 and 4, with a stale cursor for one of them.
+    /// Links key 4 and then key 2. The first cursor of key 2 is stale.
     PutBoth,
     /// Marks the node of a key.
     Take(u64),
     /// Marks the node of a key at its cursor.
     TakeThere(u64),
-    /// Writes the value of a key.
+    /// Writes the value of a key at its cursor, and marks the key's node at the same cursor.
     Write(u64, u64),
     /// Writes the value of a key at its cursor, and marks its node there.
     WriteAndTake(u64, u64),
@@ -327,7 +328,7 @@ fn make(alloc: Global, list: &mut NodeList, call: Call) -> Result<Answer, Fail> 
     }
 }
 
-/// Makes a call that always succeeds.
+/// Looks for a key or for the end, sweeps, or reads the figures. These calls always succeed.
 fn look_or_sweep(list: &mut NodeList, call: Call) -> Answer {
     match call {
         Call::Look(number) => Answer::IsSo(is_absent(list, number)),
@@ -342,10 +343,10 @@ const HALF: u64 = 1 << 63;
 /// Runs of calls. Each row has a call, its answer, and the split key at which the marked nodes
 /// begin after the call, or `None` if no node is marked.
 ///
-/// The split keys of 3, 2, 5 and 2^52 begin with 0xc, 0x4, 0xa and 0x0. Each seek begins at the
-/// head, and unlinks the marked nodes that it passes. For example, the seek of key 5 unlinks the
-/// marked node of key 2. Two keys that differ by 2^63 have the same split key. Their sort keys
-/// distinguish them.
+/// In hexadecimal, the split keys of 3, 2, 5 and 2^52 begin with the digits c, 4, a and 0. Each
+/// seek begins at the head, and unlinks the marked nodes that it passes. For example, the seek of
+/// key 5 unlinks the marked node of key 2. Two keys that differ by 2^63 have the same split key.
+/// Their sort keys distinguish them.
 const CALLS: [(Call, Answer, Option<u64>); 58] = [
     (Call::PutBoth, Answer::Done, None),
     (Call::Node(0), Answer::Dummy, None),
@@ -457,7 +458,8 @@ fn new_list(rt: &impl Abort, alloc: Global) -> NodeList {
     NodeList::new(alloc, 0).expect(rt, "a list")
 }
 
-/// Makes the calls, and compares their answers.
+/// Makes each call of `CALLS`. Compares its answer, and the split key at which the marked nodes
+/// then begin, with the wanted ones.
 fn make_all(rt: &impl Abort, alloc: Global, list: &mut NodeList) -> Result<(), Fail> {
     for (row, (call, answer, begin)) in CALLS.iter().enumerate() {
         assert!(rt; make(alloc, list, *call)? == *answer, "row {row}");
@@ -527,8 +529,8 @@ fn plain_nodes(alloc: Global, plain: &[Plain; 8]) -> Result<Vec<(Kind, u64, bool
     Ok(nodes)
 }
 
-/// The split key at which the marked nodes of a plain list begin. A list counts its marks for each
-/// region of 2^52 split keys. The keys below 8 are in different regions.
+/// The beginning of the region of the first marked key, or `None` if no key is marked. A list
+/// counts its marks for each region of 2^52 split keys. The keys below 8 are in different regions.
 fn plain_marks_begin(plain: &[Plain; 8]) -> Option<u64> {
     for (rank, state) in plain.iter().enumerate() {
         if *state == Plain::Marked {
@@ -563,7 +565,8 @@ fn sweep_from_dummy(list: &mut NodeList, dummy: NodeRef) -> SweepOutcome {
     sweep(list)
 }
 
-/// Takes the key at a rank if the key is live in the plain list. Otherwise puts the key.
+/// If the key at this rank is live in the plain list, takes it from both lists. Otherwise puts it
+/// into both lists.
 fn take_or_put(list: &mut NodeList, plain: &mut [Plain; 8], rank: usize) -> Result<(), Fail> {
     seek_plainly(plain, rank);
     let key = *ORDER.get(rank).ok_or("no such rank")?;
@@ -618,7 +621,7 @@ fn compare_step(
     Ok(())
 }
 
-/// Takes 500 drawn steps.
+/// Takes 500 drawn steps on a list and on a plain list, and compares the two after each step.
 fn draw_steps(rt: &impl Abort, alloc: Global, list: &mut NodeList) -> Result<(), Fail> {
     let dummy = dummy_of_1(list)?;
     let mut plain = [Plain::Absent; 8];

@@ -66,7 +66,7 @@ fn content_of(alloc: Global, table: &Table) -> Result<BTreeMap<u64, u64>, AllocE
     }
 }
 
-/// Whether a content has exactly these pairs.
+/// Returns true if the content has exactly these pairs.
 fn has_each(content: &BTreeMap<u64, u64>, wanted: &[(u64, u64)]) -> bool {
     for (key, value) in wanted {
         if content.get(key).copied() != Some(*value) {
@@ -77,7 +77,7 @@ fn has_each(content: &BTreeMap<u64, u64>, wanted: &[(u64, u64)]) -> bool {
 }
 
 /// Returns true if the table's list of pairs is `wanted`, its content has the same pairs, and its
-/// count is their number.
+/// count is the number of these pairs.
 fn has_pairs(alloc: Global, table: &Table, wanted: &[(u64, u64)]) -> Result<bool, AllocError> {
     let is_whole = has_each(&content_of(alloc, table)?, wanted);
     let is_counted = figures(table).1 == wanted.len() as u64;

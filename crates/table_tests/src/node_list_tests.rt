@@ -205,7 +205,7 @@ const MARKED: Entry = Entry {
     marked: true,
 };
 
-/// Calls, each with the list's visible state after it.
+/// Each row has a call, and the visible state of the list after it.
 const CALLS: [(Call, Seen); 4] = [
     (
         Call::Link(3, 30),
@@ -249,7 +249,7 @@ const CALLS: [(Call, Seen); 4] = [
     ),
 ];
 
-/// Makes the calls, and compares the state after each.
+/// Makes the calls of `CALLS`, and compares the list's state after each call with the wanted one.
 fn make_all(rt: &impl Abort, list: &mut NodeList) -> Result<(), Fail> {
     for (row, (call, wanted)) in CALLS.iter().enumerate() {
         make(list, *call)?;
@@ -287,13 +287,13 @@ fn stamps_used_up(rt: HostRuntime) -> Result<(), Fail> {
 }
 
 /// This test is also run with each allocation refused in turn. After a refusal the list is
-/// unchanged, and the next call returns the spare.
+/// unchanged, and the next call for a spare succeeds.
 #[test]
 fn refused_allocations(rt: HostRuntime) -> Result<(), Fail> {
     keep_nine(&rt, &mut list_again(rt.alloc(), 0).expect(&rt, "a list"))
 }
 
-/// Keeps nine spares, and looks at their stamps.
+/// Takes nine spares, gives none of them back, and checks their stamps.
 fn keep_nine(rt: &impl Abort, list: &mut NodeList) -> Result<(), Fail> {
     for wanted in 1..=9 {
         let stamp = match stamp_of_spare(list) {

@@ -204,7 +204,7 @@ fn outermost_keys(rt: HostRuntime) -> Result<(), Fail> {
     put_outermost(&rt, rt.alloc(), &mut ProbeMap::new(rt.alloc()))
 }
 
-/// Looks for keys that are not there.
+/// Looks for keys in an empty map.
 fn look_in_empty(rt: &impl Abort, alloc: Global, map: &mut ProbeMap) -> Result<(), Fail> {
     let taken = take(map, 0);
     assert!(rt; taken == None && map.get(u64::MAX) == None);
@@ -263,9 +263,9 @@ fn put_and_remove(rt: &impl Abort, map: &mut ProbeMap) -> Result<(), Fail> {
     Ok(())
 }
 
-/// The map uses the room of removed keys again. The test puts 100,000 keys, but at most eleven of
-/// them are in the map at a time. docs/tests/refused.py checks that the largest allocation is one
-/// for 64 slots.
+/// The map reuses the room of removed keys. The test puts 100,000 keys, but at most eleven of them
+/// are in the map at a time. docs/tests/refused.py checks that the largest allocation is one for 64
+/// slots.
 #[test]
 fn removed_keys(rt: HostRuntime) -> Result<(), Fail> {
     put_and_remove(&rt, &mut ProbeMap::new(rt.alloc()))

@@ -73,7 +73,7 @@ fn bucket_at_split(split: u64, size: u32) -> Result<u32, Fail> {
     }
 }
 
-/// Calls, and the answer to each.
+/// Each row has a call and its answer.
 const ANSWERS: [(Call, Option<u64>); 46] = [
     (Call::Dummy(0), Some(0x0000_0000_0000_0000)),
     (Call::Dummy(2), Some(0x4000_0000_0000_0000)),
@@ -144,7 +144,7 @@ const ANSWERS: [(Call, Option<u64>); 46] = [
     (Call::Reverse(1), Some(0x8000_0000_0000_0000)),
 ];
 
-/// Makes the calls, and compares their answers.
+/// Makes each call of `ANSWERS`, and compares its answer with the wanted one.
 fn answers_are(rt: &impl Abort) -> Result<(), Fail> {
     for (row, (call, wanted)) in ANSWERS.iter().enumerate() {
         assert!(rt; answer(*call)? == *wanted, "row {row}");

@@ -45,8 +45,8 @@ fn set(plain: &mut Plain, key: u64, value: Option<u64>) -> Result<(), Fail> {
     Ok(())
 }
 
-/// The value that an operation gives its key, if the key has the value `was` before. `Some(None)`
-/// means that the operation removes the key, and `None` that it changes nothing.
+/// The value to which an operation sets a key that has the value `was`. `Some(None)` means that the
+/// operation removes the key, and `None` means that it changes nothing.
 fn setting(op: Op, was: Option<u64>) -> Option<Option<u64>> {
     match op {
         Op::Put(_, value) => Some(Some(value)),
@@ -254,14 +254,14 @@ fn take_keys(
     Ok(())
 }
 
-/// Takes this number of changes back.
+/// Takes back the newest `changes` changes.
 fn undo_keys(one: &mut Logged, changes: u64) {
     for _ in 0..changes {
         undo_one(one);
     }
 }
 
-/// Checks that these are the pairs of the keys below 100.
+/// Checks that these are the pairs of the keys below 100, and that each value equals its key.
 fn are_first(rt: &impl Abort, pairs: &[(u64, u64)]) {
     assert!(rt; pairs.len() == 100);
     for pair in pairs {
@@ -312,7 +312,7 @@ fn put_rising(rt: &impl Abort, alloc: Global, part: &mut Part, keys: u64) {
     part.settle();
 }
 
-/// Puts 100,000 keys and settles the part. Then takes all keys, and takes these changes back.
+/// Puts 100,000 keys and settles the part. Then removes all keys, and takes these removals back.
 fn rise_and_fall(rt: &impl Abort, alloc: Global, one: &mut Logged) -> Result<(), Fail> {
     put_rising(rt, alloc, &mut one.part, 100_000);
     take_keys(rt, alloc, one, 0, 100_000)?;
@@ -322,8 +322,8 @@ fn rise_and_fall(rt: &impl Abort, alloc: Global, one: &mut Logged) -> Result<(),
     Ok(())
 }
 
-/// A part still has all its keys after rising keys made it grow. The test takes each key, and then
-/// takes these changes back. It ends in time only if the part grows.
+/// A part still has all its keys after rising keys made it grow. The test removes each key, and
+/// then takes the removals back. It ends in time only if the part grows.
 #[test]
 fn rising_keys(rt: HostRuntime) -> Result<(), Fail> {
     rise_and_fall(&rt, rt.alloc(), &mut fresh(rt.alloc()))

@@ -1,7 +1,7 @@
-//! Tests of `undo_log`: jobs of a count, a side value of four words, and refused allocations. The
-//! contracts allow a log to refuse room even while memory is free. Room for the first eight jobs of
-//! a log is never refused. Room for the ninth job may be refused. No log here has more than nine
-//! jobs. The values were worked out by hand.
+//! Tests of `undo_log`: jobs that lower a count, a side value of four words, and refused
+//! allocations. The contracts allow a log to refuse room even while memory is free. Room for the
+//! first eight jobs of a log is never refused. Room for the ninth job may be refused. No log here
+//! has more than nine jobs. The values were worked out by hand.
 ghost use Rattle.std.specs.Prelude.{◌≡◌, length};
 
 use std::alloc::{AllocError, Global};
@@ -9,7 +9,7 @@ use std::process::Abort;
 use std::test::Fail;
 use undo_log::{Side, SideJob, SideValue, UndoJob, UndoLog};
 
-/// The job that undoes a change of a count. The change raised the count to this number.
+/// The job of a change that raised a count by one, to this number. The job lowers the count again.
 #[derive(Drop)]
 struct Raised(u64);
 
@@ -29,7 +29,7 @@ impl UndoJob for Raised {
     }
 }
 
-/// Whether memory is refused now.
+/// Returns true if an allocation is refused now.
 fn is_refused(alloc: Global) -> bool {
     Box::new(alloc, 0).is_err()
 }
@@ -124,8 +124,8 @@ fn take_back(rt: &impl Abort, log: &mut UndoLog<Raised>, jobs: u64) -> Result<()
     Ok(())
 }
 
-/// A log of eight jobs, which needs no memory. It is proved that none of the eight jobs is refused,
-/// and that no room is left for a ninth.
+/// Makes a log of eight jobs, which needs no memory. The contract says that all eight jobs are in
+/// the log, and that the log has no room for a ninth.
 fn eight_jobs(alloc: Global) -> UndoLog<Raised>
     ensures jobs { length result.jobs ≡ 8 }
     ensures room { result.room ≡ 0 }
@@ -200,7 +200,7 @@ fn a_savepoint_keeps_its_jobs(rt: HostRuntime) -> Result<(), Fail> {
     save_and_return(&rt, rt.alloc(), &mut empty_log(rt.alloc()))
 }
 
-/// Makes two savepoints, if memory is not refused, and returns to the first.
+/// Makes two savepoints, if memory is not refused, and returns to the first one.
 fn save_and_return(rt: &impl Abort, alloc: Global, log: &mut UndoLog<Raised>) -> Result<(), Fail> {
     assert!(rt; is_pushed(rt, log, 1));
     if savepoints(rt, alloc, log) < 2 {
@@ -347,7 +347,8 @@ fn side_value_returns(rt: HostRuntime) {
     go_and_return(&rt, rt.alloc(), &mut zeros(rt.alloc()));
 }
 
-/// Makes the changes, if memory is not refused, and takes them back.
+/// Calls `words_there` and compares its words, unless memory was refused. Then goes back to level
+/// 0, where all words must be 0.
 fn go_and_return(rt: &impl Abort, alloc: Global, side: &mut SideValue<Register>) {
     match words_there(rt, side) {
         Some(words) => assert!(rt; words == [[3, 0, 0, 0], [1, 0, 0, 0]]),

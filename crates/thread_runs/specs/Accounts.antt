@@ -1,2 +1,2 @@
--- Exports the `Outcome` of accounts again, for crates that state what a run does.
+-- Re-exports the `Outcome` of accounts, for crates that state what a run does.
 pub use Rattle.script_worker.specs.Accounts.{Outcome}

@@ -47,24 +47,24 @@ HasPhase phase seat = (s : Seat) × (seat ≡ Some s) × (s.phase ≡ phase)
 abbrev pub IsIn : Phase → Bool → List Entry → Type 0
 IsIn phase broken seen = (broken ≡ true) ⊎ HasPhase phase (seat_after seen)
 
--- Either a call has this end, or it was not made, because memory was refused for its reply.
+-- Either the call ended in this way, or it was not made, because memory for its reply was refused.
 abbrev pub HasEnded : {S : Type 0} → Token S → Call → End → Token S → Type 0
 HasEnded {S} k call outcome l =
     ((words : S → List ℕ) × Ended words k call outcome l)
     ⊎ ((outcome ≡ ends.Refused NoMemory) × (may_refuse call NoMemory ≡ true) × (l ≡ k))
 
--- A call has added the entries of its end. If the end is `OutOfStep`, and the rule of shape allows
--- all entries that the caller has seen, the call has committed nothing.
+-- A call has added the entries that belong to its end (`IsMade`). If the end is `OutOfStep`, and
+-- the rule of shape allows all entries that the caller has seen, the call has committed nothing.
 pub record Adds (c : ℕ) (call : Call) (outcome : End) (seen seen' : List Entry) : Type 0 where
   pub added : List Entry
   pub entries : seen' ≡ seen ++ added
   pub made : IsMade c call outcome added
   pub quiet : is_some (seat_after seen') ≡ true → IsQuiet outcome added
 
--- The caller after a call with this end, and after the call for help that may have followed. If the
--- flag is true, the caller's entries are unchanged, and its token is broken exactly if it was
--- before. If the flag is false, the call's reply was None, and the call for help ended with
--- `OutOfStep`.
+-- The caller after a call that ended in this way, and after the call for help that may have
+-- followed. If the flag is true, the caller's entries are unchanged, and its token is broken
+-- exactly if it was before. If the flag is false, the call's reply was None, and the call for help
+-- ended with `OutOfStep`.
 abbrev pub IsAfterHelp : {S : Type 0} → Token S → End → Bool → Token S → Type 0
 IsAfterHelp k outcome true l = (l.seen ≡ k.seen) × (l.broken ≡ k.broken)
 IsAfterHelp {S} k outcome false l =
@@ -93,14 +93,14 @@ outcome_told outcomes.Busy = accounts.Busy
 outcome_told (outcomes.Refused refusal) = accounts.Refused refusal
 
 -- A script was run to an outcome. If the rule of shape allows all entries that the caller has seen,
--- the entries that the script added are the account of this outcome.
+-- the entries that the script added are the account of this outcome (`IsAccount`).
 abbrev pub HasRunTo : ℕ → ℕ → List Action → Outcome → List Entry → List Entry → Type 0
 HasRunTo c tries script outcome base seen =
     (chunk : List Entry) × (seen ≡ base ++ chunk)
     × (is_some (seat_after seen) ≡ true → IsAccount c tries script outcome chunk)
 
--- If the rule of shape allows all entries that a caller has seen, they are the accounts of its
--- scripts so far.
+-- If the rule of shape allows all entries that a caller has seen, these entries are the accounts of
+-- the caller's scripts so far (`AreAccounts`).
 abbrev pub AreToldIn : ℕ → ℕ → List (List Action) → List Outcome → List Entry → Type 0
 AreToldIn c tries scripts outcomes seen =
     is_some (seat_after seen) ≡ true → AreAccounts c tries (tolds_of scripts outcomes) seen

@@ -51,8 +51,8 @@ first_step c calls.Commit = steps.Commit c
 first_step c calls.Abort = steps.Abort c
 first_step c (calls.Help key) = steps.Double 0
 
--- The step that a drive takes in this phase, or None if the drive has ended. The drive's next
--- answer is the answer to this step.
+-- The step that a drive takes in this phase, or None if the drive has ended. The answer to this
+-- step is the next answer that the drive is given.
 abbrev pub step_in : ℕ → Call → Phase → Option Step
 step_in c call Fresh = Some (first_step c call)
 step_in c call (Seeking work again) = Some (steps.Seek c)
@@ -74,8 +74,8 @@ end_first calls.Save (answers.Saved n) = ends.Answered (answers.Saved n)
 end_first calls.Commit (answers.Committed p) = ends.Answered (answers.Committed p)
 end_first call answer = ends.Refused OutOfStep
 
--- How a call that goes back to the level `level` ends, if its last answer says that the caller has
--- reached the level `reached`. If the levels differ, the call is refused with `OutOfStep`.
+-- The end of a call that goes back to the level `level`. Its last answer says that the caller has
+-- reached the level `reached`. If the two levels differ, the call is refused with `OutOfStep`.
 abbrev pub end_returned : ℕ → ℕ → End
 end_returned level reached =
     if reached == level then ends.Answered (answers.Returned reached) else ends.Refused OutOfStep
@@ -160,7 +160,7 @@ told_act work again answers.Again = Seeking work (one_more_again again)
 told_act work again answers.Undone = undone_more work
 told_act work again answer = Last work answer
 
--- The phase after the bucket `last`, on the path to `bucket`, is initialised. If `last` is
+-- The phase after the bucket `last` is initialised. `last` is on the path to `bucket`. If `last` is
 -- `bucket`, the help ends. Otherwise the next bucket on the path is initialised.
 abbrev pub towards : ℕ → ℕ → Phase
 towards last bucket =

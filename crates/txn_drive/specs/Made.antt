@@ -31,8 +31,8 @@ undone_in (Leaving undone) = undone
 abbrev pub undone_by : ℕ → ℕ → List Entry
 undone_by c undone = replicate undone (entries.Undone c)
 
--- The entry that a call's first step added to the history, if this is the work that the call does
--- after that step.
+-- The entry that a call's first step added to the history. After that step, the call does this
+-- work.
 abbrev pub opened_by : ℕ → Call → Work → List Entry
 opened_by c (calls.Op op) Operation = entries.Asked c op ∷ []
 opened_by c (calls.Op op) (Busy holder undone) = entries.Busy c op holder ∷ []
@@ -40,8 +40,8 @@ opened_by c (calls.Back level) (Leaving undone) = entries.Leave c (Some level) �
 opened_by c calls.Abort (Leaving undone) = entries.Leave c None ∷ []
 opened_by c call work = []
 
--- The entry that a call's first step added to the history, if the call ended with this answer to
--- that step.
+-- The entry that a call's first step added to the history, if the call ended with that step. The
+-- answer to the step is given.
 abbrev pub entered_by : ℕ → Call → Answer → List Entry
 entered_by c calls.Begin (answers.Began t) = entries.Began c t ∷ []
 entered_by c calls.Save (answers.Saved n) = entries.Saved c ∷ []
@@ -52,7 +52,7 @@ entered_by c call answer = []
 abbrev pub made_by : ℕ → Call → Work → List Entry
 made_by c call work = opened_by c call work ++ undone_by c (undone_in work)
 
--- The entries that a call has added once it is in this phase.
+-- The entries that a call has added by the time it is in this phase.
 abbrev pub made_in : ℕ → Call → Phase → List Entry
 made_in c call (Seeking work again) = made_by c call work
 made_in c call (Acting work again) = made_by c call work

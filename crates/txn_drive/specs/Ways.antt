@@ -3,9 +3,9 @@ use Rattle.std.specs.Prelude.{ℕ, ◌==◌, if◌then◌else◌}
 use Prim.Native.Nat.{zero, suc}
 use Rattle.split_key.specs.Split.{parent_of}
 
--- The search goes up from a bucket through its ancestors. The result is the first one whose parent
--- is `last`. The first argument is the number of buckets to test. If all tests fail, the result is
--- the ancestor that follows the last tested bucket.
+-- Searches upwards from a bucket, through its ancestors. The result is the first bucket whose
+-- parent is `last`. The first argument is the number of buckets to test. If all tests fail, the
+-- result is the ancestor that follows the last tested bucket.
 unfoldable pub child_within : ℕ → ℕ → ℕ → ℕ
 child_within zero last bucket = bucket
 child_within (suc steps) last bucket =

@@ -13,8 +13,8 @@ use Rattle.txn_words.specs.declared.seat.Phase.{Phase}
 use Rattle.txn_words.specs.declared.seat.Phase.TheVariants.{Closed}
 use Rattle.txn_words.specs.Shape.{Seat, seat_after, own, how_many, is_shaped, IsShaped}
 
--- A history is legal if its replies hold, its locks hold, and it has the right shape. The rule
--- `holder` says which caller a Busy entry may name.
+-- A history is legal if it keeps the rules of replies, of locks and of shape. `holder` says which
+-- caller a Busy entry may name.
 pub record IsLegal (holder : Holder) (stripes : ℕ) (h : List Entry) : Type 0 where
   pub replies : RepliesHold h
   pub locks : LocksHold holder stripes h
@@ -33,8 +33,9 @@ broken holder stripes g e =
     if not (replies_hold (g ++ e ∷ [])) then Some 1 else
     if not (is_locked holder stripes g e) then Some 2 else None
 
--- The number of the first entry of `h` that breaks a rule, and the number of that rule. The entries
--- of `h` follow the history `g`. The first entry of `h` has the number `i`.
+-- The number of the first entry of `h` that breaks a rule, and the number of that rule, or None if
+-- no entry breaks a rule. The entries of `h` follow the history `g`. The first entry of `h` has the
+-- number `i`.
 abbrev pub first_bad : Holder → ℕ → List Entry → List Entry → ℕ → Option (ℕ × ℕ)
 first_bad holder stripes g [] i = None
 first_bad holder stripes g (e ∷ h) i = elim (broken holder stripes g e) [
@@ -56,12 +57,13 @@ is_running (Some s) = runs s.phase
 abbrev pub callers_in : List Entry → ℕ
 callers_in h = fold (λ n e. max n (caller_of e + 1)) 0 h
 
--- The callers that are not closed, among those whose number is below `callers`.
+-- The callers that are in a transaction and whose number is below `callers`.
 abbrev pub running : ℕ → List Entry → List ℕ
 running callers h = filter (λ c. is_running (seat_after (own c h))) (range_with_len 0 callers)
 
 -- A verdict is Legal or Illegal. Legal has the number of commits and the number of callers that are
--- not closed. Illegal has the number of the first bad entry and the rule that this entry breaks.
+-- in a transaction. Illegal has the number of the first bad entry and the number of the rule that
+-- this entry breaks.
 pub data Verdict : Type 0 where
   Legal : ℕ → ℕ → Verdict
   Illegal : ℕ → ℕ → Verdict

@@ -9,13 +9,13 @@ use Rattle.txn_trace.specs.History.{of, open_txns}
 use Rattle.txn_trace.specs.Alone.{map_after}
 use Rattle.txn_trace.specs.Serial.{serial}
 
--- For each open transaction, its last map if it runs alone on the map that the committed
--- transactions leave.
+-- For each open transaction, the map that it leaves if it runs alone on the map of the committed
+-- transactions.
 abbrev pub open_maps : List Entry → List Map
 open_maps h = map (λ t. map_after (serial h) (of t h)) (open_txns h)
 
 -- The value at the key `k` in the first map that differs from the base at `k`. If no map differs
--- there, the value in the base.
+-- there, it is the value in the base.
 abbrev pub first_differing : Map → List Map → ℕ → Option ℕ
 first_differing base [] k = get base k
 first_differing base (m ∷ ms) k =

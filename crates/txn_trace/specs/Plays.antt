@@ -65,20 +65,21 @@ PlayRising callers scripts c h low high (t ∷ ts) =
     × IsScriptOf callers scripts c n script × Plays t script h
     × PlayRising callers scripts c h (suc n) high ts
 
--- Each caller's committed transactions, in commit order, play scripts of this caller with rising
--- numbers.
+-- For each caller, its committed transactions, in commit order, play scripts of this caller. The
+-- numbers of these scripts rise.
 abbrev pub PlayScripts : ℕ → List (List Action) → List Entry → Type 0
 PlayScripts callers scripts h =
     (c : ℕ) → c < callers → PlayRising callers scripts c h 0 (length scripts) (commits_of c h)
 
--- The parts of one caller's entries after one more entry. The part of the newest transaction is the
--- first of the list. A Began begins a new part. Any other entry is added to the newest part, or
--- dropped if there is no part.
+-- One caller's entries in parts, after one more entry. Each part has the entries of one
+-- transaction, and the newest part is the first of the list. A Began begins a new part. Any other
+-- entry is added to the newest part, or dropped if there is no part.
 abbrev pub part_after : List (List Entry) → Entry → List (List Entry)
 part_after [] e = if is_began e then (e ∷ []) ∷ [] else []
 part_after (part ∷ parts) e =
     if is_began e then (e ∷ []) ∷ part ∷ parts else (part ++ e ∷ []) ∷ parts
 
--- The entries of one caller in parts, one for each transaction, the last one first.
+-- The entries of one caller, split into one part for each transaction. The part of the last
+-- transaction comes first.
 abbrev pub parts_of : List Entry → List (List Entry)
 parts_of es = fold part_after [] es

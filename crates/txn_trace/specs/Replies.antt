@@ -11,6 +11,7 @@ use Rattle.txn_trace.specs.Serial.{serial}
 abbrev pub RepliesHoldAt : List Entry → Type 0
 RepliesHoldAt g = (t : ℕ) → IsTrue (is_open t g) → IsSome (alone (serial g) (of t g))
 
--- The replies hold at each prefix of the history.
+-- After each prefix of the history, each open transaction has the replies that it would have alone
+-- (`RepliesHoldAt`).
 abbrev pub RepliesHold : List Entry → Type 0
 RepliesHold h = (g : List Entry) → IsPrefix g h → RepliesHoldAt g

@@ -7,8 +7,8 @@ use Rattle.std.specs.Cmp.{nat_cmp_total}
 use Rattle.txn_words.specs.declared.op.Op.{Op}
 use Rattle.txn_words.specs.declared.op.Op.TheVariants.{Put, Take, Get, PutIf}
 
--- A map: the list of its pairs of key and value, in rising order of keys. It is std's finite map,
--- written in a form that computes.
+-- A map: the list of its pairs of key and value, in rising order of keys. It is std's finite map as
+-- a plain list, so that its functions can be evaluated.
 pub record Map : Type 0 where
   pub rows : List (ℕ × ℕ)
   pub rising : T (is_sorted nat_cmp rows)

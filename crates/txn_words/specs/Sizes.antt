@@ -1,4 +1,4 @@
--- Limits as numbers.
+-- The limits of a map, as numbers.
 use Rattle.std.specs.Prelude.{ℕ, ◌^◌, Bool, false, ◌&&◌, nat_le, Result, Ok, Err, if◌then◌else◌}
 use Rattle.std.specs.Int.{is_power_of_two}
 use Rattle.txn_words.specs.declared.refusal.Refusal.{Refusal}

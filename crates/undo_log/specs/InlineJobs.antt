@@ -1,4 +1,4 @@
--- Jobs in places; some of the places are in the log itself.
+-- Jobs that are stored in places. Some of the places are in the log itself.
 use Rattle.std.specs.Prelude.{ℕ, ◌≤◌, List, [], ◌∷◌, Option, None, Some}
 use Rattle.smallvec.specs.SmallVec.{SmallVec, small_vec_len}
 

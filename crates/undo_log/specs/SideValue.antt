@@ -14,8 +14,8 @@ pub record Leveled (S : Type 0) : Type 0 where
   pub room : ℕ
   pub save_room : ℕ
 
--- The words that the value has if only its first `k` changes are kept: the words before job `k`,
--- counted from 0, or the current words (`now`) if there is no such job.
+-- The words that the value has if only its first `k` changes are kept. These are the words before
+-- job `k`, counted from 0. If there is no such job, they are the current words (`now`).
 abbrev pub words_at : {J : Type 0} → (J → List ℕ) → List ℕ → List J → ℕ → List ℕ
 words_at before now [] k = now
 words_at before now (job ∷ jobs) zero = before job

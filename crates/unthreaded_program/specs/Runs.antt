@@ -69,8 +69,8 @@ status_after (Ok true) = 0
 status_after (Ok false) = 1
 status_after (Err fault) = status_of fault
 
--- Standard error after a run. If there was a fault and standard error took its whole line, the line
--- was added. If there was no fault, standard error is unchanged.
+-- Standard error after a run. If there was a fault, and its whole line was written (`is_told`),
+-- standard error has grown by this line. If there was no fault, standard error is unchanged.
 abbrev pub TellsError : Option (List ℕ) → Option (List ℕ) → Bool → RunResult → Type 0
 TellsError old new is_told (Ok well) = Keeps old new × (is_told ≡ true)
 TellsError old new is_told (Err fault) = is_told ≡ true → Appends old new (line (message_of fault))

@@ -11,7 +11,8 @@ use std::process::Abort;
 use std::test::Fail;
 use txn_words::{Answer, Op, Refusal, Step};
 
-/// Numbers of callers, stripes and buckets: the least and the greatest of each.
+/// Each row has a number of callers, of stripes and of buckets. Each of these numbers is the least
+/// or the greatest that is allowed.
 static SIZES: [(u64, u64, u64); 4] = [
     (1, 1, 2),
     (1, 4_096, 65_536),
@@ -19,8 +20,8 @@ static SIZES: [(u64, u64, u64); 4] = [
     (64, 4_096, 2),
 ];
 
-/// The least and the greatest key, the two keys in the middle, and a key of the last stripe of
-/// 4,096.
+/// The least and the greatest key, the two keys in the middle, and a key in the last stripe if
+/// there are 4,096 stripes.
 static KEYS: [u64; 5] = [
     0,
     4_095,
@@ -29,8 +30,9 @@ static KEYS: [u64; 5] = [
     18_446_744_073_709_551_615,
 ];
 
-/// Operations of each kind, each with its reply. The key is not there at the beginning. The
-/// operations put the least and the greatest value, and the last operation takes the key.
+/// Each row has an operation on the key and its reply. There are operations of each kind, and puts
+/// of the least and of the greatest value. The key is absent before the first operation, and the
+/// last operation takes it.
 fn operations_at(key: u64) -> [(Op, Option<u64>); 9] {
     [
         (Op::Get(key), None),
@@ -45,7 +47,7 @@ fn operations_at(key: u64) -> [(Op, Option<u64>); 9] {
     ]
 }
 
-/// A caller does each operation of `operations_at` on a key.
+/// The caller does each operation of `operations_at` on this key, and must get the row's reply.
 fn operations_are(rt: &impl Abort, core: &mut Core, caller: u64, key: u64) -> Result<(), Fail> {
     for (op, reply) in &operations_at(key) {
         let answer = operate(core, caller, *op)?;
@@ -54,7 +56,7 @@ fn operations_are(rt: &impl Abort, core: &mut Core, caller: u64, key: u64) -> Re
     Ok(())
 }
 
-/// A caller does each operation on each key.
+/// The caller does each operation of `operations_at` on each key of `KEYS`.
 fn works_on_keys(rt: &impl Abort, core: &mut Core, caller: u64) -> Result<(), Fail> {
     for key in &KEYS {
         operations_are(rt, core, caller, *key)?;
@@ -62,8 +64,8 @@ fn works_on_keys(rt: &impl Abort, core: &mut Core, caller: u64) -> Result<(), Fa
     Ok(())
 }
 
-/// Each caller runs a transaction and calls for help. There is no caller with the next number, so
-/// its calls are refused.
+/// Each caller runs a transaction and calls for help. Calls with the number after the last caller's
+/// number are refused.
 fn callers_work(rt: &impl Abort, core: &mut Core, callers: u64) -> Result<(), Fail> {
     let mut count: u64 = 0;
     for caller in 0..callers {
@@ -143,7 +145,7 @@ fn levels_are(rt: &impl Abort, core: &mut Core, levels: &[u64]) -> Result<(), Fa
     Ok(())
 }
 
-/// A thousand savepoints.
+/// Makes a thousand savepoints, and returns to each level of `LEVELS`.
 #[test]
 fn levels_to_a_thousand(rt: HostRuntime) -> Result<(), Fail> {
     levels_are(&rt, &mut small_core(&rt, rt.alloc()), &LEVELS)
@@ -207,7 +209,7 @@ fn add_sweeps(steps: &mut Vec<Step>, count: usize) -> Result<(), AllocError> {
     Ok(())
 }
 
-/// Takes steps, which are all sweeps, with one call. No sweep finds a marked node.
+/// Takes these steps with one call. All of them are sweeps, and no sweep may find a marked node.
 fn run_sweeps(rt: &impl Abort, alloc: Global, core: &mut Core, steps: &[Step]) -> Result<(), Fail> {
     let answers = run_steps(alloc, core, steps)?;
     assert_eq!(rt; answers.len(), steps.len());
@@ -215,21 +217,22 @@ fn run_sweeps(rt: &impl Abort, alloc: Global, core: &mut Core, steps: &[Step]) -
     Ok(())
 }
 
-/// Takes this number of sweeps with one call. No sweep finds a marked node.
+/// Takes this number of sweeps with one call. No sweep may find a marked node.
 fn run_many(rt: &impl Abort, alloc: Global, core: &mut Core, count: usize) -> Result<(), Fail> {
     let mut steps = Vec::new(alloc);
     add_sweeps(&mut steps, count)?;
     run_sweeps(rt, alloc, core, &steps)
 }
 
-/// Checks that the list and the map have this number of pairs.
+/// Checks that the list has this number of pairs, and that the map has exactly the list's pairs.
 fn has_many(rt: &impl Abort, alloc: Global, core: &Core, count: usize) -> Result<(), Fail> {
     let pairs = pairs_of(alloc, core)?;
     assert_eq!(rt; pairs.len(), count);
     has_map(rt, alloc, core, &pairs)
 }
 
-/// Bucket 63 is the last of its segment.
+/// Calls on bucket 63, which is the last bucket of its segment, on bucket 65,535, which is the last
+/// bucket of the table, and on bucket 65,536, which does not exist.
 const LAST_PLACE: [(Call, Answer); 7] = [
     (Call::Help(0, 63), Answer::Ready),
     (Call::Help(0, 65_535), Answer::Ready),

@@ -10,14 +10,14 @@ use std::process::Abort;
 use std::test::Fail;
 use txn_words::{Answer, Op, Step};
 
-/// The number of key pairs. The orders are tried on the pairs in turn.
+/// The number of key pairs. Each order of steps is tried on the next of these pairs, in turn.
 const PAIRS: u64 = 24;
 
-/// An order of two lists of seven steps is a number below `ORDERS` with seven bits set. Each bit,
-/// beginning with the lowest, says which caller takes the next step.
+/// A number below `ORDERS` with seven bits set stands for one order of two lists of seven steps.
+/// Each of its 14 bits, beginning with the lowest, says which caller takes the next step.
 const ORDERS: u32 = 1 << 14;
 
-/// The operations of a caller on its own key, or on both keys of the pair.
+/// What a caller does with its own key of a pair, or with both keys.
 #[derive(Clone, Copy)]
 enum Plan {
     PutAborted,
@@ -165,7 +165,7 @@ fn prepare(
     take(rt, core, compared, 0, Step::Commit(0))
 }
 
-/// Two callers, who have begun, take their steps in one order.
+/// Two callers have begun. They take their steps in this order.
 fn take_in_order(
     rt: &impl Abort,
     core: &mut Core,
@@ -189,7 +189,7 @@ fn take_in_order(
     Ok(())
 }
 
-/// Two callers begin, take their steps in one order, and end.
+/// Two callers begin, take their steps in this order, and end.
 fn play(
     rt: &impl Abort,
     core: &mut Core,
@@ -241,11 +241,11 @@ fn prepare_all(rt: &impl Abort, core: &mut Core, compared: &mut Compared) -> Res
     initialise(rt, core)
 }
 
-/// Two plans for a pair: the number of stripes, whether the pair's keys are there at first, and the
-/// plan of each caller.
+/// A case has the number of stripes, whether the keys of a pair are present at first, and the plan
+/// of each caller.
 type Case = (u64, bool, Plan, Plan);
 
-/// Plays two plans on a pair in one order.
+/// Plays the two plans of a case on this pair, in this order.
 fn in_order(
     rt: &impl Abort,
     core: &mut Core,
@@ -261,7 +261,7 @@ fn in_order(
     play(rt, core, compared, order, &steps)
 }
 
-/// Plays two plans in every order, each order on the next pair.
+/// Plays the two plans of a case in every order. Each order is played on the next pair.
 fn in_every_order(
     rt: &impl Abort,
     core: &mut Core,
@@ -278,7 +278,7 @@ fn in_every_order(
     Ok(())
 }
 
-/// The plain map of a case.
+/// A new plain map with the stripes of a case.
 fn plain_of(alloc: Global, case: &Case) -> Compared {
     Compared {
         plain: PlainMap::new(alloc, case.0),

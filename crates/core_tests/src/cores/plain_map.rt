@@ -95,8 +95,8 @@ impl PlainMap {
         self.map.len() as u64
     }
 
-    /// The pairs, sorted by split key and then by key. The split key is the key with bit 63 set and
-    /// with its bits then reversed.
+    /// The pairs, sorted by split key and then by key. For the split key, bit 63 of the key is set,
+    /// and then the bits are reversed.
     pub(super) fn in_split_order(&self, alloc: Global) -> Result<Vec<(u64, u64)>, AllocError> {
         let mut sorted = Vec::new(alloc);
         for (key, value) in &self.map {

@@ -17,10 +17,10 @@ fn figures(core: &Core) -> (usize, (u32, u64), usize) {
     (trace_of(core).len(), sizes_of(core), owed_by(core))
 }
 
-/// The pairs of a core, if there is memory for their list.
+/// The list of a core's pairs, or an error if there is no memory for the list.
 type Pairs = Result<Vec<(u64, u64)>, AllocError>;
 
-/// Checks that both lists have the same pairs, if there was memory for both lists.
+/// If there was memory for both lists, checks that they have the same pairs.
 fn are_same(rt: &impl Abort, before: &Pairs, after: &Pairs) {
     if let (Ok(after), Ok(before)) = (after, before) {
         assert!(rt; after.as_slice() == before.as_slice());
@@ -61,8 +61,8 @@ fn try_step(
     try_beside(rt, alloc, core, &pairs, step, wanted)
 }
 
-/// Takes steps, and stops if a step is refused memory, which must change nothing. Returns true if
-/// all steps were taken.
+/// Takes these steps. Stops at a step that is refused memory, and checks that this step has changed
+/// nothing. Returns true if all steps were taken.
 fn try_steps(
     rt: &impl Abort,
     alloc: Global,
@@ -217,8 +217,8 @@ fn five_callers_undone(rt: HostRuntime) -> Result<(), Fail> {
     }
 }
 
-/// Takes steps. If a step is refused memory, takes it once more. Returns false if a step is refused
-/// memory twice.
+/// Takes these steps. A step that is refused memory is taken once more. Returns false if a step is
+/// refused memory twice.
 fn try_steps_twice(
     rt: &impl Abort,
     alloc: Global,

@@ -37,12 +37,12 @@ fn core_with_room(rt: &impl Abort, alloc: Global, room: Room<'_>) -> Core {
     Core::with_room(alloc, limits_of(rt, 3, 8, 8), room).expect(rt, "a core")
 }
 
-/// Whether this room is refused.
+/// Returns true if a core with this room is refused.
 fn refuses(rt: &impl Abort, alloc: Global, room: Room<'_>) -> bool {
     Core::with_room(alloc, limits_of(rt, 3, 8, 8), room).is_err()
 }
 
-/// Whether stripes are words.
+/// Returns true if the stripes of this core are words.
 fn has_words(core: &Core) -> bool {
     core.words()
 }
@@ -88,9 +88,9 @@ fn answer(core: &mut Core, right: &StripeRight, ask: Ask) -> Result<Answer, Fail
 }
 
 /// Caller 0 puts key 1 with the right to stripe 1. Then caller 1 asks for key 9, which has the same
-/// stripe. Asking with the right to the stripe is refused with `StaleWord`. A word that names
-/// caller 2, which has never begun, or caller 1 itself is refused in the same way. If the word
-/// names caller 0, the answer is `Busy`.
+/// stripe. If it asks with the right to the stripe, it is refused with `StaleWord`. If it asks with
+/// a word that names caller 1 itself, or caller 2, which has never begun, it is also refused with
+/// `StaleWord`. If the word names caller 0, the answer is `Busy`.
 static ASKS: [(Ask, Answer); 11] = [
     (Ask::Step(Step::Begin(0)), Answer::Began(1)),
     (Ask::Right(0, Op::Put(1, 10)), Answer::Asked),
@@ -183,7 +183,8 @@ fn cores_with_room(rt: HostRuntime) -> Result<(), Fail> {
     Ok(())
 }
 
-/// Room for more entries, nodes, changes or savepoints than memory can hold is refused.
+/// Room for more entries, nodes, changes or savepoints than memory can hold is refused. The room of
+/// a caller that the core does not have is ignored.
 #[test]
 fn refused_room(rt: HostRuntime) {
     let alloc = rt.alloc();

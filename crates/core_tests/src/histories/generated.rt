@@ -181,7 +181,8 @@ fn change_operation(draws: &mut Draws, history: &mut [Entry], place: usize) {
     }
 }
 
-/// The entry with a drawn number, reply, operation or caller. It may be unchanged.
+/// The entry, with its number, reply, operation or caller replaced by a drawn one. The result may
+/// be the same entry.
 fn change_entry(draws: &mut Draws, entry: Entry) -> Entry {
     let caller = entry.caller();
     let other = draws.caller(4);

@@ -75,7 +75,8 @@ pub(super) fn count_standing(entries: &[Entry]) -> usize {
     done.saturating_sub(taken_back)
 }
 
-/// Returns true if the operation that was asked for last is a change, given that this is its reply.
+/// Returns true if the operation that was asked for last is a change. `reply` is the reply to this
+/// operation.
 fn is_change_done(asked: Option<Op>, reply: Reply) -> bool {
     match asked {
         Some(Op::Put(..)) => true,
@@ -127,8 +128,8 @@ pub(super) fn counts_of(history: &[Entry]) -> Counts {
     counts
 }
 
-/// Returns true if the rule of shape has a row for one more entry, and if the number in that entry
-/// is right.
+/// Returns true if the rule of shape allows this entry after the history, and if the number in the
+/// entry is right.
 fn has_shape(alloc: Global, history: &[Entry], entry: &Entry) -> Result<bool, AllocError> {
     let entries = last_of(alloc, entry.caller(), history)?;
     let kept = standing_at_levels(alloc, &entries)?;
@@ -168,8 +169,8 @@ fn may_come_in_open(entry: &Entry, kept: &[usize], committed: u64) -> bool {
     }
 }
 
-/// Returns true if an entry may follow while its caller returns to a level. At that level, `kept`
-/// changes stood.
+/// Returns true if an entry may follow while its caller returns to a level. `kept` is the number of
+/// changes that stood when the level was set.
 fn may_come_on_the_way(entry: &Entry, level: u64, kept: usize, standing: usize) -> bool {
     match *entry {
         Entry::Undone(_) => kept < standing,
@@ -220,7 +221,7 @@ fn another_holds(history: &[Entry], caller: u64, stripe: u64, stripes: u64) -> b
     false
 }
 
-/// Whether one more entry keeps the rule of locks.
+/// Returns true if this entry, added to the history, keeps the rule of locks.
 fn is_locked(history: &[Entry], entry: &Entry, stripes: u64, holder: Holder) -> bool {
     match *entry {
         Entry::Asked(caller, op) => {
@@ -276,7 +277,7 @@ struct Running {
     /// The map at the transaction's beginning, and the map after each standing change.
     maps: Vec<Values>,
     pending: Option<Op>,
-    /// The number of maps when each level was set. It is 1 for level 0.
+    /// For each level, the number of maps when the level was set. For level 0 it is 1.
     notes: Vec<usize>,
 }
 
@@ -289,8 +290,8 @@ impl Running {
         })
     }
 
-    /// Lets the entries act in turn. Returns the last map, or `None` if one of the entries may not
-    /// act.
+    /// Applies the entries in turn. Returns the last map, or `None` if an entry does not fit this
+    /// run.
     fn act_all(&mut self, entries: &[Entry]) -> Result<Option<Values>, AllocError> {
         for entry in entries {
             if !self.act(entry)? {
@@ -300,7 +301,7 @@ impl Running {
         Ok(self.maps.pop())
     }
 
-    /// Lets an entry act. Returns true if the entry may act.
+    /// Applies an entry. Returns true if the entry fits this run.
     fn act(&mut self, entry: &Entry) -> Result<bool, AllocError> {
         match *entry {
             Entry::Asked(_, op) => self.pending = Some(op),
@@ -337,8 +338,8 @@ impl Running {
     }
 }
 
-/// Runs a transaction alone on these values. Returns its last map, or `None` if an entry may not
-/// act.
+/// Runs a transaction alone on these values. Returns its last map, or `None` if an entry does not
+/// fit this run.
 fn run_alone(
     start: &Values,
     entries: &[Entry],
@@ -348,7 +349,7 @@ fn run_alone(
     run.act_all(entries)
 }
 
-/// The reply to a caller's pending operation, if the caller's transaction runs alone after the
+/// The reply that a caller's pending operation has if the caller's transaction runs alone after the
 /// committed transactions.
 pub(super) fn reply_alone(
     alloc: Global,
@@ -462,8 +463,8 @@ pub(super) fn first_bad(
     Ok(None)
 }
 
-/// The verdict on a history whose first bad entry is `bad`. A transaction runs from its Began entry
-/// until its end.
+/// The verdict on a history. `bad` is its first bad entry, if it has one. A transaction counts as
+/// running from its Began entry until its end.
 pub(super) fn verdict(history: &[Entry], bad: Option<(usize, Rule)>) -> Verdict {
     if let Some((entry, rule)) = bad {
         let entry = entry as u64;

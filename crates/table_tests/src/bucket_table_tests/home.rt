@@ -42,7 +42,7 @@ pub enum Call {
     Link(u64),
     /// A store by a helper.
     Store(u64),
-    /// A doubling by a caller that has seen this size.
+    /// A call to double the table, by a caller that has seen this size.
     Double(u64),
 }
 
@@ -70,7 +70,9 @@ fn made(list: &mut NodeList, buckets: &mut Buckets, call: Call) -> Answer
     }
 }
 
-/// Links the node of a key. The seek begins at the nearest stored bucket.
+/// Links a node for a key that the list does not have. The seek begins at the dummy of the key's
+/// bucket. If the bucket is not stored, the seek begins at the dummy of its nearest stored
+/// ancestor.
 fn put(
     rt: &impl Abort,
     list: &mut NodeList,
@@ -121,7 +123,7 @@ impl Home {
         made(&mut self.list, &mut self.buckets, call)
     }
 
-    /// Puts a key that is not there.
+    /// Puts a key that the list does not have.
     pub fn put(&mut self, rt: &impl Abort, number: u64) -> Result<(), SpareFault> {
         put(rt, &mut self.list, &self.buckets, number)
     }
@@ -132,7 +134,7 @@ impl Home {
         Ok(spare.stamp())
     }
 
-    /// The size, the count of keys and the change number.
+    /// The size of the table, the number of its keys, and the list's change number.
     pub fn figures(&self) -> (u32, u64, u64) {
         (self.buckets.size(), self.list.count(), self.list.changes())
     }

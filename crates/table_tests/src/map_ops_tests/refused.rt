@@ -85,13 +85,14 @@ fn put_all(
 enum Refused {
     /// One of the puts that fill the table.
     Puts,
-    /// The preparation of a take, while a put is prepared.
+    /// The preparation of a take, while a put is prepared but not yet done.
     Preparation,
-    /// The link of a dummy, while a put is prepared.
+    /// The link of a dummy, while a put is prepared but not yet done.
     Link,
 }
 
-/// Puts pairs, makes the call that may be refused memory, and compares the table's pairs after it.
+/// Puts the pairs, and makes the call that may be refused memory. Then checks that the table has
+/// the right pairs.
 fn play_refused(
     rt: &impl Abort,
     alloc: Global,
@@ -156,8 +157,8 @@ fn refused_memory_for_a_preparation(rt: HostRuntime) -> Result<(), Fail> {
 }
 
 /// Prepares a put of key 4, and links the dummy of bucket 1 as helper 0. If the link is refused
-/// memory, the table must be unchanged and the helper must still have its cursor, and the put is
-/// done. Returns the pairs that the table must have at the end.
+/// memory, the table must be unchanged, and the helper must still have its cursor. Then the put is
+/// done, and the helper's link is made. Returns the pairs that the table must have at the end.
 fn link_beside_a_put(
     rt: &impl Abort,
     alloc: Global,

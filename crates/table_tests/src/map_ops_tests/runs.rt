@@ -68,7 +68,7 @@ enum Step {
     Read,
 }
 
-/// The effect of a job: its key, and the value that the key gets back.
+/// What a job does: the key that it changes, and the old value if the job restores one.
 #[derive(Clone, Copy, PartialEq, Eq)]
 enum Inverse {
     Unput(u64),
@@ -83,9 +83,10 @@ enum Answer {
     Reply(Reply),
     Withdrawn(Op, u64),
     /// The answer to `PutLate`. The first field is true if the cursor of the prepared put no longer
-    /// fitted. Then follow the replies to the put of key 4, to the read and to the prepared put.
+    /// fitted. The other fields are the replies to the put of key 4, to the read and to the
+    /// prepared put, in this order.
     Late(bool, Reply, Reply, Reply),
-    /// The reply to a take, and the effect of its job.
+    /// The reply to a take, and what its job does.
     Taken(Reply, Inverse),
     Job(Inverse),
     Swept(SweepOutcome),
@@ -159,8 +160,8 @@ fn put_with_job(
     Ok(Answer::Reply(reply))
 }
 
-/// Returns true if `value` fits the change that the job takes back: some value after a put, and
-/// `None` after a take.
+/// Returns true if the job's key can have `value` right after the change that the job takes back.
+/// After a put the key has a value, and after a take it has none.
 fn is_due(value: Reply, job: &MapJob) -> bool
     ensures { (m : Map) → get m (key_of_job job.now) ≡ value → result ≡ true → IsDue m job.now }
 {
@@ -171,7 +172,7 @@ fn is_due(value: Reply, job: &MapJob) -> bool
     }
 }
 
-/// Takes a job's change back. Fails if the value of the job's key does not fit this change.
+/// Takes a job's change back. Fails if `is_due` is false for the present value of the job's key.
 fn take_back(table: &mut Table, job: MapJob) -> Result<Answer, Fail>
     requires { OwnsIf table.old (spare_of_job job) }
 {
@@ -192,7 +193,7 @@ fn take_newest_back(table: &mut Table, jobs: &mut Vec<MapJob>) -> Result<Answer,
     }
 }
 
-/// The effect of a job.
+/// What a job does, as an `Inverse`.
 fn inverse_of(job: &MapJob) -> Inverse {
     let key = job.key().number();
     match job {
@@ -202,7 +203,7 @@ fn inverse_of(job: &MapJob) -> Inverse {
     }
 }
 
-/// The effect of the newest of these jobs.
+/// What the newest of these jobs does.
 fn newest_of(jobs: &[MapJob]) -> Result<Answer, Fail> {
     let job = jobs.last().ok_or("no job")?;
     Ok(Answer::Job(inverse_of(job)))
@@ -310,7 +311,8 @@ fn take_step(
     }
 }
 
-/// Runs of steps, with the answer to each. Each run begins with a new table.
+/// Each row has a step and its answer. The steps `Begin` and `BeginSmall` begin a run on a new
+/// table.
 const STEPS: [(Step, Answer); 118] = [
     // Operations are done and taken back.
     (Step::Begin, Answer::Done),
@@ -495,7 +497,7 @@ const STALE_PENDING: [(Step, Answer); 11] = [
     (Step::Pair(0), Answer::End),
 ];
 
-/// Takes steps, and compares the answer to each.
+/// Takes these steps, and compares the answer to each step with the wanted one.
 fn take_each(
     rt: &impl Abort,
     alloc: Global,
@@ -510,7 +512,7 @@ fn take_each(
     Ok(())
 }
 
-/// Takes steps on a new table, and compares the answer to each.
+/// Takes these steps on a new table, and compares the answer to each step with the wanted one.
 fn take_steps(rt: &impl Abort, alloc: Global, steps: &[(Step, Answer)]) -> Result<(), Fail> {
     let mut table = new_table(alloc).expect(rt, "a table");
     take_each(rt, alloc, &mut table, &mut Vec::new(alloc), steps)

@@ -1,6 +1,6 @@
-//! Tests of keys that share a split key. One table has sixteen pairs of such keys. The replies
-//! follow from a rule, so a loop makes the calls, unlike in `runs`. The lower key of each pair is
-//! taken. All other changes of a pair are taken back, so only the higher keys remain at the end.
+//! Tests of keys that share a split key. Sixteen pairs of such keys are put into one table, and
+//! then the lower key of each pair is taken. All later changes are taken back, so only the higher
+//! keys remain at the end. The replies follow from a rule, so the calls are made by a loop.
 use super::{do_at_once, figures, new_table, there_and_back};
 use map_ops::Table;
 use std::process::Abort;
