@@ -1,7 +1,7 @@
 //! These tests run the program on a system in memory, with threads and without. They compare both
-//! outputs and the status of each call. For seeds, the output is compared with the engine's. All
-//! other texts were written by hand. By contract, `is_told` may be false although standard error
-//! took the whole line. These tests require that `is_told` is then true.
+//! outputs and the status of each call. If a call has a seed, its output is compared with that of
+//! the engine. All other texts were written by hand. By contract, `is_told` may be false although
+//! standard error took the whole line. These tests require that `is_told` is then true.
 
 use crate::devices::{Desk, Ended, Narrow, compare_ended};
 use boostmap_engine::mix;
@@ -14,19 +14,19 @@ use std::test::Fail;
 use std::thread::Threads;
 use unthreaded_program::Ending;
 
-/// One transaction that commits.
+/// A step file with one transaction that commits.
 const STEPS: &str =
     "{\"version\":1,\"callers\":2,\"stripes\":8,\"buckets\":8,\"steps\":[[\"begin\",0],[\"ask\",0,\
     \"put\",1,10],[\"seek\",0],[\"act\",0],[\"commit\",0]]}";
 
 const REPORT: &str = "began 1\nasked\nplaced\ndone none\ncommitted 1\nsize 2 count 1\n1 10\n";
 
-/// A transaction in which step 4, counted from 0, has a text instead of a number.
+/// A step file in which step 4, counted from 0, has a text instead of a number.
 const BAD_STEPS: &str =
     "{\"version\":1,\"callers\":2,\"stripes\":8,\"buckets\":8,\"steps\":[[\"begin\",0],[\"ask\",0,\
     \"put\",1,10],[\"seek\",0],[\"act\",0],[\"ask\",0,\"put\",\"1\",10],[\"commit\",0]]}";
 
-/// One transaction that commits, as a history.
+/// A history file with one transaction that commits.
 const LEGAL: &str =
     "{\"version\":1,\"stripes\":8,\"entries\":[[\"began\",0,1],[\"asked\",0,\"put\",1,10],\
     [\"did\",0,null],[\"committed\",0,1]]}";
@@ -38,7 +38,7 @@ const ILLEGAL: &str =
     "{\"version\":1,\"stripes\":8,\"entries\":[[\"began\",0,1],[\"asked\",0,\"put\",1,10],\
     [\"did\",0,7],[\"committed\",0,1]]}";
 
-/// One worker with one script.
+/// A script file with one worker, which has one script.
 const SCRIPT: &str =
     r#"{"version":1,"workers":1,"stripes":8,"buckets":8,"tries":0,"scripts":[[["put",1,10]]]}"#;
 
@@ -52,8 +52,8 @@ const RUN_HISTORY: &str =
     "{\"entries\":[[\"began\",0,1],[\"asked\",0,\"put\",1,10],[\"did\",0,null],\
     [\"committed\",0,1]],\"stripes\":8,\"version\":3}\n";
 
-/// Two workers, each with one script of twelve gets. Their history shows the order of the workers'
-/// turns.
+/// A script file with two workers. Each worker has one script of twelve gets. The history of a run
+/// shows the order of the workers' turns.
 const TWO_WORKERS: &str =
     "{\"version\":1,\"workers\":2,\"stripes\":8,\"buckets\":8,\"tries\":0,\"scripts\":[[[\"get\",\
     1],[\"get\",1],[\"get\",1],[\"get\",1],[\"get\",1],[\"get\",1],[\"get\",1],[\"get\",1],\
@@ -107,7 +107,7 @@ fn run_at<T: Threads + Wait + Sync>(
     }
 }
 
-/// Runs the program that has no threads on a system.
+/// Runs the program without threads on this system.
 fn run_unthreaded(alloc: Global, desk: &Desk<'_>) -> Ended {
     let (mut output, mut errors) = (Narrow::whole(), Narrow::whole());
     let Ending { status, is_told } = unthreaded_program::run(alloc, desk, &mut output, &mut errors);
@@ -119,7 +119,7 @@ fn run_unthreaded(alloc: Global, desk: &Desk<'_>) -> Ended {
     }
 }
 
-/// Compares what the program writes to standard output and to standard error, and its status.
+/// Runs the program, and compares standard output, standard error and the status with `wanted`.
 fn compare<T: Abort + Threads + Wait + Sync>(
     rt: &T,
     alloc: Global,
@@ -130,7 +130,8 @@ fn compare<T: Abort + Threads + Wait + Sync>(
     compare_ended(rt, &ended, wanted, desk.words);
 }
 
-/// The words of a call, the texts of standard output and of standard error, and the status.
+/// Each row has the words of a call, the texts of standard output and standard error, and the
+/// status.
 type Called = (&'static str, &'static str, &'static str, u8);
 
 const CALLS: &[Called] = &[
@@ -162,7 +163,7 @@ const CALLS: &[Called] = &[
     ("bin/x check legal.json", LEGAL_LINE, "", 0),
 ];
 
-/// Lines of words that are not a valid call.
+/// Each line has the words of a call that is not valid.
 const NO_CALLS: &str = "boostmap
 boostmap steps.json
 boostmap replay
@@ -210,7 +211,7 @@ fn each_command_and_each_status(rt: HostRuntime) {
     }
 }
 
-/// Calls of the program that has no threads.
+/// Each row has a call of the program without threads, both outputs, and the status.
 const UNTHREADED_CALLS: &[Called] = &[
     ("boostmap ", "", USAGE, 2),
     ("boostmap run", "", USAGE, 2),
@@ -237,15 +238,16 @@ fn without_threads(rt: HostRuntime) {
     }
 }
 
-/// The output of the engine of `mix` for `TWO_WORKERS` and this seed.
+/// Runs the engine of `mix` on `TWO_WORKERS` with this seed, and returns its output.
 fn mix_two(alloc: Global, seed: u64) -> Result<Narrow, Fail> {
     let mut output = Narrow::whole();
     mix(alloc, seed, &mut TWO_WORKERS.as_bytes(), &mut output)?;
     Ok(output)
 }
 
-/// Calls of `mix`, each with the seed that the engine gets. The call prints the engine's history
-/// for that seed. The history depends on both halves of a seed, the high one and the low one.
+/// Each row has a call of `mix`, and the seed that the engine must get. The call must print the
+/// engine's history for that seed. The history depends on both halves of a seed, the high one and
+/// the low one.
 const SEEDS: &[(&str, u64)] = &[
     ("boostmap mix --seed 7 two.json", 7),
     ("boostmap mix two.json --seed 7", 7),
@@ -283,9 +285,9 @@ fn seeds_that_differ_in_one_half(rt: HostRuntime) -> Result<(), Fail> {
     Ok(())
 }
 
-/// Each row begins with the kind of an error. The pair is the text of standard error and the status
-/// if reading the words of the call fails with this kind. The last text is that of standard error
-/// if opening the file fails with this kind.
+/// Each row has the kind of an error, a pair, and a text. If reading the words of the call fails
+/// with this kind, standard error and the status must be the pair. If opening the file fails with
+/// this kind, standard error must be the last text.
 const REFUSED: &[(ErrorKind, (&str, u8), &str)] = &[
     (ErrorKind::OutOfMemory, ("no memory\n", 4), "no memory\n"),
     (ErrorKind::InvalidData, (USAGE, 2), "read failed\n"),
@@ -331,8 +333,8 @@ fn writers_that_fail(rt: HostRuntime) {
     }
 }
 
-/// Meant to be run with each allocation refused in turn. Either the call succeeds, or only the line
-/// of the fault is written.
+/// This test is meant to be run with each allocation refused in turn. Either the call succeeds, or
+/// only the line of the fault is written.
 #[test]
 fn refused_allocations(rt: HostRuntime) {
     let desk = Desk::new("boostmap check legal.json", FILES);

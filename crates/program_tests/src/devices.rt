@@ -9,7 +9,8 @@ use std::io::{ErrorKind, Read, Write};
 use std::process::Abort;
 use std::test::Fail;
 
-/// The frame with a piece in each gap `#`, and then a filling in each gap `@`.
+/// Returns the frame, in which first each gap `#` is replaced by the piece, and then each gap `@`
+/// by the filling.
 pub fn filled(alloc: Global, frame: &str, piece: &str, filling: &str) -> Result<String, Fail> {
     let text = frame.replace(alloc, "#", piece)?;
     Ok(text.replace(alloc, "@", filling)?)
@@ -68,7 +69,7 @@ impl Read for Endless {
     }
 }
 
-/// The number of bytes that a writer keeps.
+/// How many bytes a writer keeps at most.
 const PAGE: usize = 8192;
 
 /// A writer that takes one byte for each call. At the call `fails_at`, counted from 0, it fails or
@@ -136,12 +137,12 @@ pub struct Ended {
     /// The bytes on standard error.
     pub errors: Narrow,
     pub status: u8,
-    /// Whether standard error took the whole message.
+    /// True if standard error took the whole message.
     pub is_told: bool,
 }
 
-/// Compares standard output, standard error and the status, and checks that standard error took the
-/// whole message.
+/// Compares standard output, standard error and the status with `wanted`. Checks that standard
+/// error took the whole message.
 pub fn compare_ended(rt: &impl Abort, ended: &Ended, wanted: (&str, &str, u8), row: &str) {
     let (output, errors, status) = wanted;
     assert_eq!(rt; ended.output.text(), output, "{row}");
@@ -156,14 +157,14 @@ pub struct Desk<'a> {
     pub words: &'a str,
     /// The files: names and bytes.
     pub files: &'a [(&'a str, &'a str)],
-    /// The error of reading the words, if that fails.
+    /// If this is set, reading the words fails with this error.
     pub words_fail: Option<ErrorKind>,
-    /// The error of opening a file, if that fails.
+    /// If this is set, opening a file fails with this error.
     pub open_fails: Option<ErrorKind>,
 }
 
 impl<'a> Desk<'a> {
-    /// A system of these words and files, in which nothing fails.
+    /// A system with these words and files, in which nothing fails.
     pub fn new(words: &'a str, files: &'a [(&'a str, &'a str)]) -> Desk<'a> {
         Desk {
             words,
@@ -174,7 +175,7 @@ impl<'a> Desk<'a> {
     }
 }
 
-/// Adds each word of a text in which blanks separate the words.
+/// Splits the text at its blanks, and adds each word to the list.
 fn push_words(alloc: Global, words: &mut Vec<String>, text: &str) -> Result<(), AllocError> {
     for word in text.split(' ') {
         words.push(word.to_string(alloc)?)?;

@@ -1,5 +1,5 @@
 //! Tests of the engines of the four commands. This file has the parts that the tests share:
-//! `run_on` runs a command as the program does, and `Files` is a row of similar files with the same
+//! `run_on` runs a command as the program does, and `Files` stands for similar files with the same
 //! output. The one test in this file goes through the rows of `replays`, `checks`, `mixes` and
 //! `runs`.
 
@@ -26,21 +26,22 @@ use std::thread::Threads;
 enum Command {
     Replay,
     Check,
-    /// With this seed.
+    /// The command `mix` with this seed.
     Mix(u64),
     Run,
 }
 
-/// Similar files for one command. There is one file for each line of `pieces` and each word of
-/// `fillings`. Blanks separate the words. The file is the frame with the line in each gap `#`, and
-/// after that with the word in each gap `@`.
+/// Similar files for one command, with the same output and status. There is one file for each line
+/// of `pieces` and each word of `fillings`. Blanks separate the words. The file is made from
+/// `frame` in two steps: first the line replaces each gap `#`, then the word replaces each gap `@`.
 #[derive(Clone, Copy)]
 struct Files {
     command: Command,
     frame: &'static str,
     pieces: &'static str,
     fillings: &'static str,
-    /// The output. If the status is that of a fault, the fault's line instead.
+    /// The output that the command must print. If the status is that of a fault, this is the
+    /// fault's line instead.
     printed: &'static str,
     status: u8,
 }
@@ -86,9 +87,9 @@ fn run_on<T: Threads + Wait + Sync, R: Read>(
     }
 }
 
-/// Compares the output and the status of a command for a file with `wanted`. If the command ends
-/// with a fault, standard error must have the fault's line, and nothing may be written to standard
-/// output.
+/// Runs a command on a file, and compares the output and the status with `wanted`. If the command
+/// ends with a fault, standard error must have the fault's line, and nothing may be written to
+/// standard output.
 fn compare_file<T: Abort + Threads + Wait + Sync>(
     rt: &T,
     alloc: Global,
@@ -106,7 +107,7 @@ fn compare_file<T: Abort + Threads + Wait + Sync>(
     }
 }
 
-/// Compares the output and the status of a command for the file with this piece and this filling.
+/// Does `compare_file` for the file with this piece and this filling.
 fn compare_filled<T: Abort + Threads + Wait + Sync>(
     rt: &T,
     alloc: Global,
@@ -120,7 +121,7 @@ fn compare_filled<T: Abort + Threads + Wait + Sync>(
     Ok(())
 }
 
-/// Compares the output and the status of a command for each of these files.
+/// Does `compare_file` for each of these files.
 fn compare_files<T: Abort + Threads + Wait + Sync>(
     rt: &T,
     alloc: Global,

@@ -23,9 +23,9 @@ enum Kind {
     History,
 }
 
-/// Similar files. There is one file for each line of `pieces` and each word of `fillings`. Blanks
-/// separate the words. The file is the frame with the line in each gap `#`, and after that with the
-/// word in each gap `@`.
+/// Similar files, with the same fault or with none. There is one file for each line of `pieces` and
+/// each word of `fillings`. Blanks separate the words. The file is made from `frame` in two steps:
+/// first the line replaces each gap `#`, then the word replaces each gap `@`.
 #[derive(Clone, Copy)]
 struct Files {
     kind: Kind,
@@ -90,9 +90,9 @@ fn faults_of_files(rt: HostRuntime) -> Result<(), Fail> {
     Ok(())
 }
 
-/// A large file: its kind, its frame, a number, three texts, and its fault. The gap `#` of the
-/// frame gets the first text as often as the number says. Then it gets the second text once, and
-/// then the third text as often as the first.
+/// Each row has the kind of a large file, a frame, a number, three texts, and the file's fault. The
+/// gap `#` of the frame is filled with the first text as often as the number says, then with the
+/// second text once, then with the third text as often as with the first.
 type Grown = (
     Kind,
     &'static str,
@@ -197,8 +197,8 @@ fn compare_grown(rt: &impl Abort, alloc: Global, row: Grown) -> Result<(), Fail>
     Ok(())
 }
 
-/// A file of these spaces is one byte longer than a step file may be. With one space fewer the file
-/// is not too long, but it is not JSON.
+/// Checks two files that have only spaces. The file `spaces` is one byte longer than a step file
+/// may be. The file with one space fewer is not too long, but it is not JSON.
 fn compare_spaces(rt: &impl Abort, alloc: Global, spaces: &[u8]) {
     let too_long = fault_of(alloc, Kind::Steps, spaces);
     same_fault(rt, too_long, Some(FileFault::Limit), "too long");
@@ -216,19 +216,19 @@ fn large_files(rt: HostRuntime) -> Result<(), Fail> {
     Ok(())
 }
 
-/// The bytes with the byte 255 at one place. No text has a byte 255.
+/// Returns the bytes with the byte at `place` replaced by 255. No text has a byte 255.
 fn spoilt(alloc: Global, bytes: &[u8], place: usize) -> Result<Vec<u8>, Fail> {
     let mut spoilt = bytes.to_vec(alloc)?;
     *spoilt.get_mut(place).ok_or("short")? = 255;
     Ok(spoilt)
 }
 
-/// Checks that these bytes are no JSON.
+/// Checks that these bytes are not JSON.
 fn is_no_json(rt: &impl Abort, alloc: Global, bytes: &[u8], row: &str) {
     same_fault(rt, fault_of(alloc, Kind::Steps, bytes), NOT_JSON, row);
 }
 
-/// Checks that no proper beginning of these bytes is JSON.
+/// Checks that no proper prefix of these bytes is JSON.
 fn compare_cut(rt: &impl Abort, alloc: Global, bytes: &[u8]) -> Result<(), Fail> {
     for length in 0..bytes.len() {
         let cut = bytes.get(..length).ok_or("short")?;
@@ -237,7 +237,7 @@ fn compare_cut(rt: &impl Abort, alloc: Global, bytes: &[u8]) -> Result<(), Fail>
     Ok(())
 }
 
-/// A file that ends too early, or has a byte that is not in any text, is no JSON.
+/// A file that ends too early is not JSON. A file with a byte that no text has is not JSON either.
 #[test]
 fn cut_files(rt: HostRuntime) -> Result<(), Fail> {
     let bytes = FIRST_COMMIT.as_bytes();

@@ -76,14 +76,15 @@ impl PieceKind for PointKind {
     }
 }
 
-/// Similar drawings of width 7: one drawing for each of the versions. The drawing is the frame with
-/// the points in each gap `#`, and then with the version in each gap `@`.
+/// Similar drawings of width 7. There is one drawing for each version in `versions`. The drawing is
+/// made from `frame` in two steps: first `points` replaces each gap `#`, then the version replaces
+/// each gap `@`.
 #[derive(Clone, Copy)]
 struct Drawings {
     frame: &'static str,
     points: &'static str,
     versions: &'static [&'static str],
-    /// The points, or the fault.
+    /// The points of each drawing, or the fault if the drawings are refused.
     content: Result<&'static [(u64, u64)], FileFault>,
 }
 
@@ -101,10 +102,10 @@ fn drawing_in(alloc: Global, text: &str) -> Result<(u64, Vec<(u64, u64)>), FileF
 /// A drawing with gaps for its points and its version.
 const IN_VERSION: &str = r#"{"points":#,"version":@,"width":7}"#;
 
-/// Drawings, each with its content or its fault. The last rows have points that version 1 does not
-/// allow. In version 1, such a point is a wrong piece, even if it comes after more than three
-/// points. In version 2 it is not a wrong piece, nor in version 4, which is not a supported
-/// version.
+/// Each row has similar drawings, with their content or their fault. The last rows have points that
+/// version 1 does not allow. In version 1, such a point is a wrong piece, even if it comes after
+/// more than three points. In version 2 it is not a wrong piece, nor in version 4, which is not a
+/// supported version.
 const DRAWINGS: &[Drawings] = &[
     Drawings {
         frame: r#"{"version":1,"width":7,"points":[]}"#,
@@ -391,7 +392,7 @@ const DRAWINGS: &[Drawings] = &[
     },
 ];
 
-/// Whether the drawing with this text has width 7 and these points, or this fault.
+/// Returns true if the drawing with this text has width 7 and these points, or has this fault.
 fn has_content(
     alloc: Global,
     text: &str,
@@ -403,7 +404,7 @@ fn has_content(
     }
 }
 
-/// Compares the content of a drawing in this version.
+/// Makes the drawing in this version, and compares its points or its fault with `content`.
 fn compare_version(
     rt: &impl Abort,
     alloc: Global,
@@ -415,7 +416,7 @@ fn compare_version(
     Ok(())
 }
 
-/// Compares the contents of similar drawings.
+/// Compares the points or the fault of each of these drawings.
 fn compare(rt: &impl Abort, alloc: Global, drawings: Drawings) -> Result<(), Fail> {
     for version in drawings.versions {
         compare_version(rt, alloc, drawings, version)?;
@@ -431,8 +432,8 @@ fn contents_of_drawings(rt: HostRuntime) -> Result<(), Fail> {
     Ok(())
 }
 
-/// The text and the number with which an array begins, and how many elements follow them. `None` if
-/// the array does not begin with a text and a number.
+/// The beginning of an array: its text, its number, and how many elements follow them. It is `None`
+/// if the array does not begin with a text and a number.
 type Leading = Option<(&'static str, u64, usize)>;
 
 /// Elements that are read in four ways: as one number, as two numbers, as one number or null, and
@@ -444,8 +445,8 @@ type Shapes = (
     Option<()>,
 );
 
-/// For each array, the text and the number with which it begins, and the shapes of the elements
-/// after them. Without such a beginning, the shapes of all its elements.
+/// Each row has the text and the number with which an array begins, and the shapes of its other
+/// elements. If the array has no such beginning, the row has the shapes of all its elements.
 const ELEMENTS: &[(Leading, Shapes)] = &[
     (Some(("put", 1, 2)), (None, None, None, None)),
     (None, (None, Some((8, 9)), None, None)),
@@ -454,14 +455,15 @@ const ELEMENTS: &[(Leading, Shapes)] = &[
     (None, (None, None, None, Some(()))),
 ];
 
-/// The text and the number with which elements begin, and the elements that follow them.
+/// Returns the text and the number with which the elements begin, and the elements that follow.
+/// Returns `None` if the elements begin otherwise.
 fn leading_in<'v, 'a>(values: &'v [Plain<'a>]) -> Option<(&'a str, u64, &'v [Plain<'a>])> {
     let (name, rest) = word_in(values)?;
     let (number, rest) = number_in(rest)?;
     Some((name, number, rest))
 }
 
-/// The shapes of these elements.
+/// Reads these elements in each of the four ways of `Shapes`.
 fn shapes_of(values: &[Plain<'_>]) -> Shapes {
     (
         one_in(values),
@@ -476,7 +478,8 @@ fn begin(reader: &mut Reader<'_>) -> bool {
     matches!(reader.next(), Some(Token::BeginArray))
 }
 
-/// Compares the elements of the next array, which must be plain, and at most four.
+/// Reads the next array, and compares its elements with `leading` and `shapes`. The array must have
+/// at most four elements, all of them plain.
 fn compare_next(rt: &impl Abort, reader: &mut Reader<'_>, leading: Leading, shapes: Shapes) {
     let mut elements = ArrayVec::<Plain<'_>, 4>::new();
     assert!(rt; begin(reader));
@@ -493,7 +496,7 @@ fn compare_next(rt: &impl Abort, reader: &mut Reader<'_>, leading: Leading, shap
     }
 }
 
-/// Checks the elements of each array in an array of arrays.
+/// Compares each array in an array of arrays with its row of `ELEMENTS`.
 fn compare_each(rt: &impl Abort, reader: &mut Reader<'_>) {
     assert!(rt; begin(reader));
     for (leading, shapes) in ELEMENTS {
@@ -517,7 +520,7 @@ fn pass(reader: &mut Reader<'_>) -> Result<(), Fail> {
     Ok(())
 }
 
-/// The points of the next array, their number, and whether all its elements are points.
+/// Reads the next array. Returns its points, their number, and true if all its elements are points.
 fn next_points(
     alloc: Global,
     reader: &mut Reader<'_>,
@@ -529,7 +532,8 @@ fn next_points(
     Ok((found.pieces, found.count, found.are_all))
 }
 
-/// Compares the points of the next array.
+/// Checks that the next array has exactly the points (1, 2) and (3, 4), and an element that is not
+/// a point.
 fn compare_points(rt: &impl Abort, alloc: Global, reader: &mut Reader<'_>) -> Result<(), Fail> {
     let (points, count, are_all) = next_points(alloc, reader)?;
     assert!(rt; points.as_slice() == [(1, 2), (3, 4)].as_slice());
@@ -537,7 +541,7 @@ fn compare_points(rt: &impl Abort, alloc: Global, reader: &mut Reader<'_>) -> Re
     Ok(())
 }
 
-/// Skips the first value of an array. Checks the points of the array that is the second value.
+/// Reads an array with two values. Skips the first value, and checks the points of the second one.
 fn compare_row(rt: &impl Abort, alloc: Global, reader: &mut Reader<'_>) -> Result<(), Fail> {
     assert!(rt; begin(reader));
     pass(reader)?;
@@ -551,9 +555,9 @@ fn values_in_a_row(rt: HostRuntime) -> Result<(), Fail> {
     compare_row(&rt, rt.alloc(), &mut reader)
 }
 
-/// Texts that follow the bracket that opens an array. With each text comes the place just after the
-/// closing bracket of the array. It is `None` if the text is not the rest of an array of one or two
-/// plain elements.
+/// Each row has a text that follows the opening bracket of an array, and the place just after the
+/// closing bracket. The place is `None` if the text is not the rest of an array of one or two plain
+/// elements.
 const PLAIN: &[(&str, Option<usize>)] = &[
     ("1,2],3", Some(4)),
     ("null]", Some(5)),

@@ -29,7 +29,8 @@ pub(crate) enum Told {
     Refused(Refusal),
 }
 
-/// The place of a caller, the request that the caller gets, and the answer that it must give.
+/// A row of a table: the place of a caller in the list of callers, the request to this caller, and
+/// the answer that the caller must give.
 pub(crate) type Row = (usize, Ask, Told);
 
 /// The reply to an operation on a key that had no value.
@@ -45,7 +46,7 @@ fn operate(caller: &mut Caller, op: Op) -> Result<Told, Stop> {
     }))
 }
 
-/// Makes a call.
+/// Calls the method that the request stands for, and returns its result.
 fn call(caller: &mut Caller, what: Ask) -> Result<Told, Stop> {
     match what {
         Ask::Begin => caller.begin()?,
@@ -75,25 +76,26 @@ pub(crate) struct Home {
     pub(crate) callers: Vec<Caller>,
 }
 
-/// A new map.
+/// Opens a new map with these numbers of stripes and callers.
 pub(crate) fn open<R: Abort>(rt: &R, alloc: Global, stripes: usize, callers: usize) -> Home {
     let (host, callers) = open_map(alloc, stripes, callers).expect(rt, "a map");
     Home { host, callers }
 }
 
-/// Fails with the number of the row unless `is_so`. It is a separate function, since an `assert!`
-/// with a message makes a longer function slow to prove.
+/// Fails the test with the number of the row if `is_so` is false. It is a separate function, since
+/// an `assert!` with a message makes a longer function slow to prove.
 pub(crate) fn must<R: Abort>(rt: &R, row: usize, is_so: bool) {
     assert!(rt; is_so, "row {row}");
 }
 
-/// Asks a caller, which must answer as wanted. If it does not, the test fails with the number of
-/// the row.
+/// Makes a request to a caller, and compares the answer with `wanted`. If they differ, the test
+/// fails with the number of the row.
 pub(crate) fn ask_row<R: Abort>(rt: &R, caller: &mut Caller, row: usize, what: Ask, wanted: Told) {
     must(rt, row, answer(caller, what) == wanted);
 }
 
-/// Asks the callers, row by row. Each must answer as its row says.
+/// Makes the request of each row to the row's caller, in order. Each answer must be the row's
+/// answer.
 pub(crate) fn play<R: Abort>(rt: &R, home: &mut Home, rows: &[Row]) {
     for (row, &(place, what, wanted)) in rows.iter().enumerate() {
         assert!(rt; place < home.callers.len());
@@ -101,7 +103,7 @@ pub(crate) fn play<R: Abort>(rt: &R, home: &mut Home, rows: &[Row]) {
     }
 }
 
-/// Whether the host reads exactly these pairs, in this order.
+/// Returns true if the host reads exactly the pairs `left`, in this order.
 pub(crate) fn reads(host: &mut Host, left: &[(u64, u64)]) -> Result<bool, Stop> {
     Ok(host.pairs()?.as_slice() == left)
 }
@@ -118,7 +120,7 @@ pub(crate) fn leaves<R: Abort>(rt: &R, home: &mut Home, left: &[(u64, u64)]) {
 }
 
 /// A run on a new map: how many stripes and callers the map has, the calls with their answers, and
-/// the pairs that remain once the callers are dropped.
+/// the pairs that remain after the callers are dropped.
 #[derive(Clone, Copy)]
 pub(crate) struct Worked<'a> {
     pub(crate) stripes: usize,
@@ -127,13 +129,13 @@ pub(crate) struct Worked<'a> {
     pub(crate) left: &'a [(u64, u64)],
 }
 
-/// Plays the run in a map.
+/// Makes the calls of the run on this map, drops the callers, and checks the pairs that remain.
 fn play_in<R: Abort>(rt: &R, home: &mut Home, run: &Worked) {
     play(rt, home, run.rows);
     leaves(rt, home, run.left);
 }
 
-/// Plays the run.
+/// Plays the run on a new map.
 pub(crate) fn play_worked<R: Abort>(rt: &R, alloc: Global, run: &Worked) {
     play_in(rt, &mut open(rt, alloc, run.stripes, run.callers), run);
 }

@@ -1,6 +1,6 @@
-//! These tests drop a caller before the first call of a transaction, and after each of its calls.
-//! No contract says that another caller then gets the stripes. Here caller 2 gets all stripes after
-//! the drop, and finds only the pairs from before the transaction.
+//! These tests drop a caller before the first call of a transaction, or after any later call of the
+//! transaction. No contract says that another caller then gets the stripes. Here caller 2 gets all
+//! stripes after the drop, and finds only the pairs that were committed before the transaction.
 use crate::calls::{Ask, Home, NEW, Row, Told, has_left, open, play};
 use std::process::Abort;
 use txn_words::Op;
@@ -48,7 +48,7 @@ fn drop_first<R: Abort>(rt: &R, home: &mut Home) {
     drop(home.callers.remove(0));
 }
 
-/// Drops caller 1 after this number of calls.
+/// Drops caller 1 after the first `calls` calls of `CALLS`, and checks what caller 2 then finds.
 fn drop_after<R: Abort>(rt: &R, home: &mut Home, calls: usize) {
     play(rt, home, BEFORE);
     assert!(rt; calls <= CALLS.len());

@@ -5,13 +5,15 @@
 //! calls, and a second stamp after the call. The stamps decide where the entries of a call stand in
 //! the history:
 //!
-//! - Operation: at its second stamp, since the stripe is then held.
-//! - Abort: at its first stamp, since an abort gives stripes back.
-//! - Commit: at the greatest first stamp of this commit and of all commits with lower places. The
-//!   reasons are that a commit gives stripes back too, and that commits must be in the order of
-//!   their places. All these stamps were taken before the atomic step of this commit.
-//! - Busy: at the later one of two stamps. One is the first stamp of its call, and the other is the
-//!   stamp of the first begin of the caller that the Busy names.
+//! - Begin, operation, savepoint and return to a level: at the second stamp of the call. The stripe
+//!   of an operation is held at that time.
+//! - Abort: at the first stamp of the call. The caller's stripes are still held at that time.
+//! - Commit: at the greatest first stamp among this commit and all commits with lower places. A
+//!   commit frees stripes, as an abort does, and commits must stand in the order of their places.
+//!   All these stamps were taken before the atomic step of this commit.
+//! - Operation that finds its stripe held: at the later one of two stamps. One is the first stamp
+//!   of the call. The other is the second stamp of the first begin of the caller that holds the
+//!   stripe.
 use crate::calls::{Ask, Home, NEW, Row, Told, answer, open};
 use crate::threads::{Work, in_threads, must_start};
 use history_check::{Checker, Verdict};
@@ -44,7 +46,7 @@ impl Plan {
     }
 }
 
-/// A call, with the stamps before and after it.
+/// A call and its answer, with the stamps that were taken before and after the call.
 #[derive(Clone, Copy)]
 struct Noted {
     before: u64,
@@ -63,7 +65,7 @@ struct Recorder {
 }
 
 impl Recorder {
-    /// The recorder of the caller at this place.
+    /// Makes a recorder for the caller at this place.
     fn new(alloc: Global, caller: Caller, place: usize, seed: u64) -> Recorder {
         let number = (place as u64).wrapping_add(1);
         Recorder {
@@ -74,14 +76,15 @@ impl Recorder {
         }
     }
 
-    /// A number below `sides` that looks random.
+    /// Returns a number below `sides` that looks random.
     fn roll(&mut self, sides: u64) -> u64 {
         let next = self.dice.wrapping_mul(6_364_136_223_846_793_005);
         self.dice = next.wrapping_add(1);
         (self.dice >> 33).checked_rem(sides).unwrap_or(0)
     }
 
-    /// Draws a call within a transaction. Most calls are operations on one of 24 keys.
+    /// Picks a call within a transaction as if at random. Most calls are operations on one of 24
+    /// keys.
     fn draw(&mut self) -> Ask {
         let (key, value) = (self.roll(24), self.roll(3));
         match self.roll(9) {
@@ -109,7 +112,7 @@ impl Recorder {
         Ok(!matches!(told, Told::Busy(_)))
     }
 
-    /// The call that ends a transaction.
+    /// Picks the call that ends a transaction: in one of five cases an abort, else a commit.
     fn draw_end(&mut self) -> Ask {
         match self.roll(5) {
             0 => Ask::Abort,
@@ -117,7 +120,7 @@ impl Recorder {
         }
     }
 
-    /// A transaction that looks random.
+    /// Runs a transaction whose calls look random.
     fn transact(&mut self, clock: &AtomicU64) -> Result<(), AllocError> {
         self.ask(clock, Ask::Begin)?;
         for _ in 0..self.roll(9) {
@@ -132,7 +135,8 @@ impl Recorder {
         Ok(())
     }
 
-    /// A transaction on a key that no other caller has.
+    /// Runs a transaction that puts the key, takes it, and puts it again. No other caller has this
+    /// key.
     fn script(&mut self, clock: &AtomicU64, key: u64) -> Result<(), AllocError> {
         let calls = [
             Ask::Begin,
@@ -147,7 +151,7 @@ impl Recorder {
         Ok(())
     }
 
-    /// Runs the caller's transaction at this place in the plan.
+    /// Runs the caller's transaction with the number `place`, counted from 0, as the plan says.
     fn run_one(&mut self, clock: &AtomicU64, plan: Plan, place: u64) -> Result<(), AllocError> {
         match plan {
             Plan::Drawn => self.transact(clock),
@@ -158,7 +162,7 @@ impl Recorder {
         }
     }
 
-    /// All transactions of the plan.
+    /// Runs all transactions of the plan.
     fn run<R: Abort>(&mut self, rt: &R, clock: &AtomicU64, plan: Plan) {
         for place in 0..plan.transactions() {
             let ran = self.run_one(clock, plan, place);
@@ -197,7 +201,7 @@ fn run_all<R: Threads + Wait + Abort + Sync>(
     });
 }
 
-/// Notes the places and the stamps of a caller's commits.
+/// Adds a caller's commits to the list. Each is noted with its place and its first stamp.
 fn note_commits(commits: &mut Vec<(u64, u64)>, one: &Recorder) -> Result<(), AllocError> {
     for noted in &one.log {
         if let (Ask::Commit, Told::Number(place)) = (noted.what, noted.told) {
@@ -207,8 +211,8 @@ fn note_commits(commits: &mut Vec<(u64, u64)>, one: &Recorder) -> Result<(), All
     Ok(())
 }
 
-/// Sorts commits by their places. Then each commit gets the greatest stamp among itself and the
-/// commits before it.
+/// Sorts commits by their places. Then sets the stamp of each commit to the greatest stamp among
+/// this commit and the commits before it.
 fn raise_stamps(commits: &mut Vec<(u64, u64)>) {
     commits.sort_unstable_by_key(|commit| commit.0);
     let mut latest = 0u64;
@@ -234,7 +238,7 @@ struct Merge {
     levels: Vec<u64>,
 }
 
-/// The stamp at a place that is counted from 1.
+/// Returns the stamp at a place, counted from 1. Returns `u64::MAX` if there is no such stamp.
 fn stamp_at(stamps: &[u64], place: u64) -> u64 {
     let index = place.wrapping_sub(1) as usize;
     stamps.get(index).copied().unwrap_or(u64::MAX)
@@ -252,16 +256,16 @@ impl Merge {
         }
     }
 
-    /// Puts an entry.
+    /// Adds an entry with its sort key to the lines.
     fn put(&mut self, stamp: u64, order: u64, entry: Entry) -> Result<(), AllocError> {
         let line = self.lines.len();
         self.lines.push(((stamp, order, line), entry))?;
         Ok(())
     }
 
-    /// Puts the entry `first`, then the Undones, then the entry `last`. `left` is the number of
-    /// changes that the transaction keeps. Each of its other changes gets an Undone, unless it was
-    /// undone before.
+    /// Puts the entry `first`, then one `Undone` for each change that is taken back, then the entry
+    /// `last`. The transaction keeps its first `left` changes. All later changes that were not
+    /// undone before are taken back.
     fn put_undone(
         &mut self,
         stamp: u64,
@@ -313,7 +317,7 @@ impl Merge {
         self.put_undone(noted.after, leave, left, Entry::Returned(caller, level))
     }
 
-    /// The stamp of a commit.
+    /// Returns the stamp of the commit with this place.
     fn stamp_of(&self, place: u64) -> u64 {
         let index = place.wrapping_sub(1) as usize;
         match self.commits.get(index) {
@@ -322,7 +326,7 @@ impl Merge {
         }
     }
 
-    /// Puts the entry of a beginning.
+    /// Puts the entry of a begin.
     fn put_begin(&mut self, noted: &Noted) -> Result<(), AllocError> {
         self.standing = 0;
         self.levels.clear();
@@ -358,7 +362,7 @@ impl Merge {
         }
     }
 
-    /// Notes a caller's first beginning and its commits.
+    /// Notes the stamp of a caller's first begin, and the caller's commits.
     fn note(&mut self, one: &Recorder) -> Result<(), AllocError> {
         let first = match one.log.first() {
             Some(noted) => noted.after,
@@ -368,8 +372,8 @@ impl Merge {
         note_commits(&mut self.commits, one)
     }
 
-    /// Notes the first beginning and the commits of each caller, and raises the stamps of the
-    /// commits.
+    /// Notes the stamp of each caller's first begin, and the commits of all callers. Then raises
+    /// the stamps of the commits.
     fn note_all(&mut self, all: &[Recorder]) -> Result<(), AllocError> {
         for one in all {
             self.note(one)?;
@@ -440,7 +444,8 @@ fn commits_in(alloc: Global, stripes: u64, lines: &[Line]) -> Result<Option<u64>
     commits_fed(&mut checker, lines)
 }
 
-/// If the history of these callers is legal, returns how many transactions it commits.
+/// Merges the calls of these callers into one history, and returns what `commits_in` returns for
+/// it.
 fn commits_by(
     alloc: Global,
     stripes: u64,
@@ -451,7 +456,7 @@ fn commits_by(
     commits_in(alloc, stripes, merge.lines.as_slice())
 }
 
-/// Runs the callers. If their history is legal, returns how many transactions it commits.
+/// Runs the callers, and returns what `commits_by` returns for their calls.
 fn run_and_judge<R: Threads + Wait + Abort + Sync>(
     rt: &R,
     alloc: Global,
@@ -489,8 +494,8 @@ fn run_quarter<R: Threads + Wait + Abort + Sync>(rt: &R, alloc: Global, quarter:
     }
 }
 
-/// The thousand runs are four tests, since a test may take at most a minute, and threads are slow
-/// on a machine that has other work.
+/// The thousand runs are split into four tests. The reason is that a test may take at most a
+/// minute, and that threads are slow on a machine that has other work.
 #[test]
 fn runs_0_to_249(rt: HostRuntime) {
     run_quarter(&rt, rt.alloc(), 0);

@@ -1,7 +1,7 @@
 //! Tests at the limits of the map: stripes, callers, keys, values, savepoints and changes. They
-//! also test the order of the pairs. Unlike in the module `runs`, loops make most rows, up to a
-//! hundred thousand of them. By the contracts, any call may be refused memory. Here a call is
-//! refused only if its row says so.
+//! also test the order of the pairs. Most rows are made by loops, up to a hundred thousand of them.
+//! By the contracts, any call may be refused memory. Here a call is refused only if its row says
+//! so.
 use crate::calls::{
     Ask, Home, NEW, Row, Told, Worked, has_left, leaves, must, open, play, play_worked,
 };
@@ -11,8 +11,8 @@ use std::test::Fail;
 use striped_map::{open_map, open_map_with_capacity};
 use txn_words::{Op, Refusal};
 
-/// Opens a map with these numbers, and returns how many callers it has. Returns `None` if the
-/// numbers are refused with `Limit`.
+/// Opens a map with these numbers of stripes and callers, and returns how many callers it has.
+/// Returns `None` if the numbers are refused with `Limit`.
 fn callers_in(alloc: Global, stripes: usize, callers: usize) -> Result<Option<usize>, AllocError> {
     match open_map(alloc, stripes, callers) {
         Ok((_host, made)) => Ok(Some(made.len())),
@@ -53,8 +53,8 @@ fn why_not(alloc: Global, stripes: usize, callers: usize, keys: usize) -> Option
     open_map_with_capacity(alloc, stripes, callers, keys).err()
 }
 
-/// Each row has the numbers of stripes, callers and keys, and the refusal if no map can be opened
-/// with them.
+/// Each row has the numbers of stripes, callers and keys. The last part is the refusal that a map
+/// with these numbers gets, or `None` if it can be opened.
 const ROOMS: &[(usize, usize, usize, Option<Refusal>)] = &[
     (1, 1, 0, None),
     (1, 0, 1, None),
@@ -111,7 +111,7 @@ fn put_a_thousand<R: Abort>(rt: &R, home: &mut Home) {
     play(rt, home, &[(0, Ask::Commit, Told::Number(1_001))]);
 }
 
-/// Each key below `keys`, with itself as its value.
+/// Returns one pair for each number below `keys`. The number is both the key and the value.
 fn selves(alloc: Global, keys: u64) -> Result<Vec<(u64, u64)>, AllocError> {
     let mut pairs = Vec::new(alloc);
     for key in 0..keys {
@@ -139,7 +139,7 @@ fn a_roomy_map(rt: HostRuntime) -> Result<(), Fail> {
     Ok(())
 }
 
-/// The last of 4,096 callers has the number 4,096.
+/// The last of 4,096 callers has the number 4,096, which another caller's busy call reports.
 static LAST_CALLER: Worked<'static> = Worked {
     stripes: 4096,
     callers: 4096,
@@ -160,7 +160,8 @@ fn last_caller(rt: HostRuntime) {
     play_worked(&rt, rt.alloc(), &LAST_CALLER);
 }
 
-/// Each operation on a key, with the values 0 and 2^64 - 1. At the end the key has the value 0.
+/// Rows that do each operation on a key, with the values 0 and 2^64 - 1. At the end the key has the
+/// value 0.
 fn each_operation(key: u64) -> [Row; 11] {
     let (zero, most) = (Told::Replied(Some(0)), Told::Replied(Some(u64::MAX)));
     [
@@ -198,13 +199,13 @@ const WIDEST: [u64; 7] = [
     18_446_744_073_709_551_615,
 ];
 
-/// Plays the widest keys.
+/// Does each operation on each of the widest keys. At the end each of them must have the value 0.
 fn play_widest<R: Abort>(rt: &R, home: &mut Home) {
     play_keys(rt, home, WIDEST.as_slice());
     leaves(rt, home, &WIDEST.map(|key| (key, 0)));
 }
 
-/// The widest keys on 1, 3 and 4,096 stripes.
+/// Plays the widest keys on maps with 1, 3 and 4,096 stripes.
 #[test]
 fn widest_keys(rt: HostRuntime) {
     for &stripes in &[1, 3, 4096usize] {
@@ -224,7 +225,7 @@ fn save_a_thousand<R: Abort>(rt: &R, home: &mut Home) {
     }
 }
 
-/// Calls that return to levels, and get the value of key 1 there.
+/// Rows that return to levels, and get the value of key 1 after each return.
 const LEVELS: &[Row] = &[
     (0, Ask::Back(1001), Told::Refused(Refusal::NoSuchLevel)),
     (0, Ask::Back(u64::MAX), Told::Refused(Refusal::NoSuchLevel)),
@@ -241,7 +242,7 @@ const LEVELS: &[Row] = &[
     (0, Ask::Save, Told::Number(1)),
 ];
 
-/// Sets the savepoints, and returns to their levels.
+/// Sets a thousand savepoints, and returns to some of their levels.
 fn play_savepoints<R: Abort>(rt: &R, home: &mut Home) {
     play(rt, home, &[(0, Ask::Begin, Told::Done)]);
     save_a_thousand(rt, home);
@@ -262,7 +263,7 @@ const FEW: &[Row] = &[
     (0, Ask::Commit, Told::Number(1)),
 ];
 
-/// Begins, and puts the value key + 1 at each key below 100,000.
+/// Begins a transaction, and puts the value `key + 1` at each key below 100,000.
 fn put_100_000<R: Abort>(rt: &R, home: &mut Home) {
     play(rt, home, &[(0, Ask::Begin, Told::Done)]);
     for key in 0..100_000u64 {
@@ -311,8 +312,8 @@ fn play_puts<R: Abort>(rt: &R, home: &mut Home) {
     play(rt, home, PUTS_COMMITTED);
 }
 
-/// A hundred thousand puts of one transaction, on 1 and 4,096 stripes: first they are aborted, then
-/// they are made once more and committed.
+/// One transaction makes a hundred thousand puts and aborts. The next one makes the same puts and
+/// commits. The maps have 1 and 4,096 stripes.
 #[test]
 fn a_hundred_thousand_puts(rt: HostRuntime) {
     for &stripes in &[1, 4096usize] {
@@ -334,7 +335,7 @@ fn put_scattered<R: Abort>(rt: &R, home: &mut Home) {
     }
 }
 
-/// The pairs of `put_scattered`, by rising keys.
+/// The pairs of `put_scattered`, in the order of their keys.
 fn rising(alloc: Global) -> Result<Vec<(u64, u64)>, AllocError> {
     let mut pairs = Vec::new(alloc);
     for key in 0..101u64 {
@@ -364,7 +365,7 @@ fn play_scattered<R: Abort>(rt: &R, home: &mut Home, wanted: &[(u64, u64)]) {
     has_left(rt, &mut home.host, wanted);
 }
 
-/// Pairs are in the order of their keys, on any number of stripes.
+/// A read of all pairs returns them in the order of their keys, on any number of stripes.
 #[test]
 fn pairs_rise(rt: HostRuntime) -> Result<(), Fail> {
     let wanted = rising(rt.alloc())?;

@@ -24,7 +24,7 @@ pub(crate) fn three<R: Abort>(rt: &R, alloc: Global) -> (Home, Caller, Caller)
     (Home { host, callers }, second, third)
 }
 
-/// Both transfers must have been made.
+/// Checks that both transfers were made.
 fn both_moved<R: Abort>(rt: &R, told: Result<(bool, bool), Stop>) {
     assert!(rt; matches!(told, Ok((true, true))));
 }

@@ -33,7 +33,8 @@ fn answer_again(caller: &mut Caller, what: Ask) -> Result<Told, Refusal> {
     Err(Refusal::NoMemory)
 }
 
-/// Asks the callers, row by row. Each call must answer as its row says, at once or the second time.
+/// Makes the call of each row, in order. A call that is refused memory is made once more. Its
+/// answer must then be the row's answer.
 fn play_again<R: Abort>(rt: &R, home: &mut Home, rows: &[Row]) -> Result<(), Refusal> {
     for (row, &(place, what, wanted)) in rows.iter().enumerate() {
         assert!(rt; place < home.callers.len());
@@ -43,7 +44,8 @@ fn play_again<R: Abort>(rt: &R, home: &mut Home, rows: &[Row]) -> Result<(), Ref
     Ok(())
 }
 
-/// The host reads exactly these pairs, at once or the second time.
+/// Checks that the host reads exactly the pairs `left`. If the read is refused memory, makes it
+/// once more.
 fn has_left_again<R: Abort>(rt: &R, host: &mut Host, left: &[(u64, u64)]) -> Result<(), Refusal> {
     for _ in 0..2u64 {
         let is_left = reads(host, left);
@@ -55,7 +57,7 @@ fn has_left_again<R: Abort>(rt: &R, host: &mut Host, left: &[(u64, u64)]) -> Res
     Err(Refusal::NoMemory)
 }
 
-/// Each kind of call, except an abort.
+/// Rows with each kind of call, except an abort.
 const CALLS: &[Row] = &[
     (0, Ask::Begin, Told::Done),
     (0, Ask::Do(Op::PutIf(1, None, 10)), NEW),

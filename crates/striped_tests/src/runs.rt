@@ -8,7 +8,7 @@ use txn_words::{Op, Refusal};
 /// The reply to an operation on a key that had the value 10.
 const TEN: Told = Told::Replied(Some(10));
 
-/// A put of a key, and its commit.
+/// A transaction puts a key and commits.
 static FIRST_COMMIT: Worked<'static> = Worked {
     stripes: 8,
     callers: 2,
@@ -20,7 +20,7 @@ static FIRST_COMMIT: Worked<'static> = Worked {
     left: &[(1, 10)],
 };
 
-/// An abort takes the put back.
+/// A transaction puts a key and aborts. The abort takes the put back.
 static ABORT_TAKES_BACK: Worked<'static> = Worked {
     stripes: 8,
     callers: 2,
@@ -33,7 +33,8 @@ static ABORT_TAKES_BACK: Worked<'static> = Worked {
     left: &[],
 };
 
-/// No other caller can look up a taken key before the abort. After it, the key is there again.
+/// Caller 1 takes a key and aborts. Before the abort, caller 2 finds the key's stripe held. After
+/// the abort, caller 2 finds the key with its old value.
 static ABORTED_TAKE_RESTORES: Worked<'static> = Worked {
     stripes: 8,
     callers: 2,
@@ -53,7 +54,7 @@ static ABORTED_TAKE_RESTORES: Worked<'static> = Worked {
     left: &[(3, 30)],
 };
 
-/// Caller 2 finds caller 1's stripe held, begins again and commits first.
+/// Caller 2 finds caller 1's stripe held, begins again, and commits before caller 1.
 static BUSY_BETWEEN_CALLERS: Worked<'static> = Worked {
     stripes: 8,
     callers: 2,
@@ -137,7 +138,8 @@ static STEP_BETWEEN: Worked<'static> = Worked {
     left: &[(2, 20), (4, 40)],
 };
 
-/// The changes that a return to a savepoint takes back, and the levels that it drops.
+/// A return to a savepoint takes back the changes after this savepoint, and drops the later
+/// savepoints.
 static SAVEPOINTS: Worked<'static> = Worked {
     stripes: 4,
     callers: 1,

@@ -1,7 +1,7 @@
-//! Callers with a side value of four words. The module has their calls as values, tables that also
-//! list the side value after each call, and a test of each call. `sided_limits` uses this module to
-//! play its tables. The tables of this module were made by hand. No contract says that a call
-//! succeeds while there is memory.
+//! Callers with a side value of four words. This module defines requests to such callers, and
+//! tables of requests that also list the side value after each call. It tests each call.
+//! `sided_limits` plays its own tables with this module. The tables of this module were made by
+//! hand. No contract says that a call succeeds while there is memory.
 ghost use Rattle.std.specs.Prelude.{◌≡◌, OnOk};
 
 use crate::calls::{self, Ask, Home, NEW, Told, has_left, must, open};
@@ -19,7 +19,7 @@ pub(crate) struct Register {
     words: [u64; 4],
 }
 
-/// The job of changing the words from `before` to `after`.
+/// The job that takes back a change of the words from `before` to `after`.
 #[derive(Drop)]
 pub(crate) struct WordsJob {
     before: [u64; 4],
@@ -75,8 +75,8 @@ pub(crate) enum Call {
     Abort,
 }
 
-/// The place of a caller, the request that the caller gets, the answer that it must give, and the
-/// count of its side value afterwards.
+/// A row of a table: the place of a caller in the list of callers, the request to this caller, the
+/// answer that the caller must give, and the count of its side value afterwards.
 pub(crate) type Row = (usize, Call, Told, u64);
 
 /// Does an operation.
@@ -102,7 +102,7 @@ fn set(caller: &mut Sided, count: u64) -> Told
     }
 }
 
-/// Makes a call.
+/// Calls the method that the request stands for, and returns its result.
 fn make_call(caller: &mut Sided, what: Call) -> Result<Told, Stop> {
     match what {
         Call::Begin => caller.begin()?,
@@ -125,7 +125,7 @@ pub(crate) fn answer(caller: &mut Sided, what: Call) -> Told {
     }
 }
 
-/// Whether the side value has the words of a count.
+/// Returns true if the side value has the words of `count`.
 pub(crate) fn has_count(caller: &Sided, count: u64) -> bool {
     caller.words() == of_count(count)
 }
@@ -143,8 +143,8 @@ fn is_so(caller: &mut Sided, what: Call, wanted: Told, count: u64) -> bool {
     answer(caller, what) == wanted && has_count(caller, count)
 }
 
-/// Asks the callers, row by row. Each must answer as its row says, and then have the row's side
-/// value.
+/// Makes the request of each row to the row's caller, in order. Each answer must be the row's
+/// answer. The caller's side value must then have the row's count.
 pub(crate) fn play<R: Abort>(rt: &R, home: &mut SidedHome, rows: &[Row]) {
     for (row, &(place, what, wanted, count)) in rows.iter().enumerate() {
         assert!(rt; place < home.callers.len());
@@ -162,7 +162,7 @@ pub(crate) fn leaves<R: Abort>(rt: &R, home: &mut SidedHome, left: &[(u64, u64)]
     has_left(rt, &mut home.host, left);
 }
 
-/// A caller with the side value 0.
+/// Gives the caller a side value with the count 0.
 fn with_side<R: Abort>(rt: &R, alloc: Global, caller: Caller) -> Sided
     ensures caller { result.caller ≡ caller }
 {
@@ -170,7 +170,7 @@ fn with_side<R: Abort>(rt: &R, alloc: Global, caller: Caller) -> Sided
     made.ok().expect(rt, "a caller that is in no transaction")
 }
 
-/// The callers, each with the side value 0.
+/// Gives each caller a side value with the count 0.
 fn with_sides<R: Abort>(rt: &R, alloc: Global, callers: Vec<Caller>) -> Vec<Sided> {
     let mut all = Vec::new(alloc);
     for caller in callers {
@@ -185,7 +185,7 @@ fn add<R: Abort>(rt: &R, all: &mut Vec<Sided>, caller: Sided) {
     assert!(rt; added.is_ok());
 }
 
-/// A new map, whose callers each have the side value 0.
+/// Opens a new map, whose callers each have a side value with the count 0.
 pub(crate) fn open_sided<R: Abort>(
     rt: &R,
     alloc: Global,
@@ -198,7 +198,7 @@ pub(crate) fn open_sided<R: Abort>(
 }
 
 /// A run on a new map with four stripes: the number of callers, the calls with their answers, and
-/// the pairs that remain once the callers are dropped.
+/// the pairs that remain after the callers are dropped.
 #[derive(Clone, Copy)]
 struct Worked<'a> {
     callers: usize,
@@ -206,13 +206,13 @@ struct Worked<'a> {
     left: &'a [(u64, u64)],
 }
 
-/// Plays the run in a map.
+/// Makes the calls of the run on this map, drops the callers, and checks the pairs that remain.
 fn play_in<R: Abort>(rt: &R, home: &mut SidedHome, run: &Worked) {
     play(rt, home, run.rows);
     leaves(rt, home, run.left);
 }
 
-/// Plays the run.
+/// Plays the run on a new map.
 fn play_worked<R: Abort>(rt: &R, alloc: Global, run: &Worked) {
     play_in(rt, &mut open_sided(rt, alloc, 4, run.callers), run);
 }
@@ -323,9 +323,9 @@ fn refusals(rt: HostRuntime) {
     play_worked(&rt, rt.alloc(), &REFUSALS);
 }
 
-/// Caller 2 sets its side value to 20 and begins. It sets the side value to 21, puts key 2, and
-/// sets the side value to 22. Then it finds that caller 1 holds the stripe of key 1. Caller 1 gets
-/// key 2: the key is not there, and the key's stripe is free.
+/// Caller 1 holds the stripe of key 1. Caller 2 sets its side value to 20 and begins. It sets the
+/// side value to 21, puts key 2, and sets the side value to 22. Then its operation `op` finds the
+/// stripe of key 1 held. Afterwards caller 1 gets key 2: the key is absent, and its stripe is free.
 fn finds_busy(op: Op) -> [Row; 11] {
     [
         (0, Call::Begin, Told::Done, 0),
@@ -359,7 +359,8 @@ fn play_busy<R: Abort>(rt: &R, home: &mut SidedHome) {
     has_left(rt, &mut home.host, &[]);
 }
 
-/// A busy operation of any kind resets the side value to what it was before the transaction.
+/// An operation that finds its stripe held resets the side value to what it was before the
+/// transaction. The test does this with each kind of operation.
 #[test]
 fn busy(rt: HostRuntime) {
     play_busy(&rt, &mut open_sided(&rt, rt.alloc(), 4, 2));
@@ -387,8 +388,8 @@ const CALLS: &[Row] = &[
     (0, Call::Do(Op::Put(1, 6)), Told::Replied(Some(5)), 2),
 ];
 
-/// Caller 2, which is now at the first place, finds only the pair that it committed, and no stripe
-/// held. Its side value is unchanged.
+/// Caller 2, which is now at the first place, finds only the pair that it committed. No stripe is
+/// held. The side value of caller 2 is unchanged.
 const AFTER: &[Row] = &[
     (0, Call::Begin, Told::Done, 0),
     (0, Call::Do(Op::Get(1)), Told::Replied(Some(5)), 0),
@@ -403,7 +404,7 @@ fn drop_first<R: Abort>(rt: &R, home: &mut SidedHome) {
     drop(home.callers.remove(0));
 }
 
-/// Drops caller 1 after this number of calls.
+/// Drops caller 1 after the first `calls` calls of `CALLS`, and checks what caller 2 then finds.
 fn drop_after<R: Abort>(rt: &R, home: &mut SidedHome, calls: usize) {
     play(rt, home, BEFORE);
     assert!(rt; calls <= CALLS.len());
@@ -456,8 +457,8 @@ fn put_back<R: Abort>(rt: &R, home: &mut Home, caller: Caller) {
 }
 
 /// A caller that has put key 1 in a transaction cannot get a side value. Its transaction continues
-/// and commits. After the commit it gets a side value, which is taken off again in another
-/// transaction. This transaction also continues and commits.
+/// and commits. After the commit the caller gets a side value. In another transaction the side
+/// value is taken off again. This transaction also continues and commits.
 fn play_handed_back<R: Abort>(rt: &R, alloc: Global, home: &mut Home) {
     let begins = [
         (0, Ask::Begin, Told::Done),
@@ -478,7 +479,8 @@ fn handed_back_in_a_transaction(rt: HostRuntime) {
     play_handed_back(&rt, rt.alloc(), &mut open(&rt, rt.alloc(), 4, 1));
 }
 
-/// Begins, puts the key with itself as its value, and gives the side value the words of the key.
+/// Begins a transaction, puts the key with itself as its value, and sets the side value to the
+/// words of the key.
 fn begins(caller: &mut Sided, key: u64) -> Result<(), Stop>
     ensures same_map { OnOk result (caller.new.caller.map.value ≡ caller.old.caller.map.value) }
 {

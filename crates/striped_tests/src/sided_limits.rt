@@ -10,8 +10,8 @@ use std::thread;
 use std::thread::Threads;
 use txn_words::{Op, Refusal};
 
-/// Each operation on a key, with the values 0 and 2^64 - 1. At the end the key has the value 0, and
-/// the side value has the words of the key.
+/// Rows that do each operation on a key, with the values 0 and 2^64 - 1. At the end the key has the
+/// value 0, and the side value has the words of the key.
 fn each_operation(key: u64, before: u64) -> [Row; 9] {
     let (zero, most) = (Told::Replied(Some(0)), Told::Replied(Some(u64::MAX)));
     [
@@ -46,7 +46,7 @@ fn play_widest<R: Abort>(rt: &R, home: &mut SidedHome) {
     leaves(rt, home, &WIDEST.map(|pair| (pair.0, 0)));
 }
 
-/// The widest keys on 1 and 4,096 stripes.
+/// Plays the widest keys on maps with 1 and 4,096 stripes.
 #[test]
 fn widest_keys(rt: HostRuntime) {
     for &stripes in &[1, 4096usize] {
@@ -123,8 +123,8 @@ fn save_a_hundred<R: Abort>(rt: &R, home: &mut SidedHome) {
     }
 }
 
-/// Calls that return to levels, and read key 1 and the side value there. The side value was 7
-/// before the transaction.
+/// Rows that return to levels, and check key 1 and the side value after each return. The side value
+/// was 7 before the transaction.
 const LEVELS: &[Row] = &[
     (0, Call::Set(500), Told::Done, 500),
     (0, Call::Do(Op::Take(1)), Told::Replied(Some(100)), 500),
@@ -147,7 +147,7 @@ const LEVELS: &[Row] = &[
     (0, Call::Commit, Told::Number(1), 7),
 ];
 
-/// Sets the savepoints, and returns to their levels.
+/// Sets a hundred savepoints, and returns to some of their levels.
 fn play_savepoints<R: Abort>(rt: &R, home: &mut SidedHome) {
     let begins = [
         (0, Call::Set(7), Told::Done, 7),

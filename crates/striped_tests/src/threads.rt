@@ -21,8 +21,8 @@ pub(crate) enum Work<'a> {
     TakesPart,
 }
 
-/// Makes the calls of all rows on this caller, and ignores the places in the rows. Each must be
-/// answered as its row says.
+/// Makes the request of each row to this caller, in order. The places in the rows are ignored. Each
+/// answer must be the row's answer.
 fn ask_all<R: Abort>(rt: &R, caller: &mut Caller, rows: &[Row]) {
     for (row, &(_, what, wanted)) in rows.iter().enumerate() {
         ask_row(rt, caller, row, what, wanted);
@@ -38,7 +38,7 @@ fn do_work<R: Abort>(rt: &R, caller: &mut Caller, place: usize, what: Work) {
     }
 }
 
-/// A thread must have started.
+/// Fails the test if a thread has not started.
 pub(crate) fn must_start<R: Abort>(rt: &R, has_started: bool) {
     assert!(rt; has_started, "a thread");
 }

@@ -1,6 +1,6 @@
 //! Tests of `transfer` of the crate `accounts`, by one caller and by several in their threads. No
-//! contract says that a transfer is made once its stripes are free. The balances were worked out by
-//! hand. After four threads have moved sums that look random, only the total is known.
+//! contract says that a transfer is made as soon as its stripes are free. The balances were worked
+//! out by hand. After four threads have moved sums that look random, only the total is known.
 use crate::calls::{Ask, Home, NEW, Row, Told, answer, leaves, must, open, play};
 use crate::threads::{Work, in_threads};
 use accounts::transfer;
@@ -11,7 +11,8 @@ use std::thread::Threads;
 use striped_map::{Caller, Host, Stop};
 use txn_words::Op;
 
-/// Calls `transfer`, and returns what it returns. Returns false if both accounts are the same.
+/// Returns false if both accounts are the same. Otherwise makes the transfer, and returns what
+/// `transfer` returns.
 fn moved(caller: &mut Caller, tries: u64, from: u64, to: u64, sum: u64) -> Result<bool, Stop> {
     if from == to {
         return Ok(false);
@@ -42,8 +43,9 @@ pub(crate) const FILLED: &[Row] = &[
     (0, Ask::Commit, Told::Number(1)),
 ];
 
-/// Transfers, and whether each is made. A transfer is not made if the first account has too little,
-/// or if the second would then have 2^64 or more. An account without a key has 0.
+/// Each row has the two accounts and the sum of a transfer, and whether the transfer is made. It is
+/// not made if the first account has too little, or if the second one would then have 2^64 or more.
+/// An account without a key has 0.
 const TRANSFERS: &[(u64, u64, u64, bool)] = &[
     (1, 2, 11, false),
     (1, 2, 10, true),
@@ -55,7 +57,7 @@ const TRANSFERS: &[(u64, u64, u64, bool)] = &[
     (5, 2, 0, true),
 ];
 
-/// The first caller makes these transfers.
+/// The first caller makes the transfer of each row, with the outcome that the row says.
 fn transfer_all<R: Abort>(rt: &R, home: &mut Home) {
     assert!(rt; 0 < home.callers.len());
     for (row, &what) in TRANSFERS.iter().enumerate() {
@@ -87,7 +89,8 @@ fn holds<R: Abort>(rt: &R, home: &mut Home, place: usize) {
     );
 }
 
-/// Caller 2 holds the stripe of account 1 until it commits.
+/// Caller 2 holds the stripe of account 1 until it commits. Until then caller 1's transfer is busy.
+/// After the commit the transfer is made.
 fn play_busy<R: Abort>(rt: &R, home: &mut Home) {
     holds(rt, home, 1);
     asks(rt, home, Err(Stop::Busy { holder: 2 }));
@@ -113,7 +116,7 @@ pub(crate) fn take_part<R: Abort>(rt: &R, caller: &mut Caller, place: usize) {
     assert!(rt; told == Told::Number(1));
 }
 
-/// Caller 1 holds the stripe of account 1. Then both callers do `take_part` in their threads.
+/// Caller 1 holds the stripe of account 1. Then both callers run `take_part` in their threads.
 fn play_waiting<R: Threads + Wait + Abort + Sync>(rt: &R, home: &mut Home) {
     holds(rt, home, 0);
     in_threads(rt, home.callers.as_mut_slice(), Work::TakesPart);
@@ -161,7 +164,7 @@ fn total(host: &mut Host) -> Option<u64> {
     Some(sum)
 }
 
-/// Fills the accounts, and moves sums.
+/// Fills the accounts, moves sums in threads, and checks the total.
 fn play_sums<R: Threads + Wait + Abort + Sync>(rt: &R, home: &mut Home) {
     fill(rt, home);
     in_threads(rt, home.callers.as_mut_slice(), Work::Moves);

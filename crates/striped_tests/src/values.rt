@@ -58,14 +58,14 @@ fn make_call(t: &mut Transaction<'_>, what: Call) -> Result<Answer, Stop> {
     }
 }
 
-/// A call, and what it must answer.
+/// A call, and the answer that it must get.
 type Line = (Call, Answer);
 
 /// The answer to an operation on an absent key.
 const NONE: Answer = Answer::Replied(None);
 
-/// Each kind of call, on a map that has the pair (1, 5). `Empty`, `Len` and `Pairs` take every
-/// stripe.
+/// Each row has a call and its answer. The map has the pair (1, 5) at first. `Empty`, `Len` and
+/// `Pairs` take every stripe.
 const CALLS: &[Line] = &[
     (Call::Do(Op::Get(1)), Answer::Replied(Some(5))),
     (Call::Has(1), Answer::Is(true)),
@@ -155,7 +155,7 @@ const HOLDS: &[Row] = &[
 /// Caller 2 commits the pair, which frees the stripe.
 const LETS_GO: &[Row] = &[(1, Ask::Commit, Told::Number(1))];
 
-/// Caller 2 then finds no stripe held, and (1, 5) as the only pair.
+/// After caller 1's transaction, caller 2 finds (1, 5) as the only pair. No stripe is held.
 const AFTER: &[Row] = &[
     (1, Ask::Begin, Told::Done),
     (1, Ask::Len, Told::Number(1)),
@@ -163,7 +163,8 @@ const AFTER: &[Row] = &[
     (1, Ask::Commit, Told::Number(2)),
 ];
 
-/// Plays a transaction of caller 1. Its end must return `wanted`.
+/// Caller 1 begins a transaction, makes the calls of the lines, and ends the transaction. The
+/// result must be `wanted`.
 fn play_first<R: Abort>(
     rt: &R,
     home: &mut Home,
@@ -176,8 +177,8 @@ fn play_first<R: Abort>(
     assert!(rt; ended == wanted);
 }
 
-/// Caller 1 makes the first `calls` of the calls in `CALLS`. The end of its transaction takes their
-/// changes back.
+/// Caller 1 makes the first `calls` calls of `CALLS`. Then its transaction ends with `end`, which
+/// takes the changes of these calls back.
 fn taken_back<R: Abort>(rt: &R, home: &mut Home, calls: usize, end: End) {
     play(rt, home, HOLDS);
     play(rt, home, LETS_GO);
@@ -199,7 +200,7 @@ fn aborted(rt: HostRuntime) {
     taken_back(&rt, &mut open(&rt, rt.alloc(), 4, 2), 19, End::Aborts);
 }
 
-/// All calls of caller 1 are committed.
+/// Caller 1 makes all calls of `CALLS` and commits. The pairs that remain are checked.
 fn play_committed<R: Abort>(rt: &R, home: &mut Home) {
     play(rt, home, HOLDS);
     play(rt, home, LETS_GO);
@@ -223,7 +224,7 @@ const BUSY: &[Line] = &[
     ),
 ];
 
-/// Caller 2 holds the stripe of key 1 while caller 1 plays `BUSY`, and commits after that.
+/// Caller 1 plays `BUSY` while caller 2 holds the stripe of key 1. Then caller 2 commits.
 fn play_busy<R: Abort>(rt: &R, home: &mut Home) {
     let not_open = Err(Stop::Refused(Refusal::NotOpen));
     play(rt, home, HOLDS);
@@ -305,7 +306,7 @@ fn looks(caller: &mut Caller) -> Result<[bool; 4], Stop> {
     Ok([is_empty, is_there, is_swapped, is_swapped_again])
 }
 
-/// The first caller makes the calls of `looks`.
+/// The first caller makes the calls of `looks`, which must return `wanted`.
 fn look<R: Abort>(rt: &R, home: &mut Home, wanted: [bool; 4]) {
     assert!(rt; 0 < home.callers.len());
     let looked = looks(&mut home.callers[0]);

@@ -1,4 +1,4 @@
--- Proofs about a list of seats from which the last seat is taken out.
+-- Proofs about a list of seats and the same list without its last seat.
 use Rattle.std.proofs.Common.{◌≡◌, ◌+◌, List, [], ◌∷◌, ◌++◌, length, get_or, refl, ap, subst, ◌∙◌, arith}
 use Rattle.std.proofs.lemmas.List.{length_push, get_or_push}
 use Rattle.std.proofs.Math.ListN.{get_or-append}
@@ -6,9 +6,9 @@ use Rattle.key_words.specs.declared.seat.KeySeat.{KeySeat}
 use Rattle.key_words.specs.declared.words.KeyWords.{KeyWords}
 use Rattle.key_words.specs.Seats.{AreSeats, IsFresh}
 
--- If each seat of a list is fresh and has its position as its number, then the same holds of the
--- list without its last seat. The last seat is fresh, and its number is the length of the rest of
--- the list.
+-- If each seat of a list is fresh and has its position as its number, then the list without its
+-- last seat has the same property. The last seat is fresh, and its number is the length of the
+-- shorter list.
 pub without_last : (words : KeyWords) (seats rest : List KeySeat) (seat : KeySeat) → seats ≡ rest ++ seat ∷ [] → AreSeats words (length seats) seats
     → AreSeats words (length rest) rest × IsFresh words (length rest) seat
 without_last words seats rest seat is all =

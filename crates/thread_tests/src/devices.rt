@@ -1,7 +1,7 @@
 //! Functions that the tests share. They open a map under its own ledger, make calls of the map, and
-//! close it. `Shared` keeps the number of its ledger's parts, which `SharedMap::close` requires. So
-//! a test closes a map without a clause of its own. Some functions are for tests with refused
-//! memory. These functions ask for memory twice, or `TRIES` times.
+//! close it. `SharedMap::close` requires the number of the ledger's parts, which `Shared` keeps. So
+//! a test that closes a map needs no clause for this number. Some functions are for tests with
+//! refused memory. These functions ask for memory twice, or `TRIES` times.
 ghost use Rattle.std.specs.Prelude.{◌≡◌, ◌<◌, true, All};
 ghost use Rattle.txn_words.specs.Kinds.{caller_of};
 
@@ -47,7 +47,7 @@ pub(crate) fn open<L: Ledger>(
     open_with::<L>(alloc, blank, limits, Room::default())
 }
 
-/// Like `open`, with this room.
+/// Like `open`, but with the room `room`.
 fn open_with<L: Ledger>(
     alloc: Global,
     blank: Blank,
@@ -90,7 +90,7 @@ pub(crate) fn play_with<P: Play, R: Wait + Abort>(
     play_with_room(rt, alloc, callers, Room::default(), what)
 }
 
-/// Like `play_with`, with this room.
+/// Like `play_with`, but with the room `room`.
 pub(crate) fn play_with_room<P: Play, R: Wait + Abort>(
     rt: &R,
     alloc: Global,
@@ -159,13 +159,12 @@ fn play_under<L: Ledger, P: Play, R: Wait + Abort>(
 /// are refused memory, memory is refused permanently.
 pub(crate) const TRIES: u64 = 9;
 
-/// Whether memory is refused now.
+/// Returns true if memory is refused at this moment.
 pub(crate) fn is_refused(alloc: Global) -> bool {
     Box::new(alloc, 0).is_err()
 }
 
-/// Makes the callers of the passes, without side values. If memory is refused, asks for it once
-/// more.
+/// Makes a caller without a side value for each pass. If memory is refused, asks for it once more.
 pub(crate) fn callers_of<L: Ledger>(
     alloc: Global,
     passes: Vec<Pass<L>>,
@@ -180,7 +179,7 @@ pub(crate) fn callers_of<L: Ledger>(
     Ok(callers)
 }
 
-/// Makes the callers of the passes, in a test to which no memory is refused.
+/// Like `callers_of`, but for a test to which no memory is refused.
 pub(crate) fn callers_in<L: Ledger, R: Abort>(
     rt: &R,
     alloc: Global,
@@ -199,8 +198,8 @@ pub(crate) fn seen_by<L: Ledger, S: Side>(me: &Caller<L, S>) -> usize {
     me.seen().len()
 }
 
-/// Whether the caller at the index `place` of the list has the number `place`, and has seen exactly
-/// these entries.
+/// Returns true if the caller at the index `place` of the list has the number `place`, and has seen
+/// exactly the entries `wanted`.
 pub(crate) fn has_seen<L: Ledger>(
     callers: &[Caller<L, NoSide>],
     place: usize,
@@ -219,7 +218,7 @@ impl OnRelease for Unheard {
     fn on_release(&self) {}
 }
 
-/// Makes a call by `SharedMap::run`, with no observer.
+/// Makes a call with `SharedMap::run`, and with an observer that does nothing.
 pub(crate) fn run<L: Ledger, S: Side, R: Wait>(
     rt: &R,
     shared: &Shared<L>,
@@ -248,7 +247,8 @@ pub(crate) enum Told {
     Number(u64),
     /// The reply to an operation.
     Replied(Reply),
-    /// The receipt of a commit: the transaction, and its number in the commit order.
+    /// The receipt of a commit: the number of the transaction, and the place of the commit in the
+    /// commit order.
     Committed(u64, u64),
     /// No value.
     Done,
@@ -299,8 +299,8 @@ fn operate<L: Ledger, R: Wait>(
     }
 }
 
-/// The error of `close_or_miss`. If a caller is missing or was passed in twice, it is the map and
-/// the callers that were passed in. For any other reason it is `None`.
+/// The error of `close_or_miss`. If a caller is missing or was passed in twice, the error has the
+/// map and the callers that were passed in. For any other reason the error is `None`.
 pub(crate) type Missing<L, S> = Option<(Shared<L>, Vec<Caller<L, S>>)>;
 
 /// Closes a map.
@@ -390,7 +390,8 @@ pub(crate) fn find_settled(alloc: Global, trace: &[SmallEntry]) -> Option<bool> 
     None
 }
 
-/// The list of a core. `None` if memory for the list is refused in all of `TRIES` attempts.
+/// Returns the list of a core's pairs. Returns `None` if memory for the list is refused in all of
+/// `TRIES` attempts.
 fn find_list(alloc: Global, core: &Core) -> Option<Vec<(u64, u64)>> {
     for _ in 0..TRIES {
         if let Ok(list) = core.regular_list(alloc) {
@@ -400,10 +401,10 @@ fn find_list(alloc: Global, core: &Core) -> Option<Vec<(u64, u64)>> {
     None
 }
 
-/// Returns true if a closed core has this number of keys, and a history that is legal with no
-/// transaction open. If it has a key, the key must be 1, with the value 10. If memory is refused to
-/// the checker permanently, only the number of keys is compared. If memory is refused permanently
-/// to the list of pairs, the key and its value are not compared.
+/// Returns true if the core of a closed map has `keys` keys, and if its history is legal and ends
+/// with no transaction open. If the core has a key, the key must be 1, with the value 10. If memory
+/// is refused to the checker permanently, only the number of keys is compared. If memory is refused
+/// permanently to the list of pairs, the key and its value are not compared.
 pub(crate) fn has_left<R: Abort>(rt: &R, alloc: Global, core: &Core, keys: u64) -> bool {
     let trace = core.trace();
     let Some(settled) = find_settled(alloc, trace) else {

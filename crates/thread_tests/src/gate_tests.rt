@@ -1,5 +1,5 @@
-//! These tests compare all calls of a gate, in their order, with tables made by hand. The library's
-//! user writes the gate, so no contract counts the calls of a gate. `run_tests` has a gate that
+//! These tests compare all calls that a gate gets, in their order, with tables made by hand. The
+//! library's user writes the gate, so no contract counts these calls. `run_tests` has a gate that
 //! forces an order. The gate of this module also notes its calls. If there are two workers, the
 //! calls of each worker are compared separately.
 use crate::run_tests::{await_flag, put, run, scripts_of};
@@ -13,7 +13,7 @@ use std::time::Clock;
 use thread_runs::Gate;
 use txn_words::{Action, Op, Refusal, Script};
 
-/// A call of a gate.
+/// A call that a gate gets.
 #[derive(Clone, Copy, Debug, PartialEq, Eq)]
 enum Heard {
     /// A worker is about to do an action of a script.
@@ -76,8 +76,9 @@ impl<R: Wait + Abort + Clock + Sync> Gate for Listener<'_, R> {
     }
 }
 
-/// Returns the calls that a gate gets in a run. `tries` is the number of further tries. A single
-/// worker does not wait. If there are two workers, worker 1 must do the last script.
+/// Runs the scripts, and returns the calls that the gate got. A script that finds a stripe held is
+/// tried at most `tries` more times. A single worker does not wait. If there are two workers,
+/// worker 1 must do the last script.
 fn heard_of<R: Threads + Wait + Abort + Clock + Sync>(
     rt: &R,
     alloc: Global,
@@ -96,7 +97,7 @@ fn heard_of<R: Threads + Wait + Abort + Clock + Sync>(
     Ok(listener.heard.into_inner())
 }
 
-/// The calls of one worker.
+/// Returns those calls that this worker made.
 fn own(
     alloc: Global,
     heard: &[Heard],
@@ -112,8 +113,8 @@ fn own(
     Ok(own)
 }
 
-/// Returns true if the gate got exactly these calls. Each call must come in a row as often as its
-/// number says.
+/// Returns true if the gate got exactly the calls `wanted`, in this order. Each row has a call, and
+/// how many times the gate must get it in a row.
 fn is_heard(heard: &[Heard], wanted: &[(Heard, usize)]) -> bool {
     let mut rest = heard;
     for &(call, times) in wanted {
@@ -208,7 +209,7 @@ fn two_workers_are_heard(rt: HostRuntime) -> Result<(), Fail> {
 
 /// Worker 0 holds the stripe of key 1 until worker 1 has given up. An operation that finds a stripe
 /// held also takes three holds of the lock: the question, a seek that finds no change to take back,
-/// and the abort. A script is done once, after its last try.
+/// and the abort. The gate gets `Done` once for each script, after the last try of the script.
 #[test]
 fn second_try_is_heard(rt: HostRuntime) -> Result<(), Fail> {
     let first = [put(1, 10)];

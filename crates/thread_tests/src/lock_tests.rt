@@ -1,5 +1,5 @@
 //! Tests of `key_locks`: holders of stripes, and the rights to stripes. The contracts say what a
-//! lock answers. They do not say that stripes and rights get memory as long as there is some. The
+//! lock answers. They do not say that stripes and rights get memory as long as memory is free. The
 //! callers take turns on one thread. The answers were worked out by hand.
 ghost use Rattle.std.specs.Prelude.{◌≡◌, length};
 
@@ -34,7 +34,8 @@ fn free_stripes(alloc: Global, count: usize) -> Result<Stripes, AllocError> {
     Ok(Stripes { locks, count })
 }
 
-/// Takes a turn of a caller. Returns false if a lock does not give the answer that it must give.
+/// Takes a caller's turn. Returns false if the turn locks a stripe and gets another answer than the
+/// one that the turn wants.
 fn is_answered(stripes: &mut Stripes, caller: usize, turn: Turn) -> bool {
     if caller >= CALLERS {
         return false;
@@ -50,7 +51,8 @@ fn is_answered(stripes: &mut Stripes, caller: usize, turn: Turn) -> bool {
     }
 }
 
-/// Takes turns on `count` free stripes. Each turn is listed with the number of its caller.
+/// Makes `count` free stripes, and takes turns on them. Each row has the number of a caller and the
+/// turn that this caller takes.
 fn take_turns<R: Abort>(
     rt: &R,
     alloc: Global,
@@ -67,7 +69,7 @@ fn take_turns<R: Abort>(
     Ok(())
 }
 
-/// Turns on eight stripes.
+/// Each row has a caller and the caller's turn. The callers share eight stripes.
 static ON_EIGHT: [(usize, Turn); 16] = [
     (0, Turn::Lock(1, LockAnswer::Granted)),
     (1, Turn::Lock(2, LockAnswer::Granted)),
@@ -87,7 +89,7 @@ static ON_EIGHT: [(usize, Turn); 16] = [
     (0, Turn::Lock(6, LockAnswer::Busy(63))),
 ];
 
-/// Turns on one stripe.
+/// Each row has a caller and the caller's turn. The callers share one stripe.
 static ON_ONE: [(usize, Turn); 3] = [
     (5, Turn::Lock(0, LockAnswer::Granted)),
     (6, Turn::Release),
@@ -103,8 +105,8 @@ fn a_stripe_is_held_until_its_holder_releases(rt: HostRuntime) -> Result<(), Fai
     Ok(())
 }
 
-/// The rights to three stripes are those to stripes 0, 1 and 2. `usize::MAX` stripes are refused,
-/// since there is no memory for so many.
+/// Makes three rights: they are for the stripes 0, 1 and 2. Rights for `usize::MAX` stripes are
+/// refused, since there is no memory for so many.
 #[test]
 fn each_stripe_has_a_right(rt: HostRuntime) -> Result<(), Fail> {
     let rights = match StripeRight::all(rt.alloc(), 3) {

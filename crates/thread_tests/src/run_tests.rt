@@ -1,6 +1,6 @@
 //! Tests that run scripts on threads: in an order that a gate forces, with any number of workers,
-//! and with memory refused. The contract of `run_scripts` lets each script be busy or refused. Here
-//! a script that shares no stripe with another script must commit. If the order depends on the
+//! and with memory refused. By the contract of `run_scripts`, each script may be busy or refused.
+//! Here a script that shares no stripe with another script must commit. If the order depends on the
 //! threads, the checker only judges the history.
 use crate::devices::{find_settled, is_refused, is_settled, judge};
 use history_check::Verdict;
@@ -34,7 +34,7 @@ pub(crate) fn run<G: Gate, R: Threads + Wait + Sync>(
     run_scripts(rt, alloc, limits, scripts, count, tries, gate)
 }
 
-/// A script for each of these lists of actions.
+/// Makes one script from each of these lists of actions.
 pub(crate) fn scripts_of(alloc: Global, lists: &[&[Action]]) -> Result<Vec<Script>, AllocError> {
     let mut scripts = Vec::new(alloc);
     for list in lists {
@@ -47,7 +47,7 @@ pub(crate) const fn put(key: u64, value: u64) -> Action {
     Action::Op(Op::Put(key, value))
 }
 
-/// How often a flag is read at most. The reads are a millisecond apart.
+/// The greatest number of times that a flag is read. The reads are a millisecond apart.
 const TURNS: u64 = 20_000;
 
 /// Waits until a flag is set. The test fails if that takes too long.
@@ -82,7 +82,7 @@ struct Meeting<'a, R: Abort + Clock + Sync> {
     is_done: AtomicBool,
 }
 
-/// Worker 0 is at its place, and waits there.
+/// Notes that worker 0 has reached its place, and waits until script 1 is done.
 fn wait_there<R: Abort + Clock>(rt: &R, is_there: &AtomicBool, is_done: &AtomicBool) {
     is_there.store(true, Ordering::SeqCst);
     await_flag(rt, is_done);
@@ -184,7 +184,7 @@ fn many_attempts(rt: HostRuntime) -> Result<(), Fail> {
     Ok(())
 }
 
-/// Whether the first script is committed and the second is busy.
+/// Returns true if the first script is committed and the second one is busy.
 fn is_done_then_busy(outcomes: &[Outcome]) -> bool {
     matches!(outcomes, [Outcome::Committed { .. }, Outcome::Busy])
 }
@@ -201,9 +201,9 @@ fn is_aborted(entry: &Entry) -> bool {
     matches!(entry, Entry::Aborted(_))
 }
 
-/// Worker 1's action waits for worker 0's third release of the lock. By then worker 0 has begun,
-/// asked and sought. So worker 1's put and commit come between worker 0's question and the reply to
-/// it.
+/// Worker 1's action waits for worker 0's third release of the lock. By then worker 0 has begun its
+/// transaction, asked for its put, and sought the position of the put. So worker 1's put and commit
+/// come between worker 0's question and the reply to it.
 #[test]
 fn step_between(rt: HostRuntime) -> Result<(), Fail> {
     let first = [put(2, 20)];
@@ -270,7 +270,8 @@ fn run_any_workers(rt: HostRuntime) -> Result<(), Fail> {
     Ok(())
 }
 
-/// Script `number` of the four hundred. It puts, takes and puts its own key.
+/// Makes the script with this number, of four hundred. The script puts its own key, takes it, and
+/// puts it again.
 fn script(alloc: Global, number: u64) -> Result<Script, AllocError> {
     let actions = [
         put(number, number),

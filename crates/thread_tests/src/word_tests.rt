@@ -63,7 +63,7 @@ fn fresh_seats(alloc: Global, stripes: usize, count: usize) -> Result<Vec<Fresh>
     Ok(at_words(alloc, Arc::new(alloc, words)?, stripes, seats)?)
 }
 
-/// Takes the seats of these words out of their list, the last one first.
+/// Returns each seat of the list with its words and its number, the last seat first.
 fn at_words(
     alloc: Global,
     words: Arc<KeyWords, Global>,
@@ -196,7 +196,7 @@ enum Turn {
 }
 
 /// Plays a turn. Returns false if a take does not get the answer in the turn. If this answer is the
-/// position of a right, also returns false if the right is that of another stripe.
+/// position of a right, also returns false if the right at that position is for another stripe.
 fn is_answered(caller: &mut Keeping, turn: Turn) -> Result<bool, AllocError> {
     let Turn::Take(stripe, wanted) = turn else {
         caller.rights.give_back(&*caller.words);

@@ -36,8 +36,8 @@ const ZERO: Told = Told::Replied(Some(0));
 
 const MOST: Told = Told::Replied(Some(u64::MAX));
 
-/// Each call on a key that is absent at first, with the values 0 and 2^64 - 1. At the end the key
-/// has the value 2^64 - 1.
+/// Lines that make each kind of call on a key that is absent at first, with the values 0 and 2^64 -
+/// 1. At the end the key has the value 2^64 - 1.
 fn each_call(key: u64) -> [Line; 21] {
     [
         (Call::Do(Op::Get(key)), NONE),
@@ -67,7 +67,8 @@ fn each_call(key: u64) -> [Line; 21] {
 /// The answer to a call on a key of 2^63 or more, if the map takes only keys below 2^63.
 const BAD: Told = Told::Stopped(Stop::Refused(Refusal::BadKey));
 
-/// Each call on a key of 2^63 or more, on a map that takes only keys below 2^63.
+/// Lines with calls on a key of 2^63 or more. The map takes only keys below 2^63, and must refuse
+/// each call.
 fn each_refused(key: u64) -> [Line; 7] {
     [
         (Call::Do(Op::Get(key)), BAD),
@@ -83,7 +84,7 @@ fn each_refused(key: u64) -> [Line; 7] {
 /// 2^63.
 const HALF: u64 = 9_223_372_036_854_775_808;
 
-/// Adds these lines.
+/// Adds the lines to the list `all`.
 fn add(all: &mut Vec<Line>, lines: &[Line]) -> Result<(), AllocError> {
     for line in lines {
         all.push(*line)?;
@@ -91,7 +92,8 @@ fn add(all: &mut Vec<Line>, lines: &[Line]) -> Result<(), AllocError> {
     Ok(())
 }
 
-/// Each call on the keys 0, 2^63 - 1, 2^63 and 2^64 - 1. All four keys are in the map at the end.
+/// Lines that make each kind of call on the keys 0, 2^63 - 1, 2^63 and 2^64 - 1. All four keys are
+/// in the map at the end.
 pub(crate) fn whole_keys(alloc: Global) -> Result<Vec<Line>, AllocError> {
     let mut all = Vec::new(alloc);
     for key in [0, HALF - 1, HALF, u64::MAX] {
@@ -100,8 +102,8 @@ pub(crate) fn whole_keys(alloc: Global) -> Result<Vec<Line>, AllocError> {
     Ok(all)
 }
 
-/// Each call on the keys 0, 2^63 - 1, 2^63 and 2^64 - 1, on a map that takes only keys below 2^63.
-/// The first two keys are in the map at the end.
+/// Lines that make calls on the keys 0, 2^63 - 1, 2^63 and 2^64 - 1. The map takes only keys below
+/// 2^63. The first two keys are in the map at the end.
 pub(crate) fn half_keys(alloc: Global) -> Result<Vec<Line>, AllocError> {
     let mut all = Vec::new(alloc);
     for key in [0, HALF - 1] {
@@ -117,8 +119,8 @@ pub(crate) fn half_keys(alloc: Global) -> Result<Vec<Line>, AllocError> {
 /// The answer to a return to a level that does not exist.
 const NO_LEVEL: Told = Told::Stopped(Stop::Refused(Refusal::NoSuchLevel));
 
-/// Returns to levels. At level `n`, key 1 has the value `n`, and key 10,000 + `n` has the value 1.
-/// At the end, key 2 is the only key.
+/// Lines that return to levels. At level `n`, key 1 has the value `n`, and key 10,000 + `n` has the
+/// value 1. At the end, key 2 is the only key.
 const LEVELS: [Line; 24] = [
     (Call::Do(Op::Take(1)), Told::Replied(Some(1000))),
     (Call::Back(1001), NO_LEVEL),
@@ -146,8 +148,8 @@ const LEVELS: [Line; 24] = [
     (Call::Save, Told::Level(1)),
 ];
 
-/// Sets a thousand savepoints, and returns to levels. Before each savepoint, the savepoint's level
-/// is put at key 1, and one new key is put.
+/// Lines that set a thousand savepoints, and return to levels. Before each savepoint, they put the
+/// savepoint's level at key 1, and one new key.
 pub(crate) fn a_thousand_savepoints(alloc: Global) -> Result<Vec<Line>, AllocError> {
     let mut all = Vec::new(alloc);
     for level in 1..1001u64 {

@@ -60,7 +60,7 @@ impl<R: Wait + Abort> Work<R> for Look<'_> {
 }
 
 /// Makes `count` looks, at the keys 0, 16, 32 and so on. A key below `keys` must have itself as its
-/// value; the others must be absent.
+/// value. Any other key must be absent.
 pub(crate) fn looks(
     alloc: Global,
     started: &AtomicU64,
@@ -79,7 +79,7 @@ pub(crate) fn looks(
     Ok(all)
 }
 
-/// Does these works on a new map that begins with the pairs of a core.
+/// Runs these works on a new map that begins with the pairs of a core.
 pub(crate) fn go_on<R: Threads + Wait + Sync + Abort>(
     rt: &R,
     alloc: Global,

@@ -13,7 +13,7 @@ use txn_words::{Limits, Refusal, Reply};
 /// How many keys are put. The keys are 0, 3, 6 and so on.
 const KEYS: u64 = 40;
 
-/// A map of two callers, if there is memory for it.
+/// Makes a map with two callers, if there is memory for it.
 fn map_of(rt: &impl Abort, alloc: Global) -> Option<OwnedMap> {
     OwnedMap::new(alloc, Limits::new(2, 8, 64).expect(rt, "limits in range")).ok()
 }
@@ -24,7 +24,7 @@ fn put(t: &mut Transaction<'_>, key: u64, value: u64) -> Result<Reply, Stop>
     t.put(key, value)
 }
 
-/// Returns 1 if a key is there.
+/// Returns 1 if the key is in the map, and `None` if it is not.
 fn contains(t: &mut Transaction<'_>, key: u64) -> Result<Reply, Stop>
     ensures { Keeps t.old t.new }
 {
@@ -69,7 +69,7 @@ fn get(t: &mut Transaction<'_>, key: u64) -> Result<Reply, Stop>
 enum Work {
     /// Puts a value at a key.
     Put(u64, u64),
-    /// Replies 1 if a key is there.
+    /// Replies 1 if the key is in the map.
     Contains(u64),
     /// Puts 1 at a key, sets a savepoint, puts 2 at the key, and goes back to the savepoint.
     GoBack(u64),
@@ -88,7 +88,7 @@ fn do_work(t: &mut Transaction<'_>, work: Work) -> Result<Reply, Stop>
     }
 }
 
-/// Does a work in a transaction of a caller.
+/// Does the work in a transaction of the caller with this number.
 fn work_in(map: &mut OwnedMap, caller: u64, work: Work) -> Result<Reply, Stop> {
     map.transact(caller, |t: &mut Transaction<'_>| do_work(t, work))
 }
@@ -116,12 +116,13 @@ fn entries_in(map: &OwnedMap) -> u64 {
     length_of(map.core())
 }
 
-/// The pairs in the order of the list, if there is memory for them.
+/// The pairs of the map in the order of its list, or `None` if memory for them is refused.
 fn pairs_of(alloc: Global, map: &OwnedMap) -> Pairs {
     map.core().regular_list(alloc).ok()
 }
 
-/// Puts the keys until memory is refused for one, and returns how many are there.
+/// Puts the keys, one after the other. Stops if memory is refused for one of them. Returns how many
+/// keys were put.
 fn fill(rt: &impl Abort, map: &mut OwnedMap) -> u64 {
     for done in 0..KEYS {
         match work_in(map, 0, Work::Put(done.wrapping_mul(3), done)) {
@@ -175,7 +176,7 @@ fn trim_in(rt: &impl Abort, alloc: Global, map: &mut OwnedMap) {
     match trim(alloc, map) {
         Ok(old) => {
             assert_eq!(rt; old, entries);
-            // A begin and a commit, and two entries for each pair.
+            // The new history has a begin, a commit, and two entries for each pair.
             assert_eq!(rt; entries_in(map), count.wrapping_mul(2).wrapping_add(2));
         }
         Err(refusal) => {
@@ -188,7 +189,7 @@ fn trim_in(rt: &impl Abort, alloc: Global, map: &mut OwnedMap) {
 /// The pairs of a map, if there is memory for their list.
 type Pairs = Option<Vec<(u64, u64)>>;
 
-/// Checks that these are the same pairs, if there was memory for both lists.
+/// Checks that both lists have the same pairs, if there was memory for both.
 fn are_same(rt: &impl Abort, before: &Pairs, after: &Pairs) {
     if let (Some(before), Some(after)) = (before, after) {
         assert!(rt; after.as_slice() == before.as_slice());
@@ -216,7 +217,8 @@ fn a_history_is_cut_off(rt: HostRuntime) {
     }
 }
 
-/// Goes back to a savepoint, and looks at the key and at the number of keys.
+/// Does `GoBack` with key 7, and checks the value of key 7 and the number of keys. If memory for
+/// `GoBack` is refused, the map must have no key.
 fn go_back(rt: &impl Abort, map: &mut OwnedMap) {
     let is_back = match work_in(map, 0, Work::GoBack(7)) {
         Ok(_) => true,

@@ -1,7 +1,7 @@
 //! Tests of transactions on the map with one owner, at the limits of keys, values and savepoints.
 //! By contract, a call at a limit may give up. In these tests no call may. The tables are those of
-//! `lines`. Each function that gets a transaction ensures `Keeps`, because the closure of
-//! `transact` must.
+//! `lines`. Each function that gets a transaction ensures `Keeps`, because a closure that is passed
+//! to `transact` must ensure it.
 ghost use Rattle.std.specs.Prelude.{◌≡◌};
 ghost use Rattle.owned_map.specs.Keeps.{Keeps};
 

@@ -95,7 +95,7 @@ fn every_restart_is_made(rt: HostRuntime) -> Result<(), Fail> {
     Ok(())
 }
 
-/// Checks that no map is made from a core and no work is started, and returns why.
+/// Checks that no map is made from the core, and that no work is started. Returns the reason.
 fn is_refused<R: Threads + Wait + Sync + Abort>(
     rt: &R,
     alloc: Global,
@@ -112,7 +112,8 @@ fn is_refused<R: Threads + Wait + Sync + Abort>(
     }
 }
 
-/// Each work needs a caller, and one more caller puts the pairs of the old core.
+/// Each work needs a caller, and one more caller puts the pairs of the old core. With fewer callers
+/// the run is refused.
 #[test]
 fn a_caller_is_missing(rt: HostRuntime) -> Result<(), Fail> {
     let core = core_of(&rt, rt.alloc(), Limits::new(1, 1, 2)?, 0, 1);
@@ -141,7 +142,7 @@ fn a_key_is_too_large(rt: HostRuntime) -> Result<(), Fail> {
     Ok(())
 }
 
-/// An opening of a map that puts the pairs of a core into the map.
+/// A work that opens a map: it puts the pairs of a core into the new map.
 #[derive(Clone, Copy)]
 struct Refills<'a> {
     core: &'a Core,
@@ -161,7 +162,8 @@ impl<R: Wait> Work<R> for Refills<'_> {
     }
 }
 
-/// Makes a map whose opening puts the pairs of a core. Then a work looks at one of the pairs.
+/// Makes a map, into which a first work puts the pairs of a core. Then another work looks at one of
+/// the pairs.
 fn open_with<R: Threads + Wait + Sync + Abort>(
     rt: &R,
     alloc: Global,

@@ -34,7 +34,7 @@ fn put<L: Ledger, R: Wait>(
     t.put(key, value)
 }
 
-/// Returns 1 if a key is there.
+/// Returns 1 if the key is in the map, and `None` if it is not.
 fn contains<L: Ledger, R: Wait>(t: &mut Transaction<'_, L, R>, key: u64) -> Result<Reply, Stop>
     ensures { Keeps t.old.me t.new.me }
 {
@@ -46,7 +46,7 @@ fn contains<L: Ledger, R: Wait>(t: &mut Transaction<'_, L, R>, key: u64) -> Resu
 enum Work {
     /// Puts a value at a key.
     Put(u64, u64),
-    /// Replies 1 if a key is there.
+    /// Replies 1 if the key is in the map.
     Contains(u64),
 }
 
@@ -89,7 +89,7 @@ fn open<'a, L: Ledger, R: Wait>(
     Transaction::new(rt, map, me)
 }
 
-/// Begins and puts, and leaves the transaction open.
+/// Begins a transaction, puts 1 at the key, and leaves the transaction open.
 fn begin_and_put<L: Ledger, R: Wait>(t: &mut Transaction<'_, L, R>, key: u64) -> Result<(), Stop> {
     t.begin()?;
     t.put(key, 1)?;
@@ -111,7 +111,8 @@ fn begun_by<L: Ledger>(me: &Caller<L, NoSide>) -> u64 {
     count
 }
 
-/// Puts the keys until memory is refused for one, and returns how many were put.
+/// Puts the keys, one after the other. Stops if memory is refused for one of them. Returns how many
+/// keys were put.
 fn fill<L: Ledger, R: Wait + Abort>(rt: &R, t: &mut Transaction<'_, L, R>) -> u64 {
     for done in 0..KEYS {
         match put_by(t, done.wrapping_mul(3), done) {
@@ -136,8 +137,8 @@ fn has_keys<L: Ledger, R: Wait + Abort>(rt: &R, t: &mut Transaction<'_, L, R>, c
     }
 }
 
-/// Puts at key 1, whose stripe another caller holds. The put must be tried nine times, and then be
-/// busy.
+/// Puts a value at key 1, whose stripe another caller holds. The put must be tried nine times, and
+/// each try must find the stripe held.
 fn is_busy<L: Ledger, R: Wait + Abort>(rt: &R, map: &SharedMap<L>, me: &mut Caller<L, NoSide>) {
     let before = begun_by(me);
     let tried = put_by(&mut open(rt, map, me), 1, 2);
@@ -150,9 +151,9 @@ fn is_busy<L: Ledger, R: Wait + Abort>(rt: &R, map: &SharedMap<L>, me: &mut Call
     }
 }
 
-/// The caller `other` puts key 1 and leaves its transaction open. Checks that a put of the same key
-/// is then busy. After the drop of the open transaction, the put must be done and find the key
-/// absent.
+/// The caller `other` puts key 1 and leaves its transaction open. The caller `me` must then find
+/// the key's stripe held. After the open transaction is dropped, the put by `me` must succeed, and
+/// must find the key absent.
 fn try_again<L: Ledger, R: Wait + Abort>(
     rt: &R,
     map: &SharedMap<L>,
@@ -228,8 +229,8 @@ fn has_grown(rt: &impl Abort, core: &Core, count: u64) {
     }
 }
 
-/// Makes a new map with the pairs of a core, and looks at the first key in a work. If memory is not
-/// refused, checks that the new core has the same pairs.
+/// Makes a new map with the pairs of a core, on which one work looks at the first key. If memory is
+/// not refused, checks that the new core has the same pairs.
 fn goes_on<R: Threads + Wait + Sync + Abort>(
     rt: &R,
     alloc: Global,

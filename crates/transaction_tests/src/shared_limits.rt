@@ -45,7 +45,7 @@ fn answer<L: Ledger, R: Wait>(t: &mut Transaction<'_, L, R>, what: Call) -> Told
     }
 }
 
-/// Begins, and makes the calls of the lines. Each must get its line's answer.
+/// Begins a transaction, and makes the calls of the lines. Each call must get its line's answer.
 fn ask_all<L: Ledger, R: Wait + Abort>(rt: &R, t: &mut Transaction<'_, L, R>, lines: &[Line]) {
     let begun = t.begin();
     assert_eq!(rt; begun, Ok(1));

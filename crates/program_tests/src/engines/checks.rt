@@ -29,7 +29,7 @@ const STRIPES_OF: &str =
 
 pub const LEGAL: &str = "legal 2 commits 0 open\n";
 
-/// Files with a gap for entries.
+/// A file with a gap for its entries.
 const OF_EIGHT: &str = r#"{"version":1,"stripes":8,"entries":[#]}"#;
 
 const OF_VERSION_1: &str = r#"{"version":1,"stripes":@,"entries":[#]}"#;
@@ -38,9 +38,10 @@ const OF_VERSION_2: &str = r#"{"version":2,"stripes":8,"entries":[#]}"#;
 
 const IN_VERSION: &str = r#"{"version":@,"stripes":8,"entries":[#]}"#;
 
-/// History files, and the output for each.
+/// Each row has similar history files, and the output of `check` for them.
 pub const FILES: &[Files] = &[
-    // The replies of `checker_replies` in `crates/txn_trace/proofs/Cases.antt`, and a wrong entry.
+    // Histories with the replies of `checker_replies` in `crates/txn_trace/proofs/Cases.antt`, and
+    // a history with a wrong entry.
     Files {
         command: Command::Check,
         frame: CHECKED_OF,
@@ -98,7 +99,7 @@ pub const FILES: &[Files] = &[
         printed: "refused 22\n",
         status: 3,
     },
-    // Locks.
+    // Histories with stripes that are held.
     Files {
         command: Command::Check,
         frame: OF_EIGHT,
@@ -203,7 +204,7 @@ pub const FILES: &[Files] = &[
         printed: "illegal entry 7 rule 3\n",
         status: 1,
     },
-    // An entry that only version 2 has, in files of other versions.
+    // An entry that version 1 does not have, in files of each version.
     Files {
         command: Command::Check,
         frame: IN_VERSION,
@@ -228,8 +229,8 @@ pub const FILES: &[Files] = &[
         printed: "refused 22\n",
         status: 3,
     },
-    // `holder_has_begun` of `crates/txn_trace/proofs/HolderCases.antt`: a Busy that names a caller
-    // which holds nothing now. Only version 3 allows this, and only if that caller has begun a
+    // `holder_has_begun` of `crates/txn_trace/proofs/HolderCases.antt`: a busy entry names a caller
+    // that holds nothing now. Only version 3 allows this, and only if that caller has begun a
     // transaction before.
     Files {
         command: Command::Check,

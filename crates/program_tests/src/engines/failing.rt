@@ -18,7 +18,7 @@ use std::test::Fail;
 use std::thread::Threads;
 use txn_files::{FileFault, Part};
 
-/// A command, a file, and the output.
+/// Each row has a command, the text of a file, and the output of the command for this file.
 type Printed = (Command, &'static str, &'static str);
 
 const OF_EACH_COMMAND: &[Printed] = &[
@@ -62,8 +62,8 @@ fn failing_reads(rt: HostRuntime) {
     }
 }
 
-/// A write that fails or that takes nothing is not tried again. Only the part of the line before
-/// this write is written.
+/// A write that fails or that takes nothing is not tried again. Only the part of the line that
+/// comes before the failing write is written.
 fn fail_writes<T: Abort + Threads + Wait + Sync>(
     rt: &T,
     alloc: Global,
@@ -128,29 +128,29 @@ fn refuse_memory<T: Abort + Threads + Wait + Sync>(
     }
 }
 
-/// The reports of one transaction that commits: the whole report, the one if the begin is refused
-/// memory, and the one if the ask is refused memory.
+/// Three reports of one transaction that commits. The first one is the whole report. The second one
+/// is printed if the begin is refused memory, and the third one if the ask is refused memory.
 const REPORTS: &[&str] = &[
     FIRST_REPORT,
     "refused 14\nrefused 3\nrefused 3\nrefused 3\nrefused 3\nsize 2 count 0\n",
     "began 1\nrefused 14\nrefused 8\nrefused 8\ncommitted 1\nsize 2 count 0\n",
 ];
 
-/// Meant to be run with each allocation refused in turn. Either nothing is written, or the report
-/// shows that the step that was refused memory has changed nothing.
+/// This test is meant to be run with each allocation refused in turn. Either nothing is written, or
+/// the report shows that the step that was refused memory has changed nothing.
 #[test]
 fn refused_allocations(rt: HostRuntime) {
     refuse_memory(&rt, rt.alloc(), Command::Replay, FIRST_COMMIT, REPORTS);
 }
 
-/// Meant to be run with each allocation refused in turn. Either the whole line is written, or
-/// nothing.
+/// This test is meant to be run with each allocation refused in turn. Either the whole line is
+/// written, or nothing.
 #[test]
 fn history_without_memory(rt: HostRuntime) {
     refuse_memory(&rt, rt.alloc(), Command::Check, CHECKED, &[LEGAL]);
 }
 
-/// One worker with two scripts. The first script sets a savepoint.
+/// A script file with one worker and two scripts. The first script sets a savepoint.
 const TWO_SCRIPTS: &str =
     "{\"version\":1,\"workers\":1,\"stripes\":8,\"buckets\":8,\"tries\":0,\"scripts\":[[[\"put\",1,\
     10],[\"save\"]],[[\"get\",1]]]}";
@@ -176,8 +176,9 @@ const TWO_SCRIPTS_HISTORIES: &[&str] = &[
         \"version\":1}\n",
 ];
 
-/// Meant to be run with each allocation refused in turn. Either nothing is written, or a whole
-/// history. In this history, a script with a step that was refused memory has changed nothing.
+/// This test is meant to be run with each allocation refused in turn. Either nothing is written, or
+/// a whole history. In this history, a script with a step that was refused memory has changed
+/// nothing.
 #[test]
 fn mix_without_memory(rt: HostRuntime) {
     refuse_memory(
@@ -189,8 +190,8 @@ fn mix_without_memory(rt: HostRuntime) {
     );
 }
 
-/// Meant to be run with each allocation refused in turn. Either nothing is written, or a whole
-/// history. If the script was refused memory, this history has no entries.
+/// This test is meant to be run with each allocation refused in turn. Either nothing is written, or
+/// a whole history. If the script was refused memory, this history has no entries.
 #[test]
 fn run_without_memory(rt: HostRuntime) {
     let known = [SHORT_RUN, NO_ENTRIES];

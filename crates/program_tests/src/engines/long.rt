@@ -20,13 +20,13 @@ const LENGTHS: [(u64, u32, u32); 2] = [(1916, 36, 56), (1930, 0, 36)];
 /// A number of puts whose history fills two pieces and a part of a third.
 const MANY: u64 = 4000;
 
-/// A writer that compares the bytes it takes with a text. It takes at most `most` bytes for each
-/// call. At the call `fails_at`, counted from 0, it takes none.
+/// A writer that compares the bytes that it takes with a text. It takes at most `most` bytes in
+/// each call. In the call `fails_at`, counted from 0, it takes none.
 #[derive(Drop)]
 struct Expecting<'a> {
-    /// The part of the text that it has not taken yet.
+    /// The part of the text that the writer has not taken yet.
     rest: &'a [u8],
-    /// Whether all bytes that it has taken were those of the text.
+    /// True if all bytes that the writer has taken were those of the text.
     is_right: bool,
     most: usize,
     calls: usize,

@@ -10,7 +10,7 @@ use std::process::Abort;
 use std::sync::Wait;
 use std::thread::Threads;
 
-/// One worker with two scripts. The second script aborts.
+/// A script file with one worker and two scripts. The second script aborts.
 pub const ONE_WORKER: &str =
     "{\"version\":1,\"workers\":1,\"stripes\":8,\"buckets\":8,\"tries\":0,\"scripts\":[[[\"put\",1,\
     10],[\"save\"],[\"take\",1],[\"back\",1]],[[\"get\",1],[\"abort\"]]]}";
@@ -22,7 +22,7 @@ pub const ONE_HISTORY: &str =
     [\"committed\",0,1],[\"began\",0,2],[\"asked\",0,\"get\",1],[\"did\",0,10],[\"leave\",0,\
     null],[\"aborted\",0]],\"stripes\":8,\"version\":1}\n";
 
-/// One worker with an empty script, whose history is short.
+/// A script file with one worker and an empty script. Its history is short.
 pub const EMPTY_SCRIPT: &str =
     r#"{"version":1,"workers":1,"stripes":8,"buckets":8,"tries":0,"scripts":[[]]}"#;
 
@@ -34,7 +34,7 @@ pub const HISTORY_OF_VERSION_2: &str =
     "{\"entries\":[[\"began\",0,1],[\"asked\",0,\"put_if\",9223372036854775808,null,5],[\"did\",0,\
     null],[\"committed\",0,1]],\"stripes\":8,\"version\":2}\n";
 
-/// One worker with one script, with a gap for its first action.
+/// A script file with one worker and one script. The first action of the script is a gap.
 pub const BAD_KEY: &str =
     r#"{"version":1,"workers":1,"stripes":8,"buckets":8,"tries":0,"scripts":[[#,["put",1,1]]]}"#;
 
@@ -42,7 +42,7 @@ pub const BAD_KEY: &str =
 pub const WORKERS_OF: &str =
     r#"{"version":1,"workers":@,"stripes":8,"buckets":8,"tries":0,"scripts":#}"#;
 
-/// Script files, and the output for each.
+/// Each row has similar script files, and the output of `mix` for them.
 pub const FILES: &[Files] = &[
     // A script file of version 2 may have the key 2^63 and the action `put_if`. Its history also
     // has version 2.
@@ -105,7 +105,7 @@ pub const FILES: &[Files] = &[
     },
 ];
 
-/// Three workers, whose scripts meet on two stripes.
+/// A script file with three workers, whose scripts use the same two stripes.
 const THREE_WORKERS: &str =
     "{\"version\":1,\"workers\":3,\"stripes\":2,\"buckets\":8,\"tries\":3,\"scripts\":[[[\"put\",1,\
     10],[\"put\",2,20]],[[\"put\",2,21],[\"take\",1]],[[\"get\",1],[\"save\"],[\"put\",3,30],\
@@ -115,7 +115,7 @@ const THREE_WORKERS: &str =
 /// `mix` must not print it.
 const NOTHING: &str = "{\"entries\":[],\"stripes\":2,\"version\":1}\n";
 
-/// The output of `mix` for `THREE_WORKERS` with this seed.
+/// Runs `mix` on `THREE_WORKERS` with this seed, and returns its output.
 fn mix_three<T: Threads + Wait + Sync>(rt: &T, alloc: Global, seed: u64) -> Narrow {
     let input = &mut THREE_WORKERS.as_bytes();
     run_on(rt, alloc, Command::Mix(seed), input, Narrow::whole()).output
@@ -150,8 +150,8 @@ fn mix_one_worker(rt: HostRuntime) {
     }
 }
 
-/// For each seed, the history is legal, with no transaction open at its end, and it is the same in
-/// both runs. Not all seeds give the same history, and no seed gives an empty one.
+/// For each seed, both runs give the same history. This history is legal and not empty, and no
+/// transaction is open at its end. Not all seeds give the same history.
 #[test]
 fn mix_any_seed(rt: HostRuntime) {
     let first = mix_three(&rt, rt.alloc(), 0);

@@ -16,12 +16,14 @@ use txn_words::{Answer, Entry, Holder, Limits, Op, Refusal, SmallEntry, Step, Un
 /// refuses either all allocations, or fewer than this number in a row.
 const TRIES: usize = 9;
 
-/// The caller that looks on. Each caller `n` below it changes the key `n + 1`.
+/// The caller that only looks at the stripes. Each caller `n` with a lower number changes the key
+/// `n + 1`.
 const ONLOOKER: u64 = 5;
 
 const NO_MEMORY: Answer = Answer::Refused(Refusal::NoMemory);
 
-/// Steps and their answers. Each caller begins, puts 10 and then 20 at its key, and takes the key.
+/// Each row has a step and its answer. Each caller begins, puts 10 and then 20 at its key, and
+/// takes the key.
 const CHANGES: [(Step, Answer); 50] = [
     (Step::Begin(0), Answer::Began(1)),
     (Step::Ask(0, Op::Put(1, 10)), Answer::Asked),
@@ -75,8 +77,8 @@ const CHANGES: [(Step, Answer); 50] = [
     (Step::Act(4), Answer::Done(Some(20))),
 ];
 
-/// Steps and their answers. Each caller begins its abort. In each of three rounds, every caller
-/// takes back one change. Then the aborts end.
+/// Each row has a step and its answer. First each caller begins its abort. Then, in each of three
+/// rounds, every caller takes back one change. Finally the aborts end.
 const ABORTS: [(Step, Answer); 40] = [
     (Step::Abort(0), Answer::Leaving),
     (Step::Abort(1), Answer::Leaving),
@@ -191,12 +193,12 @@ const CHANGED: usize = 35;
 /// reversed bits.
 const KEYS: &[(u64, u64)] = &[(3, 4), (1, 2), (0, 1), (4, 5), (2, 3)];
 
-/// Whether memory is refused now.
+/// Returns true if memory is refused at this moment.
 fn is_refused(alloc: Global) -> bool {
     Box::new(alloc, 0).is_err()
 }
 
-/// A core of these limits, or `None` if memory is refused.
+/// Makes a core with these limits. Returns `None` if memory is refused in all of `TRIES` attempts.
 fn core_if_made(alloc: Global, limits: Limits) -> Option<Core> {
     for _ in 0..TRIES {
         if let Ok(core) = Core::new(alloc, limits) {
@@ -212,7 +214,7 @@ fn take(rt: &impl Abort, core: &mut Core, step: Step) -> Answer {
     core.step(step)
 }
 
-/// Aborts.
+/// Aborts the caller's transaction.
 fn abort(core: &mut Core, caller: u64) -> Answer {
     core.abort(caller)
 }
@@ -237,7 +239,8 @@ fn pairs_of(alloc: Global, core: &Core) -> Option<Vec<(u64, u64)>> {
     None
 }
 
-/// Takes a step, and returns the answer, or `None` if memory is refused.
+/// Takes a step, and returns the answer. Returns `None` if memory is refused in all of `TRIES`
+/// attempts.
 fn answer_if_given(rt: &impl Abort, core: &mut Core, step: Step) -> Option<Answer> {
     for _ in 0..TRIES {
         let answer = take(rt, core, step);
@@ -312,7 +315,7 @@ fn value_with(changes: u64) -> Option<u64> {
     }
 }
 
-/// Compares the entries of all callers except the onlooker.
+/// Compares the core's entries with these entries, and leaves out those of the onlooker.
 fn compare_entries(rt: &impl Abort, core: &Core, entries: &[Entry]) {
     let mut wanted = entries.iter();
     for entry in history_of(core).0 {
@@ -324,7 +327,7 @@ fn compare_entries(rt: &impl Abort, core: &Core, entries: &[Entry]) {
 }
 
 /// Compares the numbers of buckets, keys and owed entries with what the entries give. If there was
-/// memory for the pairs, compares these too.
+/// memory for the list of pairs, compares the pairs too.
 fn compare_pairs(rt: &impl Abort, core: &Core, pairs: Option<&[(u64, u64)]>, entries: &[Entry]) {
     let mut found = pairs.unwrap_or(&[]).iter();
     let mut count: u64 = 0;
@@ -363,7 +366,7 @@ fn seen_of(rt: &impl Abort, core: &mut Core, key: u64) -> Option<Answer> {
     answer
 }
 
-/// Compares the holders of the stripes of all keys.
+/// Compares the holder of each key's stripe with what the entries give.
 fn compare_stripes(rt: &impl Abort, alloc: Global, core: &mut Core, entries: &[Entry]) {
     for (caller, key) in KEYS {
         let wanted = if state_of(*caller, entries).holds {
@@ -490,7 +493,7 @@ fn placed_if_given(rt: &impl Abort, core: &mut Core, caller: u64, op: Op) -> Opt
     Some(take(rt, core, Step::Seek(caller)))
 }
 
-/// The steps of caller 1.
+/// The steps that caller 1 takes between the seek and the act of caller 0.
 const BESIDE: &[Step] = &[Step::Begin(1), Step::Ask(1, Op::Put(2, 20))];
 
 /// Caller 0 seeks the position of its put. Then caller 1 takes `step`, and after this caller 0
@@ -511,7 +514,7 @@ fn act_beside(rt: &impl Abort, alloc: Global, core: &mut Core, step: Step) {
     assert!(rt; abort(core, 0) == Answer::Aborted);
 }
 
-/// Does `act_beside` with each step of caller 1.
+/// Does `act_beside` with each step of `BESIDE`.
 fn play_beside(rt: &impl Abort, alloc: Global, core: &mut Core) {
     for step in BESIDE {
         act_beside(rt, alloc, core, *step);
@@ -528,7 +531,7 @@ fn play_on(rt: &impl Abort, alloc: Global, core: &mut Core, is_all: bool) {
     }
 }
 
-/// Does `play_on` with a core of this number of callers, if there is memory for the core.
+/// Does `play_on` with a core for this number of callers, if there is memory for the core.
 fn play_on_core(rt: &impl Abort, alloc: Global, callers: u64, is_all: bool) -> Result<(), Fail> {
     match core_if_made(alloc, Limits::new(callers, 8, 8)?) {
         Some(mut core) => play_on(rt, alloc, &mut core, is_all),
@@ -537,18 +540,18 @@ fn play_on_core(rt: &impl Abort, alloc: Global, callers: u64, is_all: bool) -> R
     Ok(())
 }
 
-/// Meant to be run with allocations refused: one allocation, eight in a row, or every allocation
-/// from some point on. If a change is refused memory, it has changed nothing, and every caller
-/// aborts. If reading some part of the state takes memory, this part is compared only if there is
-/// memory.
+/// This test is meant to be run with allocations refused: one allocation, eight in a row, or every
+/// allocation from some point on. If a change is refused memory, it has changed nothing, and every
+/// caller aborts. If reading some part of the state takes memory, this part is compared only if
+/// there is memory.
 #[test]
 fn five_callers_undone_is_legal(rt: HostRuntime) -> Result<(), Fail> {
     play_on_core(&rt, rt.alloc(), 6, true)
 }
 
-/// Meant to be run with allocations refused, like `five_callers_undone_is_legal`. A caller has
-/// sought the position of its put when another caller's step is refused memory. The first caller's
-/// cursor is still valid, so this caller acts without another seek.
+/// This test is meant to be run with allocations refused, like `five_callers_undone_is_legal`.
+/// Caller 0 has sought the position of its put when a step of caller 1 is refused memory. The
+/// cursor of caller 0 is still valid, so caller 0 acts without another seek.
 #[test]
 fn a_cursor_stands_beside_a_refusal(rt: HostRuntime) -> Result<(), Fail> {
     play_on_core(&rt, rt.alloc(), 2, false)

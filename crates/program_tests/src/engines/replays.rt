@@ -1,6 +1,6 @@
-//! Step files, each with the report of `replay` for it. Each line of a run has steps, and after
-//! them their answers. The file and the report are both made from these lines. The answers were
-//! worked out by hand. One test puts 129 keys. Its lines are made by a rule, and its report is
+//! Step files, each with the report of `replay` for it. Each line of a run has steps, followed by
+//! the answers to these steps. The file and the report are both made from these lines. The answers
+//! were worked out by hand. One test puts 129 keys. Its lines are made by a rule, and its report is
 //! compared only up to the third pair.
 
 use super::{Command, Files, run_on};
@@ -14,7 +14,7 @@ use std::thread::Threads;
 /// A file without steps, with a gap for the number of callers.
 const EMPTY_FILE: &str = r#"{"version":1,"callers":@,"stripes":8,"buckets":8,"steps":[]}"#;
 
-/// One transaction that commits.
+/// A step file with one transaction that commits.
 pub const FIRST_COMMIT: &str =
     "{\"version\":1,\"callers\":2,\"stripes\":8,\"buckets\":8,\"steps\":[[\"begin\",0],[\"ask\",0,\
     \"put\",1,10],[\"seek\",0],[\"act\",0],[\"commit\",0]]}";
@@ -38,7 +38,7 @@ const PUT_IF: &str =
     "{\"version\":@,\"callers\":1,\"stripes\":8,\"buckets\":8,\"steps\":[#[\"begin\",0],[\"ask\",0,\
     \"put_if\",1,null,5]]}";
 
-/// Step files, and the output for each.
+/// Each row has similar step files, and the output of `replay` for them.
 pub const FILES: &[Files] = &[
     // Files without steps. The last one has too many callers.
     Files {
@@ -174,8 +174,8 @@ pub const FILES: &[Files] = &[
     },
 ];
 
-/// Steps that put five keys. A doubling before the fifth key answers `light`, and the next one
-/// doubles the table.
+/// Steps that put five keys. Before the fifth key is put, the step `double` gets the answer
+/// `light`. After the fifth key, `double` doubles the table.
 const FIVE_KEYS: &str = r#"["begin",0] = began 1
 ["ask",0,"put",1,10],["seek",0],["act",0] = asked, placed, done none
 ["ask",0,"put",2,20],["seek",0],["act",0] = asked, placed, done none
@@ -311,7 +311,8 @@ const INITIALISATION: &str = r#"["commit",0] = committed 1
 ["init_store",1] = stored
 ["init_seek",1,3] = ready"#;
 
-/// Five callers change one key each, three times. Then they take all changes back in turn.
+/// Each of five callers changes its own key three times. Then the callers take all changes back in
+/// turn.
 const FIVE_CALLERS_UNDONE: &str = r#"["begin",0] = began 1
 ["ask",0,"put",1,10],["seek",0],["act",0] = asked, placed, done none
 ["begin",1] = began 2
@@ -483,7 +484,8 @@ const RUNS: &[Run] = &[
     },
 ];
 
-/// Adds the steps of a part, with a comma after each line, and the answers to them.
+/// Adds the steps of a part to `steps`, with a comma after those of each line. Adds the answers to
+/// `report`.
 fn add(steps: &mut String, report: &mut String, part: &str) -> Result<(), Fail> {
     for line in part.lines() {
         let (asked, answers) = line.split_once(" = ").ok_or("no answer")?;
@@ -495,7 +497,7 @@ fn add(steps: &mut String, report: &mut String, part: &str) -> Result<(), Fail> 
     Ok(())
 }
 
-/// Adds the steps of all parts and the answers to them.
+/// Adds the steps of all parts to `steps`, and their answers to `report`.
 fn add_all(steps: &mut String, report: &mut String, parts: &[&str]) -> Result<(), Fail> {
     for part in parts {
         add(steps, report, part)?;
@@ -514,7 +516,7 @@ fn file_with(alloc: Global, run: Run, steps: &str) -> Result<String, Fail> {
     )?)
 }
 
-/// The file of a run with these parts, and its report.
+/// Makes the file of a run from these parts, and the report that `replay` must print for it.
 fn texts_of(alloc: Global, run: Run, parts: &[&str]) -> Result<(String, String), Fail> {
     let mut steps = String::new(alloc);
     let mut report = String::new(alloc);
@@ -529,7 +531,7 @@ fn replayed<T: Threads + Wait + Sync>(rt: &T, alloc: Global, text: &str) -> Ende
     run_on(rt, alloc, Command::Replay, input, Narrow::whole())
 }
 
-/// Compares the report of a run.
+/// Runs `replay` on the file of a run, and compares the output with the run's report.
 fn compare_report<T: Abort + Threads + Wait + Sync>(
     rt: &T,
     alloc: Global,
@@ -549,7 +551,7 @@ fn reports(rt: HostRuntime) -> Result<(), Fail> {
     Ok(())
 }
 
-/// Adds the three steps that put a key, and the answers to them.
+/// Adds a line with the three steps that put a key, and their answers.
 fn add_put(part: &mut String, key: u64) -> Result<(), Fail> {
     write!(
         part,
@@ -559,7 +561,7 @@ fn add_put(part: &mut String, key: u64) -> Result<(), Fail> {
     Ok(())
 }
 
-/// Adds the steps of a caller that begins and puts this number of keys.
+/// Adds lines for a caller that begins and puts `count` keys.
 fn add_puts(part: &mut String, count: u64) -> Result<(), Fail> {
     part.push_str("[\"begin\",0] = began 1\n")?;
     for key in 0..count {
@@ -596,7 +598,8 @@ const OF_SEGMENTS: Run = Run {
     rest: "size 128 count 129\n0 0\n128 128\n64 64\n",
 };
 
-/// A file of 129 puts and then the steps of `SEGMENTS`, and its report up to the third pair.
+/// Makes a file with 129 puts, followed by the steps of `SEGMENTS`. Returns the file, and its
+/// report up to the third pair.
 fn texts_of_segments(alloc: Global) -> Result<(String, String), Fail> {
     let mut puts = String::new(alloc);
     add_puts(&mut puts, 129)?;

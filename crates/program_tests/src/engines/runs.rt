@@ -18,7 +18,7 @@ pub const SHORT_RUN: &str =
 /// The history that `run` prints if the script is refused memory.
 pub const NO_ENTRIES: &str = "{\"entries\":[],\"stripes\":8,\"version\":3}\n";
 
-/// Script files, and the output for each.
+/// Each row has similar script files, and the output of `run` for them.
 pub const FILES: &[Files] = &[
     // The history of one worker is the one that `mix` prints, but with version 3.
     Files {
@@ -91,13 +91,13 @@ pub const FILES: &[Files] = &[
     },
 ];
 
-/// Scripts that meet on two stripes, with a gap for the number of workers.
+/// A script file whose scripts use the same two stripes. It has a gap for the number of workers.
 const ANY_WORKERS: &str =
     "{\"version\":1,\"workers\":@,\"stripes\":2,\"buckets\":8,\"tries\":3,\"scripts\":[[[\"put\",1,\
     10],[\"put\",2,20]],[[\"put\",2,21],[\"take\",1]],[[\"get\",1],[\"save\"],[\"put\",3,30],\
     [\"back\",1]],[[\"take\",2],[\"help\",5]],[[\"put\",4,40],[\"abort\"]],[[\"get\",2]]]}";
 
-/// The output of `run` for this number of workers.
+/// Runs `run` on `ANY_WORKERS` with this number of workers, and returns its output.
 fn run_workers<T: Threads + Wait + Sync>(
     rt: &T,
     alloc: Global,

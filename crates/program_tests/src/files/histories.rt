@@ -9,7 +9,7 @@ use std::test::Fail;
 use txn_files::{FileFault, Part, history_text, read_history};
 use txn_words::{Entry, Op};
 
-/// A file with gaps for its stripes and one entry.
+/// A file with one gap for the number of stripes, and one for an entry.
 const BETWEEN_ENTRIES: &str = r#"{"version":1,"stripes":@,"entries":[["began",64,1],#,["began"]]}"#;
 
 /// A file with a gap for an entry.
@@ -53,7 +53,8 @@ const EVERY_KIND_READ: &str =
     [\"busy\",63,\"put\",1,20,0],[\"busy\",1,\"take\",7,63],[\"busy\",1,\"get\",0,2],\
     [\"leave\",5,null],[\"aborted\",5]]}";
 
-/// White space, members in another order, an additional member, and a member that is given twice.
+/// A file that has white space, members in another order, an additional member, and a member that
+/// is given twice.
 const ANY_ORDER: &str =
     " { \"entries\" : [ [ \"undone\" , 3 ] ],\n\"note\":null,\"stripes\":0,\"stripes\":1,\
     \"version\":1}\n";
@@ -71,7 +72,7 @@ const VERSION_3: &str =
 #[derive(Clone, Copy)]
 struct Read {
     text: &'static str,
-    /// Whether the text is the one that is written for the history.
+    /// True if the text is exactly the one that is written for the history.
     is_written: bool,
     version: u64,
     stripes: u32,
@@ -140,7 +141,7 @@ fn text_of(alloc: Global, read: Read) -> Result<String, Fail> {
     Ok(history_text(alloc, read.version, read.stripes, read.entries)?)
 }
 
-/// Compares the content of a history file.
+/// Reads a history file, and compares its content with the row.
 fn compare(rt: &impl Abort, alloc: Global, read: Read) -> Result<(), Fail> {
     let (stripes, entries, version) = read_history(alloc, read.text.as_bytes())?;
     assert!(rt;
@@ -152,7 +153,7 @@ fn compare(rt: &impl Abort, alloc: Global, read: Read) -> Result<(), Fail> {
     Ok(())
 }
 
-/// Compares the text that is written for a history.
+/// Writes the history of the row, and compares the text with that of the row.
 fn compare_text(rt: &impl Abort, alloc: Global, read: Read) -> Result<(), Fail> {
     let text = text_of(alloc, read)?;
     assert!(rt; text.as_str() == read.text, "{text}");
@@ -209,9 +210,9 @@ pub const FILES: &[Files] = &[
         fillings: "",
         fault: Some(FileFault::Limit),
     },
-    // The entry with index 1 is wrong. Besides, the caller of the first entry is out of range. If
-    // the filling is 0, the number of stripes is also out of range. But ranges are checked only
-    // after all entries are read, so the fault is that of the wrong entry.
+    // The entry with index 1 is wrong. The caller of the first entry is also out of range, and so
+    // is the number of stripes if the filling is 0. But ranges are checked only after all entries
+    // are read, so the fault is that of the wrong entry.
     Files {
         kind: Kind::History,
         frame: BETWEEN_ENTRIES,

@@ -37,7 +37,7 @@ pub const SCRIPTS_BEHIND: &str =
 pub const ACTIONS_BEHIND: &str =
     r#"{"version":7,"workers":1,"stripes":2,"buckets":8,"tries":3,"scripts":[[],[#,["back"]],[]]}"#;
 
-/// Each kind of action of version 1.
+/// A script file with each kind of action of version 1.
 const EVERY_ACTION: &str =
     "{\"version\":1,\"workers\":1,\"stripes\":2,\"buckets\":8,\"tries\":3,\"scripts\":[[[\"put\",1,\
     10],[\"take\",18446744073709551615],[\"get\",0]],[],[[\"save\"],[\"back\",1],[\"help\",\
@@ -115,7 +115,7 @@ fn are_actions(packed: &[PackedAction], wanted: &[Action]) -> bool {
             .all(|(packed, action)| packed.action() == *action)
 }
 
-/// Whether the scripts have exactly the wanted actions.
+/// Returns true if the scripts have exactly the wanted actions.
 fn are_scripts(scripts: &[Script], wanted: &[&[Action]]) -> bool {
     scripts.len() == wanted.len()
         && scripts
@@ -124,27 +124,27 @@ fn are_scripts(scripts: &[Script], wanted: &[&[Action]]) -> bool {
             .all(|(script, actions)| are_actions(script.actions(), actions))
 }
 
-/// Makes a script of these actions. Returns how many actions the script says it has, and the
+/// Makes a script from these actions. Returns how many actions the script says it has, and the
 /// actions that `into_actions` returns.
 fn given_back(alloc: Global, actions: &[Action]) -> Result<(usize, Vec<PackedAction>), Fail> {
     let script = Script::of_actions(alloc, actions)?;
     Ok((script.actions().len(), script.into_actions()))
 }
 
-/// Whether a script file has this content.
+/// Returns true if a script file has the content of the row.
 fn has_content(work: &Scripts, read: &Read) -> bool {
     let wanted = (read.sizes, read.version, read.half_keys);
     numbers_of(work) == wanted && are_scripts(work.scripts(), read.scripts)
 }
 
-/// Compares the content of a script file.
+/// Reads a script file, and compares its content with the row.
 fn compare(rt: &impl Abort, alloc: Global, read: &Read) -> Result<(), Fail> {
     let work = read_scripts(alloc, read.text.as_bytes())?;
     assert!(rt; has_content(&work, read), "version {}", read.version);
     Ok(())
 }
 
-/// Checks that a script made of these actions returns them all.
+/// Checks that a script made from these actions returns all of them.
 fn gives_back(rt: &impl Abort, alloc: Global, wanted: &[Action]) -> Result<(), Fail> {
     let (count, actions) = given_back(alloc, wanted)?;
     assert!(rt; count == wanted.len() && are_actions(&actions, wanted));

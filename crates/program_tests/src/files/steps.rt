@@ -9,7 +9,7 @@ use std::test::Fail;
 use txn_files::{FileFault, Part, read_steps};
 use txn_words::{Op, Step};
 
-/// One transaction that puts one key.
+/// A step file with one transaction that puts one key.
 pub const FIRST_COMMIT: &str =
     "{\"version\":1,\"callers\":2,\"stripes\":8,\"buckets\":8,\"steps\":[[\"begin\",0],[\"ask\",0,\
     \"put\",1,10],[\"seek\",0],[\"act\",0],[\"commit\",0]]}";
@@ -44,7 +44,7 @@ const BEHIND_A_SWEEP: &str =
 
 pub const ONE_STEP: &str = r#"{"version":1,"callers":1,"stripes":8,"buckets":8,"steps":[#]}"#;
 
-/// Files of one step with a gap for members.
+/// Files with one step, and with a gap for members.
 const BEFORE_MEMBERS: &str =
     r#"{#"version":1,"callers":1,"stripes":8,"buckets":8,"steps":[["sweep"]]}"#;
 
@@ -71,7 +71,8 @@ const VALUES: &[&str] = &[
     r#"[["begin",0]]"#,
 ];
 
-/// Step files of the same content, each with a piece in the gap `#` of the frame.
+/// Step files with the same content. There is one file for each piece: it is the frame with this
+/// piece in its gap `#`.
 #[derive(Clone, Copy)]
 struct Read {
     frame: &'static str,
@@ -125,8 +126,8 @@ const READ: &[Read] = &[
     PASSED_BEYOND,
 ];
 
-/// Files with a member that is skipped. In `PASSED_BEFORE` it comes before the other members, and
-/// in `PASSED_BEYOND` after them.
+/// Files with a member that is skipped. In `PASSED_BEFORE` this member comes before the other
+/// members, and in `PASSED_BEYOND` it comes after them.
 const PASSED_BEFORE: Read = Read {
     frame: BEFORE_STEPS,
     pieces: VALUES,
@@ -154,7 +155,8 @@ fn content_of(alloc: Global, bytes: &[u8]) -> Result<((u32, u32, u32, bool), Vec
     Ok((sizes, steps))
 }
 
-/// Compares the content of the file that has this piece in its gap.
+/// Puts this piece into the gap of the frame, reads the file, and compares its content with that of
+/// `read`.
 fn compare(rt: &impl Abort, alloc: Global, read: Read, piece: &str) -> Result<(), Fail> {
     let text = read.frame.replace(alloc, "#", piece)?;
     let (sizes, steps) = content_of(alloc, text.as_bytes())?;
@@ -171,7 +173,7 @@ fn nested_objects(alloc: Global) -> Result<String, Fail> {
     Ok(format!(in alloc; "[{objects}[]]")?)
 }
 
-/// Compares the content of files with a member that is skipped.
+/// Compares the content of two files in which `piece` is the value of a skipped member.
 fn compare_passed(rt: &impl Abort, alloc: Global, piece: &str) -> Result<(), Fail> {
     compare(rt, alloc, PASSED_BEFORE, piece)?;
     compare(rt, alloc, PASSED_BEYOND, piece)
@@ -241,7 +243,7 @@ null
         fillings: r#""stripes":8,"buckets":8,"steps":[]"#,
         fault: Some(FileFault::Limit),
     },
-    // The empty file; and files that lack a member or have a wrong one.
+    // The empty file, and files that lack a member or have a wrong one.
     Files {
         kind: Kind::Steps,
         frame: "#",
@@ -282,7 +284,7 @@ null
         fillings: "",
         fault: Some(FileFault::Piece(Part::Step, 0)),
     },
-    // Too many callers are found only after the steps are read.
+    // If there are too many callers, this is found only after the steps are read.
     Files {
         kind: Kind::Steps,
         frame: BETWEEN_STEPS,
@@ -352,8 +354,8 @@ null
         fillings: "",
         fault: Some(FileFault::NotJson),
     },
-    // Wrong forms of `put_if`, which no version has; then a good `put_if`, which version 1 does not
-    // have.
+    // First wrong forms of `put_if`, which no version allows. Then a good `put_if`, which version 1
+    // does not allow.
     Files {
         kind: Kind::Steps,
         frame: STEPS_IN_VERSION,

@@ -41,7 +41,7 @@ fn end_of<L: Ledger>(
     Ok(drive(booked, me, call))
 }
 
-/// Calls of callers 0 and 1, and their ends.
+/// Each row has the number of a caller, its call, and the end that the call must have.
 static TURNS: [(usize, Call, End); 5] = [
     (0, Call::Begin, End::Answered(Answer::Began(1))),
     (

@@ -1,6 +1,7 @@
-//! Tests of a map's core after the map is closed. No contract sees through the map's lock. Other
-//! modules test the calls of a map. In this module the core itself takes steps, which show its
-//! buckets, its helpers and the nodes that are still to be swept. All steps are on one thread.
+//! Tests of a map's core after the map is closed. The contracts of a map do not say what its core
+//! is like. Other modules test the calls of a map. In this module the core itself takes steps,
+//! which show its buckets, its helpers and the nodes that are still to be swept. All steps are on
+//! one thread.
 use super::rows::{Row, play_rows};
 use crate::devices::{Play, Shared, Told, callers_in, closed_of, play_with};
 use boost_core::{Call, Core};
@@ -20,14 +21,14 @@ pub(super) fn step(core: &mut Core, step: Step) -> Option<Answer> {
     }
 }
 
-/// Takes the steps, which must have these answers.
+/// Takes these steps, and compares the answer to each step with the wanted one.
 fn play_steps<R: Abort>(rt: &R, core: &mut Core, steps: &[(Step, Answer)]) {
     for &(what, wanted) in steps {
         assert_eq!(rt; step(core, what), Some(wanted), "{what:?}");
     }
 }
 
-/// Steps on the core of an unused map.
+/// Each row has a step on the core of an unused map, and the answer to the step.
 static FIRST_STEPS: [(Step, Answer); 7] = [
     (
         Step::InitLink(0),
@@ -83,7 +84,7 @@ static TAKEN: [Row; 4] = [
     (0, Call::Commit, Ok(Told::Committed(1, 1))),
 ];
 
-/// The node of the taken key is swept.
+/// Each row has a step and its answer. The first step sweeps the node of the taken key.
 static SWEPT: [(Step, Answer); 3] = [
     (Step::Sweep, Answer::Swept),
     (Step::Sweep, Answer::Clean),

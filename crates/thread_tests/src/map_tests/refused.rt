@@ -1,7 +1,7 @@
 //! Tests of the state after calls that are refused memory. `docs/tests/refused.sh` refuses the
 //! memory. Without this script, the tests are plain worked runs, whose ends were worked out by
 //! hand. No contract says that a refused call leaves its caller unchanged, or that a call gets
-//! memory as long as there is some.
+//! memory as long as memory is free.
 use crate::devices::{
     Play, Shared, TRIES, callers_of, closed_of, has_left, is_refused, play_where_made, run, seen_by,
 };
@@ -14,7 +14,8 @@ use std::sync::ledger::Ledger;
 use std::test::Fail;
 use txn_words::{Answer, Op, Refusal};
 
-/// The position of a caller, its call, and the end of the call if there is memory.
+/// Each row has the position of a caller, its call, and the end that the call has if there is
+/// memory.
 type Wanted = (usize, Call, End);
 
 /// Makes a call, and makes it again while it is refused memory, `TRIES` times in all. Returns the
@@ -85,7 +86,8 @@ struct Refused {
     entries: usize,
 }
 
-/// Looks at the core of the closed map.
+/// Checks the core of the closed map. If `is_whole`, it must have one key, and `entries` entries in
+/// its history. Otherwise it must have no key.
 fn is_left<R: Abort>(rt: &R, alloc: Global, core: &Core, is_whole: bool, entries: usize) {
     assert!(rt; has_left(rt, alloc, core, u64::from(is_whole)));
     assert!(rt; !is_whole || core.trace().len() == entries);
@@ -140,7 +142,7 @@ const DONE: End = End::Answered(Answer::Done(None));
 /// The end of an operation on a key with the value 10.
 const HAD: End = End::Answered(Answer::Done(Some(10)));
 
-/// Each kind of call. One of them is a help that doubles the table and stores buckets.
+/// Rows with each kind of call. One of them is a help that doubles the table and stores buckets.
 static EACH_CALL: Refused = Refused {
     calls: &[
         (0, Call::Begin, End::Answered(Answer::Began(1))),

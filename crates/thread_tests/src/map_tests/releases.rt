@@ -38,10 +38,10 @@ fn releases_of<L: Ledger, R: Wait>(
     count.releases.load(Ordering::SeqCst)
 }
 
-/// Calls of one caller, each with the number of times that it releases the lock. A call that its
-/// token refuses does not take the lock. The initialisation of a bucket takes three holds of the
-/// lock, and so does an operation. Taking changes back takes three holds, and two more for each
-/// change.
+/// Each row has a call of one caller, and the number of times that the call releases the lock. A
+/// call that the caller's token refuses does not take the lock. The initialisation of a bucket
+/// takes three holds of the lock, and so does an operation. Taking changes back takes three holds,
+/// and two more for each change.
 static RELEASES: [(Call, u64); 16] = [
     (Call::Commit, 0),
     (Call::Help(0), 1),
@@ -61,9 +61,10 @@ static RELEASES: [(Call, u64); 16] = [
     (Call::Abort, 5),
 ];
 
-/// Calls on a map whose `Room` has `is_written: true` and `entries: 0`. The history of such a map
-/// may not grow under the lock, so the first hold of the lock takes no turn. The second hold passes
-/// in room for entries, and takes a turn. Each later hold takes a turn.
+/// Each row has a call, and the number of times that the call releases the lock. The map's `Room`
+/// has `is_written: true` and `entries: 0`. The history of such a map may not grow under the lock,
+/// so the first hold of the lock takes no turn. The second hold passes in room for entries, and
+/// takes a turn. Each later hold takes a turn.
 static GROWN: [(Call, u64); 3] = [
     (Call::Begin, 2),
     (Call::Op(Op::Put(1, 10)), 3),

@@ -1,5 +1,5 @@
 //! Calls that are made in the order of a table. Each call must get the answer in the table. No
-//! contract says that a call gets memory as long as there is some, or that `help` grows the table
+//! contract says that a call gets memory as long as memory is free, or that `help` grows the table
 //! of the map. The answers were worked out by hand. `cores`, `threads` and `step_between` also play
 //! rows.
 use super::cores::step;
@@ -16,10 +16,10 @@ use std::sync::ledger::Ledger;
 use std::test::Fail;
 use txn_words::{Answer, Entry, Op, Step};
 
-/// The position of a caller, its call, and the answer that the call must have.
+/// Each row has the position of a caller, its call, and the answer that the call must get.
 pub(super) type Row = (usize, Call, Result<Told, Stop>);
 
-/// Makes the calls.
+/// Makes the calls of the rows, in order. Each call must get the row's answer.
 pub(super) fn play_rows<L: Ledger, R: Wait + Abort>(
     rt: &R,
     shared: &Shared<L>,
@@ -32,7 +32,7 @@ pub(super) fn play_rows<L: Ledger, R: Wait + Abort>(
     }
 }
 
-/// Makes a call.
+/// Makes the call of a row. The call must get the answer `wanted`.
 pub(super) fn play_row<L: Ledger, R: Wait + Abort>(
     rt: &R,
     shared: &Shared<L>,
@@ -86,7 +86,7 @@ static REST: [Row; 3] = [
     (0, Call::Commit, Ok(Told::Committed(1, 2))),
 ];
 
-/// The whole history.
+/// The whole history after `BUSY` and `REST`.
 static BETWEEN: [Entry; 9] = [
     Entry::Began(0, 1),
     Entry::Asked(0, Op::Put(1, 10)),
@@ -149,17 +149,18 @@ fn figures_of<L: Ledger>(callers: &[Caller<L, NoSide>], place: usize) -> Option<
     Some((number_of(me), seen_by(me)))
 }
 
-/// Caller 1 finds a stripe held by caller 0, begins again and commits first. The map then does not
-/// close without caller 0, and closes with both callers (see `close_missing_caller` and
-/// `counted_entries`).
+/// Caller 1 finds a stripe held by caller 0, begins again, and commits before caller 0. The map
+/// then does not close without caller 0, and closes with both callers (see `close_missing_caller`
+/// and `counted_entries`).
 #[test]
 fn busy_between_callers(rt: HostRuntime) -> Result<(), Fail> {
     play_with(&rt, rt.alloc(), 2, &BusyBetween)
 }
 
-/// Calls, and the core's state after them, once the map is closed. `size` is the number of the
-/// core's buckets. `list` has the core's keys with their values, in the order of its list. `seeks`
-/// has the core's answers to a helper that seeks the position of a bucket's dummy node.
+/// Each value has the calls of a test, and the state of the core after the map is closed. `size` is
+/// the number of the core's buckets. `list` has the core's keys with their values, in the order of
+/// its list. `seeks` has the core's answers to a helper that seeks the position of a bucket's dummy
+/// node.
 #[derive(Drop)]
 struct Worked {
     rows: &'static [Row],
@@ -168,7 +169,7 @@ struct Worked {
     seeks: &'static [(u64, Answer)],
 }
 
-/// Looks at the core of the closed map.
+/// Checks that the core of the closed map has a legal history, and the state that `worked` gives.
 fn is_left<R: Abort>(rt: &R, alloc: Global, core: &mut Core, worked: &Worked) -> Result<(), Fail> {
     assert!(rt; is_settled(alloc, core.trace(), 8)?);
     assert!(rt; core.regular_list(alloc)?.as_slice() == worked.list);

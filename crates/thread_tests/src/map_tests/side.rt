@@ -1,6 +1,7 @@
 //! These tests roll a side value back with its caller's transaction. The functions take any side
 //! value that can be made from words. The test passes a `Register`. No contract says that a call
-//! gets memory as long as there is some. In this test it must. The words were worked out by hand.
+//! gets memory as long as memory is free. In this test each call must then get it. The words were
+//! worked out by hand.
 ghost use Rattle.std.specs.Prelude.{◌≡◌, [], ◌∷◌, IfSome};
 
 use super::register::{OfWords, Register, RegisterJob};
@@ -43,8 +44,8 @@ fn try_call<L: Ledger, S: Side, R: Wait + Abort>(
 }
 
 /// Changes the first word of the side value, whose other words are 0. If the change is refused
-/// memory, checks that nothing has changed, and tries once more. Returns `None` if it is refused
-/// again.
+/// memory, checks that nothing has changed, and tries once more. Returns `None` if the second try
+/// is refused too.
 fn change<L: Ledger, S: OfWords, R: Abort>(
     rt: &R,
     shared: &Shared<L>,
@@ -155,7 +156,8 @@ fn close_alone<L: Ledger, S: Side, R: Abort>(
     }
 }
 
-/// Runs `words_there` with a new caller. The caller then aborts in any case, and leaves no key.
+/// Runs `words_there` with a new caller. Then the caller aborts in any case. The closed map must
+/// have no key.
 fn there_and_back<L: Ledger, S: OfWords, R: Wait + Abort>(
     rt: &R,
     alloc: Global,
@@ -247,7 +249,7 @@ impl Play for SideReturns {
     }
 }
 
-/// If every try of a call is refused memory, as by `docs/tests/refused.sh`, the caller aborts.
+/// `docs/tests/refused.sh` may refuse memory to every try of a call. The caller then aborts.
 #[test]
 fn side_value_returns(rt: HostRuntime) -> Result<(), Fail> {
     play_where_made(&rt, rt.alloc(), 1, &SideReturns)

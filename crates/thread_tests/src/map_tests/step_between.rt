@@ -13,7 +13,8 @@ use std::sync::{Mutex, Wait};
 use std::test::Fail;
 use txn_words::{Answer, Entry, Op};
 
-/// After the second release of the lock the other caller runs a whole transaction.
+/// An observer of releases. After the second release of the lock, it makes the other caller run a
+/// whole transaction.
 #[derive(Drop)]
 struct Between<'r, 'm, L: Ledger, R: Wait + Abort> {
     rt: &'r R,
@@ -88,7 +89,7 @@ fn meet<L: Ledger, R: Wait + Abort>(
     Ok(())
 }
 
-/// The whole history.
+/// The whole history after the transactions of both callers.
 static BETWEEN: [Entry; 7] = [
     Entry::Began(0, 1),
     Entry::Asked(0, Op::Put(2, 20)),

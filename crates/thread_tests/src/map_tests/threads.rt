@@ -1,6 +1,6 @@
-//! Tests with callers in threads, one after the other or all at the same time. The contracts let
-//! each call be refused. Here no call is refused. If the callers run one after the other, there is
-//! one possible history, which was worked out by hand. If they run at the same time, the history
+//! Tests with callers in threads, one after the other or all at the same time. By the contracts,
+//! each call may be refused. Here no call is refused. If the callers run one after the other, there
+//! is one possible history, which was worked out by hand. If they run at the same time, the history
 //! depends on the threads. The checker then only judges it.
 ghost use Rattle.std.specs.Prelude.{◌≡◌};
 
@@ -23,14 +23,14 @@ use txn_words::{Entry, Limits, Op};
 /// The work of a map's callers in their threads.
 #[derive(Clone, Copy)]
 enum Plan<'a> {
-    /// Each caller makes those calls of these rows that name the caller. A caller's thread begins
-    /// when the thread of the previous caller has ended.
+    /// Each caller makes the calls of its own rows only. A caller's thread begins when the thread
+    /// of the previous caller has ended.
     InTurn(&'a [Row]),
     /// All callers make calls at the same time: calls that look random, made from this seed.
     AtOnce(u64),
 }
 
-/// Makes those calls of the rows that name this caller.
+/// Makes the calls of those rows that name this caller.
 fn play_own<L: Ledger, R: Wait + Abort>(
     rt: &R,
     shared: &Shared<L>,
@@ -76,7 +76,7 @@ impl Dice {
         (self.state >> 33).checked_rem(sides).unwrap_or(0)
     }
 
-    /// A call of an open transaction.
+    /// Returns a call for an open transaction.
     fn call(&mut self) -> Call {
         let key = self.roll(6);
         match self.roll(8) {
@@ -90,7 +90,7 @@ impl Dice {
 }
 
 /// Runs one transaction, in which no call may be refused. The transaction ends with a commit, with
-/// an abort, or with a stripe found held.
+/// an abort, or with a call that finds its stripe held.
 fn transact<L: Ledger, R: Wait>(
     rt: &R,
     shared: &Shared<L>,
@@ -111,7 +111,8 @@ fn transact<L: Ledger, R: Wait>(
     make(rt, shared, me, Call::Commit)
 }
 
-/// The work of one thread.
+/// Runs four transactions of a caller. Each must be committed or aborted, or must find a stripe
+/// held.
 fn work<L: Ledger, R: Wait + Abort>(
     rt: &R,
     shared: &Shared<L>,
@@ -128,7 +129,7 @@ fn work<L: Ledger, R: Wait + Abort>(
     }
 }
 
-/// Each caller works in a thread, all at the same time.
+/// Runs `work` for each caller in a thread, all at the same time.
 fn work_at_once<L: Ledger + Send + Sync, R: Threads + Wait + Abort + Sync>(
     rt: &R,
     shared: &Shared<L>,
@@ -164,7 +165,7 @@ fn play_under<L: Ledger + Send + Sync, R: Threads + Wait + Abort + Sync>(
     }
 }
 
-/// The callers of a map work, and then it is closed.
+/// Makes the calls of the plan, closes the map, and checks its history.
 fn work_and_close<L: Ledger + Send + Sync, R: Threads + Wait + Abort + Sync>(
     rt: &R,
     alloc: Global,
@@ -179,7 +180,7 @@ fn work_and_close<L: Ledger + Send + Sync, R: Threads + Wait + Abort + Sync>(
     looks_so(rt, alloc, &closed_of(rt, shared, callers), what)
 }
 
-/// Checks that the history is legal and, for `InTurn`, that it is `IN_TURN`.
+/// Checks that the history is legal. For `InTurn`, also checks that the history is `IN_TURN`.
 fn looks_so<L: Ledger, R: Abort>(
     rt: &R,
     alloc: Global,
