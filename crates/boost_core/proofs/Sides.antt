@@ -1,5 +1,5 @@
 -- The steps that a caller may take if its side fits the table.
-use Rattle.std.proofs.Common.{◌≡◌, ℕ, ◌+◌, ◌-◌, ◌<◌, ◌&&◌, ◌||◌, Bool, true, false, List, [], ◌∷◌, ◌++◌, length, Option, Some, is_some, refl, sym, ap, subst, ◌∙◌, arith, slice_get, map, reverse, nat_lt, not, ltb-true}
+use Rattle.std.proofs.Common.{◌≡◌, ℕ, ◌-◌, ◌<◌, ◌&&◌, Bool, true, false, List, [], ◌∷◌, ◌++◌, length, Option, Some, is_some, refl, sym, ap, subst, ◌∙◌, arith, slice_get, map, reverse, nat_lt, not, ltb-true}
 use Rattle.boost_core.proofs.Vocabulary.{not-false, or_right, false≢true, slice_get-get_or, Phase, Waiting, LeavingTo, LeavingToEnd, MapJob, PendingAt, TableAt, Cursor, content, reverse-append, length_push, get_or_push, is_waiting, has_job, has_target, LogAt, kept_at, newest_above, Session, level_of, Waits, key_of_newest, target_in, target_of, change_of, changes_of, AreDue, IsPlacedFor, IsSoughtAt, GoesWith, CanUndo}
 use Rattle.txn_trace.proofs.Seated.{the_some}
 use Rattle.boost_core.proofs.Spares.{newest_owned}
