@@ -1,6 +1,6 @@
 -- The steps by which callers work on the map.
 use Rattle.std.proofs.Common.{◌≡◌, ℕ, ◌+◌, ◌-◌, ◌<◌, true, cond, List, [], ◌∷◌, ◌++◌, length, Option, Some, None, is_some, refl, sym, ap, subst, ◌∙◌, arith, slice_get, slice_set, map, reverse, slice_index, nat_lt, option_to_list, ne_eqb, ltb-true, ◌^◌, false, inl, inr, option_map}
-use Rattle.boost_core.proofs.Vocabulary.{false≢true, reverse-append, stripe_of, holder_of, TableAt, content, table_changes, serial, now, log_of, Phase, Opened, Waiting, LeavingTo, LeavingToEnd, Next, kept_at, MapJob, key_of, reply_of, after, set_at, Map, runs, is_running, changes, Seat, get-after_other, get-set_at, waiting_held, log_held, held_apart, takes_node, key_of_job, value_before, spare_of_job, PendingAt, Session, seat_in, holder_by, refusal_of, has_job, times_of, times_in, StaysCovered, World, Tells, state_of, session_changes, IsReply, side_of, level_of, KeepsPlaced, Waits, spare_if, times_kept, change_of, changes_of, AreDue, DoesIn, TakesBackIn, Act, cases_eq, and_from, slice_get_within, Cursor, cursor_changes, map_of, IsPlaced, Owner, Caller, Helper, has_target, LastPlacedFits, is_just_placed, may_be_stale, target_in, target_of, IsPlacedFor, IsSoughtAt, SeeksIn, Drops, Seek}
+use Rattle.boost_core.proofs.Vocabulary.{false≢true, reverse-append, stripe_of, holder_of, TableAt, content, table_changes, serial, now, log_of, Phase, Opened, Waiting, LeavingTo, LeavingToEnd, Next, kept_at, MapJob, key_of, reply_of, after, set_at, Map, runs, is_running, changes, Seat, get-after_other, get-set_at, waiting_held, log_held, held_apart, takes_node, key_of_job, value_before, spare_of_job, PendingAt, Session, seat_in, holder_by, refusal_of, has_job, times_of, times_in, StaysCovered, World, Tells, state_of, session_changes, IsReply, side_of, level_of, KeepsPlaced, Waits, spare_if, times_kept, change_of, changes_of, AreDue, DoesIn, TakesBackIn, Act, cases_eq, and_from, slice_get_within, Cursor, cursor_changes, map_of, IsPlaced, Owner, Caller, Helper, has_target, LastPlacedFits, is_just_placed, may_be_stale, target_in, target_of, IsSoughtAt, SeeksIn, Drops, Seek}
 use Rattle.boost_core.proofs.Numbers.{no_more}
 use Rattle.boost_core.proofs.Moves.{state_is, changes_set, stale_since}
 use Rattle.boost_core.proofs.Outcomes.{Called, entered}
@@ -166,7 +166,7 @@ module _ (w : World) (tells : Tells w) (c : ℕ) (x : Session) (at : slice_get w
           waits = subst (λ (s : Session). Waits x.seat.seat.phase x.pending s.log.room) (sym seeks.becomes) (tells.seated c x at).agrees.waits;
           content = ap map_of seeks.places.keeps.regular;
           placed = keeps;
-          sought = subst (λ (s : Session). IsPlacedFor t' seeks.cursor (target_in x.seat.seat.phase s.log)) (sym seeks.becomes) (subst (IsPlacedFor t' seeks.cursor) (sym seeks.target) seeks.places.placed);
+          sought = subst (λ (s : Session). IsSoughtAt t' (Some seeks.cursor) (target_in x.seat.seat.phase s.log)) (sym seeks.becomes) (subst (IsSoughtAt t' (Some seeks.cursor)) (sym seeks.target) seeks.places.placed);
           spares = λ others covered. still_covered w.table t' (λ p q. others p q + times_kept (side_of x) p q) seeks.places.spares covered;
           buckets = seeks.places.keeps.buckets;
           same_locks = refl;
@@ -198,7 +198,7 @@ module _ (w : World) (tells : Tells w) (c : ℕ) (x : Session) (at : slice_get w
           | inr other ↦ ne_eqb c d other
         ]
 
-    has_key : (target : Option ℕ) → IsPlacedFor w.table drops.cursor target → (key : ℕ) × IsPlaced w.table drops.cursor key
+    has_key : (target : Option ℕ) → IsSoughtAt w.table (Some drops.cursor) target → (key : ℕ) × IsPlaced w.table drops.cursor key
     has_key None is = absurd is
     has_key (Some key) is = (key, is)
 

@@ -9,7 +9,8 @@ Enters s [] s' = s' ≡ s
 Enters s (e ∷ []) s' = row s.seat s.seat.phase e ≡ Some s'.seat
 Enters s (e ∷ f ∷ es) s' = ⊥
 
--- This entry may be added, and is small.
+-- This entry may be added: it may follow and is small, and the seat and the history have room for
+-- it. All callers together owe `owed` entries.
 pub record CanEnter (s : RoomySeat) (len cap owed : ℕ) (e : Entry) : Type 0 where
   pub next : Seat
   pub row_is : row s.seat s.seat.phase e ≡ Some next

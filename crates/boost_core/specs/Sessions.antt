@@ -91,14 +91,11 @@ abbrev pub AreDue : Map → List MapJob → Type 0
 AreDue m [] = Unit {0}
 AreDue m (job ∷ jobs) = IsDue m job × AreDue (set_at m (key_of_job job) (value_before job)) jobs
 
-abbrev pub IsPlacedFor : TableAt → Cursor → Option ℕ → Type 0
-IsPlacedFor t cursor None = ⊥
-IsPlacedFor t cursor (Some key) = IsPlaced t cursor key
-
 -- A cursor, if there is one, was placed for the key that the caller acts on next.
 abbrev pub IsSoughtAt : TableAt → Option Cursor → Option ℕ → Type 0
 IsSoughtAt t None target = Unit {0}
-IsSoughtAt t (Some cursor) target = IsPlacedFor t cursor target
+IsSoughtAt t (Some cursor) None = ⊥
+IsSoughtAt t (Some cursor) (Some key) = IsPlaced t cursor key
 
 abbrev pub IsSought : TableAt → Session → Type 0
 IsSought t s = IsSoughtAt t s.cursor (target_of s)
