@@ -15,7 +15,7 @@ pub record IsOnWay (m : State) (way : Way) : Type 0 where
   pub bucket : way.bucket < m.size
   pub parent : is_set m.stored (parent_of way.bucket) ≡ true
 
--- A lack of memory or of stamps: only with these a call for help may end after its first step.
+-- A lack of memory or of stamps. After its first step a call for help is refused only for these.
 abbrev pub IsLack : Refusal → Type 0
 IsLack NoMemory = Unit {0}
 IsLack StampsUsedUp = Unit {0}

@@ -23,7 +23,7 @@ abbrev pub undoing : ℕ → ℕ → List Step → List Step
 undoing zero c steps = steps
 undoing (suc changes) c steps = undoing changes c (Seek c ∷ Act c ∷ steps)
 
--- The answers to these steps: those that are given, preceded by two for each change.
+-- The answers to them: `Placed` and `Undone` for each change, and then the given answers.
 abbrev pub undone : ℕ → List Answer → List Answer
 undone zero others = others
 undone (suc changes) others = undone changes (Answer.Placed ∷ Answer.Undone ∷ others)

@@ -11,14 +11,14 @@ pub use Rattle.split_key.specs.Sort.{IsBefore, IsNotBefore, dummy_at, regular_at
 pub use Rattle.split_key.specs.Split.{IsAncestor, ancestor_of}
 pub use Rattle.std.specs.List.{All, AllByRecursion, slice_get}
 pub use Rattle.std.specs.Option.{option_eq, option_map}
-pub use Rattle.txn_trace.specs.Locks.{LocksHold, has_begun, holder_of, is_locked, stripe_of}
+pub use Rattle.txn_trace.specs.Locks.{has_begun, holder_of, is_locked, stripe_of}
 pub use Rattle.txn_trace.specs.Log.{log_of}
 pub use Rattle.txn_trace.specs.Now.{now}
 pub use Rattle.txn_words.specs.Kinds.{caller_of, is_began, is_commit}
 pub use Rattle.txn_words.specs.Map.{Map, count_of, get, key_of, reply_of, set_at}
 pub use Rattle.txn_words.specs.Owed.{owed_in, reserved}
 pub use Rattle.txn_words.specs.Seats.{has_job, has_target, is_leaving, is_saved, refusal_in}
-pub use Rattle.txn_words.specs.Shape.{IsShaped, RoomySeat, Seat, closed_seat, how_many, own, row, seat_after}
+pub use Rattle.txn_words.specs.Shape.{RoomySeat, Seat, closed_seat, how_many, own, row, seat_after}
 pub use Rattle.txn_words.specs.Sizes.{Sizes}
 pub use Rattle.txn_words.specs.declared.answer.Answer.{Answer}
 pub use Rattle.txn_words.specs.declared.entry.Entry.{Entry}
