@@ -1,7 +1,7 @@
 -- The outcomes of an ask: the operation waits, the stripe has another holder, the ask is refused
 -- memory or a stamp, or the claim is stale. A savepoint that is refused memory is here too.
-use Rattle.std.proofs.Common.{◌≡◌, ℕ, ◌+◌, ◌-◌, ◌^◌, ◌<◌, ◌==◌, ◌||◌, true, false, cond, List, [], ◌++◌, length, Option, Some, None, refl, sym, ap, subst, ◌∙◌, arith, slice_get, slice_set, map, nat_eq, not, eq-eqb, ne_eqb, append-nil, inl, inr, ◌⊎◌, option_map, Bool}
-use Rattle.boost_core.proofs.Vocabulary.{option_eq, slice_get_within, Op, Refusal, key_of, takes_node, PendingAt, Step, serial, now, Opened, Waiting, LeavingToEnd, RoomySeat, TableAt, cursor_changes, map_of, nodes_of, false≢true, cases_eq, and_from, or_right, Now, stripe_of, is_locked, holder_of, same_is, is_locked-asked, is_locked-busy, Prepares, IsRefused, entries_of, held_by, Session, Owner, Caller, Helper, holder_by, refusal_of, has_stamp_for, MayLack, times_of, times_in, IsCovered, World, Tells, LastPlacedFits, state_of, session_changes, gap_if, may_stand, Move, Claim, Lock, Goes, Side, side_of, KeepsPlaced, times_kept, StaysIn, AsksIn, MeetsIn, NoMemory, StampsUsedUp, Ask, Save, log_of, last_of, or_left, StaleWord, Right, Held, Stale, is_taken, nodes_at, gap_by, helper_gaps_of, KeepsNodes}
+use Rattle.std.proofs.Common.{◌≡◌, ℕ, ◌+◌, ◌-◌, ◌^◌, ◌<◌, ◌==◌, ◌||◌, true, false, cond, [], ◌++◌, length, Option, Some, None, refl, sym, ap, subst, ◌∙◌, arith, slice_get, slice_set, map, nat_eq, not, eq-eqb, ne_eqb, append-nil, inl, inr, ◌⊎◌, option_map, Bool}
+use Rattle.boost_core.proofs.Vocabulary.{option_eq, slice_get_within, Op, Refusal, key_of, takes_node, PendingAt, Step, serial, now, Opened, Waiting, LeavingToEnd, RoomySeat, TableAt, cursor_changes, map_of, nodes_of, false≢true, cases_eq, and_from, or_right, Now, stripe_of, is_locked, holder_of, same_is, is_locked-asked, is_locked-busy, Prepares, IsRefused, entries_of, held_by, Session, Owner, Caller, Helper, holder_by, refusal_of, has_stamp_for, MayLack, times_of, times_in, IsCoveredWith, StaysCovered, World, Tells, LastPlacedFits, state_of, session_changes, gap_if, may_stand, Move, Claim, Lock, Goes, Side, side_of, KeepsPlaced, times_kept, Reach, reach, AsksIn, MeetsIn, NoMemory, StampsUsedUp, Ask, Save, log_of, last_of, or_left, StaleWord, Right, Held, Stale, is_taken, nodes_at, gap_by, helper_gaps_of, KeepsNodes}
 use Rattle.boost_core.proofs.Numbers.{no_more}
 use Rattle.boost_core.proofs.Moves.{changes_same, gaps_same, lacks, none_dropped, state_is}
 use Rattle.boost_core.proofs.Grow.{Stays, world_after, seated_as, set_cases}
@@ -29,11 +29,11 @@ module _ (w : World) (tells : Tells w) (c : ℕ) (x : Session) (at : slice_get w
       ])
 
   -- The step is refused, and nothing has changed but room.
-  module _ (claim : Claim) (step : Step) (refusal : Refusal) (goes : Goes claim (state_of w) step (answers.Refused refusal) (state_of w)) (opened : x.seat.seat.phase ≡ Opened) (y : Session) (stays : StaysIn x y) where
+  module _ (claim : Claim) (step : Step) (refusal : Refusal) (goes : Goes claim (state_of w) step (answers.Refused refusal) (state_of w)) (opened : x.seat.seat.phase ≡ Opened) (y : Session) (stays : side_of y ≡ side_of x) where
     pub lacking_stays : Stays w c x y w.table w.locks w.counts
     lacking_stays = record {
       cursor = x.cursor;
-      becomes = stays.becomes;
+      becomes = stays;
       waits = rw (opened, nothing_waits w tells c x at Opened opened refl) tt;
       content = refl;
       placed = record { placed = λ cursor key is. is; sound = λ sound. sound };
@@ -46,21 +46,21 @@ module _ (w : World) (tells : Tells w) (c : ℕ) (x : Session) (at : slice_get w
 
     lacking_goes : (seat' : RoomySeat) → Goes claim (state_of w) step (answers.Refused refusal) (state_of (world_after w c (seated_as y seat') w.history w.counts w.table w.locks w.placed))
     lacking_goes seat' =
-        let cursors = sym (changes_same w.sessions c x (seated_as y seat') at (ap (λ (s : Side). option_map cursor_changes s.cursor) stays.becomes)) in
-        let gaps = sym (gaps_same w.table w.sessions c x (seated_as y seat') at (ap (λ (s : Side). gap_if w.table s.cursor) stays.becomes)) in
+        let cursors = sym (changes_same w.sessions c x (seated_as y seat') at (ap (λ (s : Side). option_map cursor_changes s.cursor) stays)) in
+        let gaps = sym (gaps_same w.table w.sessions c x (seated_as y seat') at (ap (λ (s : Side). gap_if w.table s.cursor) stays)) in
         subst (Goes claim (state_of w) step (answers.Refused refusal)) (λ i. record (state_of w) { cursors = cursors i; gaps = gaps i }) goes
 
     pub lacking_called : entries_of step (answers.Refused refusal) ≡ [] → CalledBy claim w c x step (answers.Refused refusal) y w.table w.locks
     lacking_called no_entry = record {
       comes = subst (Comes w c x y w.table w.locks w.counts) (sym no_entry) lacking_stays;
       move = λ seat'. subst (λ g. Goes claim (state_of w) step (answers.Refused refusal) (state_of (world_after w c (seated_as y seat') g w.counts w.table w.locks w.placed))) (sym (ap (λ es. w.history ++ es) no_entry ∙ append-nil w.history)) (lacking_goes seat');
-      fresh = λ seat'. fresh_kept y (ap (λ (s : Side). s.cursor) stays.becomes) w.table refl refl seat' w.placed tells.fresh;
+      fresh = λ seat'. fresh_kept y (ap (λ (s : Side). s.cursor) stays) w.table refl refl seat' w.placed tells.fresh;
     }
 
   -- Memory for a savepoint is refused.
-  pub save_refused : refusal_of (state_of w) (Save c) ≡ None → (y : Session) (t' : TableAt) (locks' : List (Option ℕ)) → StaysIn x y → t' ≡ w.table → locks' ≡ w.locks → Called w c x (Save c) (answers.Refused NoMemory) y t' locks'
-  save_refused none y t' locks' stays table same =
-      rw (table, same) (lacking_called Lock (Save c) NoMemory (lacks (state_of w) (Save c) NoMemory none tt) (three_tests x.seat.seat _ _ _ _ (seat_free w tells c x at (Save c) refl none)).0 y stays refl)
+  pub save_refused : refusal_of (state_of w) (Save c) ≡ None → (y : Session) → side_of y ≡ side_of x → Called w c x (Save c) (answers.Refused NoMemory) y w.table w.locks
+  save_refused none y stays =
+      lacking_called Lock (Save c) NoMemory (lacks (state_of w) (Save c) NoMemory none tt) (three_tests x.seat.seat _ _ _ _ (seat_free w tells c x at (Save c) refl none)).0 y stays refl
 
   module _ (op : Op) (none : refusal_of (state_of w) (Ask c op) ≡ None) where
     pub opened : x.seat.seat.phase ≡ Opened
@@ -73,10 +73,10 @@ module _ (w : World) (tells : Tells w) (c : ℕ) (x : Session) (at : slice_get w
     no_cursor_there = idle_cursor w tells c x at Opened opened refl
 
     -- Memory is refused, or no stamp is left.
-    pub ask_refused : (claim : Claim) (refusal : Refusal) → (Move (state_of w) (Ask c op) (answers.Refused refusal) (state_of w) → Goes claim (state_of w) (Ask c op) (answers.Refused refusal) (state_of w)) → (y : Session) (t' : TableAt) (locks' : List (Option ℕ))
-        → (refusal ≡ NoMemory) ⊎ IsRefused w.table op refusal → StaysIn x y → t' ≡ w.table → locks' ≡ w.locks → CalledBy claim w c x (Ask c op) (answers.Refused refusal) y t' locks'
-    ask_refused claim refusal by y t' locks' why stays table same =
-        rw (table, same) (lacking_called claim (Ask c op) refusal (by (lacks (state_of w) (Ask c op) refusal none (lack why))) opened y stays refl)
+    pub ask_refused : (claim : Claim) (refusal : Refusal) → (Move (state_of w) (Ask c op) (answers.Refused refusal) (state_of w) → Goes claim (state_of w) (Ask c op) (answers.Refused refusal) (state_of w)) → (y : Session)
+        → (refusal ≡ NoMemory) ⊎ IsRefused w.table op refusal → side_of y ≡ side_of x → CalledBy claim w c x (Ask c op) (answers.Refused refusal) y w.table w.locks
+    ask_refused claim refusal by y why stays =
+        lacking_called claim (Ask c op) refusal (by (lacks (state_of w) (Ask c op) refusal none (lack why))) opened y stays refl
       where
         may_lack : (refusal : Refusal) → IsRefused w.table op refusal → MayLack (state_of w) (Ask c op) refusal
         may_lack StampsUsedUp is = λ i. not (not (is.0 i) || not (is.1 i == 2 ^ 64 - 2))
@@ -90,15 +90,15 @@ module _ (w : World) (tells : Tells w) (c : ℕ) (x : Session) (at : slice_get w
     abbrev pub stripe : ℕ
     stripe = stripe_of w.limits.stripes (key_of op)
 
-    -- Each spare of the log and of the operation is kept as often as it is out (`IsCovered`).
-    spares_before : (t' : TableAt) (pending : PendingAt) → Prepares w.table t' op pending → (others : ℕ → ℕ → ℕ) → IsCovered (λ place stamp. others place stamp + times_kept (side_of x) place stamp) w.table
-        → IsCovered (λ place stamp. others place stamp + times_in x.log.jobs place stamp + times_of pending.spare place stamp) t'
+    -- Each spare of the log and of the operation is kept as often as it is out.
+    spares_before : (t' : TableAt) (pending : PendingAt) → Prepares w.table t' op pending → (others : ℕ → ℕ → ℕ) → IsCoveredWith others (times_kept (side_of x)) w.table
+        → IsCoveredWith (λ place stamp. others place stamp + times_in x.log.jobs place stamp) (times_of pending.spare) t'
     spares_before t' pending prepares others covered =
         (given_for w.table t' (takes_node op) pending.spare prepares.given).covered (λ p s. others p s + times_in x.log.jobs p s)
         (λ p s. omega (arith, rw nothing at (covered p s)))
 
     -- The stripe is free or the caller's, and the operation waits.
-    module _ (y : Session) (t' : TableAt) (locks' : List (Option ℕ)) (asks : AsksIn c stripe op x w.table w.locks y t' locks') (keeps : KeepsPlaced w.table t') (within : stripe < w.limits.stripes) where
+    module _ (new : Reach) (asks : AsksIn c stripe op (reach x w.table w.locks) new) (keeps : KeepsPlaced w.table new.table) (within : stripe < w.limits.stripes) where
       abbrev holder : ℕ → Option ℕ
       holder s = cond (stripe == s) (Some c) (holder_of w.limits.stripes s w.history)
 
@@ -106,7 +106,7 @@ module _ (w : World) (tells : Tells w) (c : ℕ) (x : Session) (at : slice_get w
       locked = is_locked-asked (holder_by w.words) w.limits.stripes w.history c op tells.legal.shape tells.legal.locks ∙ open_to (holder_of w.limits.stripes stripe w.history) c
           (rw (tells.holders stripe within) at asks.grants.open_to_caller)
 
-      asked_holders : (s : ℕ) → s < w.limits.stripes → held_by locks' s ≡ holder s
+      asked_holders : (s : ℕ) → s < w.limits.stripes → held_by new.locks s ≡ holder s
       asked_holders s below = asks.grants.each s ∙ elim (cases_eq s stripe) [
         | inl same ↦ rw (eq-eqb s stripe same, eq-eqb stripe s (sym same)) refl
         | inr other ↦ rw (ne_eqb s stripe other, ne_eqb stripe s (λ e. other (sym e))) (tells.holders s below)
@@ -115,16 +115,16 @@ module _ (w : World) (tells : Tells w) (c : ℕ) (x : Session) (at : slice_get w
       abbrev asked_side : Side
       asked_side = record (side_of x) { pending = Some asks.pending }
 
-      asked_covered : (others : ℕ → ℕ → ℕ) → IsCovered (λ place stamp. others place stamp + times_kept (side_of x) place stamp) w.table → IsCovered (λ place stamp. others place stamp + times_kept asked_side place stamp) t'
-      asked_covered others covered place stamp = omega (arith, spares_before t' asks.pending asks.prepares others covered place stamp)
+      asked_covered : StaysCovered w.table (times_kept (side_of x)) new.table (times_kept asked_side)
+      asked_covered others covered place stamp = omega (arith, spares_before new.table asks.pending asks.prepares others covered place stamp)
 
-      pub asked_called : Called w c x (Ask c op) answers.Asked y t' locks'
+      pub asked_called : Called w c x (Ask c op) answers.Asked new.session new.table new.locks
       asked_called =
-          entered w c x y t' locks' (Ask c op) answers.Asked (entry.Asked c op) (map session_changes w.sessions) refl refl refl
+          entered w c x new.session new.table new.locks (Ask c op) answers.Asked (entry.Asked c op) (map session_changes w.sessions) refl refl refl
           (none_dropped w.sessions c x at no_cursor_there) (
             none,
             and_from (has_stamp_for (state_of w) op) (may_stand (state_of w) (entry.Asked c op))
-                (given_for w.table t' (takes_node op) asks.pending.spare asks.prepares.given).stamped locked,
+                (given_for w.table new.table (takes_node op) asks.pending.spare asks.prepares.given).stamped locked,
           )
           asks.prepares.nodes.linked
           (record {
@@ -138,7 +138,7 @@ module _ (w : World) (tells : Tells w) (c : ℕ) (x : Session) (at : slice_get w
             mine = refl;
             saved = λ is. absurd (false≢true is);
             kept = (tells.seated c x at).agrees.kept;
-            waits = (asks.prepares.op_is, asks.room, (given_for w.table t' (takes_node op) asks.pending.spare asks.prepares.given).has);
+            waits = (asks.prepares.op_is, asks.room, (given_for w.table new.table (takes_node op) asks.pending.spare asks.prepares.given).has);
             due = (tells.seated c x at).due;
             content = ap map_of asks.prepares.nodes.regular ∙ tells.content;
             apart = λ d other k held. refl;
@@ -153,7 +153,7 @@ module _ (w : World) (tells : Tells w) (c : ℕ) (x : Session) (at : slice_get w
 
     -- Another caller holds the stripe: the prepared operation is given up, and the caller leaves to
     -- the end.
-    module _ (holder : ℕ) (y : Session) (t' : TableAt) (locks' : List (Option ℕ)) (meets : MeetsIn c stripe op holder x w.table w.locks y t' locks') (keeps : KeepsPlaced w.table t') (within : stripe < w.limits.stripes) where
+    module _ (holder : ℕ) (new : Reach) (meets : MeetsIn c stripe op holder (reach x w.table w.locks) new) (keeps : KeepsPlaced w.table new.table) (within : stripe < w.limits.stripes) where
       stands : w.words ≡ false → may_stand (state_of w) (entry.Busy c op holder) ≡ true
       stands words =
           rw words (
@@ -164,16 +164,16 @@ module _ (w : World) (tells : Tells w) (c : ℕ) (x : Session) (at : slice_get w
       pub busy_stamped : has_stamp_for (state_of w) op ≡ true
       busy_stamped = (given_for w.table meets.between (takes_node op) meets.pending.spare meets.prepares.given).stamped
 
-      busy_kept : KeepsNodes w.table t'
-      busy_kept = nodes_then w.table meets.between t' meets.prepares.nodes meets.back.nodes
+      busy_kept : KeepsNodes w.table new.table
+      busy_kept = nodes_then w.table meets.between new.table meets.prepares.nodes meets.back.nodes
 
-      pub busy_covered : (others : ℕ → ℕ → ℕ) → IsCovered (λ place stamp. others place stamp + times_kept (side_of x) place stamp) w.table → IsCovered (λ place stamp. others place stamp + times_kept (side_of x) place stamp) t'
+      pub busy_covered : StaysCovered w.table (times_kept (side_of x)) new.table (times_kept (side_of x))
       busy_covered others covered place stamp =
-          rw nothing (omega (arith, spent meets.between t' meets.pending.spare (λ p s. others p s + times_in x.log.jobs p s) meets.back.spares (spares_before meets.between meets.pending meets.prepares others covered) place stamp))
+          rw nothing (omega (arith, spent meets.between new.table meets.pending.spare (λ p s. others p s + times_in x.log.jobs p s) meets.back.spares (spares_before meets.between meets.pending meets.prepares others covered) place stamp))
 
-      pub busy_called : w.words ≡ false → Called w c x (Ask c op) (answers.Busy holder) y t' locks'
+      pub busy_called : w.words ≡ false → Called w c x (Ask c op) (answers.Busy holder) new.session new.table new.locks
       busy_called words =
-          entered w c x y t' locks' (Ask c op) (answers.Busy holder) (entry.Busy c op holder)
+          entered w c x new.session new.table new.locks (Ask c op) (answers.Busy holder) (entry.Busy c op holder)
           (map session_changes w.sessions) refl refl refl (none_dropped w.sessions c x at no_cursor_there)
           (none, and_from (w.words || has_stamp_for (state_of w) op) (may_stand (state_of w) (entry.Busy c op holder)) (or_right w.words (has_stamp_for (state_of w) op) busy_stamped) (stands words))
           busy_kept.linked
@@ -208,7 +208,7 @@ module _ (w : World) (tells : Tells w) (c : ℕ) (x : Session) (at : slice_get w
           ap not (is_locked-asked (holder_by w.words) w.limits.stripes w.history c op tells.legal.shape tells.legal.locks
           ∙ ap (λ (o : Option ℕ). elim o as (λ _. Bool) [ None ↦ true | Some d ↦ d == c ]) holds ∙ ne_eqb holder c meets.refuses.by_another)
 
-      stale_stays : Stays w c x y t' locks' w.counts
+      stale_stays : Stays w c x new.session new.table new.locks w.counts
       stale_stays = record {
         cursor = x.cursor;
         becomes = meets.becomes;
@@ -223,14 +223,14 @@ module _ (w : World) (tells : Tells w) (c : ℕ) (x : Session) (at : slice_get w
       }
 
       -- Only the last stamp of the state has changed.
-      stale_state : (seat' : RoomySeat) → state_of (world_after w c (seated_as y seat') (w.history ++ []) w.counts t' locks' w.placed)
-          ≡ record (state_of w) { stamp = last_of t'; nodes = nodes_at t'; gaps = map (gap_by t') (slice_set w.sessions c (seated_as y seat')); helper_gaps = helper_gaps_of t' }
+      stale_state : (seat' : RoomySeat) → state_of (world_after w c (seated_as new.session seat') (w.history ++ []) w.counts new.table new.locks w.placed)
+          ≡ record (state_of w) { stamp = last_of new.table; nodes = nodes_at new.table; gaps = map (gap_by new.table) (slice_set w.sessions c (seated_as new.session seat')); helper_gaps = helper_gaps_of new.table }
       stale_state seat' =
-          state_is w (w.history ++ []) w.history w.counts t' (map session_changes w.sessions) (slice_set w.sessions c (seated_as y seat')) locks' w.placed busy_kept.buckets busy_kept.linked (append-nil w.history)
-          (changes_same w.sessions c x (seated_as y seat') at (ap (λ (s : Side). option_map cursor_changes s.cursor) meets.becomes))
-          ∙ ap (λ (noted : ℕ). record (state_of w) { changes = noted; stamp = last_of t'; nodes = nodes_at t'; gaps = map (gap_by t') (slice_set w.sessions c (seated_as y seat')); helper_gaps = helper_gaps_of t' }) busy_kept.changes
+          state_is w (w.history ++ []) w.history w.counts new.table (map session_changes w.sessions) (slice_set w.sessions c (seated_as new.session seat')) new.locks w.placed busy_kept.buckets busy_kept.linked (append-nil w.history)
+          (changes_same w.sessions c x (seated_as new.session seat') at (ap (λ (s : Side). option_map cursor_changes s.cursor) meets.becomes))
+          ∙ ap (λ (noted : ℕ). record (state_of w) { changes = noted; stamp = last_of new.table; nodes = nodes_at new.table; gaps = map (gap_by new.table) (slice_set w.sessions c (seated_as new.session seat')); helper_gaps = helper_gaps_of new.table }) busy_kept.changes
 
-      pub stale_called : CalledBy Right w c x (Ask c op) (answers.Refused StaleWord) y t' locks'
+      pub stale_called : CalledBy Right w c x (Ask c op) (answers.Refused StaleWord) new.session new.table new.locks
       stale_called = record {
         comes = stale_stays;
         move = λ seat'. inl (record {
@@ -239,8 +239,8 @@ module _ (w : World) (tells : Tells w) (c : ℕ) (x : Session) (at : slice_get w
           stale = and_from (has_stamp_for (state_of w) op) (is_taken (state_of w) c op) busy_stamped taken;
           state = stale_state seat';
         });
-        fresh = λ seat'. fresh_kept y
-            (ap (λ (s : Side). s.cursor) meets.becomes) t' busy_kept.all busy_kept.buckets.all seat' w.placed tells.fresh;
+        fresh = λ seat'. fresh_kept new.session
+            (ap (λ (s : Side). s.cursor) meets.becomes) new.table busy_kept.all busy_kept.buckets.all seat' w.placed tells.fresh;
       }
 
     -- If the word names a caller that may hold the stripe, the asking caller leaves to the end.
@@ -265,4 +265,4 @@ module _ (w : World) (tells : Tells w) (c : ℕ) (x : Session) (at : slice_get w
     pub word_stale_called : CalledBy Stale w c x (Ask c op) (answers.Refused StaleWord) x w.table w.locks
     word_stale_called = lacking_called Stale (Ask c op) StaleWord
         (inl (record { refused = refl; free = none; stale = refl; state = refl }))
-        opened x (record { becomes = refl }) refl
+        opened x refl refl

@@ -1,6 +1,6 @@
 -- The outcome of each step of a caller.
-use Rattle.std.proofs.Common.{◌≡◌, ℕ, ◌-◌, ◌^◌, ◌<◌, ◌≤◌, Bool, true, false, List, Option, Some, None, is_some, refl, sym, ap, subst, ◌∙◌, arith, slice_get, slice_set, map, inr, leb-false}
-use Rattle.boost_core.proofs.Vocabulary.{false≢true, slice_get_within, slice_get-map, Step, Answer, TableAt, key_of, Op, stripe_of, Counts, Session, Caller, caller_changes, refusal_of, owner_of, Claim, Lock, Right, Held, Stale, IsClaim, times_in, World, Tells, state_of, session_changes, all_times, side_of, HasEffect, ActsIn, Saves, IsAsked, AsksBy, unless_busy, KeepsPlaced, MayTakeStep, spare_if, times_kept, NoMemory}
+use Rattle.std.proofs.Common.{◌≡◌, ℕ, ◌-◌, ◌^◌, ◌<◌, ◌≤◌, Bool, true, false, List, Some, None, is_some, refl, sym, ap, subst, ◌∙◌, arith, slice_get, slice_set, map, inr, leb-false}
+use Rattle.boost_core.proofs.Vocabulary.{false≢true, slice_get_within, slice_get-map, Step, Answer, key_of, Op, stripe_of, Counts, Session, Caller, caller_changes, refusal_of, owner_of, Claim, Lock, Right, Held, Stale, IsClaim, times_in, World, Tells, state_of, session_changes, all_times, side_of, HasEffect, ActsIn, Saves, IsAsked, AsksBy, unless_busy, KeepsPlaced, MayTakeStep, Reach, reach, spare_if, times_kept, NoMemory}
 use Rattle.boost_core.proofs.Outcomes.{Called, CalledBy}
 use Rattle.boost_core.proofs.Spares.{owns_if}
 use Rattle.boost_core.proofs.Grow.{one_of_sum}
@@ -16,77 +16,78 @@ no_words : (words : Bool) → (words ≡ true → true ≡ false) → words ≡ 
 no_words true claims = absurd (false≢true (sym (claims refl)))
 no_words false claims = refl
 
-module _ (w : World) (tells : Tells w) (x : Session) (y : Session) (t' : TableAt) (locks' : List (Option ℕ)) (keeps : KeepsPlaced w.table t') where
+module _ (w : World) (tells : Tells w) (x : Session) (new : Reach) (keeps : KeepsPlaced w.table new.table) where
+  abbrev old : Reach
+  old = reach x w.table w.locks
+
   asked : (c : ℕ) (op : Op) → slice_get w.sessions c ≡ Some x → refusal_of (state_of w) (steps.Ask c op) ≡ None → stripe_of w.limits.stripes (key_of op) < w.limits.stripes → w.words ≡ false → (answer : Answer)
-      → IsAsked c (stripe_of w.limits.stripes (key_of op)) op x w.table w.locks answer y t' locks' → Called w c x (steps.Ask c op) answer y t' locks'
-  asked c op at none within words answers.Asked does = asked_called w tells c x at op none y t' locks' does keeps within
-  asked c op at none within words (answers.Busy holder) does = busy_called w tells c x at op none holder y t' locks' does keeps within words
-  asked c op at none within words (answers.Refused refusal) does = ask_refused w tells c x at op none Lock refusal (λ move. move) y t' locks' does.0 does.1 does.2 does.3
+      → IsAsked c (stripe_of w.limits.stripes (key_of op)) op old answer new → Called w c x (steps.Ask c op) answer new.session new.table new.locks
+  asked c op at none within words answers.Asked does = asked_called w tells c x at op none new does keeps within
+  asked c op at none within words (answers.Busy holder) does = busy_called w tells c x at op none holder new does keeps within words
+  asked c op at none within words (answers.Refused refusal) does = rw does.2 (ask_refused w tells c x at op none Lock refusal (λ move. move) new.session does.0 does.1)
   asked c op at none within words _ does = absurd does
 
   asked_with : (c : ℕ) (op : Op) → slice_get w.sessions c ≡ Some x → refusal_of (state_of w) (steps.Ask c op) ≡ None → stripe_of w.limits.stripes (key_of op) < w.limits.stripes → (own : Answer)
-      → IsAsked c (stripe_of w.limits.stripes (key_of op)) op x w.table w.locks own y t' locks' → CalledBy Right w c x (steps.Ask c op) (unless_busy own) y t' locks'
+      → IsAsked c (stripe_of w.limits.stripes (key_of op)) op old own new → CalledBy Right w c x (steps.Ask c op) (unless_busy own) new.session new.table new.locks
   asked_with c op at none within answers.Asked does =
-      let is = asked_called w tells c x at op none y t' locks' does keeps within in
+      let is = asked_called w tells c x at op none new does keeps within in
       record { comes = is.comes; move = λ seat'. inr (refl, is.move seat'); fresh = is.fresh }
-  asked_with c op at none within (answers.Busy holder) does = stale_called w tells c x at op none holder y t' locks' does keeps within
-  asked_with c op at none within (answers.Refused refusal) does = ask_refused w tells c x at op none Right refusal (λ move. inr (refl, move)) y t' locks' does.0 does.1 does.2 does.3
+  asked_with c op at none within (answers.Busy holder) does = stale_called w tells c x at op none holder new does keeps within
+  asked_with c op at none within (answers.Refused refusal) does = rw does.2 (ask_refused w tells c x at op none Right refusal (λ move. inr (refl, move)) new.session does.0 does.1)
   asked_with c op at none within _ does = absurd does
 
   -- The outcome of an operation that is asked for, by each claim.
   asked_by : (claim : Claim) (c : ℕ) (op : Op) → slice_get w.sessions c ≡ Some x → refusal_of (state_of w) (steps.Ask c op) ≡ None → stripe_of w.limits.stripes (key_of op) < w.limits.stripes → IsClaim claim (state_of w) (steps.Ask c op) → (answer : Answer)
-      → AsksBy claim c (stripe_of w.limits.stripes (key_of op)) op x w.table w.locks answer y t' locks' → CalledBy claim w c x (steps.Ask c op) answer y t' locks'
+      → AsksBy claim c (stripe_of w.limits.stripes (key_of op)) op old answer new → CalledBy claim w c x (steps.Ask c op) answer new.session new.table new.locks
   asked_by Lock c op at none within claims answer does = asked c op at none within (no_words w.words claims) answer does
   asked_by Right c op at none within claims answer does = rw does.1 (asked_with c op at none within does.0 does.2)
-  asked_by (Held named) c op at none within claims answer does = rw (does.0, does.1, does.2, does.3) (held_called w tells c x at op none named claims.0 claims.1)
-  asked_by Stale c op at none within claims answer does = rw (does.0, does.1, does.2, does.3) (word_stale_called w tells c x at op none)
+  asked_by (Held named) c op at none within claims answer does = rw (does.0, does.1) (held_called w tells c x at op none named claims.0 claims.1)
+  asked_by Stale c op at none within claims answer does = rw (does.0, does.1) (word_stale_called w tells c x at op none)
 
-  acted : (c : ℕ) → slice_get w.sessions c ≡ Some x → refusal_of (state_of w) (steps.Act c) ≡ None → (answer : Answer) → ActsIn c x w.table w.locks answer y t' locks' → Called w c x (steps.Act c) answer y t' locks'
-  acted c at none answers.Again does = rw does.2 (again_called w tells c x at none does.0 y t' does.1)
-  acted c at none (answers.Done reply) does = rw does.1 (did_called w tells c x at none reply y t' does.0 keeps)
-  acted c at none answers.Undone does = rw does.2 (undone_called w tells c x at none does.0 y t' does.1 keeps)
-  acted c at none (answers.Returned n) does = rw (does.2, does.1.locks_stay) (returned w tells c x at none does.0 n y (rw does.1.locks_stay at does.1))
-  acted c at none answers.Aborted does = rw does.2 (ended w tells c x at none does.0 y locks' does.1)
+  acted : (c : ℕ) → slice_get w.sessions c ≡ Some x → refusal_of (state_of w) (steps.Act c) ≡ None → (answer : Answer) → ActsIn c old answer new → Called w c x (steps.Act c) answer new.session new.table new.locks
+  acted c at none answers.Again does = rw does.2 (again_called w tells c x at none does.0 new.session does.1)
+  acted c at none (answers.Done reply) does = rw does.1 (did_called w tells c x at none reply new.session new.table does.0 keeps)
+  acted c at none answers.Undone does = rw does.2 (undone_called w tells c x at none does.0 new.session new.table does.1 keeps)
+  acted c at none (answers.Returned n) does = rw does.2 (returned w tells c x at none does.0 n new.session does.1)
+  acted c at none answers.Aborted does = rw does.2 (ended w tells c x at none does.0 new.session new.locks does.1)
   acted c at none _ does = absurd does
 
-  saved_here : (c : ℕ) → slice_get w.sessions c ≡ Some x → refusal_of (state_of w) (steps.Save c) ≡ None → (answer : Answer) → Saves x answer y → t' ≡ w.table → locks' ≡ w.locks → Called w c x (steps.Save c) answer y t' locks'
-  saved_here c at none (answers.Saved n) does table same = rw (table, same) (saved w tells c x at none n y does)
-  saved_here c at none (answers.Refused NoMemory) does table same = save_refused w tells c x at none y t' locks' does table same
-  saved_here c at none _ does table same = absurd does
+  saved_here : (c : ℕ) → slice_get w.sessions c ≡ Some x → refusal_of (state_of w) (steps.Save c) ≡ None → (answer : Answer) → Saves x answer new.session → Called w c x (steps.Save c) answer new.session w.table w.locks
+  saved_here c at none (answers.Saved n) does = saved w tells c x at none n new.session does
+  saved_here c at none (answers.Refused NoMemory) does = save_refused w tells c x at none new.session does
+  saved_here c at none _ does = absurd does
 
   -- The outcome of each step with the claim `Lock`.
   locked : (step : Step) → slice_get w.sessions (caller_in (owner_of step)) ≡ Some x → refusal_of (state_of w) step ≡ None
-      → 0 < w.limits.stripes → IsClaim Lock (state_of w) step → (answer : Answer)
-      → HasEffect Lock w.limits.stripes w.counts step x w.table w.locks answer y t' locks'
-      → Called w (caller_in (owner_of step)) x step answer y t' locks'
-  locked (steps.Begin c) at none some claims (answers.Began n) does = rw (does.2, does.3) (begun w tells c x at none n y does.0 does.1)
+      → 0 < w.limits.stripes → IsClaim Lock (state_of w) step → (answer : Answer) → HasEffect Lock w.limits.stripes w.counts step old answer new
+      → Called w (caller_in (owner_of step)) x step answer new.session new.table new.locks
+  locked (steps.Begin c) at none some claims (answers.Began n) does = rw does.1 (begun w tells c x at none n does.0)
   locked (steps.Ask c op) at none some claims answer does = asked c op at none (grind arith) (no_words w.words claims) answer does
-  locked (steps.Seek c) at none some claims answers.Placed does = rw does.1 (sought_called w tells c x at none y t' does.0 keeps)
+  locked (steps.Seek c) at none some claims answers.Placed does = rw does.1 (sought_called w tells c x at none new.session new.table does.0 keeps)
   locked (steps.Act c) at none some claims answer does = acted c at none answer does
-  locked (steps.Save c) at none some claims answer does = saved_here c at none answer does.0 does.1 does.2
-  locked (steps.Back c n) at none some claims answers.Leaving does = rw (does.1, does.2) (left w tells c x at n none y does.0)
-  locked (steps.Commit c) at none some claims (answers.Committed p) does = committed w tells c x at none p y t' locks' does.0 does.1 does.2
-  locked (steps.Abort c) at none some claims answers.Leaving does = rw does.1 (withdrawn w tells c x at none y t' does.0)
+  locked (steps.Save c) at none some claims answer does = rw does.1 (saved_here c at none answer does.0)
+  locked (steps.Back c n) at none some claims answers.Leaving does = rw does (left w tells c x at n none)
+  locked (steps.Commit c) at none some claims (answers.Committed p) does = committed w tells c x at none p new.session new.table new.locks does.0 does.1 does.2
+  locked (steps.Abort c) at none some claims answers.Leaving does = rw does.1 (withdrawn w tells c x at none new.session new.table does.0)
   locked _ at none some claims _ does = absurd does
 
   claimed : (claim : Claim) (step : Step) → slice_get w.sessions (caller_in (owner_of step)) ≡ Some x → refusal_of (state_of w) step ≡ None
-      → 0 < w.limits.stripes → IsClaim claim (state_of w) step → (answer : Answer)
-      → HasEffect claim w.limits.stripes w.counts step x w.table w.locks answer y t' locks'
-      → CalledBy claim w (caller_in (owner_of step)) x step answer y t' locks'
+      → 0 < w.limits.stripes → IsClaim claim (state_of w) step → (answer : Answer) → HasEffect claim w.limits.stripes w.counts step old answer new
+      → CalledBy claim w (caller_in (owner_of step)) x step answer new.session new.table new.locks
   claimed Lock step at none some claims answer does = locked step at none some claims answer does
   claimed claim (steps.Ask c op) at none some claims answer does = asked_by claim c op at none (grind arith) claims answer does
   claimed _ _ at none some claims answer does = absurd claims
 
   -- The outcome of each step, by its claim.
   pub called : (claim : Claim) (c : ℕ) (step : Step) → owner_of step ≡ Some (Caller c) → slice_get w.sessions c ≡ Some x → refusal_of (state_of w) step ≡ None → 0 < w.limits.stripes → IsClaim claim (state_of w) step → (answer : Answer)
-      → (stripes : ℕ) → stripes ≡ w.limits.stripes → HasEffect claim stripes w.counts step x w.table w.locks answer y t' locks' → CalledBy claim w c x step answer y t' locks'
+      → (stripes : ℕ) → stripes ≡ w.limits.stripes → HasEffect claim stripes w.counts step old answer new → CalledBy claim w c x step answer new.session new.table new.locks
   called claim c step owner at none some claims answer stripes same does =
-      subst (λ k. CalledBy claim w k x step answer y t' locks') (ap caller_in owner)
+      subst (λ k. CalledBy claim w k x step answer new.session new.table new.locks) (ap caller_in owner)
       (claimed claim step (subst (λ k. slice_get w.sessions k ≡ Some x) (sym (ap caller_in owner)) at) none some claims answer (rw same at does))
 
 -- If nothing refuses a step, its caller's side meets the requirements of the step.
 pub takes : (w : World) → Tells w → (c : ℕ) (x : Session) → slice_get w.sessions c ≡ Some x → (step : Step) → owner_of step ≡ Some (Caller c) → refusal_of (state_of w) step ≡ None
-    → w.limits.callers ≤ 64 → 0 < w.limits.stripes → w.counts.began < 2 ^ 63 → w.counts.committed < 2 ^ 63 → MayTakeStep w.limits.stripes w.counts step x w.table w.locks
+    → w.limits.callers ≤ 64 → 0 < w.limits.stripes → w.counts.began < 2 ^ 63 → w.counts.committed < 2 ^ 63 → MayTakeStep w.limits.stripes w.counts step (reach x w.table w.locks)
 takes w tells c x at step owner none callers some began done = record {
   goes = record {
     agrees = (tells.seated c x at).agrees;
@@ -115,21 +116,21 @@ takes w tells c x at step owner none callers some began done = record {
     most place stamp = one_of_sum (λ s. times_kept (side_of s) place stamp) w.sessions c x at
 
 -- After a step with the answer `Placed`, the step's caller has a cursor.
-pub placed_cursor : (claim : Claim) (stripes : ℕ) (counts : Counts) (step : Step) (x : Session) (t : TableAt) (locks : List (Option ℕ)) (answer : Answer) (y : Session) (t' : TableAt) (locks' : List (Option ℕ)) → HasEffect claim stripes counts step x t locks answer y t' locks' → answer ≡ answers.Placed → is_some y.cursor ≡ true
-placed_cursor claim stripes counts step x t locks answer y t' locks' does is = at step (subst (λ a. HasEffect claim stripes counts step x t locks a y t' locks') is does)
+pub placed_cursor : (claim : Claim) (stripes : ℕ) (counts : Counts) (step : Step) (old : Reach) (answer : Answer) (new : Reach) → HasEffect claim stripes counts step old answer new → answer ≡ answers.Placed → is_some new.session.cursor ≡ true
+placed_cursor claim stripes counts step old answer new does is = at step (subst (λ a. HasEffect claim stripes counts step old a new) is does)
   where
-    not_own : (own : Answer) (c : ℕ) (op : Op) → answers.Placed ≡ unless_busy own → IsAsked c (stripe_of stripes (key_of op)) op x t locks own y t' locks' → ⊥
+    not_own : (own : Answer) (c : ℕ) (op : Op) → answers.Placed ≡ unless_busy own → IsAsked c (stripe_of stripes (key_of op)) op old own new → ⊥
     not_own answers.Asked c op is does = cc is
     not_own (answers.Busy holder) c op is does = cc is
     not_own (answers.Refused refusal) c op is does = cc is
     not_own _ c op is does = does
 
-    never_placed : (claim : Claim) (c : ℕ) (op : Op) → AsksBy claim c (stripe_of stripes (key_of op)) op x t locks answers.Placed y t' locks' → ⊥
+    never_placed : (claim : Claim) (c : ℕ) (op : Op) → AsksBy claim c (stripe_of stripes (key_of op)) op old answers.Placed new → ⊥
     never_placed Lock c op does = does
     never_placed Right c op does = not_own does.0 c op does.1 does.2
     never_placed _ c op does = cc (does.0)
 
-    at : (step : Step) → HasEffect claim stripes counts step x t locks answers.Placed y t' locks' → is_some y.cursor ≡ true
+    at : (step : Step) → HasEffect claim stripes counts step old answers.Placed new → is_some new.session.cursor ≡ true
     at (steps.Seek c) does = ap (λ (s : Session). is_some s.cursor) does.0.becomes
     at (steps.Ask c op) does = absurd (never_placed claim c op does)
     at (steps.Save c) does = absurd does.0

@@ -1,6 +1,6 @@
 -- After one caller's side changes, the invariants of a core still hold.
 use Rattle.std.proofs.Common.{◌≡◌, ◌≢◌, ℕ, ◌+◌, ◌-◌, ◌<◌, ◌≤◌, true, cond, List, [], ◌∷◌, ◌++◌, length, get_or, set, Option, Some, None, refl, sym, ap, subst, ◌∙◌, arith, slice_get, slice_set, sum_by, reverse, length-set, get_or-set_same, get_or-set_other, ◌⊎◌, inl, inr, option_and_then}
-use Rattle.boost_core.proofs.Vocabulary.{cases_eq, slice_get_within, get_or_from_slice_get, slice_get-get_or, Entry, Map, get, caller_of, is_began, is_commit, now, Phase, Closed, LeavingTo, Seat, RoomySeat, row, seat_after, own, log_of, stripe_of, holder_of, IsLevelIn, seat_leveled, MapJob, TableAt, Cursor, content, IsPlaced, largest_of, helps_of, length-map, length-reverse, sum_by-set, get_or-le-sum_by, All-push, is_saved, IsLegal, is_running, how_many-push, Next, seat-own, log_held, held_by, Counts, Session, Owner, holder_by, IsCovered, Side, side_of, level_of, target_in, target_of, KeepsPlaced, IsSought, IsSoughtAt, Waits, Agrees, change_of, times_kept, changes_of, AreDue, World, Tells, IsSeated, LastPlacedFits, all_times, KeepsBuckets}
+use Rattle.boost_core.proofs.Vocabulary.{cases_eq, slice_get_within, get_or_from_slice_get, slice_get-get_or, Entry, Map, get, caller_of, is_began, is_commit, now, Phase, Closed, LeavingTo, Seat, RoomySeat, row, seat_after, own, log_of, stripe_of, holder_of, IsLevelIn, seat_leveled, MapJob, TableAt, Cursor, content, IsPlaced, largest_of, helps_of, length-map, length-reverse, sum_by-set, get_or-le-sum_by, All-push, is_saved, IsLegal, is_running, how_many-push, Next, seat-own, log_held, held_by, Counts, Session, Owner, holder_by, IsCovered, StaysCovered, Side, side_of, level_of, target_in, target_of, KeepsPlaced, IsSought, IsSoughtAt, Waits, Agrees, change_of, times_kept, changes_of, AreDue, World, Tells, IsSeated, LastPlacedFits, all_times, KeepsBuckets}
 use Rattle.txn_words.specs.declared.holder.Holder.{Holder}
 use Rattle.txn_trace.proofs.Entries.{length-log_of}
 use Rattle.boost_core.proofs.Due.{all_of_changes, due_same}
@@ -22,11 +22,10 @@ sum_changed f sessions c x y at = rw (get_or_from_slice_get sessions c x x at) a
 pub one_of_sum : (f : Session → ℕ) (sessions : List Session) (c : ℕ) (x : Session) → slice_get sessions c ≡ Some x → f x ≤ sum_by f sessions
 one_of_sum f sessions c x at = rw (get_or_from_slice_get sessions c x x at) at (get_or-le-sum_by f sessions c x (slice_get_within sessions c x at))
 
--- Suppose that a change of one session leaves `IsCovered` true, whichever spares the others keep.
--- Then the change leaves `IsCovered` true for the spares of all sessions.
+-- If a change of one session leaves the table covered, whichever spares the others keep, the table
+-- stays covered with the spares of all sessions.
 pub traded : (t t' : TableAt) (sessions : List Session) (c : ℕ) (x y : Session) → slice_get sessions c ≡ Some x
-    → ((others : ℕ → ℕ → ℕ) → IsCovered (λ place stamp. others place stamp + times_kept (side_of x) place stamp) t → IsCovered (λ place stamp. others place stamp + times_kept (side_of y) place stamp) t')
-    → IsCovered (all_times sessions) t → IsCovered (all_times (slice_set sessions c y)) t'
+    → StaysCovered t (times_kept (side_of x)) t' (times_kept (side_of y)) → IsCovered (all_times sessions) t → IsCovered (all_times (slice_set sessions c y)) t'
 traded t t' sessions c x y at trade covered place stamp =
     let after = trade (λ p s. all_times sessions p s - times_kept (side_of x) p s) (λ p s. omega (arith, most p s, covered p s)) place stamp in
     let sums = sum_changed (λ session. times_kept (side_of session) place stamp) sessions c x y at in
@@ -84,7 +83,7 @@ pub record Grows (w : World) (c : ℕ) (x y : Session) (t' : TableAt) (locks' : 
   pub content : content t' ≡ current
   pub apart : (d : ℕ) → d ≢ c → (k : ℕ) → holder_of w.limits.stripes (stripe_of w.limits.stripes k) w.history ≡ Some d → get current k ≡ get (now w.history) k
   pub placed : KeepsPlaced w.table t'
-  pub spares : (others : ℕ → ℕ → ℕ) → IsCovered (λ place stamp. others place stamp + times_kept (side_of x) place stamp) w.table → IsCovered (λ place stamp. others place stamp + times_kept side place stamp) t'
+  pub spares : StaysCovered w.table (times_kept (side_of x)) t' (times_kept side)
   pub buckets : KeepsBuckets w.table t'
   pub begins : counts'.began ≡ w.counts.began + cond (is_began e) 1 0
   pub commits : counts'.committed ≡ w.counts.committed + cond (is_commit e) 1 0
@@ -99,7 +98,7 @@ pub record Stays (w : World) (c : ℕ) (x y : Session) (t' : TableAt) (locks' : 
   pub content : content t' ≡ content w.table
   pub placed : KeepsPlaced w.table t'
   pub sought : IsSoughtAt t' cursor (target_in x.seat.seat.phase y.log)
-  pub spares : (others : ℕ → ℕ → ℕ) → IsCovered (λ place stamp. others place stamp + times_kept (side_of x) place stamp) w.table → IsCovered (λ place stamp. others place stamp + times_kept (side_of x) place stamp) t'
+  pub spares : StaysCovered w.table (times_kept (side_of x)) t' (times_kept (side_of x))
   pub buckets : KeepsBuckets w.table t'
   pub same_locks : locks' ≡ w.locks
   pub same_counts : counts' ≡ w.counts
@@ -175,7 +174,7 @@ module _ (w : World) (tells : Tells w) (c : ℕ) (x y : Session) (at : slice_get
         | inl here ↦ rw (here.1, ap (λ (side : Side). side.cursor) is.becomes) tt
         | inr other ↦ still_sought_at w.table t' s.cursor (target_of s) is.placed.placed (tells.sought d s other.1)
       ];
-      spares = traded w.table t' w.sessions c x z at (λ others covered. subst (λ (side : Side). IsCovered (λ p s. others p s + times_kept side p s) t') (sym is.becomes) (is.spares others covered)) tells.spares;
+      spares = traded w.table t' w.sessions c x z at (subst (λ (side : Side). StaysCovered w.table (times_kept (side_of x)) t' (times_kept side)) (sym is.becomes) is.spares) tells.spares;
       fresh = fresh;
       stripes = is.long ∙ tells.stripes;
       holders = λ s below. is.holders s below ∙ sym (is.next.holder_is s);
@@ -209,7 +208,7 @@ module _ (w : World) (tells : Tells w) (c : ℕ) (x y : Session) (at : slice_get
       | inl here ↦ subst (IsSought t') (sym here.1) (subst (λ (side : Side). IsSoughtAt t' side.cursor (target_in side.seat.phase y.log)) (sym is.becomes) is.sought)
       | inr other ↦ still_sought_at w.table t' s.cursor (target_of s) is.placed.placed (tells.sought d s other.1)
     ];
-    spares = traded w.table t' w.sessions c x y at (λ others covered. subst (λ (side : Side). IsCovered (λ p s. others p s + times_kept side p s) t') (sym is.becomes) (is.spares others covered)) tells.spares;
+    spares = traded w.table t' w.sessions c x y at (subst (λ (side : Side). StaysCovered w.table (times_kept (side_of x)) t' (times_kept side)) (sym is.becomes) is.spares) tells.spares;
     fresh = fresh;
     stripes = ap length is.same_locks ∙ tells.stripes;
     holders = λ s below. ap (λ ls. held_by ls s) is.same_locks ∙ tells.holders s below;

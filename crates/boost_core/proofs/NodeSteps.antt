@@ -1,6 +1,6 @@
 -- The effect of each step on the nodes, the change number and the last stamp.
 use Rattle.std.proofs.Common.{arith, ◌≡◌, ◌⊎◌, ℕ, ◌-◌, ◌%◌, ◌≤◌, Bool, true, false, List, [], ◌∷◌, ◌++◌, length, Option, Some, None, is_some, inl, inr, refl, sym, ap, subst, ◌∙◌, reverse, slice_get, unwrap_or, nat_lt, nat_eq, IsSome, option_map, Result, Ok, Err}
-use Rattle.boost_core.proofs.Vocabulary.{option_eq, false≢true, cases_Bool, slice_get-map, unwrap_or-slice_get, regular_at, Op, Put, Take, Get, PutIf, Refusal, Step, Answer, Phase, Waiting, LeavingTo, LeavingToEnd, Map, get, key_of, now, log_of, stripe_of, Seat, kept_at, newest_above, MapJob, Unput, Restore, Relink, length-map, reverse-append, ancestor_of, NodeAt, changes_after, sought, IsDummyAt, PendingAt, key_of_job, value_before, takes_node, IsDue, TableAt, SpareAt, KeepsNodes, KeepsList, NamesDummies, content, nodes_of, size_of, stored_of, table_changes, last_of, SeeksNear, IsRefused, Session, State, Caller, is_set, seat_in, owner_of, Touches, stamp_after, Writes, Links, Marks, SeeksFrom, SeeksKey, IsNearest, Changes, PutsIf, OpDoes, OpDoesIn, BackDoes, Lists, next_key_in, next_key, newest_key, HasEffect, ActsIn, DoesIn, TakesBackIn, SeeksIn, IsAsked, AsksBy, unless_busy, Waits, AreDue, key_of_newest, target_in, target_of, changes_of, Claim, Lock, Right, IsClaim, ListsAsk, ListsBy, stamp_by, World, Tells, state_of, node_at, NoMemory, StaleWord, Abort, Act, Ask, Back, Begin, Commit, Save, Seek, dummy_at, InitSeek, InitLink, SweepOutcome, dummy_node, Sweeps, Seeking, SeekChanges, LinkChanges, Help, Nothing, helps_of, help_in, bucket_at, Serves, Sweeping}
+use Rattle.boost_core.proofs.Vocabulary.{option_eq, false≢true, cases_Bool, slice_get-map, unwrap_or-slice_get, regular_at, Op, Put, Take, Get, PutIf, Refusal, Step, Answer, Phase, Waiting, LeavingTo, LeavingToEnd, Map, get, key_of, now, log_of, stripe_of, Seat, kept_at, newest_above, MapJob, Unput, Restore, Relink, length-map, reverse-append, ancestor_of, NodeAt, changes_after, sought, IsDummyAt, PendingAt, key_of_job, value_before, takes_node, IsDue, TableAt, SpareAt, KeepsNodes, KeepsList, NamesDummies, content, nodes_of, size_of, stored_of, table_changes, last_of, SeeksNear, IsRefused, Session, State, Caller, is_set, seat_in, owner_of, Touches, stamp_after, Writes, Links, Marks, SeeksFrom, SeeksKey, IsNearest, Changes, PutsIf, OpDoes, OpDoesIn, BackDoes, Lists, next_key_in, next_key, newest_key, Reach, reach, HasEffect, ActsIn, DoesIn, TakesBackIn, SeeksIn, IsAsked, AsksBy, unless_busy, Waits, AreDue, key_of_newest, target_in, target_of, changes_of, Claim, Lock, Right, IsClaim, ListsAsk, ListsBy, stamp_by, World, Tells, state_of, node_at, NoMemory, StaleWord, Abort, Act, Ask, Back, Begin, Commit, Save, Seek, dummy_at, InitSeek, InitLink, SweepOutcome, dummy_node, Sweeps, Seeking, SeekChanges, LinkChanges, Help, Nothing, helps_of, help_in, bucket_at, Serves, Sweeping}
 use Rattle.boost_core.specs.Nodes.{LeavesNodes}
 use Rattle.boost_core.proofs.Spares.{given_for, nodes_then}
 use Rattle.boost_core.proofs.NodeLists.{seen, inserted, replaced, written_seen, seeks_from, clean_seen, sweeps as swept_nodes}
@@ -32,6 +32,9 @@ kept w w' same = record { nodes = ap (λ l. seen l.nodes) same; changes = ap (λ
 
 same : (w w' : World) → w'.table ≡ w.table → LeavesNodes (state_of w) (state_of w')
 same w w' is = kept w w' (ap (λ t. t.list) is)
+
+tables : {old new : Reach} → new ≡ old → new.table ≡ old.table
+tables is = ap (λ (r : Reach). r.table) is
 
 pub rested : (w w' : World) → KeepsNodes w.table w'.table → LeavesNodes (state_of w) (state_of w')
 rested w w' keeps = record { nodes = ap seen keeps.all; changes = keeps.changes }
@@ -181,7 +184,7 @@ module _ (w : World) (tells : Tells w) (c : ℕ) (x : Session) (at : slice_get w
       (taken_back w w' is.job due.0 is.writes)
 
   module _ (w' : World) (y : Session) (locks' : List (Option ℕ)) (rises : table_changes w.table ≤ table_changes w'.table) where
-    asked : (op : Op) (stripe : ℕ) (answer : Answer) → IsAsked c stripe op x w.table w.locks answer y w'.table locks' → Lists (state_of w) (Ask c op) answer (state_of w')
+    asked : (op : Op) (stripe : ℕ) (answer : Answer) → IsAsked c stripe op (reach x w.table w.locks) answer (reach y w'.table locks') → Lists (state_of w) (Ask c op) answer (state_of w')
     asked op stripe answers.Asked is =
         record {
           nodes = rested w w' is.prepares.nodes;
@@ -193,7 +196,7 @@ module _ (w : World) (tells : Tells w) (c : ℕ) (x : Session) (at : slice_get w
       rises = rises;
       stamp = is.back.last ∙ (given_for w.table is.between (takes_node op) is.pending.spare is.prepares.given).last;
     }
-    asked op stripe (answers.Refused refusal) is = record { nodes = same w w' is.2; rises = rises; stamp = ap last_of is.2 }
+    asked op stripe (answers.Refused refusal) is = record { nodes = same w w' (tables is.2); rises = rises; stamp = ap last_of (tables is.2) }
     asked op stripe _ is = absurd is
 
     not_stale : (op : Op) → (StaleWord ≡ NoMemory) ⊎ IsRefused w.table op StaleWord → ⊥
@@ -202,25 +205,25 @@ module _ (w : World) (tells : Tells w) (c : ℕ) (x : Session) (at : slice_get w
 
     -- An ask with a stale right has used up a stamp if its operation takes a node. An ask with a
     -- word uses no stamp.
-    asked_with : (op : Op) (stripe : ℕ) (own : Answer) → IsAsked c stripe op x w.table w.locks own y w'.table locks' → ListsAsk Right (state_of w) (Ask c op) (unless_busy own) (state_of w')
+    asked_with : (op : Op) (stripe : ℕ) (own : Answer) → IsAsked c stripe op (reach x w.table w.locks) own (reach y w'.table locks') → ListsAsk Right (state_of w) (Ask c op) (unless_busy own) (state_of w')
     asked_with op stripe answers.Asked is = let lists = asked op stripe answers.Asked is in record { nodes = lists.nodes; stamp = lists.stamp }
     asked_with op stripe (answers.Busy holder) is = let lists = asked op stripe (answers.Busy holder) is in record { nodes = lists.nodes; stamp = lists.stamp }
     asked_with op stripe (answers.Refused StaleWord) is = absurd (not_stale op is.0)
-    asked_with op stripe (answers.Refused _) is = record { nodes = same w w' is.2; stamp = ap last_of is.2 }
+    asked_with op stripe (answers.Refused _) is = record { nodes = same w w' (tables is.2); stamp = ap last_of (tables is.2) }
     asked_with op stripe _ is = absurd is
 
-    asked_by : (claim : Claim) (op : Op) (stripe : ℕ) (answer : Answer) → AsksBy claim c stripe op x w.table w.locks answer y w'.table locks' → ListsBy claim (state_of w) (Ask c op) answer (state_of w')
+    asked_by : (claim : Claim) (op : Op) (stripe : ℕ) (answer : Answer) → AsksBy claim c stripe op (reach x w.table w.locks) answer (reach y w'.table locks') → ListsBy claim (state_of w) (Ask c op) answer (state_of w')
     asked_by Lock op stripe answer is = asked op stripe answer is
     asked_by Right op stripe answer is = subst (λ a. ListsAsk Right (state_of w) (Ask c op) a (state_of w')) (sym is.1) (asked_with op stripe is.0 is.2)
     asked_by claim op stripe answer is =
         subst (λ a. ListsAsk claim (state_of w) (Ask c op) a (state_of w')) (sym is.0)
-        (record { nodes = same w w' is.2; stamp = ap last_of is.2 })
+        (record { nodes = same w w' (tables is.1); stamp = ap last_of (tables is.1) })
 
-    acted : (answer : Answer) → ActsIn c x w.table w.locks answer y w'.table locks' → Lists (state_of w) (Act c) answer (state_of w')
-    acted answers.Again is = record { nodes = same w w' is.1.table; rises = rises; stamp = ap last_of is.1.table }
+    acted : (answer : Answer) → ActsIn c (reach x w.table w.locks) answer (reach y w'.table locks') → Lists (state_of w) (Act c) answer (state_of w')
+    acted answers.Again is = record { nodes = same w w' (tables is.2); rises = rises; stamp = ap last_of (tables is.2) }
     acted (answers.Done reply) is = record { nodes = done w' reply y is.0; rises = rises; stamp = is.0.does.last }
     acted answers.Undone is = record { nodes = undone w' y is.1; rises = rises; stamp = is.1.back.last }
-    acted (answers.Returned n) is = record { nodes = same w w' is.2; rises = rises; stamp = ap last_of is.2 }
+    acted (answers.Returned n) is = record { nodes = same w w' (tables is.2); rises = rises; stamp = ap last_of (tables is.2) }
     acted answers.Aborted is = record { nodes = same w w' is.2; rises = rises; stamp = ap last_of is.2 }
     acted _ is = absurd is
 
@@ -228,16 +231,16 @@ module _ (w : World) (tells : Tells w) (c : ℕ) (x : Session) (at : slice_get w
 -- is a lock, and `claimed` is about a step with any claim.
 module _ (w : World) (tells : Tells w) (x : Session) (w' : World) (y : Session) (locks' : List (Option ℕ)) (rises : table_changes w.table ≤ table_changes w'.table) where
   locked : NamesDummies w.table → (stripes : ℕ) (step : Step) → slice_get w.sessions (caller_in (owner_of step)) ≡ Some x
-      → (answer : Answer) → HasEffect Lock stripes w.counts step x w.table w.locks answer y w'.table locks'
+      → (answer : Answer) → HasEffect Lock stripes w.counts step (reach x w.table w.locks) answer (reach y w'.table locks')
       → Lists (state_of w) step answer (state_of w')
-  locked home stripes (Begin c) at (answers.Began n) is = record { nodes = same w w' is.2; rises = rises; stamp = ap last_of is.2 }
+  locked home stripes (Begin c) at (answers.Began n) is = record { nodes = same w w' (tables is.1); rises = rises; stamp = ap last_of (tables is.1) }
   locked home stripes (Ask c op) at answer is = asked w tells c x at w' y locks' rises op (stripe_of stripes (key_of op)) answer is
   locked home stripes (Seek c) at answers.Placed is =
       record { nodes = sought_key w tells c x at w' y home is.0; rises = rises; stamp = is.0.places.keeps.last }
   locked home stripes (Act c) at answer is = acted w tells c x at w' y locks' rises answer is
-  locked home stripes (Save c) at (answers.Saved n) is = record { nodes = same w w' is.1; rises = rises; stamp = ap last_of is.1 }
-  locked home stripes (Save c) at _ is = record { nodes = same w w' is.1; rises = rises; stamp = ap last_of is.1 }
-  locked home stripes (Back c n) at answers.Leaving is = record { nodes = same w w' is.1; rises = rises; stamp = ap last_of is.1 }
+  locked home stripes (Save c) at (answers.Saved n) is = record { nodes = same w w' (tables is.1); rises = rises; stamp = ap last_of (tables is.1) }
+  locked home stripes (Save c) at _ is = record { nodes = same w w' (tables is.1); rises = rises; stamp = ap last_of (tables is.1) }
+  locked home stripes (Back c n) at answers.Leaving is = record { nodes = same w w' (tables is); rises = rises; stamp = ap last_of (tables is) }
   locked home stripes (Commit c) at (answers.Committed p) is =
       record { nodes = rested w w' is.1.rests.nodes; rises = rises; stamp = is.1.rests.last }
   locked home stripes (Abort c) at answers.Leaving is = record { nodes = rested w w' is.0.rests.nodes; rises = rises; stamp = is.0.rests.last }
@@ -245,7 +248,7 @@ module _ (w : World) (tells : Tells w) (x : Session) (w' : World) (y : Session) 
 
   claimed : NamesDummies w.table → (claim : Claim) (stripes : ℕ) (step : Step) → slice_get w.sessions (caller_in (owner_of step)) ≡ Some x
       → IsClaim claim (state_of w) step → (answer : Answer)
-      → HasEffect claim stripes w.counts step x w.table w.locks answer y w'.table locks'
+      → HasEffect claim stripes w.counts step (reach x w.table w.locks) answer (reach y w'.table locks')
       → ListsBy claim (state_of w) step answer (state_of w')
   claimed home Lock stripes step at claims answer is = locked home stripes step at answer is
   claimed home claim stripes (Ask c op) at claims answer is =
@@ -254,7 +257,7 @@ module _ (w : World) (tells : Tells w) (x : Session) (w' : World) (y : Session) 
 
   pub does : NamesDummies w.table → (claim : Claim) (stripes c : ℕ) → slice_get w.sessions c ≡ Some x → (step : Step)
       → owner_of step ≡ Some (Caller c) → IsClaim claim (state_of w) step → (answer : Answer)
-      → HasEffect claim stripes w.counts step x w.table w.locks answer y w'.table locks'
+      → HasEffect claim stripes w.counts step (reach x w.table w.locks) answer (reach y w'.table locks')
       → ListsBy claim (state_of w) step answer (state_of w')
   does home claim stripes c at step owner claims answer is =
       claimed home claim stripes step (subst (λ k. slice_get w.sessions k ≡ Some x) (sym (ap caller_in owner)) at) claims answer is

@@ -1,6 +1,6 @@
 -- Besides its history, the core has counts of transactions and of the entries that are owed. It
 -- also notes which callers have begun.
-use Rattle.std.proofs.Common.{◌≡◌, ◌+◌, ◌≤◌, ℕ, Bool, true, false, Result, Ok, Err, List, length, arith, is_err, OnOk, OnErr, suc, [], ◌∷◌, Some, refl, sym, ap, ◌∙◌, slice_get, sum_by, ◌<◌, ◌||◌, ◌++◌, replicate, Option, None, option_to_list, lt-ltb, append-nil, length-set, get_or-set_same, get_or-set_other, inl, inr}
+use Rattle.std.proofs.Common.{◌≡◌, ◌+◌, ◌≤◌, ℕ, Bool, true, false, Result, Ok, Err, List, length, arith, is_err, OnOk, OnErr, suc, [], ◌∷◌, Some, refl, sym, ap, ◌∙◌, slice_get, sum_by, ◌<◌, ◌++◌, replicate, Option, None, option_to_list, lt-ltb, append-nil, length-set, get_or-set_same, get_or-set_other, inl, inr}
 use Rattle.boost_core.proofs.Vocabulary.{length-filter, count_by-le-length, Entry, is_began, is_commit, how_many, World, Tells, range_with_len, sum_by-cons, seat_after, own, owed_by, owed, owed_of, or-false, cases_eq, cases_lt, or_right, length-replicate, get_or-replicate, get_or_past, caller_of, Began, has_begun, has_begun-own, has_begun-other}
 use Rattle.boost_core.specs.Begun.{begun_with, AreNoted}
 

@@ -1,6 +1,6 @@
 -- The steps that begin or end a transaction, set a savepoint or return to one.
 use Rattle.std.proofs.Common.{◌≡◌, ℕ, ◌+◌, true, false, cond, List, [], ◌∷◌, ◌++◌, length, take, Option, Some, None, refl, sym, ap, ◌∙◌, add-one, arith, slice_get, slice_set, slice_index, map, nat_eq, nat_lt, not, eq-eqb, leb-false, ltb-false}
-use Rattle.boost_core.proofs.Vocabulary.{option_eq, false≢true, and_from, serial, now, holder_of, log_of, Phase, Closed, Opened, Waiting, LeavingTo, LeavingToEnd, Seat, closed_seat, Next, kept_at, TableAt, map_of, Releases, Session, seat_in, holder_by, refusal_of, is_closed, is_waiting, is_leaving, has_job, is_back_at, is_at_end, World, Tells, state_of, session_changes, side_of, changes_of, StaysIn, SavesIn, ReturnsIn, EndsIn, SettlesIn, WithdrawsIn}
+use Rattle.boost_core.proofs.Vocabulary.{option_eq, false≢true, and_from, serial, now, holder_of, log_of, Phase, Closed, Opened, Waiting, LeavingTo, LeavingToEnd, Seat, closed_seat, Next, kept_at, TableAt, map_of, Releases, Session, seat_in, holder_by, refusal_of, is_closed, is_waiting, is_leaving, has_job, is_back_at, is_at_end, World, Tells, state_of, session_changes, Side, side_of, changes_of, SavesIn, ReturnsIn, EndsIn, SettlesIn, WithdrawsIn}
 use Rattle.txn_trace.proofs.Settled.{settled}
 use Rattle.boost_core.proofs.Numbers.{no_more}
 use Rattle.boost_core.proofs.Moves.{none_dropped}
@@ -14,18 +14,18 @@ use Rattle.txn_trace.proofs.Entries as laws
 
 module _ (w : World) (tells : Tells w) (c : ℕ) (x : Session) (at : slice_get w.sessions c ≡ Some x) where
   -- The step `Begin`.
-  pub begun : refusal_of (state_of w) (steps.Begin c) ≡ None → (n : ℕ) (y : Session) → n ≡ w.counts.began + 1 → StaysIn x y → Called w c x (steps.Begin c) (answers.Began n) y w.table w.locks
-  begun none n y number stays =
+  pub begun : refusal_of (state_of w) (steps.Begin c) ≡ None → (n : ℕ) → n ≡ w.counts.began + 1 → Called w c x (steps.Begin c) (answers.Began n) x w.table w.locks
+  begun none n number =
       let closed = begin_closed w.limits.half x.seat.seat c (seat_free w tells c x at (steps.Begin c) refl none) in
       let level = level_in w tells c x at Closed closed in
       let empty : x.log.jobs ≡ [] = no_jobs x.log.jobs (let same = (tells.seated c x at).agrees.standing in let nil = level.0 in omega arith) in
       let numbered = number ∙ ap (λ k. k + 1) tells.begins in
-      entered w c x y w.table w.locks (steps.Begin c) (answers.Began n) (entry.Began c n) (map session_changes w.sessions) refl refl refl
+      entered w c x x w.table w.locks (steps.Begin c) (answers.Began n) (entry.Began c n) (map session_changes w.sessions) refl refl refl
       (none_dropped w.sessions c x at (idle_cursor w tells c x at Closed closed refl)) (none, numbered) refl
-      (quiet w tells c x at (entry.Began c n) y (record closed_seat { phase = Opened }) x.log.kept [] (serial w.history)
+      (quiet w tells c x at (entry.Began c n) x (record closed_seat { phase = Opened }) x.log.kept [] (serial w.history)
       (λ s. holder_of w.limits.stripes s w.history) w.locks (record { began = n; committed = w.counts.committed })
       (laws.began w.limits.stripes w.history tells.legal c n x.seat.seat (tells.seated c x at).seat closed numbered) (ap changes_of (sym empty))
-      refl (λ is. absurd (false≢true is)) (sym level.1 ∙ (tells.seated c x at).agrees.kept) refl (nothing_waits w tells c x at Closed closed refl) (idle_cursor w tells c x at Closed closed refl) stays.becomes
+      refl (λ is. absurd (false≢true is)) (sym level.1 ∙ (tells.seated c x at).agrees.kept) refl (nothing_waits w tells c x at Closed closed refl) (idle_cursor w tells c x at Closed closed refl) refl
       number (no_more w.counts.committed) refl tells.holders)
 
   -- The step `Save`.
@@ -48,17 +48,17 @@ module _ (w : World) (tells : Tells w) (c : ℕ) (x : Session) (at : slice_get w
       (no_more w.counts.began) (no_more w.counts.committed) refl tells.holders)
 
   -- The step `Back`.
-  pub left : (n : ℕ) → refusal_of (state_of w) (steps.Back c n) ≡ None → (y : Session) → y ≡ record x { cursor = None } → Called w c x (steps.Back c n) answers.Leaving y w.table w.locks
-  left n none y is =
+  pub left : (n : ℕ) → refusal_of (state_of w) (steps.Back c n) ≡ None → Called w c x (steps.Back c n) answers.Leaving (record x { cursor = None }) w.table w.locks
+  left n none =
       let free = back_open w.limits.half x.seat.seat c n (seat_free w tells c x at (steps.Back c n) refl none) in
       let no_cursor = idle_cursor w tells c x at Opened free.0 refl in
-      entered w c x y w.table w.locks (steps.Back c n) answers.Leaving (entry.Leave c (Some n))
+      entered w c x (record x { cursor = None }) w.table w.locks (steps.Back c n) answers.Leaving (entry.Leave c (Some n))
       (slice_set (map session_changes w.sessions) c None) refl refl refl refl (none, tt) refl
-      (quiet w tells c x at (entry.Leave c (Some n)) y
+      (quiet w tells c x at (entry.Leave c (Some n)) (record x { cursor = None })
       (record { phase = LeavingTo n; standing = x.seat.seat.standing; kept = x.seat.seat.kept }) x.log.kept (log_of c w.history)
       (serial w.history) (λ s. holder_of w.limits.stripes s w.history) w.locks w.counts
       (laws.left_to w.limits.stripes w.history tells.legal c n x.seat.seat (tells.seated c x at).seat free.0 (leb-false (length x.seat.seat.kept) n free.1)) (tells.seated c x at).log
-      refl (λ saved. absurd (false≢true saved)) (tells.seated c x at).agrees.kept refl (nothing_waits w tells c x at Opened free.0 refl) no_cursor (ap side_of is ∙ (λ i. record (side_of x) { cursor = sym no_cursor i }))
+      refl (λ saved. absurd (false≢true saved)) (tells.seated c x at).agrees.kept refl (nothing_waits w tells c x at Opened free.0 refl) no_cursor (λ i. record (side_of x) { cursor = sym no_cursor i })
       (no_more w.counts.began) (no_more w.counts.committed) refl tells.holders)
 
   -- The step `Commit`.
@@ -85,8 +85,7 @@ module _ (w : World) (tells : Tells w) (c : ℕ) (x : Session) (at : slice_get w
         content = ap map_of settles.rests.nodes.regular ∙ tells.content;
         apart = λ d other k held. refl;
         placed = settles.rests.placed;
-        spares = λ others covered place stamp.
-            sym (no_more (others place stamp)) ∙ settles.spares others (λ p s. omega (arith, rw nothing at (covered p s))) place stamp;
+        spares = λ others covered. rw (ap (λ (side : Side). side.jobs) settles.becomes) at (settles.spares others (λ p s. omega (arith, rw nothing at (covered p s))));
         buckets = settles.rests.nodes.buckets;
         begins = no_more w.counts.began;
         commits = number;
@@ -142,7 +141,7 @@ module _ (w : World) (tells : Tells w) (c : ℕ) (x : Session) (at : slice_get w
     none_above q is = ap (λ p. has_job (record { phase = p; standing = length x.log.jobs; kept = 0 ∷ x.log.kept })) (sym is) ∙ ap has_job (sym seat_is) ∙ no_job
 
     -- The caller is back at level `n`.
-    pub returned : (n : ℕ) (y : Session) → ReturnsIn n x w.locks y w.locks → Called w c x (steps.Act c) (answers.Returned n) y w.table w.locks
+    pub returned : (n : ℕ) (y : Session) → ReturnsIn n x y → Called w c x (steps.Act c) (answers.Returned n) y w.table w.locks
     returned n y returns =
         let level = level_in w tells c x at (LeavingTo n) returns.phase in
         let more : nat_lt (kept_at x.log.kept n) (length x.log.jobs) ≡ false = none_above (LeavingTo n) returns.phase in

@@ -1,6 +1,6 @@
 -- The steps that a caller may take if its side fits the table.
-use Rattle.std.proofs.Common.{◌≡◌, ℕ, ◌+◌, ◌-◌, ◌<◌, ◌&&◌, ◌||◌, Bool, true, false, List, [], ◌∷◌, ◌++◌, length, Option, Some, is_some, refl, sym, ap, subst, ◌∙◌, arith, slice_get, map, reverse, nat_lt, not, ltb-true}
-use Rattle.boost_core.proofs.Vocabulary.{not-false, or_right, false≢true, slice_get-get_or, Phase, Waiting, LeavingTo, LeavingToEnd, MapJob, PendingAt, TableAt, Cursor, content, reverse-append, length_push, get_or_push, is_waiting, has_job, has_target, LogAt, kept_at, newest_above, Session, level_of, Waits, key_of_newest, target_in, target_of, change_of, changes_of, AreDue, IsPlacedFor, IsSoughtAt, GoesWith, CanUndo}
+use Rattle.std.proofs.Common.{◌≡◌, ℕ, ◌-◌, ◌<◌, ◌&&◌, Bool, true, false, List, [], ◌∷◌, ◌++◌, length, Option, Some, is_some, refl, sym, ap, subst, ◌∙◌, arith, slice_get, map, reverse, nat_lt, not, ltb-true}
+use Rattle.boost_core.proofs.Vocabulary.{not-false, or_right, false≢true, slice_get-get_or, Phase, Waiting, LeavingTo, LeavingToEnd, MapJob, PendingAt, TableAt, Cursor, content, reverse-append, length_push, get_or_push, is_waiting, has_job, has_target, LogAt, kept_at, newest_above, Session, level_of, Waits, key_of_newest, target_in, target_of, change_of, changes_of, AreDue, IsSoughtAt, GoesWith, CanUndo}
 use Rattle.txn_trace.proofs.Seated.{the_some}
 use Rattle.boost_core.proofs.Spares.{newest_owned}
 
@@ -77,7 +77,7 @@ module _ (x : Session) (t : TableAt) (goes : GoesWith x t) where
           cursor = cursor.0;
           newest = newest.1;
           had = cursor.1;
-          placed = subst (IsPlacedFor t cursor.0) (going_target x.seat.seat.phase x.log gone.0 ∙ ap key_of_newest newest.1) (subst (λ (o : Option Cursor). IsSoughtAt t o (target_of x)) cursor.1 goes.sought);
+          placed = subst (IsSoughtAt t (Some cursor.0)) (going_target x.seat.seat.phase x.log gone.0 ∙ ap key_of_newest newest.1) (subst (λ (o : Option Cursor). IsSoughtAt t o (target_of x)) cursor.1 goes.sought);
           due = (subst (λ (js : List MapJob). AreDue (content t) js) (ap reverse last.is ∙ reverse-append last.front (last.job ∷ [])) goes.due).0;
           owned = newest_owned t x.log.jobs last.front last.job last.is goes.settles.0 goes.settles.1;
         }

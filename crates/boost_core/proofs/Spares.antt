@@ -1,6 +1,6 @@
 -- Spares that are given out, kept by callers, and given up.
 use Rattle.std.proofs.Common.{◌≡◌, ◌≢◌, ℕ, ◌+◌, ◌≤◌, ◌==◌, ◌&&◌, Bool, true, false, cond, Option, Some, None, refl, sym, ap, ◌∙◌, arith, nat_eq, eq-eqb, ne_eqb, inl, inr, ◌-◌, ◌^◌, ◌||◌, is_some, not, ◌⊎◌, ◌<◌, List, [], ◌∷◌, ◌++◌, length, length-append, option_to_list, append-nil}
-use Rattle.boost_core.proofs.Vocabulary.{and_right, option_eq, cases_eq, and_from, same_option, same_is, TableAt, SpareAt, KeepsSpares, spare_out, Spends, GivesSpare, OwnsIf, times_of, times_out, IsCovered, last_of, GivesFor, sum_by_push, cases_lt, false≢true, MapJob, Follows, spare_of_job, GivesBack, times_in, Rests, cases_Bool, Op, Put, Take, Get, PutIf, get, Map, Unput, Restore, Relink, unput, relink, job_of, SpendsFor, KeepsBuckets, KeepsNodes}
+use Rattle.boost_core.proofs.Vocabulary.{and_right, option_eq, cases_eq, and_from, same_option, same_is, TableAt, SpareAt, KeepsSpares, spare_out, Spends, GivesSpare, OwnsIf, times_of, times_out, IsCovered, IsCoveredWith, StaysCovered, last_of, GivesFor, sum_by_push, cases_lt, false≢true, MapJob, Follows, spare_of_job, GivesBack, times_in, Rests, cases_Bool, Op, Put, Take, Get, PutIf, get, Map, Unput, Restore, Relink, unput, relink, job_of, SpendsFor, KeepsBuckets, KeepsNodes}
 use Rattle.boost_core.proofs.Numbers.{no_more}
 
 -- A table gives a spare out at most once.
@@ -41,7 +41,7 @@ times_is : (spare : SpareAt) (place stamp : ℕ) → place ≡ spare.place → s
 times_is spare place stamp at is = ap (λ (p : ℕ). times_of (Some spare) p stamp) at ∙ ap (λ (s : ℕ). times_of (Some spare) spare.place s) is ∙ times_here spare
 
 -- After a spare is given up, the spares that are out are exactly the other kept spares.
-pub spent : (t t' : TableAt) (spare : Option SpareAt) (others : ℕ → ℕ → ℕ) → Spends t t' spare → IsCovered (λ place stamp. others place stamp + times_of spare place stamp) t → IsCovered others t'
+pub spent : (t t' : TableAt) (spare : Option SpareAt) (others : ℕ → ℕ → ℕ) → Spends t t' spare → IsCoveredWith others (times_of spare) t → IsCovered others t'
 spent t t' None others is covered place stamp = omega (arith, times_same t t' place stamp (is place), covered place stamp)
 spent t t' (Some spare) others is covered place stamp = elim (cases_eq place spare.place) [
   | inr other ↦ omega (arith, times_same t t' place stamp (is.1 place other), covered place stamp, times_away spare place stamp (λ e. other (sym e)))
@@ -56,7 +56,7 @@ spent t t' (Some spare) others is covered place stamp = elim (cases_eq place spa
 
 -- After a new spare is given, the spares that are out are exactly this spare and the other kept
 -- spares.
-pub given : (t t' : TableAt) (spare : SpareAt) (others : ℕ → ℕ → ℕ) → GivesSpare t t' spare → IsCovered others t → IsCovered (λ place stamp. others place stamp + times_of (Some spare) place stamp) t'
+pub given : (t t' : TableAt) (spare : SpareAt) (others : ℕ → ℕ → ℕ) → GivesSpare t t' spare → IsCovered others t → IsCoveredWith others (times_of (Some spare)) t'
 given t t' spare others gives covered place stamp = elim (cases_eq place spare.place) [
   | inr other ↦ omega (arith, times_same t t' place stamp (gives.others place other), covered place stamp, times_away spare place stamp (λ e. other (sym e)))
   | inl here ↦
@@ -91,7 +91,7 @@ pub record Given (t t' : TableAt) (takes : Bool) (spare : Option SpareAt) : Type
   pub last : last_of t' ≡ cond takes (last_of t + 1) (last_of t)
   pub rises : last_of t ≤ last_of t'
   pub most : last_of t' ≤ last_of t + 1
-  pub covered : (others : ℕ → ℕ → ℕ) → IsCovered others t → IsCovered (λ place stamp. others place stamp + times_of spare place stamp) t'
+  pub covered : (others : ℕ → ℕ → ℕ) → IsCovered others t → IsCoveredWith others (times_of spare) t'
 
 -- `GivesFor` implies `Given`, both with a spare and without one.
 pub given_for : (t t' : TableAt) (takes : Bool) (spare : Option SpareAt) → GivesFor t t' takes spare → Given t t' takes spare
@@ -147,14 +147,14 @@ pub times_pushed : (jobs jobs' : List MapJob) (job : MapJob) (place stamp : ℕ)
 times_pushed jobs jobs' job place stamp is = ap (λ js. times_in js place stamp) is ∙ times_more jobs' job place stamp
 
 -- The spare of the newest job belongs to the table.
-pub newest_owned : (t : TableAt) (jobs jobs' : List MapJob) (job : MapJob) → jobs ≡ jobs' ++ job ∷ [] → (others : ℕ → ℕ → ℕ) → IsCovered (λ place stamp. others place stamp + times_in jobs place stamp) t → OwnsIf t (spare_of_job job)
+pub newest_owned : (t : TableAt) (jobs jobs' : List MapJob) (job : MapJob) → jobs ≡ jobs' ++ job ∷ [] → (others : ℕ → ℕ → ℕ) → IsCoveredWith others (times_in jobs) t → OwnsIf t (spare_of_job job)
 newest_owned t jobs jobs' job is others covered =
     owns_if t (spare_of_job job) (λ place stamp. others place stamp + times_in jobs place stamp) (λ place stamp. omega (arith, times_pushed jobs jobs' job place stamp is)) covered
 
 -- After the newest job is removed and its spare is given back, the spares that are out are still
 -- exactly those that are kept.
 pub popped_covered : (t t' : TableAt) (jobs jobs' : List MapJob) (job : MapJob) → jobs ≡ jobs' ++ job ∷ [] → GivesBack t t' (spare_of_job job)
-    → (others : ℕ → ℕ → ℕ) → IsCovered (λ place stamp. others place stamp + times_in jobs place stamp) t → IsCovered (λ place stamp. others place stamp + times_in jobs' place stamp) t'
+    → StaysCovered t (times_in jobs) t' (times_in jobs')
 popped_covered t t' jobs jobs' job is back others covered =
     spent t t' (spare_of_job job) (λ place stamp. others place stamp + times_in jobs' place stamp) back.spares
     (λ place stamp. omega (arith, times_pushed jobs jobs' job place stamp is, covered place stamp))
@@ -192,8 +192,7 @@ relinked m (PutIf k expected w) j v kept spare is = elim (cases_Bool (option_eq 
 
 -- The spares that a caller keeps after its operation is done.
 spent_covered : (t t' : TableAt) (spare : Option SpareAt) (jobs jobs' : List MapJob) → ((place stamp : ℕ) → times_in jobs' place stamp ≡ times_in jobs place stamp + 0) → Spends t t' spare
-    → (others : ℕ → ℕ → ℕ) → IsCovered (λ place stamp. others place stamp + (times_of spare place stamp + times_in jobs place stamp)) t
-    → IsCovered (λ place stamp. others place stamp + (0 + times_in jobs' place stamp)) t'
+    → StaysCovered t (λ place stamp. times_of spare place stamp + times_in jobs place stamp) t' (λ place stamp. 0 + times_in jobs' place stamp)
 spent_covered t t' spare jobs jobs' same spends others covered place stamp =
     omega (arith, same place stamp, spent t t' spare (λ p s. others p s + times_in jobs p s) spends (λ p s. omega (arith, covered p s)) place stamp)
 
@@ -201,15 +200,13 @@ pub times_unchanged : (jobs : List MapJob) (place stamp : ℕ) → times_in (job
 times_unchanged jobs place stamp = ap (λ (js : List MapJob). times_in js place stamp) (append-nil jobs) ∙ no_more (times_in jobs place stamp)
 
 relinked_covered : (t t' : TableAt) (spare : Option SpareAt) (kept : SpareAt) (k old : ℕ) (jobs : List MapJob) → spare ≡ Some kept → KeepsSpares t t'
-    → (others : ℕ → ℕ → ℕ) → IsCovered (λ place stamp. others place stamp + (times_of spare place stamp + times_in jobs place stamp)) t
-    → IsCovered (λ place stamp. others place stamp + (0 + times_in (jobs ++ Relink k old kept ∷ []) place stamp)) t'
+    → StaysCovered t (λ place stamp. times_of spare place stamp + times_in jobs place stamp) t' (λ place stamp. 0 + times_in (jobs ++ Relink k old kept ∷ []) place stamp)
 relinked_covered t t' spare kept k old jobs is spends others covered place stamp =
     let exact = still_covered t t' (λ p s. others p s + (times_of spare p s + times_in jobs p s)) spends covered place stamp in
     omega (arith, rw is at exact, times_more jobs (Relink k old kept) place stamp)
 
 pub done_covered : (t t' : TableAt) (spare : Option SpareAt) (job : Option MapJob) (jobs : List MapJob) (m : Map) (op : Op) → job ≡ job_of m op spare → SpendsFor t t' spare job
-    → (others : ℕ → ℕ → ℕ) → IsCovered (λ place stamp. others place stamp + (times_of spare place stamp + times_in jobs place stamp)) t
-    → IsCovered (λ place stamp. others place stamp + (0 + times_in (jobs ++ option_to_list job) place stamp)) t'
+    → StaysCovered t (λ place stamp. times_of spare place stamp + times_in jobs place stamp) t' (λ place stamp. 0 + times_in (jobs ++ option_to_list job) place stamp)
 done_covered t t' spare None jobs m op is spends others covered = spent_covered t t' spare jobs (jobs ++ []) (times_unchanged jobs) spends others covered
 done_covered t t' spare (Some (Unput k)) jobs m op is spends others covered = spent_covered t t' spare jobs (jobs ++ Unput k ∷ []) (times_more jobs (Unput k)) spends others covered
 done_covered t t' spare (Some (Restore k old)) jobs m op is spends others covered = spent_covered t t' spare jobs (jobs ++ Restore k old ∷ []) (times_more jobs (Restore k old)) spends others covered

@@ -1,6 +1,6 @@
 -- No step of a caller unlinks an unmarked node or touches the buckets or the helpers.
-use Rattle.std.proofs.Common.{◌≡◌, ℕ, Bool, true, false, List, Option, Some, None, refl, sym, ap, subst, ◌∙◌, nat_eq}
-use Rattle.boost_core.proofs.Vocabulary.{option_eq, regular_at, IsSpread, Op, Put, Take, Get, PutIf, Step, Answer, MapJob, Unput, Restore, Relink, NodeAt, Listing, TableAt, SpareAt, KeepsNodes, nodes_of, LinksNode, MarksNode, WritesNode, WritesNothing, OpWrites, PutWrites, PutIfWrites, TakeWrites, JobWrites, node_for, Claim, Lock, Right, Session, Counts, HasEffect, ActsIn, IsAsked, AsksBy, Abort, Act, Ask, Back, Begin, Commit, Save, Seek}
+use Rattle.std.proofs.Common.{◌≡◌, ℕ, Bool, true, false, Option, Some, None, refl, sym, ap, subst, nat_eq}
+use Rattle.boost_core.proofs.Vocabulary.{option_eq, regular_at, IsSpread, Op, Put, Take, Get, PutIf, Step, Answer, MapJob, Unput, Restore, Relink, NodeAt, Listing, TableAt, SpareAt, KeepsNodes, nodes_of, LinksNode, MarksNode, WritesNode, WritesNothing, OpWrites, PutWrites, PutIfWrites, TakeWrites, JobWrites, node_for, Claim, Lock, Right, Session, Reach, Counts, HasEffect, ActsIn, IsAsked, AsksBy, Abort, Act, Ask, Back, Begin, Commit, Save, Seek}
 use Rattle.boost_core.proofs.GapLists.{Stay, stay_same, stay_changed, stay_linked, stay_sought}
 use Rattle.boost_core.proofs.Spares.{nodes_then}
 use Rattle.txn_words.specs.declared.answer.Answer.TheVariants as answers
@@ -47,47 +47,47 @@ pub record Leaves (t t' : TableAt) : Type 0 where
   pub nodes : Stay (nodes_of t) (nodes_of t')
   pub buckets : t'.buckets ≡ t.buckets
 
-module _ (t t' : TableAt) (spread : IsSpread (nodes_of t')) where
-  same : t' ≡ t → Leaves t t'
-  same is = record { nodes = stay_same (nodes_of t) (nodes_of t') (ap nodes_of is); buckets = ap (λ u. u.buckets) is }
+module _ (old new : Reach) (spread : IsSpread (nodes_of new.table)) where
+  same : new.table ≡ old.table → Leaves old.table new.table
+  same is = record { nodes = stay_same (nodes_of old.table) (nodes_of new.table) (ap nodes_of is); buckets = ap (λ u. u.buckets) is }
 
-  rested : KeepsNodes t t' → Leaves t t'
-  rested keeps = record { nodes = stay_same (nodes_of t) (nodes_of t') keeps.all; buckets = keeps.buckets.all }
+  framed : (z : Session) → new ≡ record old { session = z } → Leaves old.table new.table
+  framed z is = same (ap (λ (r : Reach). r.table) is)
 
-  module _ (x y : Session) (locks locks' : List (Option ℕ)) where
-    asked : (c stripe : ℕ) (op : Op) (answer : Answer) → IsAsked c stripe op x t locks answer y t' locks' → Leaves t t'
-    asked c stripe op answers.Asked is = rested is.prepares.nodes
-    asked c stripe op (answers.Busy holder) is = rested (nodes_then t is.between t' is.prepares.nodes is.back.nodes)
-    asked c stripe op (answers.Refused refusal) is = same is.2
-    asked c stripe op _ is = absurd is
+  rested : KeepsNodes old.table new.table → Leaves old.table new.table
+  rested keeps = record { nodes = stay_same (nodes_of old.table) (nodes_of new.table) keeps.all; buckets = keeps.buckets.all }
 
-    asked_by : (claim : Claim) (c stripe : ℕ) (op : Op) (answer : Answer) → AsksBy claim c stripe op x t locks answer y t' locks'
-        → Leaves t t'
-    asked_by Lock c stripe op answer is = asked c stripe op answer is
-    asked_by Right c stripe op answer is = asked c stripe op is.0 is.2
-    asked_by _ c stripe op answer is = same is.2
+  asked : (c stripe : ℕ) (op : Op) (answer : Answer) → IsAsked c stripe op old answer new → Leaves old.table new.table
+  asked c stripe op answers.Asked is = rested is.prepares.nodes
+  asked c stripe op (answers.Busy holder) is = rested (nodes_then old.table is.between new.table is.prepares.nodes is.back.nodes)
+  asked c stripe op (answers.Refused refusal) is = framed new.session is.2
+  asked c stripe op _ is = absurd is
 
-    acted : (c : ℕ) (answer : Answer) → ActsIn c x t locks answer y t' locks' → Leaves t t'
-    acted c answers.Again is = same is.1.table
-    acted c (answers.Done reply) is =
-        record { nodes = operated t.list t'.list is.0.pending.op is.0.pending.spare _ spread is.0.writes; buckets = is.0.does.buckets.all }
-    acted c answers.Undone is = record { nodes = undone t.list t'.list is.1.job spread is.1.writes; buckets = is.1.back.buckets.all }
-    acted c (answers.Returned n) is = same is.2
-    acted c answers.Aborted is = same is.2
-    acted c _ is = absurd is
+  asked_by : (claim : Claim) (c stripe : ℕ) (op : Op) (answer : Answer) → AsksBy claim c stripe op old answer new → Leaves old.table new.table
+  asked_by Lock c stripe op answer is = asked c stripe op answer is
+  asked_by Right c stripe op answer is = asked c stripe op is.0 is.2
+  asked_by _ c stripe op answer is = framed old.session is.1
 
-    -- Each step of a caller leaves unmarked nodes linked, and buckets and helpers unchanged.
-    pub does_stay : (claim : Claim) (stripes : ℕ) (counts : Counts) (step : Step) (answer : Answer)
-        → HasEffect claim stripes counts step x t locks answer y t' locks' → Leaves t t'
-    does_stay claim stripes counts (Begin d) (answers.Began n) is = same is.2
-    does_stay claim stripes counts (Ask d op) answer is = asked_by claim d _ op answer is
-    does_stay claim stripes counts (Seek d) answers.Placed is = record {
-      nodes = subst (Stay (nodes_of t)) (sym is.0.near.nodes) (stay_sought (regular_at is.0.key) (nodes_of t) is.0.near.start);
-      buckets = is.0.places.keeps.buckets.all;
-    }
-    does_stay claim stripes counts (Act d) answer is = acted d answer is
-    does_stay claim stripes counts (Save d) answer is = same is.1
-    does_stay claim stripes counts (Back d n) answers.Leaving is = same is.1
-    does_stay claim stripes counts (Commit d) (answers.Committed p) is = rested is.1.rests.nodes
-    does_stay claim stripes counts (Abort d) answers.Leaving is = rested is.0.rests.nodes
-    does_stay claim stripes counts _ _ is = absurd is
+  acted : (c : ℕ) (answer : Answer) → ActsIn c old answer new → Leaves old.table new.table
+  acted c answers.Again is = framed new.session is.2
+  acted c (answers.Done reply) is =
+      record { nodes = operated old.table.list new.table.list is.0.pending.op is.0.pending.spare _ spread is.0.writes; buckets = is.0.does.buckets.all }
+  acted c answers.Undone is = record { nodes = undone old.table.list new.table.list is.1.job spread is.1.writes; buckets = is.1.back.buckets.all }
+  acted c (answers.Returned n) is = framed new.session is.2
+  acted c answers.Aborted is = same is.2
+  acted c _ is = absurd is
+
+  -- Each step of a caller leaves unmarked nodes linked, and buckets and helpers unchanged.
+  pub does_stay : (claim : Claim) (stripes : ℕ) (counts : Counts) (step : Step) (answer : Answer) → HasEffect claim stripes counts step old answer new → Leaves old.table new.table
+  does_stay claim stripes counts (Begin d) (answers.Began n) is = framed old.session is.1
+  does_stay claim stripes counts (Ask d op) answer is = asked_by claim d _ op answer is
+  does_stay claim stripes counts (Seek d) answers.Placed is = record {
+    nodes = subst (Stay (nodes_of old.table)) (sym is.0.near.nodes) (stay_sought (regular_at is.0.key) (nodes_of old.table) is.0.near.start);
+    buckets = is.0.places.keeps.buckets.all;
+  }
+  does_stay claim stripes counts (Act d) answer is = acted d answer is
+  does_stay claim stripes counts (Save d) answer is = framed new.session is.1
+  does_stay claim stripes counts (Back d n) answers.Leaving is = framed (record old.session { cursor = None }) is
+  does_stay claim stripes counts (Commit d) (answers.Committed p) is = rested is.1.rests.nodes
+  does_stay claim stripes counts (Abort d) answers.Leaving is = rested is.0.rests.nodes
+  does_stay claim stripes counts _ _ is = absurd is

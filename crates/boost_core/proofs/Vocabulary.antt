@@ -9,8 +9,8 @@ unfoldable pub use Rattle.boost_core.specs.Nodes.{IsInOrder}
 pub use Rattle.boost_core.specs.Plain.{Aborts, Drives, Helps, Operates, Returns, outcome_of, undoing, undone}
 pub use Rattle.boost_core.specs.Refusals.{MayLack, first_of, has_cursor, holds_dummy, has_job, has_stamp, has_stamp_for, has_target, is_closed, is_leaving, is_waiting, lacks_cursor, lacks_dummy, lacks_in, owner_of, refusal_in, refusal_of, tests_in, tests_of}
 pub use Rattle.boost_core.specs.Serves.{Linking, Serves, Storing, Sweeping, doubled}
-pub use Rattle.boost_core.specs.Sessions.{ActsIn, Agrees, AreDue, AsksBy, AsksIn, CanAct, CanArrive, CanSettle, CanUndo, HasEffect, DoesIn, Drops, EndsIn, GoesWith, IsAsked, IsIdle, IsPlacedFor, IsSought, IsSoughtAt, KeepsPlaced, MeetsIn, Rests, ReturnsIn, Saves, SavesIn, SeeksIn, SettlesIn, Side, StaysIn, MayTakeStep, TakesBackIn, Waits, WithdrawsIn, change_of, changes_of, key_of_newest, level_of, owed_of, side_of, spare_if, target_in, target_of, times_kept, unless_busy}
-pub use Rattle.boost_core.specs.Spares.{IsCovered, times_in, times_of, times_out}
+pub use Rattle.boost_core.specs.Sessions.{ActsIn, Agrees, AreDue, AsksBy, AsksIn, CanAct, CanArrive, CanSettle, CanUndo, HasEffect, DoesIn, Drops, EndsIn, GoesWith, IsAsked, IsIdle, IsSought, IsSoughtAt, KeepsPlaced, MeetsIn, Rests, ReturnsIn, Saves, SavesIn, SeeksIn, SettlesIn, Side, MayTakeStep, Reach, reach, TakesBackIn, Waits, WithdrawsIn, change_of, changes_of, key_of_newest, level_of, owed_of, side_of, spare_if, target_in, target_of, times_kept, unless_busy}
+pub use Rattle.boost_core.specs.Spares.{IsCovered, IsCoveredWith, StaysCovered, times_in, times_of, times_out}
 pub use Rattle.boost_core.specs.State.{Caller, Dummy, Gap, Help, Helper, Node, Nothing, Owner, SortKey, Sought, State, bucket_at, caller_changes, gap_for, gap_in, help_in, helper_changes, holder_by, is_set, marked_node, plain_node, seat_in, start, with_bucket}
 pub use Rattle.boost_core.specs.Whole.{IsWhole}
 pub use Rattle.boost_core.specs.Words.{Claim, Goes, Held, IsClaim, ListsAsk, ListsBy, Lock, Right, Stale, is_ask, is_taken, may_come, reserved_by, stamp_by}

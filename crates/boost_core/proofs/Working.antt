@@ -1,6 +1,6 @@
 -- The steps by which callers work on the map.
 use Rattle.std.proofs.Common.{◌≡◌, ℕ, ◌+◌, ◌-◌, ◌<◌, true, cond, List, [], ◌∷◌, ◌++◌, length, Option, Some, None, is_some, refl, sym, ap, subst, ◌∙◌, arith, slice_get, slice_set, map, reverse, slice_index, nat_lt, option_to_list, ne_eqb, ltb-true, ◌^◌, false, inl, inr, option_map}
-use Rattle.boost_core.proofs.Vocabulary.{false≢true, reverse-append, stripe_of, holder_of, TableAt, content, table_changes, serial, now, log_of, Phase, Opened, Waiting, LeavingTo, LeavingToEnd, Next, kept_at, MapJob, key_of, reply_of, after, set_at, Map, runs, is_running, changes, Seat, get-after_other, get-set_at, waiting_held, log_held, held_apart, takes_node, key_of_job, value_before, spare_of_job, PendingAt, Session, seat_in, holder_by, refusal_of, has_job, times_of, times_in, IsCovered, World, Tells, state_of, session_changes, IsReply, side_of, level_of, KeepsPlaced, Waits, spare_if, times_kept, change_of, changes_of, AreDue, DoesIn, TakesBackIn, Act, cases_eq, and_from, slice_get_within, Cursor, cursor_changes, map_of, IsPlaced, Owner, Caller, Helper, has_target, LastPlacedFits, is_just_placed, may_be_stale, target_in, target_of, IsPlacedFor, IsSoughtAt, SeeksIn, Drops, Seek}
+use Rattle.boost_core.proofs.Vocabulary.{false≢true, reverse-append, stripe_of, holder_of, TableAt, content, table_changes, serial, now, log_of, Phase, Opened, Waiting, LeavingTo, LeavingToEnd, Next, kept_at, MapJob, key_of, reply_of, after, set_at, Map, runs, is_running, changes, Seat, get-after_other, get-set_at, waiting_held, log_held, held_apart, takes_node, key_of_job, value_before, spare_of_job, PendingAt, Session, seat_in, holder_by, refusal_of, has_job, times_of, times_in, StaysCovered, World, Tells, state_of, session_changes, IsReply, side_of, level_of, KeepsPlaced, Waits, spare_if, times_kept, change_of, changes_of, AreDue, DoesIn, TakesBackIn, Act, cases_eq, and_from, slice_get_within, Cursor, cursor_changes, map_of, IsPlaced, Owner, Caller, Helper, has_target, LastPlacedFits, is_just_placed, may_be_stale, target_in, target_of, IsSoughtAt, SeeksIn, Drops, Seek}
 use Rattle.boost_core.proofs.Numbers.{no_more}
 use Rattle.boost_core.proofs.Moves.{state_is, changes_set, stale_since}
 use Rattle.boost_core.proofs.Outcomes.{Called, entered}
@@ -119,7 +119,7 @@ module _ (w : World) (tells : Tells w) (c : ℕ) (x : Session) (at : slice_get w
     key_held = (rw log_is at
         (log_held w.limits.stripes w.history tells.legal c (ap is_running (tells.seated c x at).seat ∙ going_runs x.seat.seat.phase goes.0))).0
 
-    undone_covered : (others : ℕ → ℕ → ℕ) → IsCovered (λ place stamp. others place stamp + times_kept (side_of x) place stamp) w.table → IsCovered (λ place stamp. others place stamp + times_kept (record (side_of x) { jobs = y.log.jobs }) place stamp) t'
+    undone_covered : StaysCovered w.table (times_kept (side_of x)) t' (times_kept (record (side_of x) { jobs = y.log.jobs }))
     undone_covered others covered place stamp =
         omega (
           arith,
@@ -166,7 +166,7 @@ module _ (w : World) (tells : Tells w) (c : ℕ) (x : Session) (at : slice_get w
           waits = subst (λ (s : Session). Waits x.seat.seat.phase x.pending s.log.room) (sym seeks.becomes) (tells.seated c x at).agrees.waits;
           content = ap map_of seeks.places.keeps.regular;
           placed = keeps;
-          sought = subst (λ (s : Session). IsPlacedFor t' seeks.cursor (target_in x.seat.seat.phase s.log)) (sym seeks.becomes) (subst (IsPlacedFor t' seeks.cursor) (sym seeks.target) seeks.places.placed);
+          sought = subst (λ (s : Session). IsSoughtAt t' (Some seeks.cursor) (target_in x.seat.seat.phase s.log)) (sym seeks.becomes) (subst (IsSoughtAt t' (Some seeks.cursor)) (sym seeks.target) seeks.places.placed);
           spares = λ others covered. still_covered w.table t' (λ p q. others p q + times_kept (side_of x) p q) seeks.places.spares covered;
           buckets = seeks.places.keeps.buckets;
           same_locks = refl;
@@ -186,7 +186,7 @@ module _ (w : World) (tells : Tells w) (c : ℕ) (x : Session) (at : slice_get w
       }
 
   -- The cursor did not fit, and is dropped.
-  module _ (none : refusal_of (state_of w) (Act c) ≡ None) (target : has_target x.seat.seat ≡ true) (y : Session) (drops : Drops x w.table y w.table) where
+  module _ (none : refusal_of (state_of w) (Act c) ≡ None) (target : has_target x.seat.seat ≡ true) (y : Session) (drops : Drops x w.table y) where
     not_fresh : is_just_placed (Caller c) w.placed ≡ false
     not_fresh = at_placed w.placed tells.fresh
       where
@@ -198,7 +198,7 @@ module _ (w : World) (tells : Tells w) (c : ℕ) (x : Session) (at : slice_get w
           | inr other ↦ ne_eqb c d other
         ]
 
-    has_key : (target : Option ℕ) → IsPlacedFor w.table drops.cursor target → (key : ℕ) × IsPlaced w.table drops.cursor key
+    has_key : (target : Option ℕ) → IsSoughtAt w.table (Some drops.cursor) target → (key : ℕ) × IsPlaced w.table drops.cursor key
     has_key None is = absurd is
     has_key (Some key) is = (key, is)
 
@@ -209,8 +209,8 @@ module _ (w : World) (tells : Tells w) (c : ℕ) (x : Session) (at : slice_get w
         (changes_here w tells c x at ∙ ap (option_map cursor_changes) drops.had) not_fresh
         (λ same below. false≢true (sym drops.stale ∙ placed_for.1.held (sym same) (subst (λ n. n < 2 ^ 64 - 1) same below)))
 
-    again : Called w c x (Act c) answers.Again y w.table w.locks
-    again = record {
+    pub again_called : Called w c x (Act c) answers.Again y w.table w.locks
+    again_called = record {
       comes = record {
         cursor = None;
         becomes = ap side_of drops.becomes;
@@ -230,6 +230,3 @@ module _ (w : World) (tells : Tells w) (c : ℕ) (x : Session) (at : slice_get w
       };
       fresh = λ seat'. tt;
     }
-
-  pub again_called : refusal_of (state_of w) (Act c) ≡ None → has_target x.seat.seat ≡ true → (y : Session) (t' : TableAt) → Drops x w.table y t' → Called w c x (Act c) answers.Again y t' w.locks
-  again_called none target y t' drops = subst (λ u. Called w c x (Act c) answers.Again y u w.locks) (sym drops.table) (again none target y (subst (Drops x w.table y) drops.table drops))

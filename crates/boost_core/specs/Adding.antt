@@ -1,20 +1,16 @@
 -- The requirements for adding the entry of a step, and the seat after the entry is added.
 use Rattle.std.specs.Prelude.{◌≡◌, ℕ, ◌+◌, ◌-◌, ◌<◌, ◌≤◌, ◌^◌, true, Option, Some, None, List, [], ◌∷◌}
-use Rattle.txn_words.specs.declared.entry.Entry.{Entry}
-use Rattle.txn_words.specs.Shape.{Seat, RoomySeat, row}
-use Rattle.txn_words.specs.Seats.{is_saved}
-use Rattle.txn_words.specs.Owed.{owed_in}
+use Rattle.boost_core.specs.Vocabulary.{owed_in, Entry, Seat, RoomySeat, row, is_saved}
 use Rattle.txn_words.specs.Packed.{is_small}
 
--- If an entry is added, the new seat is the one that `row` gives for this entry. If no entry is
--- added, the seat is unchanged.
+-- The seat after the entry of a step, or after none.
 abbrev pub Enters : RoomySeat → List Entry → RoomySeat → Type 0
 Enters s [] s' = s' ≡ s
 Enters s (e ∷ []) s' = row s.seat s.seat.phase e ≡ Some s'.seat
 Enters s (e ∷ f ∷ es) s' = ⊥
 
--- An entry may follow and is small. The history has room for it, and so does the seat if the entry
--- is a savepoint's. The numbers of standing changes and of entries owed are below 2^63.
+-- This entry may be added: it may follow and is small, and the seat and the history have room for
+-- it. All callers together owe `owed` entries.
 pub record CanEnter (s : RoomySeat) (len cap owed : ℕ) (e : Entry) : Type 0 where
   pub next : Seat
   pub row_is : row s.seat s.seat.phase e ≡ Some next
@@ -26,8 +22,7 @@ pub record CanEnter (s : RoomySeat) (len cap owed : ℕ) (e : Entry) : Type 0 wh
   pub owed_fits : owed < 2 ^ 63
   pub fits : owed - owed_in s.seat.standing s.seat.phase + owed_in next.standing next.phase < 2 ^ 63
 
--- The entry, if there is one, may be added. If there is none, the entries that this caller owes are
--- at most the entries owed by all.
+-- The entry, if there is one, may be added.
 abbrev pub CanAdd : RoomySeat → ℕ → ℕ → ℕ → Option Entry → Type 0
 CanAdd s len cap owed None = owed_in s.seat.standing s.seat.phase ≤ owed
 CanAdd s len cap owed (Some e) = CanEnter s len cap owed e

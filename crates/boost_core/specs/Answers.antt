@@ -1,16 +1,8 @@
 -- What the answers to steps depend on.
 use Rattle.std.specs.Prelude.{◌≡◌, ℕ, ◌*◌, ◌-◌, ◌^◌, ◌==◌, Bool, true, false, not, nat_lt, ◌&&◌, Option, Some, None}
-use Rattle.txn_words.specs.declared.answer.Answer.{Answer}
-use Rattle.txn_words.specs.declared.answer.Answer.TheVariants as answers
-use Rattle.txn_words.specs.declared.entry.Entry.{Entry}
-use Rattle.txn_words.specs.Map.{Map, count_of, reply_of}
-use Rattle.txn_trace.specs.Now.{now}
-use Rattle.txn_words.specs.declared.seat.Phase.{Phase}
-use Rattle.txn_words.specs.declared.seat.Phase.TheVariants.{Waiting, LeavingTo, LeavingToEnd}
-use Rattle.txn_trace.specs.Locks.{is_locked}
+use Rattle.boost_core.specs.Vocabulary.{Answer, Entry, Map, count_of, reply_of, now, Phase, Waiting, LeavingTo, LeavingToEnd, is_locked}
 use Rattle.boost_core.specs.State.{State, Owner, Caller, Helper, caller_changes, help_in, helper_changes, holder_by}
 
--- Whether two cursors have the same owner.
 abbrev pub is_same_owner : Owner → Owner → Bool
 is_same_owner (Caller c) (Caller d) = c == d
 is_same_owner (Helper h) (Helper i) = h == i
@@ -36,12 +28,10 @@ may_be_stale state owner = elim (owner_changes state owner) [
       && not (noted == state.changes && nat_lt noted (2 ^ 64 - 1))
 ]
 
--- The reply is the one that the waiting operation has on this map.
 abbrev pub IsReply : Phase → Map → Option ℕ → Type 0
 IsReply (Waiting op) m reply = reply ≡ reply_of m op
 IsReply phase m reply = ⊥
 
--- Whether the phase is that of going back to this level.
 abbrev pub is_back_at : ℕ → Phase → Bool
 is_back_at n (LeavingTo m) = n == m
 is_back_at n phase = false
@@ -52,14 +42,12 @@ is_at_end phase = false
 
 -- The answer to the step that ends the undoing, for a caller in this phase.
 abbrev pub end_answer : Phase → Answer
-end_answer (LeavingTo n) = answers.Returned n
-end_answer phase = answers.Aborted
+end_answer (LeavingTo n) = Answer.Returned n
+end_answer phase = Answer.Aborted
 
--- Whether the size is the one that a doubling names and is not the largest one.
 abbrev pub may_grow : State → ℕ → Bool
 may_grow state seen = state.size == seen && not (state.size == state.limits.buckets)
 
--- Whether there are more than twice as many keys as buckets.
 abbrev pub is_crowded : State → Bool
 is_crowded state = nat_lt (2 * state.size) (count_of (now state.history))
 

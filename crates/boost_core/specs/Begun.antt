@@ -1,8 +1,7 @@
 -- The callers that have begun a transaction, as the core notes them.
 use Rattle.std.specs.Prelude.{◌≡◌, ℕ, Bool, true, false, List, Option, Some, length, nat_lt, slice_index_or, slice_set, if◌then◌else◌}
-use Rattle.txn_words.specs.declared.entry.Entry.{Entry}
+use Rattle.boost_core.specs.Vocabulary.{Entry, has_begun}
 use Rattle.txn_words.specs.declared.entry.Entry.TheVariants.{Began}
-use Rattle.txn_trace.specs.Locks.{has_begun}
 
 -- The notes after a step with this entry, or with no entry.
 abbrev pub begun_with : List Bool → Option Entry → List Bool

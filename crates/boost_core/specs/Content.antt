@@ -3,8 +3,7 @@
 use Rattle.std.specs.Prelude.{◌≡◌, ℕ, List}
 use Rattle.std.specs.Ordering.{nat_cmp}
 use Rattle.std.specs.BTreeMap.{BTreeMap, get as value_at}
-use Rattle.txn_words.specs.Map.{get}
-use Rattle.txn_trace.specs.Now.{now}
+use Rattle.boost_core.specs.Vocabulary.{get, now}
 use Rattle.txn_words.specs.Ordered.{ordered}
 use Rattle.boost_core.specs.State.{State}
 

@@ -1,22 +1,10 @@
 -- The invariants of every core.
 use Rattle.std.specs.Prelude.{◌≡◌, ℕ, ◌+◌, ◌<◌, ◌≤◌, Bool, true, Option, Some, None, List, length, map, reverse, slice_get, vec_len, vec_capacity, sum_by, if◌then◌else◌}
-use Rattle.std.specs.Option.{option_map}
+use Rattle.boost_core.specs.Vocabulary.{option_map, All, Entry, Sizes, caller_of, is_began, is_commit, now, seat_after, own, how_many, log_of, holder_of, node_of, IsSound, TableAt, Cursor, NodeAt, nodes_of, content, cursor_changes, fits, size_of, stored_of, linked_of, helps_of, cursors_of, table_changes, last_of, largest_of, helper_fits}
 use Rattle.std.specs.Global.{Vec}
-use Rattle.std.specs.List.{All}
-use Rattle.txn_words.specs.declared.entry.Entry.{Entry}
-use Rattle.txn_words.specs.Sizes.{Sizes}
-use Rattle.txn_words.specs.Kinds.{caller_of, is_began, is_commit}
-use Rattle.txn_trace.specs.Now.{now}
-use Rattle.txn_words.specs.Shape.{seat_after, own, how_many}
-use Rattle.txn_trace.specs.Log.{log_of}
-use Rattle.txn_trace.specs.Locks.{holder_of}
 use Rattle.txn_trace.specs.Legal.{IsLegal}
 use Rattle.key_locks.specs.Locks.{holder_of as held_by}
-use Rattle.node_list.specs.Nodes.{node_of}
-use Rattle.node_list.specs.Sound.{IsSound}
 use Rattle.list_steps.specs.Found.{pred_of, behind}
-use Rattle.map_ops.specs.TableAt.{TableAt, Cursor, NodeAt, nodes_of, content, cursor_changes, fits, size_of, stored_of, linked_of, helps_of, cursors_of, table_changes, last_of, largest_of}
-use Rattle.map_ops.specs.Buckets.{helper_fits}
 use Rattle.boost_core.specs.declared.counts.Counts.{Counts}
 use Rattle.boost_core.specs.declared.session.Session.{Session}
 use Rattle.boost_core.specs.State.{State, Node, Gap, Owner, Caller, Helper, holder_by}
@@ -50,7 +38,6 @@ world_of limits history counts table sessions locks placed words = record {
   words = words;
 }
 
--- The change number that a session's cursor noted, if it has a cursor.
 abbrev pub session_changes : Session → Option ℕ
 session_changes s = option_map cursor_changes s.cursor
 
@@ -76,15 +63,12 @@ abbrev pub gap_if : TableAt → Option Cursor → Option Gap
 gap_if t None = None
 gap_if t (Some cursor) = gap_of t cursor
 
--- The two nodes beside each caller's cursor.
 abbrev pub gap_by : TableAt → Session → Option Gap
 gap_by t s = gap_if t s.cursor
 
--- The two nodes beside each helper's cursor.
 abbrev pub helper_gaps_of : TableAt → List (Option Gap)
 helper_gaps_of t = map (gap_if t) (cursors_of t)
 
--- The state of the machine.
 abbrev pub state_of : World → State
 state_of w = record {
   limits = w.limits;
@@ -103,8 +87,7 @@ state_of w = record {
   placed = w.placed;
 }
 
--- A caller's side, whose log has this room, agrees with the history. The seat and the changes of
--- the log are those of the history, and the changes may be taken back from the map now.
+-- A caller's side, whose log has this room, agrees with the history.
 pub record IsSeated (history : List Entry) (c : ℕ) (side : Side) (room : ℕ) : Type 0 where
   pub seat : seat_after (own c history) ≡ Some side.seat
   pub log : log_of c history ≡ changes_of side.jobs
@@ -123,8 +106,7 @@ LastPlacedFits t sessions (Some (Caller c)) =
     → fits t cursor ≡ true
 LastPlacedFits t sessions (Some (Helper h)) = helper_fits t h ≡ true
 
--- The history is legal, and the counts, the stripes' holders, the table and each caller's side are
--- those of the history.
+-- The history is legal, and all other parts agree with it.
 pub record Tells (w : World) : Type 0 where
   pub legal : IsLegal (holder_by w.words) w.limits.stripes w.history
   pub callers : All (λ entry. caller_of entry < w.limits.callers) w.history
@@ -144,8 +126,7 @@ pub record Tells (w : World) : Type 0 where
   pub helpers : length (helps_of w.table) ≡ w.limits.callers
   pub sound : IsSound w.table.list
 
--- The world is as `Tells` says. The entries that the callers owe are counted, the history has room
--- for them, and the callers that have begun are noted.
+-- The invariant of a core, also with the parts that its world leaves out.
 pub record IsAccounted (w : World) (history : Vec Entry) (owed : ℕ) (begun : List Bool) :
     Type 0 where
   pub tells : Tells w

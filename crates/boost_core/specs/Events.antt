@@ -3,19 +3,9 @@
 -- the cursors, the helpers, the linked nodes and the last stamp. The entry that it adds to the
 -- history is in `Entries.antt` of `txn_words`.
 use Rattle.std.specs.Prelude.{◌≡◌, ℕ, ◌+◌, ◌*◌, ◌==◌, ◌&&◌, ◌||◌, not, IsTrue, length, slice_set, Option, Some, None, if◌then◌else◌}
-use Rattle.split_key.specs.Sort.{regular_at, dummy_at}
-use Rattle.txn_words.specs.Kinds.{is_began, is_commit}
-use Rattle.txn_words.specs.Shape.{how_many}
+use Rattle.boost_core.specs.Vocabulary.{regular_at, dummy_at, is_began, is_commit, how_many, Op, Step, Begin, Ask, Seek, Act, Save, Back, Commit, Abort, Sweep, InitSeek, InitLink, InitStore, Double, Answer, now, log_of, takes_node, parent_of}
 use Rattle.txn_words.specs.declared.entry.Entry.TheVariants as entries
-use Rattle.txn_words.specs.declared.op.Op.{Op}
-use Rattle.txn_words.specs.declared.step.Step.{Step}
-use Rattle.txn_words.specs.declared.step.Step.TheVariants.{Begin, Ask, Seek, Act, Save, Back, Commit, Abort, Sweep, InitSeek, InitLink, InitStore, Double}
-use Rattle.txn_words.specs.declared.answer.Answer.{Answer}
 use Rattle.txn_words.specs.declared.answer.Answer.TheVariants as answers
-use Rattle.txn_trace.specs.Now.{now}
-use Rattle.txn_trace.specs.Log.{log_of}
-use Rattle.map_ops.specs.Jobs.{takes_node}
-use Rattle.map_ops.specs.Buckets.{parent_of}
 use Rattle.boost_core.specs.State.{State, Owner, Caller, Helper, Help, Nothing, Sought, Dummy, seat_in, gap_for, bucket_of, is_set, with_bucket}
 use Rattle.boost_core.specs.Refusals.{has_job, has_target, has_stamp, has_stamp_for, lacks_dummy}
 use Rattle.boost_core.specs.Answers.{may_be_stale, may_stand, may_grow, is_crowded, is_back_at, is_at_end, IsReply}
@@ -23,29 +13,23 @@ use Rattle.boost_core.specs.Nodes.{LeavesNodes, Links, Sweeps, SeeksFrom, SeeksK
 
 -- What a caller does in a step.
 pub data Deed : Type 0 where
-  -- It begins this transaction.
   Began : (transaction : ℕ) → Deed
   -- It asks for an operation whose stripe is free or is the caller's own.
   Asked : (op : Op) → Deed
   -- It asks for an operation and meets the holder of the stripe.
   Busy : (op : Op) (holder : ℕ) → Deed
-  -- It places its cursor.
   Placed : Deed
   -- It drops its cursor, which no longer fits.
   Again : Deed
-  -- It does its operation.
   Done : (reply : Option ℕ) → Deed
-  -- It takes its newest change back.
   Undone : Deed
   -- It arrives at a level.
   Returned : (level : ℕ) → Deed
   -- It arrives at the end.
   Aborted : Deed
-  -- It sets a savepoint.
   Saved : (level : ℕ) → Deed
   -- It leaves to a level, or to the end.
   Leaving : (level : Option ℕ) → Deed
-  -- It commits, with this number.
   Committed : (place : ℕ) → Deed
 
 -- What a step of the table or of a helper does.
@@ -62,20 +46,15 @@ pub data Service : Type 0 where
   Lost : (helper : ℕ) → Service
   -- The dummy that the helper sought is linked already.
   Present : (helper : ℕ) → Service
-  -- The helper links the dummy that it sought.
   Linked : (helper : ℕ) → Service
-  -- The helper stores its dummy.
   Stored : (helper : ℕ) → Service
   -- The size is not the one that was seen.
   Moved : (seen size : ℕ) → Service
-  -- The size is the largest one.
   AtLimit : (seen : ℕ) → Service
   -- The map has few keys for its size.
   Light : (seen : ℕ) → Service
-  -- The size is doubled.
   Doubled : (seen size : ℕ) → Service
 
--- A deed of a caller, or a service.
 pub data Event : Type 0 where
   By : (caller : ℕ) (deed : Deed) → Event
   Of : (service : Service) → Event
@@ -157,7 +136,6 @@ MayHappen state (Of (Doubled seen size)) =
 abbrev pub with_cursor : State → ℕ → Option ℕ → State
 with_cursor state c noted = record state { cursors = slice_set state.cursors c noted }
 
--- A state with this state of a helper.
 abbrev pub with_help : State → ℕ → Help → State
 with_help state h help = record state { helpers = slice_set state.helpers h help }
 

@@ -1,3 +1,4 @@
+pub mod Vocabulary
 pub mod State
 pub mod Refusals
 pub mod Answers

@@ -3,13 +3,9 @@
 -- is refused.
 pub use Rattle.boost_core.specs.State.{State, start, start_with_words, holder_by}
 use Rattle.std.specs.Prelude.{◌≡◌, ◌≤◌, ◌≢◌, ℕ, ◌⊎◌, List, [], ◌∷◌, ◌++◌, Option, Some, None, option_map, unwrap_or}
-use Rattle.txn_words.specs.declared.step.Step.{Step}
-use Rattle.txn_words.specs.declared.step.Step.TheVariants.{InitLink}
-use Rattle.txn_words.specs.declared.answer.Answer.{Answer}
+use Rattle.boost_core.specs.Vocabulary.{Step, InitLink, Answer, NoMemory, StampsUsedUp, Sizes}
 use Rattle.txn_words.specs.declared.answer.Answer.TheVariants as answers
-use Rattle.txn_words.specs.declared.refusal.Refusal.TheVariants.{NoMemory, StampsUsedUp}
 use Rattle.txn_words.specs.Entries.{entries_of}
-use Rattle.txn_words.specs.Sizes.{Sizes}
 use Rattle.boost_core.specs.State.{Gap, Owner, Helper, gap_for}
 use Rattle.boost_core.specs.Refusals.{refusal_of, MayLack, owner_of}
 use Rattle.boost_core.specs.Nodes.{LeavesNodes, AreNeighbours, HasFit}

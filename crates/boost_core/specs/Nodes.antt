@@ -1,18 +1,8 @@
 -- What steps do to the linked nodes and to the change number, and where the cursors of callers and
 -- helpers stand. `Events` says which event does what.
 use Rattle.std.specs.Prelude.{◌≡◌, ℕ, ◌-◌, ◌%◌, ◌<◌, Bool, true, false, not, List, [], ◌∷◌, ◌++◌, Option, Some, None, is_some, length, filter, nat_eq}
-use Rattle.std.specs.Option.{option_eq}
-use Rattle.std.specs.List.{AllByRecursion}
-use Rattle.split_key.specs.Split.{ancestor_of}
-use Rattle.split_key.specs.Sort.{IsBefore, IsNotBefore, regular_at, dummy_at}
-use Rattle.node_list.specs.Nodes.{one_more, changes_after}
-use Rattle.txn_words.specs.declared.op.Op.{Op}
+use Rattle.boost_core.specs.Vocabulary.{option_eq, AllByRecursion, ancestor_of, IsBefore, IsNotBefore, regular_at, dummy_at, one_more, changes_after, Op, Phase, Waiting, get, key_of, now, log_of}
 use Rattle.txn_words.specs.declared.op.Op.TheVariants.{Put, Take, Get, PutIf}
-use Rattle.txn_words.specs.declared.seat.Phase.{Phase}
-use Rattle.txn_words.specs.declared.seat.Phase.TheVariants.{Waiting}
-use Rattle.txn_words.specs.Map.{get, key_of}
-use Rattle.txn_trace.specs.Now.{now}
-use Rattle.txn_trace.specs.Log.{log_of}
 use Rattle.boost_core.specs.State.{State, Node, Gap, SortKey, Owner, plain_node, marked_node, seat_in, gap_for, is_set}
 
 -- Each node is before all that follow it.
@@ -20,11 +10,9 @@ unfoldable pub IsInOrder : List Node → Type 0
 IsInOrder [] = Unit {0}
 IsInOrder (n ∷ rest) = AllByRecursion (λ m. IsBefore n.at m.at) rest × IsInOrder rest
 
--- No node is marked.
 abbrev pub IsClean : List Node → Type 0
 IsClean nodes = AllByRecursion (λ n. n.marked ≡ false) nodes
 
--- The nodes and the change number are unchanged.
 pub record LeavesNodes (old new : State) : Type 0 where
   pub nodes : new.nodes ≡ old.nodes
   pub changes : new.changes ≡ old.changes
@@ -60,12 +48,10 @@ pub record Sweeps (old new : State) : Type 0 where
   pub first : IsClean front
   pub changes : new.changes ≡ one_more old.changes
 
--- There is no node, or the first is unmarked and is not before this position.
 abbrev pub StopsAt : SortKey → List Node → Type 0
 StopsAt at [] = Unit {0}
 StopsAt at (n ∷ rest) = (n.marked ≡ false) × IsNotBefore n.at at
 
--- Whether a node is unmarked.
 abbrev pub is_unmarked : Node → Bool
 is_unmarked n = not n.marked
 
@@ -91,7 +77,6 @@ pub record IsNearest (stored : List Bool) (bucket nearest : ℕ) : Type 0 where
   pub there : is_set stored nearest ≡ true
   pub nearer : (fewer : ℕ) → fewer < steps → is_set stored (ancestor_of fewer bucket) ≡ false
 
--- The key of the newest change of a log, or 0 if it has none.
 abbrev pub newest_key : List (ℕ × Option ℕ) → ℕ
 newest_key [] = 0
 newest_key (change ∷ older) = change.0
@@ -110,16 +95,13 @@ pub record SeeksKey (old new : State) (key : ℕ) : Type 0 where
   pub nearest : IsNearest old.stored (key % old.size) bucket
   pub seeks : SeeksFrom old new bucket (regular_at key)
 
--- The effect of a change at a key, by the value before it and the value after it. From none to a
--- value, a node is linked. From a value to none, the key's node is marked. From a value to a value,
--- the new value is written. From none to none, nothing is done. No other node is touched.
+-- The effect of a change at a key, by the value before it and the value after it.
 abbrev pub Changes : State → State → ℕ → Option ℕ → Option ℕ → Type 0
 Changes old new key None None = LeavesNodes old new
 Changes old new key None (Some value) = Links old new (regular_at key)
 Changes old new key (Some was) None = Marks old new (regular_at key)
 Changes old new key (Some was) (Some value) = Writes old new
 
--- The effect of a put if the Boolean is true. If it is false, nothing changes.
 abbrev pub PutsIf : State → State → ℕ → ℕ → Option ℕ → Bool → Type 0
 PutsIf old new key value before true = Changes old new key before (Some value)
 PutsIf old new key value before false = LeavesNodes old new
@@ -164,12 +146,10 @@ pub record IsBetween (gap : Gap) (at : SortKey) : Type 0 where
   pub before : IsBefore gap.before at
   pub behind : (next : SortKey) → gap.behind ≡ Some next → IsNotBefore next at
 
--- An owner has a cursor that fits.
 abbrev pub HasFit : State → Owner → Type 0
 HasFit state owner = is_some (gap_for state owner) ≡ true
 
--- The owner's cursor fits, its two nodes are unmarked neighbours, and the position of this sort key
--- is between them.
+-- The owner's cursor fits, and stands where a node of this sort key belongs.
 pub record StandsAt (state : State) (owner : Owner) (at : SortKey) : Type 0 where
   pub gap : Gap
   pub has : gap_for state owner ≡ Some gap

@@ -1,16 +1,9 @@
 -- The plain calls. Each takes steps of one caller in a row, and no step has the answer `Again`.
 use Rattle.std.specs.Prelude.{◌≡◌, ℕ, ◌%◌, zero, suc, Bool, true, false, nat_le, List, [], ◌∷◌, Option, Some, Result, Ok, Err}
-use Rattle.txn_words.specs.declared.op.Op.{Op}
-use Rattle.txn_words.specs.declared.step.Step.{Step}
-use Rattle.txn_words.specs.declared.step.Step.TheVariants.{Ask, Seek, Act, Back, Abort}
-use Rattle.txn_words.specs.declared.answer.Answer.{Answer}
-use Rattle.txn_words.specs.declared.answer.Answer.TheVariants as answers
-use Rattle.txn_words.specs.declared.refusal.Refusal.{Refusal}
-use Rattle.txn_words.specs.declared.refusal.Refusal.TheVariants.{NoSuchHelper, BadKey, NoMemory, StampsUsedUp}
+use Rattle.boost_core.specs.Vocabulary.{Op, Step, Ask, Seek, Act, Back, Abort, Answer, Refusal, NoSuchHelper, BadKey, NoMemory, StampsUsedUp}
 use Rattle.txn_drive.specs.declared.call.Call.TheVariants as calls
 use Rattle.txn_drive.specs.declared.drive.Drive.{Drive}
 use Rattle.txn_drive.specs.declared.«end».End.{End}
-use Rattle.txn_drive.specs.declared.«end».End.TheVariants as ends
 use Rattle.txn_drive.specs.Drives.{new_drive, sized_of, step_of, told_of, end_of}
 use Rattle.boost_core.specs.State.{State, seat_in, is_set}
 use Rattle.boost_core.specs.Answers.{is_at_end}
@@ -18,10 +11,10 @@ use Rattle.boost_core.specs.Machine.{Happens, Moves}
 
 -- An operation is asked for, sought and done; or the ask has another answer and is the only step.
 abbrev pub Operates : State → ℕ → Op → Answer → State → Type 0
-Operates old c op answers.Asked new = ⊥
-Operates old c op (answers.Done reply) new =
+Operates old c op Answer.Asked new = ⊥
+Operates old c op (Answer.Done reply) new =
     Moves old (Ask c op ∷ Seek c ∷ Act c ∷ [])
-    (answers.Asked ∷ answers.Placed ∷ answers.Done reply ∷ []) new
+    (Answer.Asked ∷ Answer.Placed ∷ Answer.Done reply ∷ []) new
 Operates old c op answer new = Happens old (Ask c op) answer new
 
 -- The given steps, preceded by the steps that take this number of changes back: a seek and an act
@@ -30,11 +23,10 @@ abbrev pub undoing : ℕ → ℕ → List Step → List Step
 undoing zero c steps = steps
 undoing (suc changes) c steps = undoing changes c (Seek c ∷ Act c ∷ steps)
 
--- The given answers, preceded by the answers to the steps that take this number of changes back:
--- `Placed` and `Undone` for each change.
+-- The answers to them: `Placed` and `Undone` for each change, and then the given answers.
 abbrev pub undone : ℕ → List Answer → List Answer
 undone zero others = others
-undone (suc changes) others = undone changes (answers.Placed ∷ answers.Undone ∷ others)
+undone (suc changes) others = undone changes (Answer.Placed ∷ Answer.Undone ∷ others)
 
 -- Some number of changes are taken back, and then the caller arrives at its level or at the end.
 abbrev pub Ends : State → ℕ → Answer → State → Type 0
@@ -44,25 +36,25 @@ Ends old c answer new =
 -- A caller goes back to a level: it leaves, and the undoing ends; or the first step has another
 -- answer and is the only one.
 abbrev pub Returns : State → ℕ → ℕ → Answer → State → Type 0
-Returns old c n answers.Leaving new = ⊥
-Returns old c n (answers.Returned m) new =
-    (m ≡ n) × (left : State) × Happens old (Back c n) answers.Leaving left
-    × Ends left c (answers.Returned m) new
+Returns old c n Answer.Leaving new = ⊥
+Returns old c n (Answer.Returned m) new =
+    (m ≡ n) × (left : State) × Happens old (Back c n) Answer.Leaving left
+    × Ends left c (Answer.Returned m) new
 Returns old c n answer new = Happens old (Back c n) answer new
 
 -- The step by which a caller leaves to the end. If the Boolean is true, the caller is leaving to
 -- the end already, and no step is taken.
 abbrev pub Leaves : Bool → State → ℕ → State → Type 0
 Leaves true old c left = left ≡ old
-Leaves false old c left = Happens old (Abort c) answers.Leaving left
+Leaves false old c left = Happens old (Abort c) Answer.Leaving left
 
 -- A caller aborts: it leaves to the end, and the undoing ends; or the first step has another answer
 -- and is the only one.
 abbrev pub Aborts : State → ℕ → Answer → State → Type 0
-Aborts old c answers.Leaving new = ⊥
-Aborts old c answers.Aborted new =
+Aborts old c Answer.Leaving new = ⊥
+Aborts old c Answer.Aborted new =
     (left : State) × Leaves (is_at_end (seat_in old.history c).phase) old c left
-    × Ends left c answers.Aborted new
+    × Ends left c Answer.Aborted new
 Aborts old c answer new =
     (is_at_end (seat_in old.history c).phase ≡ false) × Happens old (Abort c) answer new
 
@@ -87,14 +79,14 @@ pub record HelpsTo (outcome : End) (old : State) (c key : ℕ) (new : State) : T
 -- step is taken.
 abbrev pub Helps : State → ℕ → ℕ → Result Unit Refusal → State → Type 0
 Helps old c key (Ok done) new =
-    HelpsTo ends.Helped old c key new × (is_set new.stored (key % new.size) ≡ true)
+    HelpsTo End.Helped old c key new × (is_set new.stored (key % new.size) ≡ true)
 Helps old c key (Err NoSuchHelper) new = (nat_le old.limits.callers c ≡ true) × (new ≡ old)
-Helps old c key (Err BadKey) new = HelpsTo (ends.Refused BadKey) old c key new
-Helps old c key (Err NoMemory) new = HelpsTo (ends.Refused NoMemory) old c key new
-Helps old c key (Err StampsUsedUp) new = HelpsTo (ends.Refused StampsUsedUp) old c key new
+Helps old c key (Err BadKey) new = HelpsTo (End.Refused BadKey) old c key new
+Helps old c key (Err NoMemory) new = HelpsTo (End.Refused NoMemory) old c key new
+Helps old c key (Err StampsUsedUp) new = HelpsTo (End.Refused StampsUsedUp) old c key new
 Helps old c key (Err refusal) new = ⊥
 
 -- The result of a call for help, from the end of its drive.
 abbrev pub outcome_of : Option End → Result Unit Refusal
-outcome_of (Some (ends.Refused refusal)) = Err refusal
+outcome_of (Some (End.Refused refusal)) = Err refusal
 outcome_of outcome = Ok tt

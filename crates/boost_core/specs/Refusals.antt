@@ -1,15 +1,8 @@
 -- The refusals of each step, in their order.
 pub use Rattle.map_ops.specs.Jobs.{takes_node}
-pub use Rattle.txn_words.specs.Seats.{is_closed, is_waiting, is_leaving, has_job, has_target}
-pub use Rattle.txn_words.specs.Seats.{unready_tests, tests_in, first_of, refusal_in}
+pub use Rattle.txn_words.specs.Seats.{is_closed, is_waiting, is_leaving, has_job, has_target, unready_tests, tests_in, first_of, refusal_in}
 use Rattle.std.specs.Prelude.{ℕ, ◌^◌, ◌-◌, Bool, true, false, not, ◌==◌, ◌&&◌, ◌||◌, nat_le, IsTrue, is_some, List, [], ◌∷◌, ◌++◌, Option, Some, None}
-use Rattle.txn_words.specs.declared.op.Op.{Op}
-use Rattle.txn_words.specs.declared.step.Step.{Step}
-use Rattle.txn_words.specs.declared.step.Step.TheVariants.{Begin, Ask, Seek, Act, Save, Back, Commit, Abort, Sweep, InitSeek, InitLink, InitStore, Double}
-use Rattle.txn_words.specs.declared.refusal.Refusal.{Refusal}
-use Rattle.txn_words.specs.declared.refusal.Refusal.TheVariants.{NoSuchCaller, Unplaced, NoSuchBucket, ParentMissing, NoSuchHelper, HelperOutOfOrder, NoMemory, StampsUsedUp}
-use Rattle.txn_words.specs.Shape.{Seat}
-use Rattle.map_ops.specs.Buckets.{parent_of, LacksSegment}
+use Rattle.boost_core.specs.Vocabulary.{Op, Step, Begin, Ask, Seek, Act, Save, Back, Commit, Abort, Sweep, InitSeek, InitLink, InitStore, Double, Refusal, NoSuchCaller, Unplaced, NoSuchBucket, ParentMissing, NoSuchHelper, HelperOutOfOrder, NoMemory, StampsUsedUp, Seat, parent_of, LacksSegment}
 use Rattle.boost_core.specs.State.{State, Owner, Caller, Helper, Help, Sought, Dummy, seat_in, caller_changes, help_in, is_set, bucket_of}
 
 -- The owner of a step, if it is a caller's or a helper's.
@@ -34,18 +27,15 @@ abbrev pub lacks_in : Seat → Bool → Step → Bool
 lacks_in seat there (Act c) = has_target seat && not there
 lacks_in seat there step = false
 
--- Whether a step lacks the cursor that it acts on.
 abbrev pub lacks_cursor : State → Step → Bool
 lacks_cursor state (Act c) =
     lacks_in (seat_in state.history c) (is_some (caller_changes state.cursors c)) (Act c)
 lacks_cursor state step = false
 
--- Whether a helper has a cursor.
 abbrev pub has_cursor : Help → Bool
 has_cursor (Sought bucket noted) = true
 has_cursor help = false
 
--- Whether a helper has a dummy.
 abbrev pub holds_dummy : Help → Bool
 holds_dummy (Dummy bucket) = true
 holds_dummy help = false
@@ -71,7 +61,6 @@ tests_of state (Some (Caller c)) step =
 tests_of state (Some (Helper h)) step =
     (nat_le state.limits.callers h, NoSuchHelper) ∷ tests_at state (help_in state.helpers h) step
 
--- The refusal of a step: the refusal of the first test that holds.
 abbrev pub refusal_of : State → Step → Option Refusal
 refusal_of state step = first_of (tests_of state (owner_of step) step)
 
@@ -79,7 +68,6 @@ refusal_of state step = first_of (tests_of state (owner_of step) step)
 abbrev pub has_stamp : State → Bool
 has_stamp state = not (state.stamp == 2 ^ 64 - 2)
 
--- Whether there is a stamp for the node that an operation takes, if it takes one.
 abbrev pub has_stamp_for : State → Op → Bool
 has_stamp_for state op = not (takes_node op) || has_stamp state
 

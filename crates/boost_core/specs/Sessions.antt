@@ -1,34 +1,14 @@
 -- A caller's side, and the effects of its steps on it, on the table and on the locks.
 use Rattle.std.specs.Prelude.{◌≡◌, ℕ, ◌+◌, ◌<◌, ◌^◌, ◌≤◌, ◌⊎◌, ◌∷◌, is_some, ◌++◌, Bool, true, false, List, [], Option, Some, None, length, map, reverse, take, option_to_list}
-use Rattle.txn_words.specs.declared.op.Op.{Op}
-use Rattle.txn_words.specs.declared.step.Step.{Step}
-use Rattle.txn_words.specs.declared.step.Step.TheVariants.{Begin, Ask, Seek, Act, Save, Back, Commit, Abort}
-use Rattle.txn_words.specs.declared.answer.Answer.{Answer}
-use Rattle.txn_words.specs.declared.answer.Answer.TheVariants as answers
-use Rattle.txn_words.specs.declared.refusal.Refusal.TheVariants.{NoMemory, StaleWord}
-use Rattle.txn_words.specs.Map.{Map, get, key_of, set_at}
-use Rattle.txn_words.specs.Owed.{owed_in}
-use Rattle.txn_trace.specs.Locks.{stripe_of}
-use Rattle.txn_words.specs.declared.seat.Phase.{Phase}
-use Rattle.txn_words.specs.declared.seat.Phase.TheVariants.{Waiting, LeavingTo, LeavingToEnd}
-use Rattle.txn_words.specs.Shape.{Seat, closed_seat}
-use Rattle.txn_words.specs.Seats.{is_leaving, has_job, has_target, refusal_in}
+use Rattle.boost_core.specs.Vocabulary.{Op, Step, Begin, Ask, Seek, Act, Save, Back, Commit, Abort, Answer, NoMemory, StaleWord, Map, get, key_of, set_at, owed_in, stripe_of, Phase, Waiting, LeavingTo, LeavingToEnd, Seat, closed_seat, is_leaving, has_job, has_target, refusal_in, Grants, Refuses, Releases, IsSound, MapJob, PendingAt, takes_node, key_of_job, value_before, spare_of_job, IsDue, TableAt, Cursor, SpareAt, KeepsNodes, content, IsPlaced, fits, last_of, Does, OwnsIf, Places, SeeksNear, Prepares, IsRefused, GivesBack, TakesBack}
 use Rattle.undo_log.specs.UndoLog.{LogAt, kept_at, newest_above}
-use Rattle.key_locks.specs.Locks.{Grants, Refuses, Releases}
-use Rattle.node_list.specs.Sound.{IsSound}
-use Rattle.map_ops.specs.declared.job.MapJob.{MapJob}
-use Rattle.map_ops.specs.Jobs.{PendingAt, takes_node, key_of_job, value_before, spare_of_job, IsDue}
-use Rattle.map_ops.specs.TableAt.{TableAt, Cursor, SpareAt, KeepsNodes, content, IsPlaced, fits, last_of}
-use Rattle.map_ops.specs.Changes as changes
-use Rattle.map_ops.specs.Changes.{OwnsIf, Places, SeeksNear, Prepares, IsRefused, GivesBack, TakesBack}
 use Rattle.map_ops.specs.Nodes.{OpWrites, JobWrites}
 use Rattle.boost_core.specs.declared.counts.Counts.{Counts}
-use Rattle.boost_core.specs.declared.claim.Claim.{Claim}
-use Rattle.boost_core.specs.declared.claim.Claim.TheVariants.{Lock, Right, Held, Stale}
 use Rattle.boost_core.specs.declared.session.Session.{Session}
 use Rattle.boost_core.specs.State.{Caller}
+use Rattle.boost_core.specs.Words.{Claim, Lock, Right, Held, Stale}
 use Rattle.boost_core.specs.Refusals.{owner_of, lacks_in}
-use Rattle.boost_core.specs.Spares.{times_of, times_in, IsCovered}
+use Rattle.boost_core.specs.Spares.{times_of, times_in, IsCoveredWith, StaysCovered}
 
 -- A caller's side without its room: the seat, the operation that waits, the cursor, and the jobs
 -- and savepoints of the log.
@@ -57,7 +37,6 @@ level_of phase = 0
 abbrev pub owed_of : Session → ℕ
 owed_of s = owed_in s.seat.seat.standing s.seat.seat.phase
 
--- No transaction, no waiting operation, no cursor, and an empty log.
 abbrev pub IsIdle : Session → Type 0
 IsIdle s =
     side_of s ≡ record { seat = closed_seat; pending = None; cursor = None; jobs = []; kept = [] }
@@ -71,9 +50,7 @@ Waits (Waiting op) None room = ⊥
 Waits phase (Some pending) room = ⊥
 Waits phase None room = Unit {0}
 
--- The seat, the waiting operation and the log with this room agree. The seat has as many changes as
--- the log has jobs, both have the same levels, the operation is that of the phase, and the level to
--- which the phase takes changes back exists.
+-- The seat, the waiting operation and the log with this room agree.
 pub record Agrees (side : Side) (room : ℕ) : Type 0 where
   pub standing : side.seat.standing ≡ length side.jobs
   pub kept : side.seat.kept ≡ 0 ∷ side.kept
@@ -94,7 +71,6 @@ target_in phase log = None
 abbrev pub target_of : Session → Option ℕ
 target_of s = target_in s.seat.seat.phase s.log
 
--- The spare of the operation that waits, or none if no operation waits or it has no spare.
 abbrev pub spare_if : Option PendingAt → Option SpareAt
 spare_if None = None
 spare_if (Some pending) = pending.spare
@@ -104,7 +80,6 @@ abbrev pub times_kept : Side → ℕ → ℕ → ℕ
 times_kept side place stamp =
     times_of (spare_if side.pending) place stamp + times_in side.jobs place stamp
 
--- A change that stands: its key and the value before it.
 abbrev pub change_of : MapJob → ℕ × Option ℕ
 change_of job = (key_of_job job, value_before job)
 
@@ -116,39 +91,27 @@ abbrev pub AreDue : Map → List MapJob → Type 0
 AreDue m [] = Unit {0}
 AreDue m (job ∷ jobs) = IsDue m job × AreDue (set_at m (key_of_job job) (value_before job)) jobs
 
--- There is a key, and the cursor was placed for it.
-abbrev pub IsPlacedFor : TableAt → Cursor → Option ℕ → Type 0
-IsPlacedFor t cursor None = ⊥
-IsPlacedFor t cursor (Some key) = IsPlaced t cursor key
-
 -- A cursor, if there is one, was placed for the key that the caller acts on next.
 abbrev pub IsSoughtAt : TableAt → Option Cursor → Option ℕ → Type 0
 IsSoughtAt t None target = Unit {0}
-IsSoughtAt t (Some cursor) target = IsPlacedFor t cursor target
+IsSoughtAt t (Some cursor) None = ⊥
+IsSoughtAt t (Some cursor) (Some key) = IsPlaced t cursor key
 
 abbrev pub IsSought : TableAt → Session → Type 0
 IsSought t s = IsSoughtAt t s.cursor (target_of s)
 
 -- Each spare of the log belongs to the table. Only one job keeps it, and nobody else does.
 abbrev pub CanSettle : Session → TableAt → Type 0
-CanSettle s t =
-    (others : ℕ → ℕ → ℕ)
-    × IsCovered (λ place stamp. others place stamp + times_in s.log.jobs place stamp) t
+CanSettle s t = (others : ℕ → ℕ → ℕ) × IsCoveredWith others (times_in s.log.jobs) t
 
--- The spare of the waiting operation, if it has one, belongs to the table.
-abbrev pub CanWithdraw : Session → TableAt → Type 0
-CanWithdraw s t = OwnsIf t (spare_if s.pending)
-
--- A caller's side fits the table: its cursor was placed there, its changes may be taken back there,
--- and its spares are out.
+-- A caller's side fits the table.
 pub record GoesWith (s : Session) (t : TableAt) : Type 0 where
   pub agrees : Agrees (side_of s) s.log.room
   pub sought : IsSought t s
   pub due : AreDue (content t) (reverse s.log.jobs)
-  pub withdraws : CanWithdraw s t
+  pub withdraws : OwnsIf t (spare_if s.pending)
   pub settles : CanSettle s t
 
--- Cursors stay placed, and the list stays sound.
 pub record KeepsPlaced (t t' : TableAt) : Type 0 where
   pub placed : (cursor : Cursor) (key : ℕ) → IsPlaced t cursor key → IsPlaced t' cursor key
   pub sound : IsSound t.list → IsSound t'.list
@@ -159,30 +122,32 @@ pub record Rests (t t' : TableAt) : Type 0 where
   pub last : last_of t' ≡ last_of t
   pub placed : KeepsPlaced t t'
 
--- Only room has changed.
-pub record StaysIn (s s' : Session) : Type 0 where
-  pub becomes : side_of s' ≡ side_of s
+-- All that a step of a caller can change: the caller's side, the table and the stripes' holders.
+pub record Reach : Type 0 where
+  pub session : Session
+  pub table : TableAt
+  pub locks : List (Option ℕ)
+
+abbrev pub reach : Session → TableAt → List (Option ℕ) → Reach
+reach session table locks = record { session = session; table = table; locks = locks }
 
 -- The operation is prepared and waits, with room for its job; the stripe is the caller's.
-pub record AsksIn (c stripe : ℕ) (op : Op) (s : Session) (t : TableAt) (locks : List (Option ℕ))
-    (s' : Session) (t' : TableAt) (locks' : List (Option ℕ)) : Type 0 where
+pub record AsksIn (c stripe : ℕ) (op : Op) (old new : Reach) : Type 0 where
   pub pending : PendingAt
-  pub prepares : Prepares t t' op pending
-  pub grants : Grants c stripe locks locks'
-  pub becomes : side_of s' ≡ record (side_of s) { pending = Some pending }
-  pub room : 0 < s'.log.room
+  pub prepares : Prepares old.table new.table op pending
+  pub grants : Grants c stripe old.locks new.locks
+  pub becomes : side_of new.session ≡ record (side_of old.session) { pending = Some pending }
+  pub room : 0 < new.session.log.room
 
 -- Another caller holds the stripe: the prepared operation is given up, and only the room of the
 -- caller's side has changed.
-pub record MeetsIn (c stripe : ℕ) (op : Op) (holder : ℕ) (s : Session) (t : TableAt)
-    (locks : List (Option ℕ)) (s' : Session) (t' : TableAt)
-    (locks' : List (Option ℕ)) : Type 0 where
+pub record MeetsIn (c stripe : ℕ) (op : Op) (holder : ℕ) (old new : Reach) : Type 0 where
   pub pending : PendingAt
   pub between : TableAt
-  pub prepares : Prepares t between op pending
-  pub back : GivesBack between t' pending.spare
-  pub refuses : Refuses c stripe holder locks locks'
-  pub becomes : side_of s' ≡ side_of s
+  pub prepares : Prepares old.table between op pending
+  pub back : GivesBack between new.table pending.spare
+  pub refuses : Refuses c stripe holder old.locks new.locks
+  pub becomes : side_of new.session ≡ side_of old.session
 
 -- The caller has sought the key that it acts on next, and now has a cursor for this key. Its side
 -- is unchanged otherwise.
@@ -194,8 +159,7 @@ pub record SeeksIn (s : Session) (t : TableAt) (s' : Session) (t' : TableAt) : T
   pub places : Places t t' key cursor
   pub near : SeeksNear t t' key
 
--- The waiting operation may be done: its cursor was placed for it, its spare belongs to the table,
--- and there is room for its job.
+-- The waiting operation may be done.
 pub record CanAct (s : Session) (t : TableAt) : Type 0 where
   pub pending : PendingAt
   pub cursor : Cursor
@@ -205,12 +169,11 @@ pub record CanAct (s : Session) (t : TableAt) : Type 0 where
   pub owned : OwnsIf t pending.spare
   pub room : 0 < s.log.room
 
--- The cursor did not fit and is dropped, and nothing else has changed.
-pub record Drops (s : Session) (t : TableAt) (s' : Session) (t' : TableAt) : Type 0 where
+-- The cursor did not fit and is dropped.
+pub record Drops (s : Session) (t : TableAt) (s' : Session) : Type 0 where
   pub cursor : Cursor
   pub had : s.cursor ≡ Some cursor
   pub stale : fits t cursor ≡ false
-  pub table : t' ≡ t
   pub becomes : s' ≡ record s { cursor = None }
 
 -- The operation that waits is done, and its job, if it has one, is the newest.
@@ -222,7 +185,7 @@ pub record DoesIn (s : Session) (t : TableAt) (reply : Option ℕ) (s' : Session
   pub had : s.pending ≡ Some pending
   pub stood : s.cursor ≡ Some at
   pub fitting : fits t at ≡ true
-  pub does : changes.Does t t' pending reply job
+  pub does : Does t t' pending reply job
   pub writes : OpWrites t.list t'.list pending.op pending.spare
       (get (content t) (key_of pending.op))
   pub becomes : side_of s'
@@ -232,8 +195,7 @@ pub record DoesIn (s : Session) (t : TableAt) (reply : Option ℕ) (s' : Session
         jobs = s.log.jobs ++ option_to_list job;
       }
 
--- There is a change to take back: its cursor was placed for it, it is due, and its spare belongs to
--- the table.
+-- The newest change may be taken back.
 pub record CanUndo (s : Session) (t : TableAt) : Type 0 where
   pub level : level_of s.seat.seat.phase ≤ length s.log.kept
   pub job : MapJob
@@ -262,11 +224,9 @@ pub record CanArrive (s : Session) : Type 0 where
   pub none_above : length s.log.jobs ≤ kept_at s.log.kept (level_of s.seat.seat.phase)
 
 -- The caller has returned to its level: the later savepoints are dropped.
-pub record ReturnsIn (n : ℕ) (s : Session) (locks : List (Option ℕ)) (s' : Session)
-    (locks' : List (Option ℕ)) : Type 0 where
+pub record ReturnsIn (n : ℕ) (s s' : Session) : Type 0 where
   pub phase : s.seat.seat.phase ≡ LeavingTo n
   pub becomes : side_of s' ≡ record (side_of s) { kept = take n s.log.kept }
-  pub locks_stay : locks' ≡ locks
 
 -- The caller has arrived at the end: its stripes are free.
 pub record EndsIn (c : ℕ) (s : Session) (locks : List (Option ℕ)) (s' : Session)
@@ -276,126 +236,116 @@ pub record EndsIn (c : ℕ) (s : Session) (locks : List (Option ℕ)) (s' : Sess
   pub releases : Releases c locks locks'
 
 -- A savepoint is set, and the seat has room for it.
-pub record SavesIn (n : ℕ) (s : Session) (s' : Session) : Type 0 where
+pub record SavesIn (n : ℕ) (s s' : Session) : Type 0 where
   pub number : n ≡ length s.log.kept + 1
   pub room : 0 < s'.seat.room
-  pub becomes : side_of s'
-      ≡ record (side_of s) { kept = s.log.kept ++ length s.log.jobs ∷ [] }
+  pub becomes : side_of s' ≡ record (side_of s) { kept = s.log.kept ++ length s.log.jobs ∷ [] }
 
 -- The waiting operation is given up, and the cursor is dropped.
 pub record WithdrawsIn (s : Session) (t : TableAt) (s' : Session) (t' : TableAt) : Type 0 where
   pub rests : Rests t t'
-  pub spares : (others : ℕ → ℕ → ℕ)
-      → IsCovered (λ place stamp. others place stamp + times_kept (side_of s) place stamp) t
-      → IsCovered (λ place stamp. others place stamp + times_kept (side_of s') place stamp) t'
+  pub spares : StaysCovered t (times_kept (side_of s)) t' (times_kept (side_of s'))
   pub becomes : s' ≡ record s { pending = None; cursor = None }
 
 -- All jobs, with their spares, and all savepoints are dropped.
 pub record SettlesIn (s : Session) (t : TableAt) (s' : Session) (t' : TableAt) : Type 0 where
   pub rests : Rests t t'
-  pub spares : (others : ℕ → ℕ → ℕ)
-      → IsCovered (λ place stamp. others place stamp + times_in s.log.jobs place stamp) t
-      → IsCovered others t'
+  pub spares : StaysCovered t (times_in s.log.jobs) t' (times_in s'.log.jobs)
   pub becomes : side_of s' ≡ record (side_of s) { jobs = []; kept = [] }
 
 -- The answer to setting a savepoint, and its effect.
 abbrev pub Saves : Session → Answer → Session → Type 0
-Saves s (answers.Saved n) s' = SavesIn n s s'
-Saves s (answers.Refused NoMemory) s' = StaysIn s s'
+Saves s (Answer.Saved n) s' = SavesIn n s s'
+Saves s (Answer.Refused NoMemory) s' = side_of s' ≡ side_of s
 Saves s answer s' = ⊥
 
 -- The answer to asking, and its effect.
-abbrev pub IsAsked : ℕ → ℕ → Op → Session → TableAt → List (Option ℕ) → Answer → Session → TableAt
-    → List (Option ℕ) → Type 0
-IsAsked c stripe op s t locks answers.Asked s' t' locks' = AsksIn c stripe op s t locks s' t' locks'
-IsAsked c stripe op s t locks (answers.Busy x) s' t' locks' =
-    MeetsIn c stripe op x s t locks s' t' locks'
-IsAsked c stripe op s t locks (answers.Refused refusal) s' t' locks' =
-    ((refusal ≡ NoMemory) ⊎ IsRefused t op refusal) × StaysIn s s' × (t' ≡ t) × (locks' ≡ locks)
-IsAsked c stripe op s t locks answer s' t' locks' = ⊥
+abbrev pub IsAsked : ℕ → ℕ → Op → Reach → Answer → Reach → Type 0
+IsAsked c stripe op old Answer.Asked new = AsksIn c stripe op old new
+IsAsked c stripe op old (Answer.Busy x) new = MeetsIn c stripe op x old new
+IsAsked c stripe op old (Answer.Refused refusal) new =
+    ((refusal ≡ NoMemory) ⊎ IsRefused old.table op refusal)
+    × (side_of new.session ≡ side_of old.session) × (new ≡ record old { session = new.session })
+IsAsked c stripe op old answer new = ⊥
 
 -- If another caller holds the stripe, the right to it is stale.
 abbrev pub unless_busy : Answer → Answer
-unless_busy (answers.Busy x) = answers.Refused StaleWord
+unless_busy (Answer.Busy x) = Answer.Refused StaleWord
 unless_busy answer = answer
 
 -- The answer to asking by a claim, and its effect. Asking by a word has no effect.
-abbrev pub AsksBy : Claim → ℕ → ℕ → Op → Session → TableAt → List (Option ℕ) → Answer → Session
-    → TableAt → List (Option ℕ) → Type 0
-AsksBy Lock c stripe op s t locks answer s' t' locks' =
-    IsAsked c stripe op s t locks answer s' t' locks'
-AsksBy Right c stripe op s t locks answer s' t' locks' =
-    (own : Answer) × (answer ≡ unless_busy own) × IsAsked c stripe op s t locks own s' t' locks'
-AsksBy (Held named) c stripe op s t locks answer s' t' locks' =
-    (answer ≡ answers.Busy named) × (s' ≡ s) × (t' ≡ t) × (locks' ≡ locks)
-AsksBy Stale c stripe op s t locks answer s' t' locks' =
-    (answer ≡ answers.Refused StaleWord) × (s' ≡ s) × (t' ≡ t) × (locks' ≡ locks)
+abbrev pub AsksBy : Claim → ℕ → ℕ → Op → Reach → Answer → Reach → Type 0
+AsksBy Lock c stripe op old answer new = IsAsked c stripe op old answer new
+AsksBy Right c stripe op old answer new =
+    (own : Answer) × (answer ≡ unless_busy own) × IsAsked c stripe op old own new
+AsksBy (Held named) c stripe op old answer new = (answer ≡ Answer.Busy named) × (new ≡ old)
+AsksBy Stale c stripe op old answer new = (answer ≡ Answer.Refused StaleWord) × (new ≡ old)
 
 -- The answer to an act for the operation that waits, and its effect.
 abbrev pub Replies : Session → TableAt → Answer → Session → TableAt → Type 0
-Replies s t answers.Again s' t' = Drops s t s' t'
-Replies s t (answers.Done reply) s' t' = DoesIn s t reply s' t'
+Replies s t Answer.Again s' t' = Drops s t s' × (t' ≡ t)
+Replies s t (Answer.Done reply) s' t' = DoesIn s t reply s' t'
 Replies s t answer s' t' = ⊥
 
 -- The answer to taking the newest change back, and its effect.
 abbrev pub Undoes : Session → TableAt → Answer → Session → TableAt → Type 0
-Undoes s t answers.Again s' t' = Drops s t s' t'
-Undoes s t answers.Undone s' t' = TakesBackIn s t s' t'
+Undoes s t Answer.Again s' t' = Drops s t s' × (t' ≡ t)
+Undoes s t Answer.Undone s' t' = TakesBackIn s t s' t'
 Undoes s t answer s' t' = ⊥
 
 -- The answer to the end of the undoing, and its effect.
 abbrev pub Arrives : ℕ → Session → List (Option ℕ) → Answer → Session → List (Option ℕ) → Type 0
-Arrives c s locks (answers.Returned n) s' locks' = ReturnsIn n s locks s' locks'
-Arrives c s locks answers.Aborted s' locks' = EndsIn c s locks s' locks'
+Arrives c s locks (Answer.Returned n) s' locks' = ReturnsIn n s s' × (locks' ≡ locks)
+Arrives c s locks Answer.Aborted s' locks' = EndsIn c s locks s' locks'
 Arrives c s locks answer s' locks' = ⊥
 
 -- The answer to an act, and its effect.
-abbrev pub ActsIn : ℕ → Session → TableAt → List (Option ℕ) → Answer → Session → TableAt
-    → List (Option ℕ) → Type 0
-ActsIn c s t locks answers.Again s' t' locks' =
-    (has_target s.seat.seat ≡ true) × Drops s t s' t' × (locks' ≡ locks)
-ActsIn c s t locks (answers.Done reply) s' t' locks' = DoesIn s t reply s' t' × (locks' ≡ locks)
-ActsIn c s t locks answers.Undone s' t' locks' =
-    (has_job s.seat.seat ≡ true) × TakesBackIn s t s' t' × (locks' ≡ locks)
-ActsIn c s t locks (answers.Returned n) s' t' locks' =
-    (has_job s.seat.seat ≡ false) × ReturnsIn n s locks s' locks' × (t' ≡ t)
-ActsIn c s t locks answers.Aborted s' t' locks' =
-    (has_job s.seat.seat ≡ false) × EndsIn c s locks s' locks' × (t' ≡ t)
-ActsIn c s t locks answer s' t' locks' = ⊥
+abbrev pub ActsIn : ℕ → Reach → Answer → Reach → Type 0
+ActsIn c old Answer.Again new =
+    (has_target old.session.seat.seat ≡ true) × Drops old.session old.table new.session
+    × (new ≡ record old { session = new.session })
+ActsIn c old (Answer.Done reply) new =
+    DoesIn old.session old.table reply new.session new.table × (new.locks ≡ old.locks)
+ActsIn c old Answer.Undone new =
+    (has_job old.session.seat.seat ≡ true)
+    × TakesBackIn old.session old.table new.session new.table × (new.locks ≡ old.locks)
+ActsIn c old (Answer.Returned n) new =
+    (has_job old.session.seat.seat ≡ false) × ReturnsIn n old.session new.session
+    × (new ≡ record old { session = new.session })
+ActsIn c old Answer.Aborted new =
+    (has_job old.session.seat.seat ≡ false)
+    × EndsIn c old.session old.locks new.session new.locks × (new.table ≡ old.table)
+ActsIn c old answer new = ⊥
 
--- The requirements of a step on its caller's side, if no test refuses it.
-pub record MayTakeStep (stripes : ℕ) (counts : Counts) (step : Step) (s : Session) (t : TableAt)
-    (locks : List (Option ℕ)) : Type 0 where
-  pub goes : GoesWith s t
-  pub free : (half : Bool) × (refusal_in half s.seat.seat step ≡ None)
-  pub placed : lacks_in s.seat.seat (is_some s.cursor) step ≡ false
+-- The requirements of a step, if no test refuses it.
+pub record MayTakeStep (stripes : ℕ) (counts : Counts) (step : Step) (old : Reach) : Type 0 where
+  pub goes : GoesWith old.session old.table
+  pub free : (half : Bool) × (refusal_in half old.session.seat.seat step ≡ None)
+  pub placed : lacks_in old.session.seat.seat (is_some old.session.cursor) step ≡ false
   pub owner : (c : ℕ) × (owner_of step ≡ Some (Caller c))
   pub caller : (c : ℕ) → owner_of step ≡ Some (Caller c) → c < 64
-  pub many : length locks ≡ stripes
+  pub many : length old.locks ≡ stripes
   pub some_stripe : 0 < stripes
   pub begins : counts.began < 2 ^ 63
   pub commits : counts.committed < 2 ^ 63
 
--- The effect of each step on its caller's side, the table and the locks. It depends on the answer
--- and, if the step is an ask, on the claim. Of the seat only the room may change: the entry of step
--- and answer is added to the seat afterwards.
-abbrev pub HasEffect : Claim → ℕ → Counts → Step → Session → TableAt → List (Option ℕ) → Answer
-    → Session
-    → TableAt → List (Option ℕ) → Type 0
-HasEffect claim stripes counts (Begin c) s t locks (answers.Began n) s' t' locks' =
-    (n ≡ counts.began + 1) × StaysIn s s' × (t' ≡ t) × (locks' ≡ locks)
-HasEffect claim stripes counts (Ask c op) s t locks answer s' t' locks' =
-    AsksBy claim c (stripe_of stripes (key_of op)) op s t locks answer s' t' locks'
-HasEffect claim stripes counts (Seek c) s t locks answers.Placed s' t' locks' =
-    SeeksIn s t s' t' × (locks' ≡ locks)
-HasEffect claim stripes counts (Act c) s t locks answer s' t' locks' =
-    ActsIn c s t locks answer s' t' locks'
-HasEffect claim stripes counts (Save c) s t locks answer s' t' locks' =
-    Saves s answer s' × (t' ≡ t) × (locks' ≡ locks)
-HasEffect claim stripes counts (Back c n) s t locks answers.Leaving s' t' locks' =
-    (s' ≡ record s { cursor = None }) × (t' ≡ t) × (locks' ≡ locks)
-HasEffect claim stripes counts (Commit c) s t locks (answers.Committed p) s' t' locks' =
-    (p ≡ counts.committed + 1) × SettlesIn s t s' t' × Releases c locks locks'
-HasEffect claim stripes counts (Abort c) s t locks answers.Leaving s' t' locks' =
-    WithdrawsIn s t s' t' × (locks' ≡ locks)
-HasEffect claim stripes counts step s t locks answer s' t' locks' = ⊥
+-- The effect of each step. It depends on the answer and, if the step is an ask, on the claim. Of
+-- the seat only the room may change: the entry of step and answer is added to the seat afterwards.
+abbrev pub HasEffect : Claim → ℕ → Counts → Step → Reach → Answer → Reach → Type 0
+HasEffect claim stripes counts (Begin c) old (Answer.Began n) new =
+    (n ≡ counts.began + 1) × (new ≡ old)
+HasEffect claim stripes counts (Ask c op) old answer new =
+    AsksBy claim c (stripe_of stripes (key_of op)) op old answer new
+HasEffect claim stripes counts (Seek c) old Answer.Placed new =
+    SeeksIn old.session old.table new.session new.table × (new.locks ≡ old.locks)
+HasEffect claim stripes counts (Act c) old answer new = ActsIn c old answer new
+HasEffect claim stripes counts (Save c) old answer new =
+    Saves old.session answer new.session × (new ≡ record old { session = new.session })
+HasEffect claim stripes counts (Back c n) old Answer.Leaving new =
+    new ≡ record old { session = record old.session { cursor = None } }
+HasEffect claim stripes counts (Commit c) old (Answer.Committed p) new =
+    (p ≡ counts.committed + 1) × SettlesIn old.session old.table new.session new.table
+    × Releases c old.locks new.locks
+HasEffect claim stripes counts (Abort c) old Answer.Leaving new =
+    WithdrawsIn old.session old.table new.session new.table × (new.locks ≡ old.locks)
+HasEffect claim stripes counts step old answer new = ⊥

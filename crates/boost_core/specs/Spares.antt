@@ -1,11 +1,7 @@
 -- How often a spare is kept, by a waiting operation or by jobs, and how often it is out.
-use Rattle.std.specs.Prelude.{ℕ, ◌≡◌, ◌==◌, ◌&&◌, nat_eq, List, Option, Some, None, sum_by, if◌then◌else◌}
-use Rattle.std.specs.Option.{option_eq}
-use Rattle.map_ops.specs.declared.job.MapJob.{MapJob}
-use Rattle.map_ops.specs.Jobs.{spare_of_job}
-use Rattle.map_ops.specs.TableAt.{TableAt, SpareAt, spare_out}
+use Rattle.std.specs.Prelude.{ℕ, ◌+◌, ◌≡◌, ◌==◌, ◌&&◌, nat_eq, List, Option, Some, None, sum_by, if◌then◌else◌}
+use Rattle.boost_core.specs.Vocabulary.{option_eq, MapJob, spare_of_job, TableAt, SpareAt, spare_out}
 
--- 1 if there is a spare and it has this place and stamp, else 0.
 abbrev pub times_of : Option SpareAt → ℕ → ℕ → ℕ
 times_of None place stamp = 0
 times_of (Some spare) place stamp = if spare.place == place && spare.stamp == stamp then 1 else 0
@@ -22,3 +18,13 @@ times_out t place stamp = if option_eq nat_eq (spare_out t place) (Some stamp) t
 -- is kept twice, and none is lost.
 abbrev pub IsCovered : (ℕ → ℕ → ℕ) → TableAt → Type 0
 IsCovered kept t = (place stamp : ℕ) → kept place stamp ≡ times_out t place stamp
+
+-- The same, of what one caller keeps beside the others.
+abbrev pub IsCoveredWith : (ℕ → ℕ → ℕ) → (ℕ → ℕ → ℕ) → TableAt → Type 0
+IsCoveredWith others kept t = IsCovered (λ place stamp. others place stamp + kept place stamp) t
+
+-- If each spare is kept as often as it is out before a change, so it is afterwards, whichever the
+-- others keep.
+abbrev pub StaysCovered : TableAt → (ℕ → ℕ → ℕ) → TableAt → (ℕ → ℕ → ℕ) → Type 0
+StaysCovered t kept t' kept' =
+    (others : ℕ → ℕ → ℕ) → IsCoveredWith others kept t → IsCoveredWith others kept' t'

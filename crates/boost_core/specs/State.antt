@@ -3,20 +3,15 @@ pub use Rattle.map_ops.specs.TableAt.{Help, Nothing, Sought, Dummy}
 pub use Rattle.boost_core.specs.declared.owner.Owner.{Owner}
 pub use Rattle.boost_core.specs.declared.owner.Owner.TheVariants.{Caller, Helper}
 pub use Rattle.split_key.specs.declared.sort.SortKey.{SortKey}
-use Rattle.split_key.specs.Sort.{dummy_at}
+use Rattle.boost_core.specs.Vocabulary.{dummy_at, Entry, Now, Begun, Sizes, Seat, closed_seat, seat_after, own}
 use Rattle.std.specs.Prelude.{ℕ, ◌-◌, Bool, true, false, List, [], ◌∷◌, Option, Some, None, replicate, slice_get, slice_set, unwrap_or}
-use Rattle.txn_words.specs.declared.entry.Entry.{Entry}
 use Rattle.txn_words.specs.declared.holder.Holder.{Holder}
-use Rattle.txn_words.specs.declared.holder.Holder.TheVariants.{Now, Begun}
-use Rattle.txn_words.specs.Sizes.{Sizes}
-use Rattle.txn_words.specs.Shape.{Seat, closed_seat, seat_after, own}
 
 -- A linked node: its position in the list's order, and whether it is marked.
 pub record Node : Type 0 where
   pub at : SortKey
   pub marked : Bool
 
--- An unmarked node at this position, and a marked one.
 abbrev pub plain_node : SortKey → Node
 plain_node at = record { at = at; marked = false }
 
@@ -69,7 +64,6 @@ start limits = record {
   placed = None;
 }
 
--- The start if stripes are words.
 abbrev pub start_with_words : Sizes → State
 start_with_words limits = record (start limits) { words = true }
 
@@ -88,7 +82,6 @@ seat_in history c = unwrap_or (seat_after (own c history)) closed_seat
 abbrev pub caller_changes : List (Option ℕ) → ℕ → Option ℕ
 caller_changes cursors c = unwrap_or (slice_get cursors c) None
 
--- The gap of the cursor of this number, if there is such a cursor and it fits.
 abbrev pub gap_in : List (Option Gap) → ℕ → Option Gap
 gap_in gaps n = unwrap_or (slice_get gaps n) None
 
@@ -97,15 +90,12 @@ abbrev pub gap_for : State → Owner → Option Gap
 gap_for state (Caller c) = gap_in state.gaps c
 gap_for state (Helper h) = gap_in state.helper_gaps h
 
--- The state of the helper of this number, or nothing if there is none.
 abbrev pub help_in : List Help → ℕ → Help
 help_in helpers h = unwrap_or (slice_get helpers h) Nothing
 
--- Whether the flag of this bucket is set.
 abbrev pub is_set : List Bool → ℕ → Bool
 is_set buckets bucket = unwrap_or (slice_get buckets bucket) false
 
--- The flags of the buckets, with that of this bucket set.
 abbrev pub with_bucket : List Bool → ℕ → List Bool
 with_bucket buckets bucket = slice_set buckets bucket true
 
@@ -115,11 +105,9 @@ bucket_at Nothing = 0
 bucket_at (Sought bucket noted) = bucket
 bucket_at (Dummy bucket) = bucket
 
--- The bucket for which the helper of this number has a cursor or a dummy, or 0.
 abbrev pub bucket_of : State → ℕ → ℕ
 bucket_of state h = bucket_at (help_in state.helpers h)
 
--- The change number that a helper's cursor noted, if it has a cursor.
 abbrev pub helper_changes : Help → Option ℕ
 helper_changes Nothing = None
 helper_changes (Sought bucket noted) = Some noted

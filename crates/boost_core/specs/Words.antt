@@ -3,30 +3,19 @@
 pub use Rattle.boost_core.specs.declared.claim.Claim.{Claim}
 pub use Rattle.boost_core.specs.declared.claim.Claim.TheVariants.{Lock, Right, Held, Stale}
 use Rattle.std.specs.Prelude.{◌≡◌, ◌⊎◌, ℕ, ◌+◌, ◌==◌, ◌&&◌, Bool, true, false, not, IsTrue, None, if◌then◌else◌}
-use Rattle.txn_words.specs.declared.holder.Holder.TheVariants.{Now}
-use Rattle.txn_words.specs.declared.op.Op.{Op}
-use Rattle.txn_words.specs.declared.step.Step.{Step}
-use Rattle.txn_words.specs.declared.step.Step.TheVariants.{Ask}
-use Rattle.txn_words.specs.declared.answer.Answer.{Answer}
-use Rattle.txn_words.specs.declared.answer.Answer.TheVariants as answers
-use Rattle.txn_words.specs.declared.entry.Entry.TheVariants as entries
-use Rattle.txn_words.specs.declared.refusal.Refusal.TheVariants.{NoMemory, StaleWord, StampsUsedUp}
-use Rattle.txn_words.specs.Owed.{reserved}
-use Rattle.txn_trace.specs.Locks.{has_begun, is_locked}
-use Rattle.map_ops.specs.Jobs.{takes_node}
+use Rattle.boost_core.specs.Vocabulary.{Now, Entry, Op, Step, Ask, Answer, NoMemory, StaleWord, StampsUsedUp, reserved, has_begun, is_locked, takes_node}
 use Rattle.boost_core.specs.State.{State}
 use Rattle.boost_core.specs.Refusals.{refusal_of, has_stamp_for}
 use Rattle.boost_core.specs.Answers.{may_stand}
 use Rattle.boost_core.specs.Machine.{Move, Lists, Touches, stamp_after}
 
--- Whether a step asks for an operation.
 abbrev pub is_ask : Step → Bool
 is_ask (Ask c op) = true
 is_ask step = false
 
 -- Whether another caller holds the stripe of an operation now.
 abbrev pub is_taken : State → ℕ → Op → Bool
-is_taken state c op = not (is_locked Now state.limits.stripes state.history (entries.Asked c op))
+is_taken state c op = not (is_locked Now state.limits.stripes state.history (Entry.Asked c op))
 
 -- The claim of caller `c` if the word names caller `named`. The claim is that `named` holds the
 -- stripe; but if `named` is `c` itself, or has never begun a transaction, the word is stale.
@@ -48,24 +37,22 @@ reserved_by Lock step = reserved step
 reserved_by Right step = reserved step
 reserved_by claim step = 0
 
--- Whether a claim that is not refused as stale allows an answer. With a right, every answer except
--- `Busy` is allowed. With a word, the allowed answers are `Busy` with the caller that the word
--- names, and all refusals except `NoMemory` and `StampsUsedUp`.
+-- Whether a claim that is not refused as stale allows an answer.
 abbrev pub may_come : Claim → Answer → Bool
 may_come Lock answer = true
-may_come Right (answers.Busy x) = false
+may_come Right (Answer.Busy x) = false
 may_come Right answer = true
-may_come (Held named) (answers.Busy x) = x == named
-may_come claim (answers.Refused NoMemory) = false
-may_come claim (answers.Refused StampsUsedUp) = false
-may_come claim (answers.Refused refusal) = true
+may_come (Held named) (Answer.Busy x) = x == named
+may_come claim (Answer.Refused NoMemory) = false
+may_come claim (Answer.Refused StampsUsedUp) = false
+may_come claim (Answer.Refused refusal) = true
 may_come claim answer = false
 
 -- A claim is refused as stale. Nothing has changed, except perhaps the nodes, the last stamp and the
 -- gaps, of which this record says nothing. `ListsAsk` gives the nodes and the last stamp.
 pub record IsStale (claim : Claim) (old : State) (step : Step) (answer : Answer)
     (new : State) : Type 0 where
-  pub refused : answer ≡ answers.Refused StaleWord
+  pub refused : answer ≡ Answer.Refused StaleWord
   pub free : refusal_of old step ≡ None
   pub stale : IsTrue (is_stale claim old step)
   pub state : new
@@ -86,7 +73,7 @@ Asks claim old step answer new =
 -- and so uses up a stamp, even if the claim turns out to be stale. With a word no spare is taken.
 abbrev pub stamp_by : Claim → ℕ → Step → Answer → ℕ
 stamp_by Lock stamp step answer = stamp_after stamp step answer
-stamp_by Right stamp (Ask c op) (answers.Refused StaleWord) =
+stamp_by Right stamp (Ask c op) (Answer.Refused StaleWord) =
     if takes_node op then stamp + 1 else stamp
 stamp_by Right stamp step answer = stamp_after stamp step answer
 stamp_by claim stamp step answer = stamp
@@ -105,12 +92,11 @@ abbrev pub IsClaim : Claim → State → Step → Type 0
 IsClaim Lock state step = state.words ≡ true → is_ask step ≡ false
 IsClaim Right state (Ask c op) = state.words ≡ true
 IsClaim (Held named) state (Ask c op) =
-    (state.words ≡ true) × (may_stand state (entries.Busy c op named) ≡ true)
+    (state.words ≡ true) × (may_stand state (Entry.Busy c op named) ≡ true)
 IsClaim Stale state (Ask c op) = state.words ≡ true
 IsClaim claim state step = ⊥
 
--- The answer and the effect of a caller's step, by its claim. With the claim `Lock` the step is a
--- move. With any other claim the step is an ask, and `Asks` says what an ask does.
+-- The answer and the effect of a caller's step, by its claim.
 abbrev pub Goes : Claim → State → Step → Answer → State → Type 0
 Goes Lock old step answer new = Move old step answer new
 Goes claim old step answer new = Asks claim old step answer new

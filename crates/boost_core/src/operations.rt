@@ -15,7 +15,7 @@ use undo_log::UndoLog;
 
 impl Session {
     ghost use Rattle.txn_words.specs.Seats.{has_target, is_waiting, is_leaving};
-    ghost use Rattle.boost_core.specs.Sessions.{AsksBy, GoesWith, IsAsked, StaysIn, SeeksIn, ActsIn, Replies, Undoes, Arrives, CanAct, CanUndo, CanArrive};
+    ghost use Rattle.boost_core.specs.Sessions.{AsksBy, GoesWith, IsAsked, SeeksIn, ActsIn, Replies, Undoes, Arrives, CanAct, CanUndo, CanArrive, reach, side_of};
     ghost use Rattle.map_ops.specs.Changes.{Prepares, IsRefused};
 
     /// Asks for an operation by a claim. A claim by a word reserves and locks nothing.
@@ -31,8 +31,8 @@ impl Session {
     ) -> Answer
         requires caller { caller < 64 }
         requires stripe { stripe < length locks.old }
-        ensures asked { AsksBy claim caller stripe op self.old table.old locks.old result self.new
-            table.new locks.new }
+        ensures asked { AsksBy claim caller stripe op (reach self.old table.old locks.old) result
+            (reach self.new table.new locks.new) }
         ensures rises { table_changes table.old ≤ table_changes table.new }
         ensures placed { KeepsPlaced table.old table.new }
     {
@@ -55,8 +55,8 @@ impl Session {
     ) -> Answer
         requires caller { caller < 64 }
         requires stripe { stripe < length locks.old }
-        ensures asked { IsAsked caller stripe op self.old table.old locks.old result self.new
-            table.new locks.new }
+        ensures asked { IsAsked caller stripe op (reach self.old table.old locks.old) result
+            (reach self.new table.new locks.new) }
         ensures rises { table_changes table.old ≤ table_changes table.new }
         ensures placed { KeepsPlaced table.old table.new }
     {
@@ -72,7 +72,7 @@ impl Session {
 
     /// Reserves all that an operation and its undoing need.
     fn reserve(&mut self, op: Op, table: &mut Table) -> Result<Pending, Refusal>
-        ensures stays { StaysIn self.old self.new }
+        ensures stays { side_of self.new ≡ side_of self.old }
         ensures room { OnOk result (0 < self.new.log.room) }
         ensures ok { IfOk result (Prepares table.old table.new op) }
         ensures err { IfErr result
@@ -117,8 +117,8 @@ impl Session {
         requires free { (is_leaving self.old.seat.seat.phase || is_waiting self.old.seat.seat.phase)
             ≡ true }
         requires placed { (has_target self.old.seat.seat && not (is_some self.old.cursor)) ≡ false }
-        ensures acts { ActsIn caller self.old table.old locks.old result self.new table.new
-            locks.new }
+        ensures acts { ActsIn caller (reach self.old table.old locks.old) result
+            (reach self.new table.new locks.new) }
         ensures rises { table_changes table.old ≤ table_changes table.new }
         ensures placed { KeepsPlaced table.old table.new }
     {

@@ -23,7 +23,7 @@ pub struct Session {
 }
 
 impl Session {
-    ghost use Rattle.boost_core.specs.Sessions.{IsIdle, MayTakeStep, HasEffect, KeepsPlaced, level_of};
+    ghost use Rattle.boost_core.specs.Sessions.{IsIdle, MayTakeStep, HasEffect, KeepsPlaced, level_of, reach};
     ghost use Rattle.boost_core.specs.Answers.{is_at_end};
     ghost use Rattle.boost_core.specs.Refusals.{lacks_in};
     ghost use Rattle.map_ops.specs.TableAt.{table_changes};
@@ -82,10 +82,9 @@ impl Session {
         table: &mut Table,
         locks: &mut KeyLocks,
     ) -> Answer
-        requires { MayTakeStep stripes counts step self.old table.old locks.old }
-        ensures does { HasEffect claim stripes counts step self.old table.old locks.old result
-            self.new
-            table.new locks.new }
+        requires { MayTakeStep stripes counts step (reach self.old table.old locks.old) }
+        ensures does { HasEffect claim stripes counts step (reach self.old table.old locks.old)
+            result (reach self.new table.new locks.new) }
         ensures rises { table_changes table.old ≤ table_changes table.new }
         ensures placed { KeepsPlaced table.old table.new }
     {

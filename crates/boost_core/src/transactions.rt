@@ -9,7 +9,8 @@ use map_ops::Table;
 use txn_trace::{Answer, Refusal};
 
 impl Session {
-    ghost use Rattle.boost_core.specs.Sessions.{CanSettle, CanWithdraw, Saves, SettlesIn, WithdrawsIn};
+    ghost use Rattle.boost_core.specs.Sessions.{CanSettle, Saves, SettlesIn, WithdrawsIn, spare_if};
+    ghost use Rattle.map_ops.specs.Changes.{OwnsIf};
 
     /// Sets a savepoint in the log, and makes room for it in the seat.
     pub(crate) fn save(&mut self) -> Answer
@@ -36,7 +37,7 @@ impl Session {
     /// Leaves to the end: the caller's cursor and its waiting operation, if it has them, are given
     /// up.
     pub(crate) fn withdraw(&mut self, table: &mut Table) -> Answer
-        requires { CanWithdraw self.old table.old }
+        requires { OwnsIf table.old (spare_if self.old.pending) }
         ensures answer { result ≡ Answer.Leaving }
         ensures withdraws { WithdrawsIn self.old table.old self.new table.new }
     {

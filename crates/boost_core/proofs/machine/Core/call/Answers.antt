@@ -1,5 +1,5 @@
 use Rattle.std.proofs.Common.{◌≡◌, ◌<◌, ◌++◌, inr, List, refl, sym, ap, subst, ◌∙◌, arith, vec_len, vec_capacity, sum_by, option_to_list}
-use Rattle.boost_core.proofs.Vocabulary.{Entry, owed_of, Goes, reserved_by, world_of, state_of, World, reserved, NoMemory}
+use Rattle.boost_core.proofs.Vocabulary.{Entry, owed_of, Goes, reach, reserved_by, world_of, state_of, World, reserved, NoMemory}
 use Rattle.boost_core.proofs.Numbers.{noted_then, began_bound, committed_bound, when_ok, when_err}
 use Rattle.boost_core.proofs.Refused.{free_at}
 use Rattle.boost_core.proofs.Moves.{none_of}
@@ -26,7 +26,7 @@ pub add-self-inside-requires : goal.add-self-inside-requires
 add-self-inside-requires c =
     let free = free_at _ _ c.self.invariant.tells c.self.view_is c.args.caller c.args.step c.requires.owner _ c.refusal.ensures c.in_default.is c.index_mut-session.result.now c.index_mut-session.ensures.value in
     let is : CalledBy c.args.claim (world_of c.self.inside.limits c.self.inside.history c.self.inside.counts c.self.inside.table c.self.inside.sessions c.self.inside.locks c.self.inside.placed c.self.inside.words) c.args.caller c.index_mut-session.result.now c.args.step c.answer-answer.result c.answer-answer.new.self c.answer-answer.new.table c.answer-answer.new.locks =
-    called _ c.self.invariant.tells c.index_mut-session.result.now c.answer-answer.new.self c.answer-answer.new.table c.answer-answer.new.locks c.answer-answer.ensures.placed c.args.claim c.args.caller c.args.step c.requires.owner free.1 free.0 (some_stripe c.self.inside.limits.callers c.self.inside.limits.stripes c.self.inside.limits.buckets c.stripes.ensures.limits) (claims_of c.args.claim _ _ c.args.step c.self.view_is c.requires.claim) c.answer-answer.result c.from-stripes.result (c.from-stripes.ensures ∙ c.stripes.ensures.value) c.answer-answer.ensures.does in
+    called _ c.self.invariant.tells c.index_mut-session.result.now (reach c.answer-answer.new.self c.answer-answer.new.table c.answer-answer.new.locks) c.answer-answer.ensures.placed c.args.claim c.args.caller c.args.step c.requires.owner free.1 free.0 (some_stripe c.self.inside.limits.callers c.self.inside.limits.stripes c.self.inside.limits.buckets c.stripes.ensures.limits) (claims_of c.args.claim _ _ c.args.step c.self.view_is c.requires.claim) c.answer-answer.result c.from-stripes.result (c.from-stripes.ensures ∙ c.stripes.ensures.value) c.answer-answer.ensures.does in
     let room = when_ok c.reserve.result c.if-is_err.ensures.value c.reserve.ensures.ok in
     can_add _ c.self.invariant.tells c.args.caller c.index_mut-session.result.now c.answer-answer.new.self free.1 c.args.step c.answer-answer.result c.answer-answer.new.table c.answer-answer.new.locks is c.entry_of-entry.result c.entry_of-entry.ensures (vec_len c.reserve.new.self) (vec_capacity c.reserve.new.self) c.self.inside.owed c.self.invariant.owes (omega (arith, room, c.entry_room.ensures)) (omega (arith, c.reserve.new.self.ok, c.reserve.new.self.small)) (few_callers c.self.inside.limits.callers c.self.inside.limits.stripes c.self.inside.limits.buckets c.stripes.ensures.limits)
 
@@ -34,7 +34,7 @@ pub invariant_of-self-2 : goal.invariant_of-self-2
 invariant_of-self-2 c =
     let free = free_at _ _ c.self.invariant.tells c.self.view_is c.args.caller c.args.step c.requires.owner _ c.refusal.ensures c.in_default.is c.index_mut-session.result.now c.index_mut-session.ensures.value in
     let is : CalledBy c.args.claim (world_of c.self.inside.limits c.self.inside.history c.self.inside.counts c.self.inside.table c.self.inside.sessions c.self.inside.locks c.self.inside.placed c.self.inside.words) c.args.caller c.index_mut-session.result.now c.args.step c.answer-answer.result c.answer-answer.new.self c.answer-answer.new.table c.answer-answer.new.locks =
-    called _ c.self.invariant.tells c.index_mut-session.result.now c.answer-answer.new.self c.answer-answer.new.table c.answer-answer.new.locks c.answer-answer.ensures.placed c.args.claim c.args.caller c.args.step c.requires.owner free.1 free.0 (some_stripe c.self.inside.limits.callers c.self.inside.limits.stripes c.self.inside.limits.buckets c.stripes.ensures.limits) (claims_of c.args.claim _ _ c.args.step c.self.view_is c.requires.claim) c.answer-answer.result c.from-stripes.result (c.from-stripes.ensures ∙ c.stripes.ensures.value) c.answer-answer.ensures.does in
+    called _ c.self.invariant.tells c.index_mut-session.result.now (reach c.answer-answer.new.self c.answer-answer.new.table c.answer-answer.new.locks) c.answer-answer.ensures.placed c.args.claim c.args.caller c.args.step c.requires.owner free.1 free.0 (some_stripe c.self.inside.limits.callers c.self.inside.limits.stripes c.self.inside.limits.buckets c.stripes.ensures.limits) (claims_of c.args.claim _ _ c.args.step c.self.view_is c.requires.claim) c.answer-answer.result c.from-stripes.result (c.from-stripes.ensures ∙ c.stripes.ensures.value) c.answer-answer.ensures.does in
     let room = when_ok c.reserve.result c.if-is_err.ensures.value c.reserve.ensures.ok in
     let owes : sum_by owed_of c.self.inside.sessions.items ≡ c.self.inside.owed = sym c.self.invariant.owes in
     let fits = called_room _ c.self.invariant.tells c.args.caller c.index_mut-session.result.now c.answer-answer.new.self free.1 c.args.step c.answer-answer.result c.answer-answer.new.table c.answer-answer.new.locks is c.add-self-inside.new.seat c.entry_of-entry.result c.entry_of-entry.ensures c.add-self-inside.ensures.seat (vec_len c.reserve.new.self) (vec_capacity c.reserve.new.self) (omega (arith, room, c.entry_room.ensures)) in
@@ -52,7 +52,7 @@ pub returns-clause-moves : goal.returns-clause-moves
 returns-clause-moves c =
     let free = free_at _ _ c.self.invariant.tells c.self.view_is c.args.caller c.args.step c.requires.owner _ c.refusal.ensures c.in_default.is c.index_mut-session.result.now c.index_mut-session.ensures.value in
     let is : CalledBy c.args.claim (world_of c.self.inside.limits c.self.inside.history c.self.inside.counts c.self.inside.table c.self.inside.sessions c.self.inside.locks c.self.inside.placed c.self.inside.words) c.args.caller c.index_mut-session.result.now c.args.step c.answer-answer.result c.answer-answer.new.self c.answer-answer.new.table c.answer-answer.new.locks =
-    called _ c.self.invariant.tells c.index_mut-session.result.now c.answer-answer.new.self c.answer-answer.new.table c.answer-answer.new.locks c.answer-answer.ensures.placed c.args.claim c.args.caller c.args.step c.requires.owner free.1 free.0 (some_stripe c.self.inside.limits.callers c.self.inside.limits.stripes c.self.inside.limits.buckets c.stripes.ensures.limits) (claims_of c.args.claim _ _ c.args.step c.self.view_is c.requires.claim) c.answer-answer.result c.from-stripes.result (c.from-stripes.ensures ∙ c.stripes.ensures.value) c.answer-answer.ensures.does in
+    called _ c.self.invariant.tells c.index_mut-session.result.now (reach c.answer-answer.new.self c.answer-answer.new.table c.answer-answer.new.locks) c.answer-answer.ensures.placed c.args.claim c.args.caller c.args.step c.requires.owner free.1 free.0 (some_stripe c.self.inside.limits.callers c.self.inside.limits.stripes c.self.inside.limits.buckets c.stripes.ensures.limits) (claims_of c.args.claim _ _ c.args.step c.self.view_is c.requires.claim) c.answer-answer.result c.from-stripes.result (c.from-stripes.ensures ∙ c.stripes.ensures.value) c.answer-answer.ensures.does in
     rw c.placed_after-self-inside.ensures
     (goes_of c.args.claim _ _ _ _ _ c.self.view_is (called_move _ c.self.invariant.tells c.args.caller c.index_mut-session.result.now c.answer-answer.new.self free.1 c.args.step c.answer-answer.result c.answer-answer.new.table c.answer-answer.new.locks is c.add-self-inside.new.seat c.entry_of-entry.result c.entry_of-entry.ensures c.add-self-inside.new.history.items (c.add-self-inside.ensures.items ∙ ap (λ (es : List Entry). es ++ option_to_list c.entry_of-entry.result) c.reserve.ensures.items)))
 
@@ -77,7 +77,7 @@ pub returns-clause-cursor : goal.returns-clause-cursor
 returns-clause-cursor c = λ is_placed.
     let free = free_at _ _ c.self.invariant.tells c.self.view_is c.args.caller c.args.step c.requires.owner _ c.refusal.ensures c.in_default.is c.index_mut-session.result.now c.index_mut-session.ensures.value in
     changes_there c.self.inside.sessions.items c.args.caller c.index_mut-session.result.now (seated_as c.answer-answer.new.self c.add-self-inside.new.seat) free.1
-    (placed_cursor c.args.claim c.from-stripes.result c.self.inside.counts c.args.step c.index_mut-session.result.now c.self.inside.table c.self.inside.locks c.answer-answer.result c.answer-answer.new.self c.answer-answer.new.table c.answer-answer.new.locks c.answer-answer.ensures.does is_placed)
+    (placed_cursor c.args.claim c.from-stripes.result c.self.inside.counts c.args.step _ c.answer-answer.result _ c.answer-answer.ensures.does is_placed)
 
 pub returns-then-is_err-clause-moves : goal.returns-then-is_err-clause-moves
 returns-then-is_err-clause-moves c =

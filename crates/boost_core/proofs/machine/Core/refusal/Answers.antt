@@ -1,4 +1,4 @@
-use Rattle.std.proofs.Common.{◌<◌, true, false, is_some, arith, ap, sym, ◌∙◌}
+use Rattle.std.proofs.Common.{true, false, is_some, arith, ap, sym, ◌∙◌}
 use Rattle.boost_core.proofs.Refused.{lacking, refusal_at, or_else_some, not_some}
 use Rattle.boost_core.proofs.machine.Core.refusal.Goals as goal
 

@@ -1,4 +1,4 @@
-use Rattle.std.proofs.Common.{ap, [], arith, ◌≡◌, ◌≤◌, ◌+◌, length, ◌∙◌}
+use Rattle.std.proofs.Common.{ap, [], ◌≡◌, ◌≤◌, length, ◌∙◌}
 use Rattle.boost_core.proofs.Vocabulary.{Side, side_of}
 use Rattle.boost_core.proofs.Spares.{rests_more, newest_owned, popped_covered, no_jobs, none_left, front_none}
 use Rattle.boost_core.proofs.session.Session.settle.Goals as goal
@@ -17,10 +17,9 @@ loop-job-preserved c = record {
 pub returns : goal.returns
 returns c =
     let none : length c.loop-job.self.log.jobs ≤ 0 = none_left c.pop_above.result (length c.loop-job.self.log.jobs) c.in_default.is c.pop_above.ensures.some.1 in
+    let jobs : c.cut.new.self.jobs ≡ [] = c.cut.ensures.jobs ∙ front_none c.loop-job.self.log.jobs c.pop_above.new.self.jobs _ c.pop_above.ensures.jobs none in
     record {
       rests = c.loop-job.invariant.rests;
-      spares = λ others covered place stamp. omega (arith, rw (no_jobs c.loop-job.self.log.jobs none) at (c.loop-job.invariant.spares others covered place stamp));
-      becomes =
-          let jobs = c.cut.ensures.jobs ∙ front_none c.loop-job.self.log.jobs c.pop_above.new.self.jobs _ c.pop_above.ensures.jobs none in
-          (λ i. record (side_of c.loop-job.self) { jobs = jobs i; kept = c.cut.ensures.kept i }) ∙ ap (λ (side : Side). record side { jobs = []; kept = [] }) c.loop-job.invariant.side;
+      spares = λ others covered. rw jobs (rw (no_jobs c.loop-job.self.log.jobs none) at (c.loop-job.invariant.spares others covered));
+      becomes = (λ i. record (side_of c.loop-job.self) { jobs = jobs i; kept = c.cut.ensures.kept i }) ∙ ap (λ (side : Side). record side { jobs = []; kept = [] }) c.loop-job.invariant.side;
     }
