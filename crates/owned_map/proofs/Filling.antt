@@ -34,7 +34,7 @@ use Rattle.txn_trace.proofs.Holders.{is_locked-busy}
 use Rattle.txn_trace.proofs.Held.{holder_running}
 use Rattle.txn_words.proofs.Order.{split_cmp_tied, value_at, value_at-ordered}
 use Rattle.boost_core.specs.State.{State, holder_by, seat_in}
-use Rattle.boost_core.specs.Helps.{MayEndHelp as IsLack}
+use Rattle.boost_core.specs.Helps.{IsLack}
 use Rattle.boost_core.specs.Refusals.{refusal_of, MayLack, has_stamp_for}
 use Rattle.boost_core.specs.Machine.{IsAllowed, Move, Happens}
 use Rattle.boost_core.specs.Plain.{Operates}

@@ -11,7 +11,7 @@ ghost use Rattle.txn_words.specs.Ordered.{ordered};
 ghost use Rattle.txn_words.specs.Shape.{how_many};
 ghost use Rattle.txn_words.specs.Sizes.{is_bad_key};
 ghost use Rattle.owned_map.specs.Taken.{HasTakenKeys};
-ghost use Rattle.boost_core.specs.Helps.{MayEndHelp as IsLack};
+ghost use Rattle.boost_core.specs.Helps.{IsLack};
 ghost use Rattle.owned_map.specs.Trimmed.{IsFilling, IsNotTrimmed, IsTrimmed, filling, put_new as putting};
 
 use crate::owned_map::OwnedMap;
