@@ -1,5 +1,5 @@
--- The outcomes of an ask: the operation waits, the stripe has another holder, the ask is refused
--- memory or a stamp, or the claim is stale. A savepoint that is refused memory is here too.
+-- The outcomes of an ask: the operation waits, another caller holds the stripe, memory or a stamp
+-- is refused, or the claim is stale. The outcome of a savepoint that gets no memory is here too.
 use Rattle.std.proofs.Common.{◌≡◌, ℕ, ◌+◌, ◌-◌, ◌^◌, ◌<◌, ◌==◌, ◌||◌, true, false, cond, [], ◌++◌, length, Option, Some, None, refl, sym, ap, subst, ◌∙◌, arith, slice_get, slice_set, map, nat_eq, not, eq-eqb, ne_eqb, append-nil, inl, inr, ◌⊎◌, option_map, Bool}
 use Rattle.boost_core.proofs.Vocabulary.{option_eq, slice_get_within, Op, Refusal, key_of, takes_node, PendingAt, Step, serial, now, Opened, Waiting, LeavingToEnd, RoomySeat, TableAt, cursor_changes, map_of, nodes_of, false≢true, cases_eq, and_from, or_right, Now, stripe_of, is_locked, holder_of, same_is, is_locked-asked, is_locked-busy, Prepares, IsRefused, entries_of, held_by, Session, Owner, Caller, Helper, holder_by, refusal_of, has_stamp_for, MayLack, times_of, times_in, IsCoveredWith, StaysCovered, World, Tells, LastPlacedFits, state_of, session_changes, gap_if, may_stand, Move, Claim, Lock, Goes, Side, side_of, KeepsPlaced, times_kept, Reach, reach, AsksIn, MeetsIn, NoMemory, StampsUsedUp, Ask, Save, log_of, last_of, or_left, StaleWord, Right, Held, Stale, is_taken, nodes_at, gap_by, helper_gaps_of, KeepsNodes}
 use Rattle.boost_core.proofs.Numbers.{no_more}
@@ -28,7 +28,8 @@ module _ (w : World) (tells : Tells w) (c : ℕ) (x : Session) (at : slice_get w
         | inr other ↦ fresh s cursor other.1 had
       ])
 
-  -- The step is refused, and nothing has changed but room.
+  -- The outcome of a refused step. The step may change the room of the caller's seat, and nothing
+  -- else.
   module _ (claim : Claim) (step : Step) (refusal : Refusal) (goes : Goes claim (state_of w) step (answers.Refused refusal) (state_of w)) (opened : x.seat.seat.phase ≡ Opened) (y : Session) (stays : side_of y ≡ side_of x) where
     pub lacking_stays : Stays w c x y w.table w.locks w.counts
     lacking_stays = record {
@@ -57,7 +58,8 @@ module _ (w : World) (tells : Tells w) (c : ℕ) (x : Session) (at : slice_get w
       fresh = λ seat'. fresh_kept y (ap (λ (s : Side). s.cursor) stays) w.table refl refl seat' w.placed tells.fresh;
     }
 
-  -- Memory for a savepoint is refused.
+  -- If no test refuses the step `Save`, the refusal `NoMemory` is a possible outcome. It leaves the
+  -- caller's side, the table and the locks unchanged.
   pub save_refused : refusal_of (state_of w) (Save c) ≡ None → (y : Session) → side_of y ≡ side_of x → Called w c x (Save c) (answers.Refused NoMemory) y w.table w.locks
   save_refused none y stays =
       lacking_called Lock (Save c) NoMemory (lacks (state_of w) (Save c) NoMemory none tt) (three_tests x.seat.seat _ _ _ _ (seat_free w tells c x at (Save c) refl none)).0 y stays refl
@@ -72,7 +74,8 @@ module _ (w : World) (tells : Tells w) (c : ℕ) (x : Session) (at : slice_get w
     pub no_cursor_there : x.cursor ≡ None
     no_cursor_there = idle_cursor w tells c x at Opened opened refl
 
-    -- Memory is refused, or no stamp is left.
+    -- If no test refuses an ask, it may still be refused for lack of memory or of stamps. The
+    -- refusal leaves the caller's side, the table and the locks unchanged.
     pub ask_refused : (claim : Claim) (refusal : Refusal) → (Move (state_of w) (Ask c op) (answers.Refused refusal) (state_of w) → Goes claim (state_of w) (Ask c op) (answers.Refused refusal) (state_of w)) → (y : Session)
         → (refusal ≡ NoMemory) ⊎ IsRefused w.table op refusal → side_of y ≡ side_of x → CalledBy claim w c x (Ask c op) (answers.Refused refusal) y w.table w.locks
     ask_refused claim refusal by y why stays =
@@ -90,14 +93,14 @@ module _ (w : World) (tells : Tells w) (c : ℕ) (x : Session) (at : slice_get w
     abbrev pub stripe : ℕ
     stripe = stripe_of w.limits.stripes (key_of op)
 
-    -- Each spare of the log and of the operation is kept as often as it is out.
     spares_before : (t' : TableAt) (pending : PendingAt) → Prepares w.table t' op pending → (others : ℕ → ℕ → ℕ) → IsCoveredWith others (times_kept (side_of x)) w.table
         → IsCoveredWith (λ place stamp. others place stamp + times_in x.log.jobs place stamp) (times_of pending.spare) t'
     spares_before t' pending prepares others covered =
         (given_for w.table t' (takes_node op) pending.spare prepares.given).covered (λ p s. others p s + times_in x.log.jobs p s)
         (λ p s. omega (arith, rw nothing at (covered p s)))
 
-    -- The stripe is free or the caller's, and the operation waits.
+    -- The outcome of an ask that is granted: the stripe is free or the caller holds it already, and
+    -- the operation waits.
     module _ (new : Reach) (asks : AsksIn c stripe op (reach x w.table w.locks) new) (keeps : KeepsPlaced w.table new.table) (within : stripe < w.limits.stripes) where
       abbrev holder : ℕ → Option ℕ
       holder s = cond (stripe == s) (Some c) (holder_of w.limits.stripes s w.history)
@@ -151,8 +154,9 @@ module _ (w : World) (tells : Tells w) (c : ℕ) (x : Session) (at : slice_get w
             holders = asked_holders;
           })
 
-    -- Another caller holds the stripe: the prepared operation is given up, and the caller leaves to
-    -- the end.
+    -- The outcome of an ask for a stripe that another caller holds. The prepared operation is given
+    -- up. If the claim is a lock, the asking caller's phase becomes `LeavingToEnd`. If it is a
+    -- right, the ask is refused with `StaleWord`.
     module _ (holder : ℕ) (new : Reach) (meets : MeetsIn c stripe op holder (reach x w.table w.locks) new) (keeps : KeepsPlaced w.table new.table) (within : stripe < w.limits.stripes) where
       stands : w.words ≡ false → may_stand (state_of w) (entry.Busy c op holder) ≡ true
       stands words =
@@ -222,7 +226,6 @@ module _ (w : World) (tells : Tells w) (c : ℕ) (x : Session) (at : slice_get w
         same_counts = refl;
       }
 
-      -- Only the last stamp of the state has changed.
       stale_state : (seat' : RoomySeat) → state_of (world_after w c (seated_as new.session seat') (w.history ++ []) w.counts new.table new.locks w.placed)
           ≡ record (state_of w) { stamp = last_of new.table; nodes = nodes_at new.table; gaps = map (gap_by new.table) (slice_set w.sessions c (seated_as new.session seat')); helper_gaps = helper_gaps_of new.table }
       stale_state seat' =
@@ -243,7 +246,8 @@ module _ (w : World) (tells : Tells w) (c : ℕ) (x : Session) (at : slice_get w
             (ap (λ (s : Side). s.cursor) meets.becomes) new.table busy_kept.all busy_kept.buckets.all seat' w.placed tells.fresh;
       }
 
-    -- If the word names a caller that may hold the stripe, the asking caller leaves to the end.
+    -- Let the stripe's word name a caller that may hold the stripe. Then the ask is answered with
+    -- `Busy`, and the asking caller's phase becomes `LeavingToEnd`.
     pub held_called : (named : ℕ) → w.words ≡ true → may_stand (state_of w) (entry.Busy c op named) ≡ true → CalledBy (Held named) w c x (Ask c op) (answers.Busy named) x w.table w.locks
     held_called named words stands =
         let is : Called w c x (Ask c op) (answers.Busy named) x w.table w.locks =
@@ -261,7 +265,7 @@ module _ (w : World) (tells : Tells w) (c : ℕ) (x : Session) (at : slice_get w
         (no_more w.counts.began) (no_more w.counts.committed) refl tells.holders) in
         record { comes = is.comes; move = λ seat'. inr (eq-eqb named named refl, is.move seat'); fresh = is.fresh }
 
-    -- If the word names no caller that may hold the stripe, the ask is refused and nothing changes.
+    -- If the claim of an ask is `Stale`, the ask is refused with `StaleWord` and changes nothing.
     pub word_stale_called : CalledBy Stale w c x (Ask c op) (answers.Refused StaleWord) x w.table w.locks
     word_stale_called = lacking_called Stale (Ask c op) StaleWord
         (inl (record { refused = refl; free = none; stale = refl; state = refl }))

@@ -11,7 +11,6 @@ use Rattle.boost_core.proofs.Working.{did_called, undone_called, sought_called, 
 use Rattle.txn_words.specs.declared.step.Step.TheVariants as steps
 use Rattle.txn_words.specs.declared.answer.Answer.TheVariants as answers
 
--- An Ask locks its stripe only if stripes are not words.
 no_words : (words : Bool) → (words ≡ true → true ≡ false) → words ≡ false
 no_words true claims = absurd (false≢true (sym (claims refl)))
 no_words false claims = refl
@@ -36,7 +35,6 @@ module _ (w : World) (tells : Tells w) (x : Session) (new : Reach) (keeps : Keep
   asked_with c op at none within (answers.Refused refusal) does = rw does.2 (ask_refused w tells c x at op none Right refusal (λ move. inr (refl, move)) new.session does.0 does.1)
   asked_with c op at none within _ does = absurd does
 
-  -- The outcome of an operation that is asked for, by each claim.
   asked_by : (claim : Claim) (c : ℕ) (op : Op) → slice_get w.sessions c ≡ Some x → refusal_of (state_of w) (steps.Ask c op) ≡ None → stripe_of w.limits.stripes (key_of op) < w.limits.stripes → IsClaim claim (state_of w) (steps.Ask c op) → (answer : Answer)
       → AsksBy claim c (stripe_of w.limits.stripes (key_of op)) op old answer new → CalledBy claim w c x (steps.Ask c op) answer new.session new.table new.locks
   asked_by Lock c op at none within claims answer does = asked c op at none within (no_words w.words claims) answer does
@@ -78,7 +76,7 @@ module _ (w : World) (tells : Tells w) (x : Session) (new : Reach) (keeps : Keep
   claimed claim (steps.Ask c op) at none some claims answer does = asked_by claim c op at none (grind arith) claims answer does
   claimed _ _ at none some claims answer does = absurd claims
 
-  -- The outcome of each step, by its claim.
+  -- The outcome of a caller's step, whatever the step's claim is.
   pub called : (claim : Claim) (c : ℕ) (step : Step) → owner_of step ≡ Some (Caller c) → slice_get w.sessions c ≡ Some x → refusal_of (state_of w) step ≡ None → 0 < w.limits.stripes → IsClaim claim (state_of w) step → (answer : Answer)
       → (stripes : ℕ) → stripes ≡ w.limits.stripes → HasEffect claim stripes w.counts step old answer new → CalledBy claim w c x step answer new.session new.table new.locks
   called claim c step owner at none some claims answer stripes same does =

@@ -7,7 +7,8 @@ use Rattle.boost_core.proofs.Moves.{just_placed}
 use Rattle.boost_core.proofs.Refused.{or_else, refusal_parts, free, three_tests}
 use Rattle.txn_words.specs.declared.entry.Entry.TheVariants as entry
 
--- If a caller has a transaction, its seat is the seat after the caller's entries.
+-- If a caller has a transaction, `seat_after` finds a seat for the caller's entries. It is the seat
+-- that `seat_in` gives for the whole history.
 pub seat_there : (h : List Entry) (c : ℕ) → is_closed (seat_in h c).phase ≡ false → seat_after (own c h) ≡ Some (seat_in h c)
 seat_there h c there = at (seat_after (own c h)) there
   where
@@ -15,14 +16,15 @@ seat_there h c there = at (seat_after (own c h)) there
     at None some = absurd (false≢true (sym some))
     at (Some seat) some = refl
 
--- The seat after one more entry of the caller.
+-- If a caller's seat allows an entry (`row`), the seat that `row` gives is the caller's seat after
+-- the entry.
 pub seat_pushed : (h h' : List Entry) (c : ℕ) (e : Entry) (seat' : Seat) → h' ≡ h ++ e ∷ [] → caller_of e ≡ c → is_closed (seat_in h c).phase ≡ false → row (seat_in h c) (seat_in h c).phase e ≡ Some seat' → seat_in h' c ≡ seat'
 seat_pushed h h' c e seat' is mine there goes =
     ap (λ (o : Option Seat). unwrap_or o closed_seat)
     (ap (λ (g : List Entry). seat_after (own c g)) is ∙ ap seat_after (own-push_in c h e mine) ∙ seat_after-push (own c h) e
     ∙ ap (option_and_then (λ (s : Seat). row s s.phase e)) (seat_there h c there) ∙ goes)
 
--- If a step that no test refuses is refused all the same, it lacks memory or a stamp.
+-- If no test refuses a step and the step is refused nevertheless, the step lacks memory or a stamp.
 pub never_refused : (state : State) (step : Step) (refusal : Refusal) → refusal_of state step ≡ None → (refusal_of state step ≡ Some refusal) ⊎ ((refusal_of state step ≡ None) × MayLack state step refusal) → MayLack state step refusal
 never_refused state step refusal none (inl is) = absurd (let both : None ≡ Some refusal = sym none ∙ is in cc)
 never_refused state step refusal none (inr lack) = lack.1
@@ -38,7 +40,7 @@ act_free state c within there busy cursor =
     refusal_parts state c (Act c) refl
     ∙ (λ i. cond (within i) (Some NoSuchCaller) (or_else (cond (there i) (Some NotOpen) (cond (not (busy i)) (Some NothingToSeek) None)) (cond (cursor i) (Some Unplaced) None)))
 
--- A seek that is not refused places a cursor.
+-- If no test refuses a seek, it places a cursor.
 pub seek_places : (old new : State) (c : ℕ) (answer : Answer) → refusal_of old (Seek c) ≡ None → Move old (Seek c) answer new → answer ≡ Placed
 seek_places old new c (Refused refusal) none move = absurd (never_refused old (Seek c) refusal none move.allowed)
 seek_places old new c Placed none move = refl
@@ -52,7 +54,7 @@ never_again state c placed is =
 pub and_none : (b : Bool) → (b && false) ≡ false
 and_none b = and-false b
 
--- If the cursor of a waiting operation was placed last, an act does the operation.
+-- If the cursor of a waiting operation was placed last, the step `Act` does the operation.
 pub act_does : (old new : State) (c : ℕ) (op : Op) (answer : Answer) → nat_le old.limits.callers c ≡ false → (seat_in old.history c).phase ≡ Waiting op → is_some (caller_changes old.cursors c) ≡ true → old.placed ≡ Some (Caller c)
     → Move old (Act c) answer new → (reply : Option ℕ) × (answer ≡ Done reply)
 act_does old new c op answer within waits cursor placed move = at answer move
@@ -72,7 +74,6 @@ act_does old new c op answer within waits cursor placed move = at answer move
     at Aborted move = absurd (false≢true (sym (ap is_at_end waits) ∙ (and_parts (not (has_job (seat_in old.history c))) (is_at_end (seat_in old.history c).phase) move.allowed.1).1))
     at _ move = absurd move.allowed.1
 
--- If a caller that takes changes back has none left, its act ends the return or the abort.
 no_reply : (q : Phase) (m : Map) (reply : Option ℕ) → is_leaving q ≡ true → IsReply q m reply → ⊥
 no_reply (Waiting op) m reply leaves is = false≢true leaves
 no_reply _ m reply leaves is = is
@@ -109,7 +110,8 @@ act_ends old new c answer within leaves rests move = at answer move
     at Aborted move = at_end (seat_in old.history c).phase (and_parts (not (has_job (seat_in old.history c))) (is_at_end (seat_in old.history c).phase) move.allowed.1).1
     at _ move = absurd move.allowed.1
 
--- If the cursor for the newest change was placed last, an act takes this change back.
+-- If the cursor for a caller's newest change was placed last, the step `Act` takes this change
+-- back.
 pub act_undoes : (old new : State) (c : ℕ) (answer : Answer) → nat_le old.limits.callers c ≡ false → is_leaving (seat_in old.history c).phase ≡ true → has_job (seat_in old.history c) ≡ true → is_some (caller_changes old.cursors c) ≡ true → old.placed ≡ Some (Caller c)
     → Move old (Act c) answer new → answer ≡ Undone
 act_undoes old new c answer within leaves job cursor placed move = at answer move
@@ -133,7 +135,7 @@ row_undone s (LeavingTo n) c leaves job =
 row_undone s LeavingToEnd c leaves job = (ap (λ b. cond b (Some (record s { standing = s.standing - 1 })) None) job, ltb-true 0 s.standing job)
 row_undone s _ c leaves job = absurd (false≢true leaves)
 
--- A seek and an act have taken a change back: the two answers, and the state after them.
+-- The two answers and the new state after a seek and an act have taken a change back.
 pub record TookBack (old between new : State) (c : ℕ) (first second : Answer) : Type 0 where
   pub placed : first ≡ Placed
   pub undone : second ≡ Undone
@@ -166,7 +168,7 @@ took_back old between new c first second within leaves job seeks cursor acts =
       fewer = omega (arith, standing, was, rows.1);
     }
 
--- After an ask with the answer `Asked`, a seek and an act do the operation.
+-- If an ask is answered with `Asked`, the seek and the act that follow it do the operation.
 pub operated : (old asked sought new : State) (c : ℕ) (op : Op) (first second : Answer) → Happens old (Ask c op) Asked asked → Happens asked (Seek c) first sought → (first ≡ Placed → is_some (caller_changes sought.cursors c) ≡ true) → Happens sought (Act c) second new
     → Operates old c op second new
 operated old asked sought new c op first second asks seeks cursor acts =
@@ -181,8 +183,8 @@ operated old asked sought new c op first second asks seeks cursor acts =
     let done = act_does sought new c op second (ap (λ (s : State). nat_le s.limits.callers c) seeks_so.move.state ∙ within) (ap (λ (s : Seat). s.phase) same ∙ waits) (cursor is_placed) (ap (λ (s : State). s.placed) seeks_so.move.state) acts.move in
     rw done.1 (asked, asks, (sought, seeks_so, (new, rw done.1 at acts, refl)))
 
--- If an operation is not granted, or if a return or an abort is refused, the first step is the
--- whole call.
+-- If an operation is not granted, or if a return or an abort is refused, the call ends after its
+-- first step.
 pub stopped : (old new : State) (c : ℕ) (op : Op) (answer : Answer) → (answer ≡ Asked → ⊥) → Happens old (Ask c op) answer new → Operates old c op answer new
 stopped old new c op Asked other event = absurd (other refl)
 stopped old new c op (Done reply) other event = absurd event.move.allowed.1

@@ -45,7 +45,7 @@ child_root : (bucket : ℕ) → 0 < bucket → 0 < child_towards 0 bucket
 unfolding child_towards
 child_root bucket some = child_some 32 bucket some
 
--- Each bucket on the way is greater than the one before it.
+-- On the way to a bucket, each bucket has a greater number than the one before it.
 pub rises : (last bucket : ℕ) → bucket < 2 ^ 32 → IsAncestor last bucket → last ≢ bucket → last < child_towards last bucket
 rises last bucket small is other =
     let parent = parent_of-child_towards last bucket small is other in
@@ -66,13 +66,13 @@ abbrev pub IsPlaced : State → ℕ → Phase → Type 0
 IsPlaced state c (phases.Linking way again) = state.placed ≡ Some (Helper c)
 IsPlaced state c phase = Unit {0}
 
--- The invariant of each phase.
+-- The invariant of each phase of a call for help.
 abbrev pub Fits : State → ℕ → ℕ → Phase → Type 0
 Fits state c key (phases.Doubling seen) = Unit {0}
 Fits state c key (phases.Refused BadKey) = Unit {0}
 Fits state c key phase = HelpSuits state c phase × Reaches (Unit {0}) state (key % state.size) phase × IsPlaced state c phase
 
--- An upper bound on the number of steps that are left.
+-- An upper bound on the number of steps that a call for help still takes from this phase on.
 abbrev pub left : Phase → ℕ
 left (phases.Doubling seen) = 3 * 2 ^ 32 + 4
 left (phases.Initialising way again) = 3 * (way.target - way.bucket) + 3
@@ -80,12 +80,12 @@ left (phases.Linking way again) = 3 * (way.target - way.bucket) + 2
 left (phases.Storing way) = 3 * (way.target - way.bucket) + 1
 left phase = 0
 
--- The invariant of this phase holds, and fewer than `bound` steps are left.
+-- The invariant of this phase holds, and fewer than `bound` steps remain.
 pub record Goes (state : State) (c key bound : ℕ) (phase : Phase) : Type 0 where
   pub fits : Fits state c key phase
   pub fewer : left phase < bound
 
--- In this phase fewer than `bound` steps are left, and `IsPlaced` holds.
+-- In this phase fewer than `bound` steps remain, and `IsPlaced` holds.
 record Nears (state : State) (c bound : ℕ) (phase : Phase) : Type 0 where
   placed : IsPlaced state c phase
   fewer : left phase < bound
@@ -130,7 +130,7 @@ stored_nears new c way answers.Stored small ancestor = towards_nears new c way.b
 stored_nears new c way (answers.Refused refusal) small ancestor = at_refused (Nears new c (3 * (way.target - way.bucket) + 1)) refusal (λ r. record { placed = tt; fewer = omega arith })
 stored_nears new c way _ small ancestor = record { placed = tt; fewer = omega arith }
 
--- `HelpSuits` is a part of each phase's invariant. The parts together give the invariant.
+-- If the invariant of a phase holds and the phase has a step to take, `HelpSuits` holds.
 fits_suits : (state : State) (c key : ℕ) (phase : Phase) (step : Step) → Fits state c key phase → step_in c (calls.Help key) (sized_in state.size phase) ≡ Some step → HelpSuits state c phase
 fits_suits state c key (phases.Doubling seen) step fits is = tt
 fits_suits state c key (phases.Refused refusal) step fits is = absurd (cc is)
@@ -141,8 +141,8 @@ fits_all state c key (phases.Doubling seen) suits reaches placed = tt
 fits_all state c key (phases.Refused BadKey) suits reaches placed = tt
 fits_all state c key phase suits reaches placed = (suits, reaches, placed)
 
--- After a step of the drive and its answer, the invariant of the next phase holds, and fewer steps
--- are left.
+-- After the drive takes a step and receives its answer, the invariant of the next phase holds, and
+-- fewer steps remain.
 pub goes : (state new : State) (c key : ℕ) (phase : Phase) (step : Step) (answer : Answer) → IsWhole state → state.limits.buckets ≤ 65536 → nat_le state.limits.callers c ≡ false → Fits state c key phase
     → step_in c (calls.Help key) (sized_in state.size phase) ≡ Some step → Move state step answer new → Goes new c key (left phase) (told_in (calls.Help key) (sized_in state.size phase) answer)
 goes state new c key phase step answer whole most within fits is move =
@@ -189,7 +189,7 @@ goes state new c key phase step answer whole most within fits is move =
     by (phases.Refused refusal) fits is move = absurd (cc is)
     by phase fits is move = absurd fits.0
 
--- The invariant of a new drive's phase holds.
+-- The invariant holds for the first phase of a call for help.
 pub fits_first : (state : State) (c key : ℕ) → Fits state c key (first_phase state.limits.half (calls.Help key))
 fits_first state c key = at (is_bad_key state.limits.half key)
   where
@@ -197,18 +197,17 @@ fits_first state c key = at (is_bad_key state.limits.half key)
     at true = tt
     at false = tt
 
--- The next step of a call's drive is the step that the call takes in the drive's phase.
 step_here : (c key size : ℕ) (drive : Drive) (next : Option Step) → drive.caller ≡ c → drive.call ≡ calls.Help key → next ≡ step_of (sized_of size drive) → next ≡ step_in c (calls.Help key) (sized_in size drive.phase)
 step_here c key size drive next caller call is = is ∙ (λ i. step_in (caller i) (call i) (sized_in size drive.phase))
 
--- After a round of the loop the invariant of the next phase holds, and fewer steps are left.
+-- After a round of the loop, the invariant of the next phase holds, and fewer steps remain.
 pub round : (state new : State) (c key : ℕ) (drive : Drive) (step : Step) (answer : Answer) → IsWhole state → state.limits.buckets ≤ 65536 → nat_le state.limits.callers c ≡ false → drive.caller ≡ c → drive.call ≡ calls.Help key → Fits state c key drive.phase
     → step_of (sized_of state.size drive) ≡ Some step → Move state step answer new → Goes new c key (left drive.phase) (told_of (sized_of state.size drive) answer).phase
 round state new c key drive step answer whole most within caller call fits is move =
     subst (λ call. Goes new c key (left drive.phase) (told_in call (sized_in state.size drive.phase) answer)) (sym call)
     (goes state new c key drive.phase step answer whole most within fits (sym (step_here c key state.size drive _ caller call refl) ∙ is) move)
 
--- A call for help asks for no operation.
+-- Returns true if the step is an ask. A call for help takes no such step.
 abbrev asks : Option Step → Bool
 asks None = false
 asks (Some step) = is_ask step
@@ -220,7 +219,8 @@ no_ask c key phase = refl
 pub help_asks_nothing : (key size : ℕ) (drive : Drive) (step : Step) → drive.call ≡ calls.Help key → step_of (sized_of size drive) ≡ Some step → is_ask step ≡ false
 help_asks_nothing key size drive step call is = sym (ap asks is) ∙ ap (λ made. asks (step_in drive.caller made (sized_in size drive.phase))) call ∙ no_ask drive.caller key (sized_in size drive.phase)
 
--- The caller's number and the limits are in range, as the call has tested.
+-- If the call has tested that the caller's number is in range, the number is below the core's
+-- number of callers.
 pub within_there : (inside here : Sizes) (c n m : ℕ) → inside ≡ here → c < n → n ≡ m → m ≡ inside.callers → nat_le here.callers c ≡ false
 within_there inside here c n m same less is callers = ap (λ (l : Sizes). nat_le l.callers c) (sym same) ∙ le_false inside.callers c (omega arith)
 
@@ -230,7 +230,7 @@ buckets_most callers stripes buckets are = grind arith
 pub most_there : (inside here : Sizes) → inside ≡ here → are_limits inside.callers inside.stripes inside.buckets ≡ true → here.buckets ≤ 65536
 most_there inside here same are = subst (λ (l : Sizes). l.buckets ≤ 65536) same (buckets_most inside.callers inside.stripes inside.buckets are)
 
--- The outcome of the call, once the drive has no step left.
+-- If the drive has no step left, the call for help has the outcome that `Helps` describes.
 pub ended : (old state : State) (c key : ℕ) (drive : Drive) → ((moves : ℕ) × Drives moves (new_drive old.limits.half c (calls.Help key)) old drive state) → drive.caller ≡ c → drive.call ≡ calls.Help key → Fits state c key drive.phase
     → step_of (sized_of state.size drive) ≡ None → Helps old c key (outcome_of (end_of (sized_of state.size drive))) state
 ended old state c key drive drives caller call fits none = at drive.call drive.phase call fits (sym (step_here c key state.size drive _ caller call refl) ∙ none) refl refl

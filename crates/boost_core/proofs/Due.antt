@@ -2,7 +2,7 @@
 use Rattle.std.proofs.Common.{◌≡◌, ℕ, ◌==◌, true, false, cond, List, [], ◌∷◌, ◌++◌, Option, Some, None, is_some, refl, sym, ap, subst, ◌∙◌, IsSome, map, reverse, option_to_list, nat_eq, eq-eqb, ne_eqb, append-nil, inl, inr}
 use Rattle.boost_core.proofs.Vocabulary.{option_eq, AllByRecursion, cases_Bool, cases_eq, reverse-append, SpareAt, Op, Put, Take, Get, PutIf, MapJob, Relink, Map, get, key_of, reply_of, after, set_at, changes, same_map, get-insert-here, get-remove-here, get-set_at, after_unchanged, get-after_other, changes-reply, takes_node, key_of_job, value_before, IsDue, unput, relink, job_of, change_of, changes_of, AreDue}
 
--- The key of each of these jobs has this property.
+-- The property `P` holds for the key of every job.
 abbrev pub AllOf : (ℕ → Type 0) → List MapJob → Type 0
 AllOf P jobs = AllByRecursion (λ (job : MapJob). P (key_of_job job)) jobs
 
@@ -25,21 +25,23 @@ due_same P m m' (job ∷ jobs) same all due = (
   due_same P (set_at m (key_of_job job) (value_before job)) (set_at m' (key_of_job job) (value_before job)) jobs (λ k passes. set_at_same m m' (key_of_job job) (value_before job) k (same k passes)) all.1 due.1,
 )
 
--- After an operation, setting its key to the value before the operation restores the map.
+-- If the key of an operation is set back to the value that it had before the operation, the map is
+-- the same as before the operation.
 pub set_at-after : (m : Map) (op : Op) → set_at (after m op) (key_of op) (reply_of m op) ≡ m
 set_at-after m op = same_map (set_at (after m op) (key_of op) (reply_of m op)) m (λ q. get-set_at (after m op) (key_of op) (reply_of m op) q ∙ elim (cases_eq q (key_of op)) [
   | inl same ↦ ap (λ b. cond b (reply_of m op) (get (after m op) q)) (eq-eqb q (key_of op) same) ∙ ap (get m) (sym same)
   | inr other ↦ ap (λ b. cond b (reply_of m op) (get (after m op) q)) (ne_eqb q (key_of op) other) ∙ get-after_other m op q other
 ])
 
--- The operation is a change, and this is its job: the job has the operation's key and the value
--- before the operation, and is due after the operation.
+-- The operation is a change, and `job` is its job: the job has the operation's key and the value
+-- that the key had before the operation, and it is due after the operation.
 pub record Noted (m : Map) (op : Op) (spare : Option SpareAt) (job : MapJob) : Type 0 where
   pub change : change_of job ≡ (key_of op, reply_of m op)
   pub is_change : changes op (reply_of m op) ≡ true
   pub due : IsDue (after m op) job
 
--- If there is a job, it is the operation's job; if there is none, the operation is no change.
+-- If there is a job, it is the job of this operation (`Noted`). If there is none, the operation is
+-- not a change.
 abbrev pub NotedIf : Map → Op → Option SpareAt → Option MapJob → Type 0
 NotedIf m op spare None = changes op (reply_of m op) ≡ false
 NotedIf m op spare (Some job) = Noted m op spare job
@@ -69,8 +71,8 @@ noted m (PutIf k expected v) spare there = elim (cases_Bool (option_eq nat_eq (g
   | inr same ↦ rw same same
 ]
 
--- After an operation that is a change, a caller's log has one more change; after any other
--- operation it has the same changes.
+-- An operation that is a change adds one change to the caller's log. Any other operation leaves the
+-- changes of the log as they are.
 pub changes_noted : (m : Map) (op : Op) (spare : Option SpareAt) (jobs : List MapJob) (job : Option MapJob) → NotedIf m op spare job
     → cond (changes op (reply_of m op)) ((key_of op, reply_of m op) ∷ changes_of jobs) (changes_of jobs) ≡ changes_of (jobs ++ option_to_list job)
 changes_noted m op spare jobs None is = ap (λ b. cond b ((key_of op, reply_of m op) ∷ changes_of jobs) (changes_of jobs)) is ∙ ap changes_of (sym (append-nil jobs))

@@ -1,4 +1,4 @@
--- Each event is the event of some step with some answer.
+-- Every event comes from a step and its answer.
 use Rattle.std.proofs.Common.{◌≡◌, Some, None, refl}
 use Rattle.boost_core.proofs.Vocabulary.{Step, Answer}
 use Rattle.boost_core.specs.Events.{Event, By, Of, event_of}
@@ -6,7 +6,7 @@ use Rattle.boost_core.specs.Events as events
 use Rattle.txn_words.specs.declared.step.Step.TheVariants as steps
 use Rattle.txn_words.specs.declared.answer.Answer.TheVariants as answers
 
--- The step and the answer of an event.
+-- A step and an answer from which `event_of` makes this event.
 pub pair_of : (e : Event) → (step : Step) × (answer : Answer) × (event_of step answer ≡ Some e)
 pair_of (By c (events.Began t)) = (steps.Begin c, answers.Began t, refl)
 pair_of (By c (events.Asked op)) = (steps.Ask c op, answers.Asked, refl)

@@ -1,4 +1,4 @@
--- Two neighbouring nodes, before and after a change of the list.
+-- Which nodes stay linked when the list changes, and which nodes `node_of` and `next_of` find.
 use Rattle.std.proofs.Common.{◌≡◌, ℕ, ◌==◌, true, false, inl, inr, List, [], ◌∷◌, Some, refl, sym, ap, subst, ◌∙◌, arith, eq-eqb, eqb-true, ltb-true, Bool, cond}
 use Rattle.boost_core.proofs.Vocabulary.{AllByRecursion, false≢true, cases_Bool, is_before, IsBefore, NodeAt, node_of, next_of, first, linked_after, changed_at, IsRising, IsSpread, IsNodeBefore, AbsentFrom, cleaned, sought, without_first_marked, SortKey}
 use Rattle.boost_core.proofs.NodeLists.{node_here, node_later, none_of_none}
@@ -10,7 +10,7 @@ pub record IsStill (nodes : List NodeAt) (place : ℕ) (n : NodeAt) : Type 0 whe
   pub at : node.at ≡ n.at
   pub stamp : node.stamp ≡ n.stamp
 
--- Each unmarked node of the old list is still linked in the new one, as `IsStill` says.
+-- Each unmarked node of the old list is still linked in the new list (`IsStill`).
 abbrev pub Stay : List NodeAt → List NodeAt → Type 0
 Stay old new = (place : ℕ) (n : NodeAt) → node_of old place ≡ Some n → n.marked ≡ false → IsStill new place n
 
@@ -25,8 +25,6 @@ found_later : (m : NodeAt) (rest : List NodeAt) (place : ℕ) → (m.place == pl
 unfolding node_of
 found_later m rest place apart = rw apart refl
 
--- `Stay` still holds if a node is put before each of the two lists and these nodes agree in place,
--- sort key and stamp.
 stay_like : (m m' : NodeAt) (old new : List NodeAt) → (m'.place ≡ m.place) × (m'.at ≡ m.at) × (m'.stamp ≡ m.stamp) → Stay old new → Stay (m ∷ old) (m' ∷ new)
 stay_like m m' old new same stay place n is live = elim (cases_Bool (m.place == place)) [
   | inl here ↦
@@ -40,7 +38,7 @@ stay_like m m' old new same stay place n is live = elim (cases_Bool (m.place == 
 stay_cons : (m : NodeAt) (old new : List NodeAt) → Stay old new → Stay (m ∷ old) (m ∷ new)
 stay_cons m old new stay = stay_like m m old new (refl, refl, refl) stay
 
--- `Stay` holds when a marked node is left out.
+-- `Stay` holds if a marked node is removed from the list.
 stay_without : (m : NodeAt) (old new : List NodeAt) → m.marked ≡ true → Stay old new → Stay (m ∷ old) new
 stay_without m old new gone stay place n is live = elim (cases_Bool (m.place == place)) [
   | inl here ↦ absurd (false≢true (sym live ∙ sym (ap (λ k. k.marked) (node_here m old place n is here)) ∙ gone))
@@ -55,7 +53,7 @@ stay_changed (m ∷ rest) place change same = elim (cases_Bool (m.place == place
   | inr later ↦ rw later (stay_cons m rest (changed_at rest place change) (stay_changed rest place change same))
 ]
 
--- A property of all nodes of a list holds of the node at a place and of the node behind a place.
+-- If every node of a list has a property, so has the node at a place, and so has the node after it.
 pub each_at : (P : NodeAt → Type 0) (nodes : List NodeAt) (place : ℕ) (n : NodeAt) → AllByRecursion P nodes → node_of nodes place ≡ Some n → P n
 each_at P [] place n each is = absurd (none_of_none place n is)
 each_at P (m ∷ rest) place n each is = elim (cases_Bool (m.place == place)) [
@@ -93,8 +91,6 @@ each_next P (m ∷ rest) place n each is = elim (cases_Bool (m.place == place)) 
   | inr apart ↦ each_next P rest place n each.1 (sym (next_later m rest place apart) ∙ is)
 ]
 
--- Let all nodes have different places. If n is the node behind some place, `node_of` finds n at n's
--- own place.
 absent_found : (nodes : List NodeAt) (place : ℕ) (n : NodeAt) → AbsentFrom place nodes → node_of nodes place ≡ Some n → ⊥
 absent_found nodes place n absent is = each_at (λ m. m.place ≡ place → ⊥) nodes place n absent is (place_at nodes place n is)
 
@@ -161,7 +157,7 @@ stay_sought sort (m ∷ rest) place = elim (cases_Bool (m.place == place)) [
   | inr apart ↦ rw apart (stay_cons m rest (sought rest place sort) (stay_sought sort rest place))
 ]
 
--- No node is before itself.
+-- No sort key is before itself.
 not_before : (at : SortKey) → IsBefore at at → ⊥
 unfolding is_before
 not_before at is = let less = ltb-true at.key at.key (rw (eq-eqb at.split at.split refl) at is) in omega arith
@@ -185,7 +181,7 @@ first_one (k ∷ rest) q n m rising next is same =
       | inr apart ↦ absurd (apart_keys n.at m.at (sym same) (subst (λ j. IsBefore j.at m.at) k_is (each_at (IsNodeBefore k) rest q m rising.0 (node_later k rest q (Some m) is apart))))
     ]
 
--- In a list that rises, two nodes with equal sort keys are the same node.
+-- If the sort keys of a list rise, two nodes with equal sort keys are the same node.
 pub one_of_key : (nodes : List NodeAt) (p q : ℕ) (n m : NodeAt) → IsRising nodes → next_of nodes p ≡ Some n → node_of nodes q ≡ Some m → m.at ≡ n.at → m ≡ n
 unfolding IsRising
 one_of_key [] p q n m rising next is same = absurd (next_none p n next)

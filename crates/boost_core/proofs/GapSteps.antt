@@ -17,7 +17,7 @@ use Rattle.map_ops.specs.InitLink.TheVariants as links
 use Rattle.map_ops.specs.SweepOutcome.TheVariants as outcomes
 use Rattle.boost_core.specs.Serves as said
 
--- From an equal state, a step has the same effect on the cursors.
+-- If two states are equal, a step has the same effect on the cursors in both.
 pub cursors_of : (state old new : State) (step : Step) (answer : Answer) → state ≡ old → Cursors state step answer new → Cursors old step answer new
 cursors_of state old new step answer is cursors = subst (λ s. Cursors s step answer new) is cursors
 
@@ -112,7 +112,7 @@ module _ (w : World) (tells : Tells w) (c : ℕ) (x : Session) (at : slice_get w
   fits claim (steps.Double seen) owner stripes answer is = absurd is
   fits claim _ owner stripes _ is = tt
 
-  -- The effect of each step of a caller on the cursors.
+  -- Each step of a caller affects the cursors as `Cursors` says.
   pub does_cursors : (claim : Claim) (step : Step) → owner_of step ≡ Some (Caller c) → (stripes : ℕ) (answer : Answer) → HasEffect claim stripes w.counts step old answer new → Cursors (state_of w) step answer (state_of w')
   does_cursors claim step owner stripes answer is = record {
     fits = fits claim step owner stripes answer is;

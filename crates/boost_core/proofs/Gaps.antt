@@ -5,7 +5,7 @@ use Rattle.boost_core.proofs.GapLists.{Stay, next_found}
 use Rattle.boost_core.proofs.Neighbours.{Fit, NextIs, fit_of, fits_of, key_at, neighbours, still_fits}
 use Rattle.std.proofs.Math.ListN as lists
 
--- The nodes beside a cursor that fits.
+-- The two nodes between which a cursor stands, if the cursor fits.
 abbrev pub gap_fit : (t : TableAt) (cursor : Cursor) → Fit t.list cursor → Gap
 gap_fit t cursor fit = record { before = fit.pred.at; behind = key_at (behind t.list cursor) }
 
@@ -37,7 +37,8 @@ module _ (t t' : TableAt) (spread : IsSpread (nodes_of t)) (rising : IsRising (n
   session_still None is = is
   session_still (Some s) is = cursor_still s.cursor is
 
--- The nodes beside a caller's cursor, given the caller's side.
+-- At a caller's number, the list of gaps has the gap that `gap_by` computes from the caller's
+-- session.
 pub gap_in_is : (t : TableAt) (sessions : List Session) (c : ℕ) → gap_in (map (gap_by t) sessions) c ≡ unwrap_or (option_map (gap_by t) (slice_get sessions c)) None
 gap_in_is t sessions c = ap (λ (o : Option (Option Gap)). unwrap_or o None) (slice_get-map (gap_by t) sessions c)
 
@@ -52,7 +53,7 @@ gap_kept w w' spread rising stay c gap same is near =
     gap_in_is w'.table w'.sessions c ∙ ap (λ (s : Option Session). unwrap_or (option_map (gap_by w'.table) s) None) same
     ∙ session_still w.table w'.table spread rising stay gap near (slice_get w.sessions c) (sym (gap_in_is w.table w.sessions c) ∙ is)
 
--- A cursor that was placed for a sort key and fits is beside the position of that key.
+-- If a cursor was placed for a sort key and still fits, it stands at the position of that key.
 module _ (t : TableAt) (cursor : Cursor) (at : SortKey) (spread : IsSpread (nodes_of t)) (placed : IsPlacedIn t.list cursor) (at_is : at_of cursor ≡ at) (fit : Fit t.list cursor) where
   beyond : (o : Option NodeAt) (noted : Option Noted) → behind t.list cursor ≡ o → cursor.cur ≡ noted → NextIs o noted → (next : SortKey) → key_at o ≡ Some next → IsNotBefore next at
   beyond None noted was cur is next next_is = absurd (cc (next_is))
@@ -82,7 +83,8 @@ pub stands : (w' : World) (c key : ℕ) (y : Session) (cursor : Cursor) → slic
 stands w' c key y cursor at had spread placed fitting =
     stands_at w' (Caller c) cursor (regular_at key) (gap_by_side w'.table w'.sessions c y (Some cursor) at had) spread placed.list placed.at_is fitting
 
--- The nodes decide whether a cursor fits and which nodes are beside it.
+-- If two tables have the same nodes, a cursor fits in both tables or in neither. The nodes beside
+-- the cursor are also the same in both.
 pub same_fits : (t t' : TableAt) (cursor : Cursor) → nodes_of t' ≡ nodes_of t → fits t' cursor ≡ fits t cursor
 unfolding list_fits
 same_fits t t' cursor same = λ i. is_noted (node_of (same i) (pred_of cursor)) cursor.pred.stamp && is_next_noted (next_of (same i) (pred_of cursor)) cursor.cur
@@ -91,7 +93,7 @@ pub same_gap : (t t' : TableAt) (o : Option Cursor) → nodes_of t' ≡ nodes_of
 same_gap t t' None same = refl
 same_gap t t' (Some cursor) same = λ i. cond (same_fits t t' cursor same i) (gap_at (node_of (same i) (pred_of cursor)) (next_of (same i) (pred_of cursor))) None
 
--- The nodes beside a helper's cursor, given that cursor.
+-- At a helper's number, the list of gaps has the gap of this helper's cursor.
 pub helper_gap_is : (t : TableAt) (h : ℕ) → gap_in (helper_gaps_of t) h ≡ gap_if t (helper_cursor t h)
 helper_gap_is t h = unwrap_or-slice_get (helper_gaps_of t) h None ∙ lists.get_or-map (gap_if t) (cursors_of t) h None
 
@@ -105,7 +107,7 @@ helper_kept t t' spread rising stay h gap same is near =
 pub cursors_stay : (t t' : TableAt) (h : ℕ) → t'.buckets ≡ t.buckets → helper_cursor t' h ≡ helper_cursor t h
 cursors_stay t t' h same = ap (λ d. slice_index_or (map cursor_in d.helpers) h None) same
 
--- Whether there is a cursor and it fits.
+-- Returns true if there is a cursor and it fits.
 abbrev pub fits_if : TableAt → Option Cursor → Bool
 fits_if t None = false
 fits_if t (Some cursor) = fits t cursor
@@ -129,7 +131,7 @@ same_helper t t' h same buckets = fits_by t' h ∙ ap (fits_if t') (cursors_stay
     at None = refl
     at (Some cursor) = same_fits t t' cursor same
 
--- A cursor that fits has nodes beside it, and one that does not fit has none.
+-- If a helper's cursor fits, there are nodes beside it. If it does not fit, there are none.
 pub helper_gap : (t : TableAt) (h : ℕ) → helper_fits t h ≡ true → is_some (gap_in (helper_gaps_of t) h) ≡ true
 helper_gap t h is = ap is_some (helper_gap_is t h) ∙ at (helper_cursor t h) (sym (fits_by t h) ∙ is)
   where
@@ -144,7 +146,8 @@ no_helper_gap t h is = helper_gap_is t h ∙ at (helper_cursor t h) (sym (fits_b
     at None stale = refl
     at (Some cursor) stale = no_gap t cursor stale
 
--- A helper's cursor that was placed for a bucket's dummy and fits is beside the dummy's position.
+-- If a helper's cursor was placed for a bucket's dummy and still fits, it stands at the position of
+-- that dummy.
 pub helper_stands : (w' : World) (h b : ℕ) (cursor : Cursor) → IsSpread (nodes_of w'.table)
     → helper_of w'.table.buckets h ≡ Some (Seeking b cursor) → IsPlacedIn w'.table.list cursor → at_of cursor ≡ dummy_at b
     → fits w'.table cursor ≡ true → StandsAt (state_of w') (Helper h) (dummy_at b)

@@ -22,8 +22,8 @@ sum_changed f sessions c x y at = rw (get_or_from_slice_get sessions c x x at) a
 pub one_of_sum : (f : Session → ℕ) (sessions : List Session) (c : ℕ) (x : Session) → slice_get sessions c ≡ Some x → f x ≤ sum_by f sessions
 one_of_sum f sessions c x at = rw (get_or_from_slice_get sessions c x x at) at (get_or-le-sum_by f sessions c x (slice_get_within sessions c x at))
 
--- If a change of one session leaves the table covered, whichever spares the others keep, the table
--- stays covered with the spares of all sessions.
+-- Let the table and one caller's session change, and let `StaysCovered` hold for this change. Then
+-- the sessions still keep exactly those spares that the table has given out.
 pub traded : (t t' : TableAt) (sessions : List Session) (c : ℕ) (x y : Session) → slice_get sessions c ≡ Some x
     → StaysCovered t (times_kept (side_of x)) t' (times_kept (side_of y)) → IsCovered (all_times sessions) t → IsCovered (all_times (slice_set sessions c y)) t'
 traded t t' sessions c x y at trade covered place stamp =
@@ -64,9 +64,9 @@ still_due stripes h d s room current legal is same = at s.seat.phase refl
         closed_due current (reverse s.jobs) (length-reverse s.jobs ∙ sym is.agrees.standing ∙ none)
     at q is_q = keyed (rw (is.seat, is_q) refl)
 
--- A step that adds an entry. `next` describes the history after the entry. After the step the
--- caller's side is `side`, but still with the seat from before the entry, and without a cursor.
--- `apart` says that the step disturbs no other caller.
+-- A step that adds an entry. The field `next` describes the history after the entry. After the
+-- step, the caller's side is `side`, but without a cursor and still with the seat from before the
+-- entry. The field `apart` says that the step disturbs no other caller.
 pub record Grows (w : World) (c : ℕ) (x y : Session) (t' : TableAt) (locks' : List (Option ℕ)) (counts' : Counts) (e : Entry) : Type 0 where
   pub seat : Seat
   pub committed : Map
@@ -103,11 +103,11 @@ pub record Stays (w : World) (c : ℕ) (x y : Session) (t' : TableAt) (locks' : 
   pub same_locks : locks' ≡ w.locks
   pub same_counts : counts' ≡ w.counts
 
--- A world after a step of one caller.
+-- The world after a step of one caller.
 abbrev pub world_after : World → ℕ → Session → List Entry → Counts → TableAt → List (Option ℕ) → Option Owner → World
 world_after w c z h' counts' t' locks' placed' = record { limits = w.limits; history = h'; counts = counts'; table = t'; sessions = slice_set w.sessions c z; locks = locks'; placed = placed'; words = w.words }
 
--- The caller's side with this seat, which is the seat after the added entry.
+-- The session, but with the given seat. This is the caller's seat after the added entry.
 abbrev pub seated_as : Session → RoomySeat → Session
 seated_as y seat = record { seat = seat; pending = y.pending; cursor = y.cursor; log = y.log }
 
@@ -119,13 +119,14 @@ module _ (w : World) (tells : Tells w) (c : ℕ) (x y : Session) (at : slice_get
   within : c < length w.sessions
   within = slice_get_within w.sessions c x at
 
-  -- The caller's seat allows the entry. The seat after the entry is the `seat` of `Grows`.
+  -- If `Grows` holds for an entry, the caller's seat allows this entry, and the seat after the
+  -- entry is the field `seat` of `Grows`.
   pub row_there : (e : Entry) (is : Grows w c x y t' locks' counts' e) → row x.seat.seat x.seat.seat.phase e ≡ Some is.seat
   row_there e is =
       let seat : seat_after (own (caller_of e) w.history) ≡ Some x.seat.seat = ap (λ k. seat_after (own k w.history)) is.mine ∙ (tells.seated c x at).seat in
       sym (seat-own w.history e ∙ ap (option_and_then (λ (s : Seat). row s s.phase e)) seat) ∙ is.next.seat_is
 
-  -- The step adds one entry.
+  -- The invariants of a core still hold after a step that adds one entry.
   module _ (e : Entry) (is : Grows w c x y t' locks' counts' e) (seat' : RoomySeat) (entered : seat'.seat ≡ is.seat) (placed' : Option Owner) where
     abbrev z : Session
     z = seated_as y seat'
@@ -183,7 +184,7 @@ module _ (w : World) (tells : Tells w) (c : ℕ) (x y : Session) (at : slice_get
       sound = is.placed.sound tells.sound;
     }
 
-  -- The step adds no entry.
+  -- The invariants of a core still hold after a step that adds no entry.
   pub stayed : Stays w c x y t' locks' counts' → (placed' : Option Owner) → LastPlacedFits t' (slice_set w.sessions c y) placed' → Tells (world_after w c y w.history counts' t' locks' placed')
   stayed is placed' fresh = record {
     legal = tells.legal;

@@ -26,7 +26,7 @@ tells_table w tells t' placed' same follows spares largest helpers fresh =
     table_stayed w tells t' placed' (ap map_of same) (record { placed = follows.placed; sound = follows.list.sound })
     (still_covered w.table t' (all_times w.sessions) spares tells.spares) largest helpers fresh
 
--- The step `Sweep`.
+-- The invariants of a core still hold after the step `Sweep`.
 pub sweep_tells : (w : World) → Tells w
     → (t' : TableAt) → KeepsTable w.table t' → KeepsSpares w.table t' → Follows w.table t' → Tells (served w t' None)
 sweep_tells w tells t' keeps spares follows =
@@ -62,7 +62,7 @@ became w t' placed' size stored linked helps = record (state_of w) {
   placed = placed';
 }
 
--- The state after the buckets and the helpers change, with the new nodes.
+-- If the buckets and the helpers change, the new state is `became` with the nodes of the new table.
 pub becomes_state : (w : World) (t' : TableAt) (placed' : Option Owner) (size : ℕ) (stored linked : List Bool) (helps : List Help)
     → Becomes w.table t' size stored linked helps → state_of (served w t' placed') ≡ with_nodes t' w.sessions (became w t' placed' size stored linked helps)
 becomes_state w t' placed' size stored linked helps becomes = λ i.
@@ -78,7 +78,7 @@ becomes_move w t' placed' size stored linked helps step answer becomes allowed a
   state = becomes_state w t' placed' size stored linked helps becomes ∙ ap (with_nodes t' w.sessions) (sym after_is);
 }
 
--- The refusal of a helper's step, if the step is refused.
+-- The refusal in the result of a helper's step. None if the step is not refused.
 abbrev pub refusal_in_result : {A : Type 0} → Result A Refusal → Option Refusal
 refusal_in_result (Ok answer) = None
 refusal_in_result (Err refusal) = Some refusal
@@ -93,7 +93,6 @@ helper_none helps n h long none = elim (cases_lt h (length helps)) [
   | inr past ↦ le-leb n h (omega arith)
 ]
 
--- The step `InitSeek`.
 seek_tests : (large here above : Bool) → cond large (Some NoSuchBucket) (cond (not here && not above) (Some ParentMissing) None)
     ≡ refusal_in_result (answer_for (cond {A = Result InitSeek InitRefusal} large (Err inits.NoSuchBucket) (cond here (Ok seeks.Ready) (cond above (Ok seeks.Placed) (Err inits.ParentMissing)))))
 seek_tests true here above = refl
@@ -125,7 +124,8 @@ seek_placed : (large here above : Bool) → answer_for (cond {A = Result InitSee
 seek_placed false false above is = refl
 seek_placed _ _ _ is = absurd (cc (is))
 
--- The answer `Ready` says that the bucket is stored. The answer `Placed` says that it is not.
+-- If a seek for a bucket's dummy is answered with `Ready`, the bucket is stored. If it is answered
+-- with `Placed`, the bucket is not stored.
 pub ready_stored : (t : TableAt) (o : Option Help) (bucket : ℕ) → seek_answer (size_of t) (stored_of t) o bucket ≡ Ok seeks.Ready → is_set (stored_of t) bucket ≡ true
 ready_stored t None bucket is = absurd (cc (is))
 ready_stored t (Some help) bucket is = is_set_is (stored_of t) bucket ∙ seek_ready (nat_le (size_of t) bucket) (is_stored (stored_of t) bucket) (is_stored (stored_of t) (parent_of bucket)) is
@@ -151,12 +151,13 @@ seek_placed_move w t' helper bucket many is sought same linked =
     becomes_move w t' (Some (Helper helper)) _ _ _ _ (steps.InitSeek helper bucket) answers.Placed (sought_becomes w.table t' helper bucket sought same linked)
     (seek_refusal w helper bucket many ∙ ap refusal_in_result is, placed_not w.table (slice_get (helps_of w.table) helper) bucket is) refl
 
--- A helper's step that the table refuses.
+-- If a test refuses a helper's step and the table is unchanged, the refusal is a move of the
+-- machine.
 pub helper_refused : (w : World) (t' : TableAt) (step : Step) (refusal : Refusal) → t' ≡ w.table → refusal_of (state_of w) step ≡ Some refusal
     → Move (state_of w) step (answers.Refused refusal) (state_of (served w t' w.placed))
 helper_refused w t' step refusal same is = rw same (refused (state_of w) step refusal is)
 
--- The step `InitStore`.
+-- The tests of the step `InitStore` give the same refusal as `store_answer` gives for the helper.
 pub store_refusal : (w : World) (helper : ℕ) → length (helps_of w.table) ≡ w.limits.callers
     → refusal_of (state_of w) (steps.InitStore helper) ≡ refusal_in_result (store_answer (slice_get (helps_of w.table) helper))
 store_refusal w helper many = at (slice_get (helps_of w.table) helper) refl

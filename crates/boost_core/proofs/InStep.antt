@@ -1,6 +1,6 @@
--- A call for help and the core stay in step over each move of the call, even if others take steps
--- on the core between two moves. The call keeps to its bucket, and this bucket is stored when the
--- call ends with `Helped`.
+-- A call for help and the core agree (`HelpSuits`) after each move of the call, even if others take
+-- steps on the core between two moves. The call never changes its target bucket, and this bucket is
+-- stored when the call ends with `Helped`.
 use Rattle.std.proofs.Common.{◌≡◌, ◌≢◌, ℕ, ◌*◌, ◌^◌, ◌%◌, ◌<◌, ◌≤◌, ◌==◌, ◌&&◌, nat_lt, Bool, true, false, if◌then◌else◌, List, [], ◌∷◌, length, Some, None, refl, sym, ap, subst, ◌∙◌, arith, nat_le, not, unwrap_or, slice_get, slice_set, eqb-true, lt-ltb, get_or-set_same, leb-false}
 use Rattle.boost_core.proofs.Vocabulary.{false≢true, eqb-false, mod_below, unwrap_or-slice_get, Step, Answer, Refusal, Way, child_towards, step_in, sized_in, towards, heading, refused_help, told_help, told_init_seek, told_link, told_store, told_in, IsAncestor-root, IsAncestor-child_towards, parent_of-child_towards, child_towards-le, parent_of, IsAncestor, State, Help, Nothing, Sought, Dummy, is_set, with_bucket, help_in, bucket_at, refusal_of, MayLack, has_cursor, holds_dummy, first_of, Move, IsWhole, IsOnWay, HelpSuits, HelperOutOfOrder, NoMemory, NoSuchBucket, NoSuchHelper, OutOfStep, ParentMissing, StampsUsedUp}
 use Rattle.txn_drive.specs.declared.phase.Phase.{Phase}
@@ -11,7 +11,7 @@ use Rattle.txn_words.specs.declared.step.Step.TheVariants as steps
 use Rattle.txn_words.specs.declared.answer.Answer.TheVariants as answers
 use Rattle.txn_drive.specs.declared.call.Call.TheVariants as calls
 
--- The size after a move: only a doubling changes it.
+-- Returns true if the step is a doubling. No other step changes the size (`Sized`).
 abbrev pub is_double : Step → Bool
 is_double (steps.Double seen) = true
 is_double step = false
@@ -32,9 +32,9 @@ sized m n step (answers.Doubled size) move = absurd move.allowed.1
 sized m n step (answers.Refused r) move = size_stays m n step (ap (λ (s : State). s.size) move.state)
 sized m n step _ move = size_stays m n step (ap (λ (s : State). s.size) move.state)
 
--- If each phase that may come next has a property, the next phase has the property. There are
--- lemmas for the next phase after a bucket on the way is initialised, at the beginning of the way,
--- after a refusal and after a doubling.
+-- Suppose that `P` holds for both phases that may follow once a bucket on the way is initialised.
+-- Then `P` holds for the phase that does follow. The next lemmas say the same of the beginning of
+-- the way, of a refusal and of a doubling.
 pub at_towards : (P : Phase → Type 0) (last target : ℕ) → (last ≡ target → P Helped) → (last ≢ target → P (Initialising (record { bucket = child_towards last target; target = target }) 0)) → P (towards last target)
 at_towards P last target there on = at (last == target) refl
   where
@@ -62,7 +62,7 @@ at_double P m n key answers.AtLimit move on = subst (λ z. P (heading key z)) (a
 at_double P m n key answers.Light move on = subst (λ z. P (heading key z)) (ap (λ (s : State). s.size) move.state) (on (ap (λ (s : State). s.stored) move.state))
 at_double P m n key _ move on = absurd move.allowed.1
 
--- An element that was set is there.
+-- If an element is set, reading its index returns the new element.
 pub set_there : {A : Type 0} (xs : List A) (i : ℕ) (x other : A) → i < length xs → unwrap_or (slice_get (slice_set xs i x) i) other ≡ x
 set_there xs i x other within = unwrap_or-slice_get (slice_set xs i x) i other ∙ get_or-set_same xs i x other within
 
@@ -72,8 +72,8 @@ stored_there m n c way whole suits move =
     ap (λ (s : State). is_set s.stored way.bucket) move.state ∙ ap (λ b. is_set (with_bucket m.stored b) way.bucket) suits.2
     ∙ set_there m.stored way.bucket true false (omega (arith, suits.0.bucket, whole.most, whole.buckets))
 
--- A call for help keeps to this bucket. If `known` holds, the bucket is stored when the call ends
--- with `Helped`.
+-- While the call for help runs, its target is `bucket`. If the call has ended with `Helped` and
+-- `known` holds, this bucket is stored.
 abbrev pub Reaches : Type 0 → State → ℕ → Phase → Type 0
 Reaches known m bucket (Initialising way again) = way.target ≡ bucket
 Reaches known m bucket (Linking way again) = way.target ≡ bucket
@@ -111,7 +111,7 @@ store_reaches known m n c bucket way answers.Stored suits to move =
 store_reaches known m n c bucket way (answers.Refused r) suits to move = at_refused (Reaches known n bucket) r (λ r. tt)
 store_reaches known m n c bucket way _ suits to move = tt
 
--- The core and the call are in step again after a bucket on the way is initialised.
+-- `HelpSuits` holds again after a bucket on the way is initialised.
 help_suits_towards : (n : State) (c last target : ℕ) → target < 2 ^ 32 → IsAncestor last target → target < n.size → is_set n.stored last ≡ true → HelpSuits n c (towards last target)
 help_suits_towards n c last target small ancestor within stored =
     at_towards (HelpSuits n c) last target (λ same. tt)
@@ -122,7 +122,7 @@ help_suits_towards n c last target small ancestor within stored =
       parent = ap (is_set n.stored) (parent_of-child_towards last target small ancestor other) ∙ stored;
     })
 
--- The core and the call are in step again after a doubling.
+-- `HelpSuits` holds again after a doubling.
 pub help_suits_double : (m n : State) (c key : ℕ) (a : Answer) → IsWhole m → n.size < 2 ^ 32 → Move m (steps.Double m.size) a n → HelpSuits n c (told_help key m.size a)
 help_suits_double m n c key a whole small move =
     let some : 0 < n.size = omega (arith, whole.least, (sized m n (steps.Double m.size) a move).least) in
@@ -148,7 +148,7 @@ target_small m way whole on = omega (arith, on.target, whole.most, whole.fits)
 helper_there : (m : State) (c : ℕ) → IsWhole m → nat_le m.limits.callers c ≡ false → c < length m.helpers
 helper_there m c whole within = omega (arith, leb-false m.limits.callers c within, whole.helpers)
 
--- The core and the call are in step again after the position of a bucket's dummy is sought.
+-- `HelpSuits` holds again after the position of a bucket's dummy is sought.
 pub help_suits_seek : (m n : State) (c : ℕ) (way : Way) (again : ℕ) (a : Answer) → IsWhole m → nat_le m.limits.callers c ≡ false → IsOnWay m way → Move m (steps.InitSeek c way.bucket) a n → HelpSuits n c (told_init_seek way again a)
 help_suits_seek m n c way again a whole within on move = at a move
   where
@@ -168,8 +168,6 @@ help_suits_seek m n c way again a whole within on move = at a move
         (way_stays m n way (ap (λ (s : State). s.size) move.state) (ap (λ (s : State). s.stored) move.state) on, ap has_cursor sought, ap bucket_at sought)
     at _ move = absurd move.allowed.1
 
--- A call may end with the refusal of a link that lacks memory or a stamp, or with the refusal of a
--- store that lacks memory.
 link_lacks : (m n : State) (c : ℕ) (r : Refusal) → MayLack m (steps.InitLink c) r → HelpSuits n c (refused_help r)
 link_lacks m n c NoMemory lack = tt
 link_lacks m n c StampsUsedUp lack = tt
@@ -179,7 +177,7 @@ store_lacks : (m n : State) (c : ℕ) (r : Refusal) → MayLack m (steps.InitSto
 store_lacks m n c NoMemory lack = tt
 store_lacks m n c r lack = absurd lack
 
--- The core and the call are in step again after the answer to a link.
+-- `HelpSuits` holds again after the answer to a link.
 pub help_suits_link : (m n : State) (c : ℕ) (way : Way) (again : ℕ) (a : Answer) → IsWhole m → nat_le m.limits.callers c ≡ false → HelpSuits m c (Linking way again) → Move m (steps.InitLink c) a n → HelpSuits n c (told_link way again a)
 help_suits_link m n c way again a whole within suits move = at a move
   where
@@ -198,7 +196,7 @@ help_suits_link m n c way again a whole within suits move = at a move
     at answers.Linked move = holds (ap (λ (s : State). s.size) move.state) (ap (λ (s : State). s.stored) move.state) (ap (λ (s : State). s.helpers) move.state)
     at _ move = absurd move.allowed.1
 
--- The core and the call are in step again after the answer to a store.
+-- `HelpSuits` holds again after the answer to a store.
 pub help_suits_store : (m n : State) (c : ℕ) (way : Way) (a : Answer) → IsWhole m → nat_le m.limits.callers c ≡ false → HelpSuits m c (Storing way) → Move m (steps.InitStore c) a n → HelpSuits n c (told_store way a)
 help_suits_store m n c way a whole within suits move = at a move
   where
@@ -212,7 +210,7 @@ help_suits_store m n c way a whole within suits move = at a move
         (stored_there m n c way whole suits move)
     at _ move = absurd move.allowed.1
 
--- The core and the call are in step again after a move of the call and its answer.
+-- `HelpSuits` holds again after any move of the call for help and its answer.
 pub help_suits_told : (m n : State) (c key : ℕ) (phase : Phase) (step : Step) (a : Answer) → IsWhole m → n.size < 2 ^ 32 → nat_le m.limits.callers c ≡ false → HelpSuits m c phase → step_in c (calls.Help key) (sized_in m.size phase) ≡ Some step
     → Move m step a n → HelpSuits n c (told_in (calls.Help key) (sized_in m.size phase) a)
 help_suits_told m n c key phase step a whole small within suits is move =

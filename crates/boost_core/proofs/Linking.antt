@@ -10,15 +10,15 @@ use Rattle.bucket_table.specs.declared.answer.InitRefusal.TheVariants as inits
 use Rattle.txn_words.specs.declared.step.Step.TheVariants as steps
 use Rattle.txn_words.specs.declared.answer.Answer.TheVariants as answers
 
--- The refusal of the step `InitLink` by a test, given the table's answer. A lack of memory or of
--- stamps is found after all tests, so it is no refusal by a test.
+-- The refusal of the step `InitLink`, if a test refuses the step. A lack of memory or of stamps is
+-- found only after all tests, so it is not such a refusal.
 abbrev pub refusal_by_test : Result InitLink Refusal → Option Refusal
 refusal_by_test (Err NoMemory) = None
 refusal_by_test (Err StampsUsedUp) = None
 refusal_by_test (Err refusal) = Some refusal
 refusal_by_test (Ok answer) = None
 
--- The answer to a link by a helper with a cursor.
+-- The answer to a link if the helper has a cursor.
 abbrev linking : Bool → Bool → Bool → Result InitLink Refusal
 linking fitting there used = answer_for (cond {A = Result InitLink InitRefusal} (not fitting) (Ok links.Again) (cond there (Ok links.Present) (cond used (Err inits.StampsUsedUp) (Ok links.Linked))))
 
@@ -43,7 +43,7 @@ linking_says true true used = refl
 linking_says true false true = (refl, refl)
 linking_says true false false = (refl, refl)
 
--- A helper that no test refuses has a cursor for a bucket.
+-- The helper has a cursor for a bucket. This holds if no test refuses the helper's link.
 pub record HasSought (t : TableAt) (helper : ℕ) (result : Result InitLink Refusal) : Type 0 where
   pub bucket : ℕ
   pub noted : ℕ
@@ -65,7 +65,8 @@ has_sought t helper result is free = at (slice_get (helps_of t) helper) refl is
     at None had is = absurd (let e : Some NoSuchHelper ≡ None = ap refusal_by_test is ∙ free in cc)
     at _ had is = absurd (let e : Some HelperOutOfOrder ≡ None = ap refusal_by_test is ∙ free in cc)
 
--- The answer to a link is `again` if the helper's cursor no longer fits, and only then.
+-- If the answer to a link is `Again`, the helper's cursor no longer fits. If the link has another
+-- answer and no test refuses it, the cursor fits.
 pub stale_where : (t : TableAt) (helper : ℕ) → link_answer_of t helper ≡ Ok links.Again → helper_fits t helper ≡ false
 stale_where t helper is = (has_sought t helper (Ok links.Again) is refl).says
 
@@ -95,7 +96,6 @@ module _ (w : World) (helper : ℕ) (many : length (helps_of w.table) ≡ w.limi
       at (Some (Dummy bucket)) is = tested (Some (Dummy bucket)) (helper_there (helps_of w.table) w.limits.callers helper (Dummy bucket) many is) is
       at (Some (Sought bucket noted)) is = tested (Some (Sought bucket noted)) (helper_there (helps_of w.table) w.limits.callers helper (Sought bucket noted) many is) is ∙ linking_test (helper_fits w.table helper) (is_stored (linked_of w.table) bucket) (last_of w.table == 2 ^ 64 - 2)
 
-  -- The bucket that the helper sought, and whether its dummy is linked.
   bucket_had : (help : Help) → slice_get (helps_of w.table) helper ≡ Some help → bucket_at (help_in (helps_of w.table) helper) ≡ bucket_at help
   bucket_had help had = ap (λ (o : Option Help). bucket_at (unwrap_or o Nothing)) had
 
@@ -103,7 +103,8 @@ module _ (w : World) (helper : ℕ) (many : length (helps_of w.table) ≡ w.limi
   lacks_when sought there is =
       ap (λ n. not (is_set (linked_of w.table) n)) (bucket_had (Sought sought.bucket sought.noted) sought.had) ∙ ap not (is_set_is (linked_of w.table) sought.bucket ∙ is)
 
-  -- The link is refused for lack of memory or of stamps, or by a test.
+  -- If a link is refused, by a test or for lack of memory or of stamps, the refusal is a move of
+  -- the machine.
   pub link_refused_move : (result : Result InitLink Refusal) → (result ≢ Err NoMemory → result ≡ answer_now) → (result ≡ Err NoMemory → answer_now ≡ Ok links.Linked) → (refusal : Refusal) → result ≡ Err refusal → (t' : TableAt) → t' ≡ w.table
       → Move before (steps.InitLink helper) (answers.Refused refusal) (state_of (served w t' w.placed))
   link_refused_move result says no_memory refusal is t' same = rw same (at refusal is)
@@ -123,7 +124,8 @@ module _ (w : World) (helper : ℕ) (many : length (helps_of w.table) ≡ w.limi
           (and_from (lacks_dummy before helper) (not (has_stamp before)) (lacks_when sought false sought.says.0) (ap (λ b. not (not b)) sought.says.1))
       at refusal is = refused before (steps.InitLink helper) refusal (link_refusal ∙ ap refusal_by_test (now refusal is (λ e. cc e)))
 
-  -- The cursor did not fit, and is dropped.
+  -- If the helper's cursor does not fit, dropping it with the answer `Again` is a move of the
+  -- machine.
   pub link_again_move : answer_now ≡ Ok links.Again → LastPlacedFits w.table w.sessions w.placed → ((bucket : ℕ) → slice_get (helps_of w.table) helper ≡ Some (Sought bucket (table_changes w.table)) → table_changes w.table < 2 ^ 64 - 1 → ⊥)
       → (t' : TableAt) → t'.buckets ≡ with_helper w.table.buckets helper Idle → KeepsList w.table t' → Move before (steps.InitLink helper) answers.Again (state_of (served w t' None))
   link_again_move is fresh unmoved t' idle list =
@@ -147,7 +149,7 @@ module _ (w : World) (helper : ℕ) (many : length (helps_of w.table) ≡ w.limi
           (not_fresh misfit w.placed fresh)
           (λ same below. unmoved bucket (rw same at had) (rw same at below))
 
-  -- The dummy was already linked.
+  -- If the dummy is already linked, the answer `Present` is a move of the machine.
   pub link_present_move : answer_now ≡ Ok links.Present → (t' : TableAt) → HoldsDummy w.table.buckets t'.buckets t'.list helper
       → KeepsList w.table t' → Move before (steps.InitLink helper) answers.Present (state_of (served w t' None))
   link_present_move is t' holds list =
@@ -159,7 +161,7 @@ module _ (w : World) (helper : ℕ) (many : length (helps_of w.table) ≡ w.limi
       (ap (λ n. became w t' None (size_of w.table) (stored_of w.table) (linked_of w.table) (slice_set (helps_of w.table) helper (Dummy n)))
       (bucket_had (Sought holds.bucket (change_number_of holds.cursor)) (help_is w.table helper (Seeking holds.bucket holds.cursor) holds.had)))
 
-  -- The dummy is linked now.
+  -- Linking the dummy with the answer `Linked` is a move of the machine.
   pub link_linked_move : answer_now ≡ Ok links.Linked → HasParents w.table
       → (t' : TableAt) → LinksDummy w.table.buckets t'.buckets w.table.list t'.list helper
       → regular t' ≡ regular w.table → Move before (steps.InitLink helper) answers.Linked (state_of (served w t' None))

@@ -4,7 +4,7 @@ use Rattle.boost_core.proofs.Vocabulary.{and_parts, cases_Bool, get_or_from_slic
 use Rattle.std.proofs.Math.Seq.{map-set_same}
 use Rattle.boost_core.specs.Machine.{after}
 
--- A step that is refused leaves the state unchanged.
+-- If a test refuses a step, this refusal is a move that leaves the state unchanged.
 pub refused : (state : State) (step : Step) (refusal : Refusal) → refusal_of state step ≡ Some refusal → Move state step (Refused refusal) state
 refused state step refusal is = record { allowed = inl is; state = refl }
 
@@ -44,11 +44,12 @@ pub state_is : (w : World) (h' h'' : List Entry) (counts' : Counts) (t' : TableA
     ≡ record { limits = w.limits; words = w.words; history = h''; size = size_of w.table; stored = stored_of w.table; linked = linked_of w.table; nodes = nodes_at t'; changes = table_changes t'; stamp = last_of t'; cursors = cursors; gaps = map (gap_by t') sessions'; helper_gaps = helper_gaps_of t'; helpers = helps_of w.table; placed = placed' }
 state_is w h' h'' counts' t' cursors sessions' locks' placed' buckets linked entries same = λ i. record { limits = w.limits; words = w.words; history = entries i; size = buckets.size i; stored = buckets.stored i; linked = linked i; nodes = nodes_at t'; changes = table_changes t'; stamp = last_of t'; cursors = same i; gaps = map (gap_by t') sessions'; helper_gaps = helper_gaps_of t'; helpers = buckets.helps i; placed = placed' }
 
--- A state with the nodes of a table and the nodes beside the cursors of callers and helpers.
+-- The given state, but with the nodes of the table, and with the nodes that are beside the cursors
+-- of callers and helpers in that table.
 abbrev pub with_nodes : TableAt → List Session → State → State
 with_nodes t sessions s = record s { nodes = nodes_at t; gaps = map (gap_by t) sessions; helper_gaps = helper_gaps_of t }
 
--- The change numbers of the callers' cursors, after one caller's cursor is set or dropped.
+-- If one caller's cursor is set or dropped, only the change number of this caller's cursor changes.
 pub changes_set : (sessions : List Session) (c : ℕ) (y : Session) (noted : Option ℕ) → session_changes y ≡ noted → map session_changes (slice_set sessions c y) ≡ slice_set (map session_changes sessions) c noted
 changes_set sessions c y noted is = map-set session_changes sessions c y ∙ ap (set (map session_changes sessions) c) is
 
@@ -61,12 +62,12 @@ pub none_dropped : (sessions : List Session) (c : ℕ) (x : Session) → slice_g
 none_dropped sessions c x at none =
     sym (changes_set sessions c x None (ap (option_map cursor_changes) none)) ∙ changes_same sessions c x x at refl
 
--- If a changed side keeps the nodes beside its cursor, the nodes beside all callers' cursors are
--- unchanged.
+-- Let one caller's side change while the nodes beside its cursor stay the same. Then the nodes
+-- beside all callers' cursors are unchanged.
 pub gaps_same : (t : TableAt) (sessions : List Session) (c : ℕ) (x y : Session) → slice_get sessions c ≡ Some x → gap_by t y ≡ gap_by t x → map (gap_by t) (slice_set sessions c y) ≡ map (gap_by t) sessions
 gaps_same t sessions c x y at same = map-set_same (gap_by t) sessions c y x (same ∙ ap (gap_by t) (sym (get_or_from_slice_get sessions c x x at)))
 
--- A move from an equal state.
+-- If two states are equal, a move from one is a move from the other.
 pub move_of : (state old new : State) (step : Step) (answer : Answer) → state ≡ old → Move state step answer new → Move old step answer new
 move_of state old new step answer is move = subst (λ s. Move s step answer new) is move
 
@@ -74,7 +75,7 @@ move_of state old new step answer is move = subst (λ s. Move s step answer new)
 pub none_of : (state old : State) (step : Step) (r : Option Refusal) → state ≡ old → r ≡ refusal_of old step → r ≡ None → refusal_of state step ≡ None
 none_of state old step r is says none = ap (λ (s : State). refusal_of s step) is ∙ sym says ∙ none
 
--- Whether a cursor that noted this change number may be stale.
+-- Returns true if a cursor that noted this change number may be stale.
 abbrev stale_if : State → Owner → Option ℕ → Bool
 stale_if state owner o = elim o as (λ _. Bool) [
   | None ↦ false
@@ -94,8 +95,8 @@ just_placed state owner placed = at (owner_changes state owner)
     at (Some noted) =
         ap (λ b. not b && not (noted == state.changes && nat_lt noted (2 ^ 64 - 1))) (ap (is_just_placed owner) placed ∙ own owner)
 
--- A cursor that was not placed last may be stale if the change number is not the number that the
--- cursor noted, or has reached its maximum.
+-- A cursor that was not placed last may be stale in two cases: the change number is no longer the
+-- one that the cursor noted, or it has reached its maximum.
 pub stale_since : (state : State) (owner : Owner) (noted : ℕ) → owner_changes state owner ≡ Some noted
     → is_just_placed owner state.placed ≡ false → (noted ≡ state.changes → noted < 2 ^ 64 - 1 → ⊥) → may_be_stale state owner ≡ true
 stale_since state owner noted had not_placed moved =

@@ -1,10 +1,10 @@
--- The holder that a Busy entry names is one of the callers, so the entries of a core are small.
+-- The holder that a Busy entry names is one of the callers. So every entry of a core is small
+-- (`is_small`).
 use Rattle.std.proofs.Common.{◌≡◌, ℕ, ◌<◌, ◌≤◌, ◌==◌, ◌&&◌, Bool, true, false, not, List, [], ◌∷◌, ◌++◌, arith, eqb-true, append-nil, inl, inr, All}
 use Rattle.boost_core.proofs.Vocabulary.{Entry, caller_of, is_began, false≢true, and_parts, or_cases, All-head, All-tail, Busy, Begun, has_begun, is_locked, IsLegal, legal_begun, holder_by}
 use Rattle.txn_words.specs.Packed.{holder_in, is_small}
 use Rattle.txn_words.proofs.Packing.{small_of}
 
--- A history that is legal by either rule is legal by the wider rule (`Begun`).
 wider : (words : Bool) (stripes : ℕ) (h : List Entry) → IsLegal (holder_by words) stripes h → IsLegal Begun stripes h
 wider false stripes h legal = legal_begun stripes h legal
 wider true stripes h legal = legal

@@ -92,7 +92,7 @@ beside (m ∷ rest) place n is live next = elim (cases_Bool (m.place == place)) 
 pub neighbours : (l : Listing) (c : Cursor) (fit : Fit l c) → AreNeighbours (seen l.nodes) (record { before = fit.pred.at; behind = key_at (behind l c) })
 neighbours l c fit = beside l.nodes (pred_of c) fit.pred fit.pred_is fit.live (next_live (behind l c) c.cur fit.next)
 
--- Conversely, the second of two neighbours is the node next to the first, and is unmarked.
+-- The node is unmarked and has this sort key, or there is neither a node nor a sort key.
 abbrev NextAt : Option NodeAt → Option SortKey → Type 0
 NextAt None None = Unit {0}
 NextAt (Some n) (Some at) = (n.at ≡ at) × (n.marked ≡ false)

@@ -1,4 +1,4 @@
--- The changes to a list of nodes, as the core's contracts see it.
+-- The changes to a list of nodes, in the terms of the core's contracts.
 use Rattle.std.proofs.Common.{◌≡◌, ℕ, ◌==◌, true, false, inl, inr, List, [], ◌∷◌, ◌++◌, Option, Some, refl, sym, ap, ◌∙◌, map, filter, eq-eqb}
 use Rattle.boost_core.proofs.Vocabulary.{AllByRecursion, false≢true, cases_Bool, is_before, IsBefore, NodeAt, IsLinked, node_of, linked_after, changed_at, written_at, IsRising, IsNodeBefore, cleaned, sought, without_first_marked, Node, SortKey, marked_node, IsClean, IsInOrder, StopsAt, is_unmarked, node_at, plain_node}
 
@@ -29,7 +29,7 @@ pub record Swept (old new : List Node) : Type 0 where
   pub first : IsClean front
 
 -- A seek for a sort key has removed the marked nodes that it passed. It stops at the first unmarked
--- node at or behind that key, or at the end of the list.
+-- node whose sort key is not before the key that is sought, or at the end of the list.
 pub record Cleaned (sort : SortKey) (old new : List Node) : Type 0 where
   pub passed : List Node
   pub back : List Node
@@ -179,7 +179,7 @@ sweeps (n ∷ rest) some = elim (cases_Bool n.marked) [
       })
 ]
 
--- The order of the nodes.
+-- If a node is before each node of `rest`, its sort key is before the sort key of each of them.
 pub order_behind : (n : NodeAt) (rest : List NodeAt) → AllByRecursion (IsNodeBefore n) rest → AllByRecursion (λ (m : Node). IsBefore n.at m.at) (seen rest)
 order_behind n [] each = tt
 order_behind n (m ∷ rest) each = (each.0, order_behind n rest each.1)

@@ -18,7 +18,7 @@ use Rattle.map_ops.specs.InitLink.TheVariants as links
 use Rattle.map_ops.specs.SweepOutcome.TheVariants as outcomes
 use Rattle.boost_core.specs.Serves as said
 
--- From an equal state, a step has the same effect on the list.
+-- If two states are equal, a step has the same effect on the list in both.
 pub lists_of : (state old new : State) (step : Step) (answer : Answer) → state ≡ old → Lists state step answer new → Lists old step answer new
 lists_of state old new step answer is lists = subst (λ s. Lists s step answer new) is lists
 
@@ -39,7 +39,8 @@ tables is = ap (λ (r : Reach). r.table) is
 pub rested : (w w' : World) → KeepsNodes w.table w'.table → LeavesNodes (state_of w) (state_of w')
 rested w w' keeps = record { nodes = ap seen keeps.all; changes = keeps.changes }
 
--- A node is linked, or marked, or written.
+-- If the table's list links a node, the list of nodes in the machine's state links it too. The next
+-- lemmas are about marking and writing a node.
 pub linked_node : (w w' : World) (node : NodeAt) → node.marked ≡ false → writes.LinksNode w.table.list w'.table.list node → Links (state_of w) (state_of w') node.at
 linked_node w w' node live is =
     let more = inserted (nodes_of w.table) is.before node is.linked in
@@ -68,7 +69,7 @@ written w w' key value is = record { nodes = ap seen is.writes.nodes ∙ written
 pub nothing : (w w' : World) → writes.WritesNothing w.table.list w'.table.list → LeavesNodes (state_of w) (state_of w')
 nothing w w' is = record { nodes = ap seen is.nodes; changes = is.changes }
 
--- A position is sought from a bucket's dummy.
+-- If the table seeks a position from a bucket's dummy, so does the machine's state (`SeeksFrom`).
 pub sought_from : (w w' : World) (place bucket : ℕ) (dummy : IsDummyAt (nodes_of w.table) place bucket) (sort : _) → nodes_of w'.table ≡ sought (nodes_of w.table) place sort → writes.IsUnlinking w.table.list w'.table.list
     → SeeksFrom (state_of w) (state_of w') bucket sort
 sought_from w w' place bucket dummy sort nodes changes =
@@ -86,7 +87,6 @@ sought_from w w' place bucket dummy sort nodes changes =
       changes = changes ∙ (λ i. changes_after (table_changes w.table) (sym (length-map (nodes_of w.table) node_at) i - sym (length-map (nodes_of w'.table) node_at) i));
     }
 
--- The nearest stored bucket.
 stored_is : (t : TableAt) (bucket : ℕ) → is_set (stored_of t) bucket ≡ directories.is_stored t.buckets bucket
 stored_is t bucket =
     ap (λ (o : Option Bool). unwrap_or o false) (slice_get-map is_some t.buckets.entries bucket)
@@ -111,7 +111,6 @@ seeks_key w w' home key near = record {
   seeks = sought_from w w' near.start (ancestor_of near.nearest.steps (key % size_of w.table)) (home.stored (ancestor_of near.nearest.steps (key % size_of w.table)) near.start near.nearest.stored) (regular_at key) near.nodes near.changes;
 }
 
--- The effect of an operation, and of taking a change back.
 put_changes : (w w' : World) (key value : ℕ) (spare : Option SpareAt) (before : Option ℕ) → writes.PutWrites w.table.list w'.table.list key value spare before → Changes (state_of w) (state_of w') key before (Some value)
 put_changes w w' key value None before is = absurd is
 put_changes w w' key value (Some spare) None is = linked_node w w' (writes.node_for key value spare) refl is
@@ -326,7 +325,7 @@ module _ (w w' : World) (home : NamesDummies w.table) (rises : table_changes w.t
   linked_dummy h (Ok links.Present) changes = record { nodes = kept w w' changes.1; rises = rises; stamp = ap (λ l. l.last) changes.1 }
   linked_dummy h (Err refusal) changes = record { nodes = kept w w' (ap (λ t. t.list) changes); rises = rises; stamp = ap last_of changes }
 
-  -- The effect on the list of each step of the table or of a helper.
+  -- Each step of the table or of a helper changes the list as `Lists` says.
   pub serves : (step : Step) (answer : Answer) → Serves step w.table answer w'.table → Lists (state_of w) step answer (state_of w')
   serves steps.Sweep answer is = rw is.answer_is (swept answer is is.outcome refl)
   serves (steps.InitSeek h b) answer is = rw is.answer_is (sought_bucket h b is.outcome is.changes)

@@ -13,16 +13,16 @@ began_bound w tells = omega (arith, tells.begins, how_many_bound is_began w.hist
 pub committed_bound : (w : World) → Tells w → w.counts.committed ≤ length w.history
 committed_bound w tells = omega (arith, tells.commits, how_many_bound is_commit w.history)
 
--- A count that an entry does not change.
+-- A count that grows by 0 is unchanged.
 pub no_more : (n : ℕ) → n ≡ n + 0
 no_more n = omega arith
 
--- The statement of `OnOk` holds if the result is not an error.
+-- If `OnOk` holds for a result that is not an error, its statement `P` holds.
 pub when_ok : {A E P : Type 0} (r : Result A E) → false ≡ is_err r → OnOk r P → P
 when_ok (Ok a) fine p = p
 when_ok (Err e) fine p = absurd (cc (fine))
 
--- The statement of `OnErr` holds if the result is an error.
+-- If `OnErr` holds for a result that is an error, its statement `P` holds.
 pub when_err : {A E P : Type 0} (r : Result A E) → true ≡ is_err r → OnErr r P → P
 when_err (Ok a) wrong p = absurd (cc (wrong))
 when_err (Err e) wrong p = p
@@ -56,7 +56,7 @@ stays c h e begins = elim (cases_eq c (caller_of e)) [
 pub noted_same : (callers : ℕ) (h : List Entry) (begun : List Bool) (e : Entry) → is_began e ≡ false → AreNoted callers h begun → AreNoted callers (h ++ e ∷ []) begun
 noted_same callers h begun e begins was = record { many = was.many; each = λ c. was.each c ∙ sym (stays c h e begins) }
 
--- The notes still fit the history after one more entry.
+-- The notes of who has begun still fit the history after one more entry.
 noted_push : (callers : ℕ) (h : List Entry) (begun : List Bool) (e : Entry) → AreNoted callers h begun → caller_of e < callers → AreNoted callers (h ++ e ∷ []) (begun_with begun (Some e))
 noted_push callers h begun (Began d t) was below =
     let within : d < length begun = omega (arith, was.many) in rw (lt-ltb d (length begun) within) (record {
@@ -68,12 +68,12 @@ noted_push callers h begun (Began d t) was below =
     })
 noted_push callers h begun e was below = noted_same callers h begun e refl was
 
--- The notes still fit the history after at most one more entry.
+-- If a step adds no entry or one entry, the notes of who has begun still fit the history.
 pub noted_then : (callers : ℕ) (h h' : List Entry) (begun begun' : List Bool) (o : Option Entry) → AreNoted callers h begun → h' ≡ h ++ option_to_list o → begun' ≡ begun_with begun o → ((e : Entry) → o ≡ Some e → caller_of e < callers) → AreNoted callers h' begun'
 noted_then callers h h' begun begun' None was pushed noted below = rw (pushed, append-nil h, noted) was
 noted_then callers h h' begun begun' (Some e) was pushed noted below = rw (pushed, noted) (noted_push callers h begun e was (below e refl))
 
--- At the beginning, no caller has begun.
+-- Before the first entry, the notes that no caller has begun fit the history.
 pub noted_none : (callers : ℕ) (begun : List Bool) → begun ≡ replicate callers false → AreNoted callers [] begun
 noted_none callers begun is = rw is (record {
   many = length-replicate callers false;

@@ -18,8 +18,9 @@ Comes w c x y t' locks' counts' [] = Stays w c x y t' locks' counts'
 Comes w c x y t' locks' counts' (e ∷ []) = Grows w c x y t' locks' counts' e
 Comes w c x y t' locks' counts' (e ∷ f ∷ es) = ⊥
 
--- The outcome of a step of a caller. Whatever seat the caller has after the added entry, the step
--- goes as its claim allows, and the cursor that was placed last fits.
+-- The outcome of a caller's step. The answer and the new state are what the step's claim allows,
+-- and the cursor that was placed last fits. Both hold whatever seat the caller has after the added
+-- entry.
 pub record CalledBy (claim : Claim) (w : World) (c : ℕ) (x : Session) (step : Step) (answer : Answer) (y : Session) (t' : TableAt) (locks' : List (Option ℕ)) : Type 0 where
   pub comes : Comes w c x y t' locks' (counts_after w.counts answer) (entries_of step answer)
   pub move : (seat' : RoomySeat) → Goes claim (state_of w) step answer (state_of (world_after w c (seated_as y seat') (w.history ++ entries_of step answer) (counts_after w.counts answer) t' locks' (placed_then w.placed step answer)))
@@ -53,21 +54,21 @@ entered w c x y t' locks' step answer e cursors one unplaced after_is dropped al
   fresh = λ seat'. subst (LastPlacedFits t' (slice_set w.sessions c (seated_as y seat'))) (sym unplaced) tt;
 }
 
--- A step has the same claim and the same outcome in an equal state.
+-- If two states are equal, a step has the same claim and the same outcome in both.
 pub claims_of : (claim : Claim) (state old : State) (step : Step) → state ≡ old → IsClaim claim old step → IsClaim claim state step
 claims_of claim state old step is claims = subst (λ s. IsClaim claim s step) (sym is) claims
 
 pub goes_of : (claim : Claim) (state old new : State) (step : Step) (answer : Answer) → state ≡ old → Goes claim state step answer new → Goes claim old step answer new
 goes_of claim state old new step answer is goes = subst (λ s. Goes claim s step answer new) is goes
 
--- Whether an Ask that has passed all of its tests may still get this refusal.
+-- Returns true if an Ask may still get this refusal after it has passed all of its tests.
 abbrev pub is_late : Refusal → Bool
 is_late NoMemory = true
 is_late StampsUsedUp = true
 is_late StaleWord = true
 is_late _ = false
 
--- Whether a refusal says that a right or a word is stale.
+-- Returns true if the refusal says that a right or a word is stale.
 abbrev pub is_stale_word : Refusal → Bool
 is_stale_word StaleWord = true
 is_stale_word _ = false
@@ -101,13 +102,13 @@ goes_lacking Lock state step some move = move
 goes_lacking Right state step some move = inr (refl, move)
 goes_lacking _ state step some move = absurd (omega arith)
 
--- A claim reserves no more than its step.
+-- A claim reserves no more entries than its step does.
 pub reserved_least : (claim : Claim) (step : Step) → reserved_by claim step ≤ reserved step
 reserved_least Lock step = omega arith
 reserved_least _ step = omega arith
 
--- If a test refuses a step, the claim is a lock, or the refusal is not late. So the claim allows
--- the refusal.
+-- If a test refuses a step, either the claim is a lock or the refusal is not late. So the claim
+-- allows the refusal.
 early_or_lock : (claim : Claim) (state : State) (step : Step) (refusal : Refusal) → IsClaim claim state step → refusal_of state step ≡ Some refusal → (claim ≡ Lock) ⊎ (is_late refusal ≡ false)
 early_or_lock Lock state step refusal claims is = inl refl
 early_or_lock _ state (steps.Ask c op) refusal claims is = inr (ask_early state c op refusal is)
@@ -144,7 +145,6 @@ no_memory state _ none some = absurd (omega arith)
 abbrev AreWithin : ℕ → List Entry → Type 0
 AreWithin n es = AllByRecursion (λ (e : Entry). reserved_for e ≤ n) es
 
--- A refusal adds no entry. A Busy entry reserves nothing, since it is owed already.
 refused_within : (n : ℕ) (step : Step) (refusal : Refusal) → AreWithin n (entries_of step (answers.Refused refusal))
 refused_within n (steps.Begin c) refusal = tt
 refused_within n _ refusal = tt
@@ -182,7 +182,7 @@ module _ (w : World) (tells : Tells w) (c : ℕ) (x y : Session) (at : slice_get
   grows : (e : Entry) → option_to_list (Some e) ≡ entries_of step answer → Grows w c x y t' locks' (counts_after w.counts answer) e
   grows e is = subst (Comes w c x y t' locks' (counts_after w.counts answer)) (sym is) called.comes
 
-  -- The caller's seat has a row for the added entry, and the claim reserves enough for the entry.
+  -- The caller's seat allows the added entry, and the claim reserves enough for this entry.
   row_is : (e : Entry) (is : option_to_list (Some e) ≡ entries_of step answer) → row x.seat.seat x.seat.seat.phase e ≡ Some (grows e is).seat
   row_is e is = row_there w tells c x y at t' locks' (counts_after w.counts answer) e (grows e is)
 
@@ -221,7 +221,7 @@ module _ (w : World) (tells : Tells w) (c : ℕ) (x y : Session) (at : slice_get
         fits = omega arith;
       }
 
-  -- The invariants of the core after the step.
+  -- The invariants of the core hold after the step.
   pub called_tells : (seat' : RoomySeat) (o : Option Entry) → option_to_list o ≡ entries_of step answer → Enters y.seat (option_to_list o) seat' → (h' : List Entry) → h' ≡ w.history ++ option_to_list o
       → Tells (world_after w c (seated_as y seat') h' (counts_after w.counts answer) t' locks' (placed_then w.placed step answer))
   called_tells seat' None is entered h' pushed =
@@ -230,7 +230,8 @@ module _ (w : World) (tells : Tells w) (c : ℕ) (x y : Session) (at : slice_get
       let both : Some seat'.seat ≡ Some (grows e is).seat = sym entered ∙ ap (λ (s : Seat). row s s.phase e) (same_seat (Some e) is) ∙ row_is e is in
       rw pushed (grown w tells c x y at t' locks' (counts_after w.counts answer) e (grows e is) seat' (cc both) (placed_then w.placed step answer) (called.fresh seat'))
 
-  -- The entries that all callers owe after the step, and the room for them.
+  -- If the number of owed entries is updated for the step's caller alone, it is still the sum over
+  -- all callers. The history has room for these entries (`called_room`).
   pub called_owes : (seat' : RoomySeat) (o : Option Entry) → option_to_list o ≡ entries_of step answer → (owed owed' : ℕ) → owed ≡ sum_by owed_of w.sessions
       → owed' ≡ owed - owed_in y.seat.seat.standing y.seat.seat.phase + owed_in seat'.seat.standing seat'.seat.phase → owed' ≡ sum_by owed_of (slice_set w.sessions c (seated_as y seat'))
   called_owes seat' o is owed owed' owes after =
@@ -244,7 +245,7 @@ module _ (w : World) (tells : Tells w) (c : ℕ) (x y : Session) (at : slice_get
   called_room seat' (Some e) is entered len cap room =
       omega (arith, room, sum_changed owed_of w.sessions c x (seated_as y seat') at, owed_by-row y.seat.seat seat'.seat e entered, same_owed (Some e) is, few e is)
 
-  -- `Goes` holds of the step: the answer and the state after the step are as the claim allows.
+  -- The answer and the state after the step are what the claim allows: `Goes` holds.
   pub called_move : (seat' : RoomySeat) (o : Option Entry) → option_to_list o ≡ entries_of step answer → (h' : List Entry) → h' ≡ w.history ++ option_to_list o
       → Goes claim (state_of w) step answer (state_of (world_after w c (seated_as y seat') h' (counts_after w.counts answer) t' locks' (placed_then w.placed step answer)))
   called_move seat' o is h' pushed = rw (pushed, is) (called.move seat')
@@ -280,8 +281,8 @@ module _ (w : World) (tells : Tells w) (c : ℕ) (x : Session) (at : slice_get w
   pub released_holders : (locks' : List (Option ℕ)) → Releases c w.locks locks' → (s : ℕ) → s < w.limits.stripes → held_by locks' s ≡ cond (option_eq nat_eq (holder_of w.limits.stripes s w.history) (Some c)) None (holder_of w.limits.stripes s w.history)
   released_holders locks' releases s below = releases.each s ∙ ap (without_caller c) (tells.holders s below) ∙ released c (holder_of w.limits.stripes s w.history)
 
-  -- A step that adds an entry and changes only the caller's savepoints and room. No operation
-  -- waits, and the caller has no cursor.
+  -- `Grows` holds for a step that adds an entry and changes only the caller's savepoints and room.
+  -- It is assumed that no operation waits and that the caller has no cursor.
   pub quiet : (e : Entry) (y : Session) (seat : Seat) (kept : List ℕ) (log : List (ℕ × Option ℕ)) (committed : Map) (holder : ℕ → Option ℕ) (locks' : List (Option ℕ)) (counts' : Counts) → Next (holder_by w.words) w.limits.stripes w.history e seat log committed (now w.history) holder → log ≡ changes_of x.log.jobs
       → caller_of e ≡ c → (is_saved e ≡ true → 0 < y.seat.room) → seat.kept ≡ 0 ∷ kept → is_waiting seat.phase ≡ false → x.pending ≡ None → x.cursor ≡ None → side_of y ≡ record (side_of x) { kept = kept }
       → counts'.began ≡ w.counts.began + cond (is_began e) 1 0 → counts'.committed ≡ w.counts.committed + cond (is_commit e) 1 0 → length locks' ≡ length w.locks → ((s : ℕ) → s < w.limits.stripes → held_by locks' s ≡ holder s)

@@ -13,7 +13,7 @@ use Rattle.txn_words.specs.declared.answer.Answer.TheVariants as answers
 use Rattle.txn_trace.proofs.Entries as laws
 
 module _ (w : World) (tells : Tells w) (c : ℕ) (x : Session) (at : slice_get w.sessions c ≡ Some x) where
-  -- The step `Begin`.
+  -- The outcome of the step `Begin`, if nothing refuses the step.
   pub begun : refusal_of (state_of w) (steps.Begin c) ≡ None → (n : ℕ) → n ≡ w.counts.began + 1 → Called w c x (steps.Begin c) (answers.Began n) x w.table w.locks
   begun none n number =
       let closed = begin_closed w.limits.half x.seat.seat c (seat_free w tells c x at (steps.Begin c) refl none) in
@@ -28,7 +28,7 @@ module _ (w : World) (tells : Tells w) (c : ℕ) (x : Session) (at : slice_get w
       refl (λ is. absurd (false≢true is)) (sym level.1 ∙ (tells.seated c x at).agrees.kept) refl (nothing_waits w tells c x at Closed closed refl) (idle_cursor w tells c x at Closed closed refl) refl
       number (no_more w.counts.committed) refl tells.holders)
 
-  -- The step `Save`.
+  -- The outcome of the step `Save`, if nothing refuses the step.
   pub saved : refusal_of (state_of w) (steps.Save c) ≡ None → (n : ℕ) (y : Session) → SavesIn n x y → Called w c x (steps.Save c) (answers.Saved n) y w.table w.locks
   saved none n y saves =
       let opened = (three_tests x.seat.seat _ _ _ _ (seat_free w tells c x at (steps.Save c) refl none)).0 in
@@ -47,7 +47,7 @@ module _ (w : World) (tells : Tells w) (c : ℕ) (x : Session) (at : slice_get w
       refl (λ is. saves.room) (λ i. agrees.kept i ++ agrees.standing i ∷ []) (ap is_waiting opened) (nothing_waits w tells c x at Opened opened refl) (idle_cursor w tells c x at Opened opened refl) saves.becomes
       (no_more w.counts.began) (no_more w.counts.committed) refl tells.holders)
 
-  -- The step `Back`.
+  -- The outcome of the step `Back`, if nothing refuses the step.
   pub left : (n : ℕ) → refusal_of (state_of w) (steps.Back c n) ≡ None → Called w c x (steps.Back c n) answers.Leaving (record x { cursor = None }) w.table w.locks
   left n none =
       let free = back_open w.limits.half x.seat.seat c n (seat_free w tells c x at (steps.Back c n) refl none) in
@@ -61,7 +61,7 @@ module _ (w : World) (tells : Tells w) (c : ℕ) (x : Session) (at : slice_get w
       refl (λ saved. absurd (false≢true saved)) (tells.seated c x at).agrees.kept refl (nothing_waits w tells c x at Opened free.0 refl) no_cursor (λ i. record (side_of x) { cursor = sym no_cursor i })
       (no_more w.counts.began) (no_more w.counts.committed) refl tells.holders)
 
-  -- The step `Commit`.
+  -- The outcome of the step `Commit`, if nothing refuses the step.
   pub committed : refusal_of (state_of w) (steps.Commit c) ≡ None → (p : ℕ) (y : Session) (t' : TableAt) (locks' : List (Option ℕ)) → p ≡ w.counts.committed + 1 → SettlesIn x w.table y t' → Releases c w.locks locks' → Called w c x (steps.Commit c) (answers.Committed p) y t' locks'
   committed none p y t' locks' number settles releases =
       let opened = commit_open w.limits.half x.seat.seat c (seat_free w tells c x at (steps.Commit c) refl none) in
@@ -93,7 +93,7 @@ module _ (w : World) (tells : Tells w) (c : ℕ) (x : Session) (at : slice_get w
         holders = released_holders w tells c x at locks' releases;
       })
 
-  -- The step `Abort`.
+  -- The outcome of the step `Abort`, if nothing refuses the step.
   pub withdrawn : refusal_of (state_of w) (steps.Abort c) ≡ None → (y : Session) (t' : TableAt) → WithdrawsIn x w.table y t' → Called w c x (steps.Abort c) answers.Leaving y t' w.locks
   withdrawn none y t' leaves =
       let parts = abort_runs w.limits.half x.seat.seat c (seat_free w tells c x at (steps.Abort c) refl none) in
@@ -129,7 +129,7 @@ module _ (w : World) (tells : Tells w) (c : ℕ) (x : Session) (at : slice_get w
       law (Waiting op) is closed leaving = laws.withdrawn w.limits.stripes w.history tells.legal c op x.seat.seat (tells.seated c x at).seat is
       law _ is closed leaving = absurd (false≢true (sym leaving))
 
-  -- The end of the undoing: no change above the level is left.
+  -- The outcome of the step `Act` when no change above the level remains.
   module _ (none : refusal_of (state_of w) (steps.Act c) ≡ None) (no_job : has_job x.seat.seat ≡ false) where
     seat_is : x.seat.seat ≡ record { phase = x.seat.seat.phase; standing = length x.log.jobs; kept = 0 ∷ x.log.kept }
     seat_is = λ i. record { phase = x.seat.seat.phase; standing = (tells.seated c x at).agrees.standing i; kept = (tells.seated c x at).agrees.kept i }
@@ -140,7 +140,7 @@ module _ (w : World) (tells : Tells w) (c : ℕ) (x : Session) (at : slice_get w
     none_above : (q : Phase) → x.seat.seat.phase ≡ q → has_job (record { phase = q; standing = length x.log.jobs; kept = 0 ∷ x.log.kept }) ≡ false
     none_above q is = ap (λ p. has_job (record { phase = p; standing = length x.log.jobs; kept = 0 ∷ x.log.kept })) (sym is) ∙ ap has_job (sym seat_is) ∙ no_job
 
-    -- The caller is back at level `n`.
+    -- The outcome of an act that ends the return to level `n`.
     pub returned : (n : ℕ) (y : Session) → ReturnsIn n x y → Called w c x (steps.Act c) (answers.Returned n) y w.table w.locks
     returned n y returns =
         let level = level_in w tells c x at (LeavingTo n) returns.phase in
@@ -160,7 +160,7 @@ module _ (w : World) (tells : Tells w) (c : ℕ) (x : Session) (at : slice_get w
         refl (λ is. absurd (false≢true is)) (ap (λ ks. take (n + 1) ks) agrees.kept ∙ ap (λ k. take k (0 ∷ x.log.kept)) (add-one n)) refl (nothing_waits w tells c x at (LeavingTo n) returns.phase refl)
         (idle_cursor w tells c x at (LeavingTo n) returns.phase (no_newest x.log n more)) returns.becomes (no_more w.counts.began) (no_more w.counts.committed) refl tells.holders)
 
-    -- The caller's transaction is aborted.
+    -- The outcome of an act that ends the abort of the caller's transaction.
     pub ended : (y : Session) (locks' : List (Option ℕ)) → EndsIn c x w.locks y locks' → Called w c x (steps.Act c) answers.Aborted y w.table locks'
     ended y locks' ends =
         let more : nat_lt 0 (length x.log.jobs) ≡ false = none_above LeavingToEnd ends.phase in

@@ -33,7 +33,8 @@ lacks_is state c (Act d) owner =
     ap (λ (k : ℕ). lacks_in (seat_in state.history k) (is_some (caller_changes state.cursors k)) (Act d)) (ap caller_in owner)
 lacks_is state c _ owner = refl
 
--- The refusal of a caller's step.
+-- A caller's step is refused if the caller's number is too high, if the caller's seat refuses the
+-- step, or if a cursor is missing. The first of these three that applies gives the refusal.
 pub refusal_parts : (state : State) (c : ℕ) (step : Step) → owner_of step ≡ Some (Caller c)
     → refusal_of state step ≡ cond (nat_le state.limits.callers c) (Some NoSuchCaller) (or_else (refusal_in state.limits.half (seat_in state.history c) step) (cond (lacks_in (seat_in state.history c) (is_some (caller_changes state.cursors c)) step) (Some Unplaced) None))
 refusal_parts state c step owner =
@@ -42,7 +43,8 @@ refusal_parts state c step owner =
     (first_of-append (tests_in state.limits.half (seat_in state.history c) step) ((lacks_cursor state step, Unplaced) ∷ [])
     ∙ ap (λ b. or_else (refusal_in state.limits.half (seat_in state.history c) step) (cond b (Some Unplaced) None)) (lacks_is state c step owner))
 
--- A step that nothing refuses.
+-- Nothing refuses the step: the caller's number is in range, the caller's seat allows the step, and
+-- no cursor is missing.
 pub record Free (state : State) (c : ℕ) (step : Step) : Type 0 where
   pub within : nat_le state.limits.callers c ≡ false
   pub seat : refusal_in state.limits.half (seat_in state.history c) step ≡ None
@@ -70,7 +72,8 @@ begin_closed half s c none =
     let second = first_none (not (is_closed s.phase)) _ _ first.1 in
     closed_is s.phase (not-false (is_closed s.phase) second.0)
 
--- A step that passes these three tests finds a transaction with nothing under way.
+-- Let three tests refuse a seat that is closed, leaving or waiting. If neither they nor the rest of
+-- the tests refuse the seat, its phase is `Opened`.
 pub three_tests : (s : Seat) (a b c : Refusal) (rest : Option Refusal) → cond (is_closed s.phase) (Some a) (cond (is_leaving s.phase) (Some b) (cond (is_waiting s.phase) (Some c) rest)) ≡ None → (s.phase ≡ Opened) × (rest ≡ None)
 three_tests s a b c rest none =
     let first = first_none (is_closed s.phase) a _ none in
@@ -108,7 +111,8 @@ module _ (w : World) (tells : Tells w) (c : ℕ) (x : Session) (at : slice_get w
   pub changes_is_some : is_some (caller_changes (map session_changes w.sessions) c) ≡ is_some x.cursor
   changes_is_some = ap is_some changes_here ∙ noted_some x.cursor
 
-  -- The refusal of a step, in terms of the caller's side.
+  -- If the caller's number is in range, a step of the caller is refused in two cases: the caller's
+  -- seat refuses it, or a cursor is missing.
   pub refusal_here : (step : Step) → owner_of step ≡ Some (Caller c) → nat_le w.limits.callers c ≡ false
       → refusal_of (state_of w) step ≡ or_else (refusal_in w.limits.half x.seat.seat step) (cond (lacks_in x.seat.seat (is_some x.cursor) step) (Some Unplaced) None)
   refusal_here step owner within =
@@ -123,7 +127,7 @@ module _ (w : World) (tells : Tells w) (c : ℕ) (x : Session) (at : slice_get w
   pub cursor_free : (step : Step) → owner_of step ≡ Some (Caller c) → refusal_of (state_of w) step ≡ None → lacks_in x.seat.seat (is_some x.cursor) step ≡ false
   cursor_free step owner none = (λ i. lacks_in (sym seat_here i) (sym changes_is_some i) step) ∙ (free (state_of w) c step owner none).cursor
 
--- If the first option is a refusal, `or_else` answers it.
+-- If the first option is a refusal, `or_else` returns it.
 pub or_else_some : (one other : Option Refusal) → is_some one ≡ true → or_else one other ≡ one
 or_else_some None other some = absurd (false≢true some)
 or_else_some (Some refusal) other some = refl
@@ -153,8 +157,8 @@ free_at w old tells view c step owner r says none x is =
     let nothing = ap (λ (s : State). refusal_of s step) view ∙ sym says ∙ none in
     (nothing, index_at w.sessions c x (omega (arith, tells.count, leb-false w.limits.callers c (free (state_of w) c step owner nothing).within)) is)
 
--- The refusal of a step in a state that is equal to the state of `w`, in terms of the caller's
--- side.
+-- Let a state be equal to the state of `w`. In this state, a caller's step is refused in two cases:
+-- the caller's seat refuses it, or a cursor is missing.
 pub refusal_at : (w : World) (old : State) → Tells w → state_of w ≡ old → (c : ℕ) (x : Session) → x ≡ get_or w.sessions c x → (step : Step) → owner_of step ≡ Some (Caller c) → c < w.limits.callers
     → refusal_of old step ≡ or_else (refusal_in w.limits.half x.seat.seat step) (cond (lacks_in x.seat.seat (is_some x.cursor) step) (Some Unplaced) None)
 refusal_at w old tells view c x is step owner within =

@@ -98,7 +98,7 @@ module _ (w : World) (tells : Tells w) (parents : HasParents w.table)
     move = becomes_move w t' None _ _ _ _ (steps.Double seen) _ (doubled_becomes w.table t' outcome changes list) (refl, answer) refl;
   }
 
-  -- The outcome of each step.
+  -- After each step that no caller owns, the invariants of the core hold, and the step is a move.
   pub serves : (step : Step) (answer : Answer) → Serves step w.table answer t' → Served w step answer t'
   serves steps.Sweep answer is = rw is.answer_is (swept_by answer is is.outcome)
   serves (steps.InitSeek h b) answer is = rw is.answer_is (sought_by h b is.outcome is.says is.changes is.regular is.linked)

@@ -56,7 +56,7 @@ and_true : (a b : Bool) → (a && not b) ≡ false → a ≡ true → b ≡ true
 and_true a b is both = not-false b (ap (λ v. v && not b) (sym both) ∙ is)
 
 module _ (x : Session) (t : TableAt) (goes : GoesWith x t) where
-  -- The seat agrees with the log.
+  -- The seat has the same savepoints and the same number of standing changes as the log.
   pub seat_is : x.seat.seat ≡ record { phase = x.seat.seat.phase; standing = length x.log.jobs; kept = 0 ∷ x.log.kept }
   seat_is = λ i. record { phase = x.seat.seat.phase; standing = goes.agrees.standing i; kept = goes.agrees.kept i }
 
@@ -64,7 +64,8 @@ module _ (x : Session) (t : TableAt) (goes : GoesWith x t) where
     cursor_there : has_target x.seat.seat ≡ true → (cursor : Cursor) × (x.cursor ≡ Some cursor)
     cursor_there target = the_some x.cursor (and_true (has_target x.seat.seat) (is_some x.cursor) placed target)
 
-    -- The newest change may be taken back.
+    -- If the caller's seat has a change to take back, the newest change can be taken back
+    -- (`CanUndo`).
     pub can_undo : has_job x.seat.seat ≡ true → CanUndo x t
     can_undo has =
         let gone = going x.seat.seat.phase (length x.log.jobs) x.log.kept (ap has_job (sym seat_is) ∙ has) in

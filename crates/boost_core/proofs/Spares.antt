@@ -74,7 +74,7 @@ given t t' spare others gives covered place stamp = elim (cases_eq place spare.p
 pub still_covered : (t t' : TableAt) (kept : ℕ → ℕ → ℕ) → KeepsSpares t t' → IsCovered kept t → IsCovered kept t'
 still_covered t t' kept same covered place stamp = covered place stamp ∙ sym (times_same t t' place stamp (same place))
 
--- If no spare is out and none is kept, the spares that are out are exactly those that are kept.
+-- If the table has given out no spare and the callers keep none, `IsCovered` holds.
 pub none_covered : (t : TableAt) (kept : ℕ → ℕ → ℕ) → ((place : ℕ) → spare_out t place ≡ None) → ((place stamp : ℕ) → kept place stamp ≡ 0) → IsCovered kept t
 none_covered t kept none_out none_kept place stamp = none_kept place stamp ∙ sym (times_none t place stamp (none_out place))
 
@@ -84,7 +84,7 @@ owns_if t None kept few covered = tt
 owns_if t (Some spare) kept few covered = kept_owned kept t spare.place spare.stamp covered (omega (arith, times_here spare, few spare.place spare.stamp))
 
 -- A prepared operation is given a spare exactly if it takes a node. The spare has a new stamp, and
--- is kept beside the others.
+-- is kept in addition to the other kept spares.
 pub record Given (t t' : TableAt) (takes : Bool) (spare : Option SpareAt) : Type 0 where
   pub has : is_some spare ≡ takes
   pub stamped : (not takes || not (last_of t == 2 ^ 64 - 2)) ≡ true
@@ -137,12 +137,13 @@ rests_more t0 t t' spare rests back follows = record {
   placed = record { placed = λ cursor key is. follows.placed cursor key (rests.placed.placed cursor key is); sound = λ sound. follows.list.sound (rests.placed.sound sound) };
 }
 
--- A list with one more job owns the job's spare once more, and each other spare as often as before.
+-- If a job is added to a list, the list owns the job's spare once more than before, and each other
+-- spare as often as before.
 pub times_more : (jobs : List MapJob) (job : MapJob) (place stamp : ℕ) → times_in (jobs ++ job ∷ []) place stamp ≡ times_in jobs place stamp + times_of (spare_of_job job) place stamp
 times_more jobs job place stamp = sum_by_push (λ (j : MapJob). times_of (spare_of_job j) place stamp) jobs job
 
--- If `jobs` is `jobs'` with this job added, `jobs` owns the job's spare once more than `jobs'`, and
--- each other spare as often.
+-- If `jobs` is `jobs'` with `job` added at the end, `jobs` owns the spare of `job` once more than
+-- `jobs'` does, and each other spare as often.
 pub times_pushed : (jobs jobs' : List MapJob) (job : MapJob) (place stamp : ℕ) → jobs ≡ jobs' ++ job ∷ [] → times_in jobs place stamp ≡ times_in jobs' place stamp + times_of (spare_of_job job) place stamp
 times_pushed jobs jobs' job place stamp is = ap (λ js. times_in js place stamp) is ∙ times_more jobs' job place stamp
 
@@ -190,7 +191,6 @@ relinked m (PutIf k expected w) j v kept spare is = elim (cases_Bool (option_eq 
   | inr same ↦ absurd (cc (rw same at is))
 ]
 
--- The spares that a caller keeps after its operation is done.
 spent_covered : (t t' : TableAt) (spare : Option SpareAt) (jobs jobs' : List MapJob) → ((place stamp : ℕ) → times_in jobs' place stamp ≡ times_in jobs place stamp + 0) → Spends t t' spare
     → StaysCovered t (λ place stamp. times_of spare place stamp + times_in jobs place stamp) t' (λ place stamp. 0 + times_in jobs' place stamp)
 spent_covered t t' spare jobs jobs' same spends others covered place stamp =

@@ -29,11 +29,13 @@ power_below (suc d) n most one =
 pub power_from_test : (n : ℕ) → is_power_of_two n ≡ true → IsPower n
 power_from_test n is = power_below n n (omega arith) (eqb-true (count_ones n) 1 is)
 
--- If the three numbers are within the limits, the number of buckets is a power of two.
+-- If `are_limits` accepts the numbers of callers, stripes and buckets, the number of buckets is a
+-- power of two.
 pub buckets_power : (callers stripes buckets : ℕ) → are_limits callers stripes buckets ≡ true → IsPower buckets
 buckets_power callers stripes buckets are = power_from_test buckets (and_parts _ (is_power_of_two buckets) are).1
 
--- If the three numbers are within the limits, there are at most 64 callers and at least one stripe.
+-- If `are_limits` accepts the numbers of callers, stripes and buckets, there are at most 64 callers
+-- and at least one stripe.
 pub few_callers : (callers stripes buckets : ℕ) → are_limits callers stripes buckets ≡ true → callers ≤ 64
 few_callers callers stripes buckets are = grind arith
 
@@ -74,7 +76,6 @@ module _ (limits : Sizes) (t : TableAt) (new : IsNew t limits.buckets limits.cal
     agrees = record { standing = refl; kept = refl; waits = tt; level = omega arith };
   })
 
-  -- The list of one dummy is sound.
   one_node : (place : ℕ) (n : NodeAt) → node_of (nodes_of t) place ≡ Some n → (t.list.head ≡ place) × (n ≡ first_dummy t.list.head 0)
   one_node place n is =
       let only = rw new.nodes_are at is in elim (cases_Bool (t.list.head == place)) [

@@ -41,8 +41,8 @@ undone l l' (Unput key) spread is = marked l l' key is
 undone l l' (Restore key was) spread is = written l l' key was is
 undone l l' (Relink key was spare) spread is = linked l l' (node_for key was spare) spread is
 
--- After a step of a caller the unmarked nodes are still linked, and the buckets and the helpers are
--- unchanged.
+-- After a step of a caller, the unmarked nodes are still linked, and the buckets and the helpers
+-- are unchanged.
 pub record Leaves (t t' : TableAt) : Type 0 where
   pub nodes : Stay (nodes_of t) (nodes_of t')
   pub buckets : t'.buckets ≡ t.buckets

@@ -9,7 +9,8 @@ use Rattle.boost_core.proofs.Refused.{set_here}
 use Rattle.map_ops.specs.Double.TheVariants as doubles
 use Rattle.map_ops.specs.InitSeek.TheVariants as seeks
 
--- The buckets are as these arguments say, and the pairs and the spares are unchanged.
+-- The new table has the given size, stored buckets, linked dummies and helpers. Its pairs, its
+-- spares and its largest size are those of the old table.
 pub record Becomes (old new : TableAt) (size : ℕ) (stored linked : List Bool) (helps : List Help) : Type 0 where
   pub regular : regular new ≡ regular old
   pub spares : KeepsSpares old new
@@ -32,7 +33,7 @@ seeker_there t h b placed = at (helper_of t.buckets h) refl
     at None is = absurd (cc (rw (slice_get-map help_of t.buckets.helpers h, is) at placed))
     at (Some had) is = slice_get_within t.buckets.helpers h had is
 
--- To link a dummy is to link its node, which has the next stamp.
+-- Linking a dummy links one node, and this node has the next stamp.
 pub links_node : (l l' : Listing) (pred bucket place : ℕ) → LinksAt l l' pred bucket place
     → LinksNode l l' (dummy_node place bucket (l.last + 1))
 links_node l l' pred bucket place is = record {
@@ -42,7 +43,7 @@ links_node l l' pred bucket place is = record {
 }
 
 module _ (t t' : TableAt) where
-  -- The other helpers keep their cursors.
+  -- If one helper changes, the other helpers keep their cursors.
   pub other_cursor : (h other : ℕ) (now : TableHelper) → t'.buckets.helpers ≡ slice_set t.buckets.helpers h now → other ≢ h
       → helper_cursor t' other ≡ helper_cursor t other
   other_cursor h other now is apart =
@@ -80,8 +81,9 @@ module _ (t t' : TableAt) where
       becomes d stored (linked_of t) helps is (ap (λ l. pairs l.nodes) list) (λ place. ap (λ l. out_at l place) list)
       (λ i. map (has_dummy (list i).nodes) (range_with_len 0 ((ap (λ d. limit_of d) is ∙ limit) i))) limit entries helpers
 
-  -- The table after each outcome of a call: a helper becomes idle, gets a cursor, gets a dummy that
-  -- was already linked, links a dummy or stores a bucket, or a doubling ends.
+  -- The table after a helper becomes idle. The next lemmas describe the table after the other
+  -- outcomes of a call: a helper gets a cursor, gets a dummy that was already linked, links a dummy
+  -- or stores a bucket, or a doubling ends.
   pub idle_becomes : (h : ℕ) → t'.buckets ≡ with_helper t.buckets h Idle → KeepsList t t'
       → Becomes t t' (size_of t) (stored_of t) (linked_of t) (slice_set (helps_of t) h Nothing)
   idle_becomes h is list = quiet _ _ _ is list refl refl (map-set help_of t.buckets.helpers h Idle)
