@@ -3,14 +3,16 @@ use Rattle.std.specs.Prelude.{◌≡◌, ℕ, ◌+◌, ◌-◌, ◌<◌, ◌≤�
 use Rattle.boost_core.specs.Vocabulary.{owed_in, Entry, Seat, RoomySeat, row, is_saved}
 use Rattle.txn_words.specs.Packed.{is_small}
 
--- The seat after the entry of a step, or after none.
+-- The first seat becomes the second one by the entry that a step adds. If the step adds no entry,
+-- the two seats are equal.
 abbrev pub Enters : RoomySeat → List Entry → RoomySeat → Type 0
 Enters s [] s' = s' ≡ s
 Enters s (e ∷ []) s' = row s.seat s.seat.phase e ≡ Some s'.seat
 Enters s (e ∷ f ∷ es) s' = ⊥
 
--- This entry may be added: it may follow and is small, and the seat and the history have room for
--- it. All callers together owe `owed` entries.
+-- The entry may be added: its caller's phase allows it, its caller numbers are small enough to pack
+-- it, and the seat and the history have room for it. `owed` is the number of entries that all
+-- callers together owe.
 pub record CanEnter (s : RoomySeat) (len cap owed : ℕ) (e : Entry) : Type 0 where
   pub next : Seat
   pub row_is : row s.seat s.seat.phase e ≡ Some next
@@ -22,7 +24,8 @@ pub record CanEnter (s : RoomySeat) (len cap owed : ℕ) (e : Entry) : Type 0 wh
   pub owed_fits : owed < 2 ^ 63
   pub fits : owed - owed_in s.seat.standing s.seat.phase + owed_in next.standing next.phase < 2 ^ 63
 
--- The entry, if there is one, may be added.
+-- If a step has an entry, this entry may be added. In any case the caller owes at most `owed`
+-- entries.
 abbrev pub CanAdd : RoomySeat → ℕ → ℕ → ℕ → Option Entry → Type 0
 CanAdd s len cap owed None = owed_in s.seat.standing s.seat.phase ≤ owed
 CanAdd s len cap owed (Some e) = CanEnter s len cap owed e

@@ -13,13 +13,14 @@ abbrev pub is_just_placed : Owner → Option Owner → Bool
 is_just_placed owner None = false
 is_just_placed owner (Some other) = is_same_owner owner other
 
--- The change number that an owner's cursor noted, if it has a cursor.
+-- The list's change number that an owner's cursor noted, if the owner has a cursor.
 abbrev pub owner_changes : State → Owner → Option ℕ
 owner_changes state (Caller c) = caller_changes state.cursors c
 owner_changes state (Helper h) = helper_changes (help_in state.helpers h)
 
--- Whether a cursor may turn out not to fit. It is sure to fit if the last move placed it, or if the
--- list's change number is still the one that it noted and is not the greatest number.
+-- Whether a cursor may turn out not to fit. It certainly fits if the last move placed it. It also
+-- fits if the list's change number is below 2^64 - 1 and still equals the number that the cursor
+-- noted.
 abbrev pub may_be_stale : State → Owner → Bool
 may_be_stale state owner = elim (owner_changes state owner) [
   | None ↦ false
@@ -51,6 +52,6 @@ may_grow state seen = state.size == seen && not (state.size == state.limits.buck
 abbrev pub is_crowded : State → Bool
 is_crowded state = nat_lt (2 * state.size) (count_of (now state.history))
 
--- Whether the rule of locks lets an entry follow.
+-- Whether the rule of locks allows this entry after the state's history.
 abbrev pub may_stand : State → Entry → Bool
 may_stand state e = is_locked (holder_by state.words) state.limits.stripes state.history e

@@ -14,7 +14,8 @@ use Rattle.boost_core.specs.Sessions.{Side, side_of, owed_of, Agrees, IsSought, 
 
 -- The parts of a core: the limits, the history and its counts, the table, each caller's side, the
 -- stripes' holders, the owner of the cursor that the last move placed, and whether stripes are
--- words. The room, the number of entries owed and the notes of who has begun are left out.
+-- words. Left out are the room of the history, the number of entries owed, and the flags of the
+-- callers that have begun a transaction.
 pub record World : Type 0 where
   pub limits : Sizes
   pub history : List Entry
@@ -41,14 +42,16 @@ world_of limits history counts table sessions locks placed words = record {
 abbrev pub session_changes : Session → Option ℕ
 session_changes s = option_map cursor_changes s.cursor
 
--- A linked node of a table, as the machine's state has it. `nodes_at` gives all linked nodes.
+-- Converts a linked node of a table to a node of the machine's state. `nodes_at` converts all
+-- linked nodes.
 abbrev pub node_at : NodeAt → Node
 node_at n = record { at = n.at; marked = n.marked }
 
 abbrev pub nodes_at : TableAt → List Node
 nodes_at t = map node_at (nodes_of t)
 
--- The two nodes beside a cursor, if it fits.
+-- The gap between a node and its successor. There is no gap if there is no first node. At the end
+-- of the list there is no successor.
 abbrev pub gap_at : Option NodeAt → Option NodeAt → Option Gap
 gap_at None behind = None
 gap_at (Some n) behind = Some (record { before = n.at; behind = option_map (λ m. m.at) behind })
@@ -87,18 +90,19 @@ state_of w = record {
   placed = w.placed;
 }
 
--- A caller's side, whose log has this room, agrees with the history.
+-- A caller's side agrees with the history. `room` is the room of the caller's log.
 pub record IsSeated (history : List Entry) (c : ℕ) (side : Side) (room : ℕ) : Type 0 where
   pub seat : seat_after (own c history) ≡ Some side.seat
   pub log : log_of c history ≡ changes_of side.jobs
   pub due : AreDue (now history) (reverse side.jobs)
   pub agrees : Agrees side room
 
--- The number of times that all callers together keep a spare, for waiting operations and in logs.
+-- How often all callers together keep the spare with this place and stamp, for waiting operations
+-- and in logs.
 abbrev pub all_times : List Session → ℕ → ℕ → ℕ
 all_times sessions place stamp = sum_by (λ s. times_kept (side_of s) place stamp) sessions
 
--- The cursor that the last move placed, if it placed one, fits.
+-- If the last move placed a cursor, this cursor fits.
 abbrev pub LastPlacedFits : TableAt → List Session → Option Owner → Type 0
 LastPlacedFits t sessions None = Unit {0}
 LastPlacedFits t sessions (Some (Caller c)) =
@@ -126,7 +130,7 @@ pub record Tells (w : World) : Type 0 where
   pub helpers : length (helps_of w.table) ≡ w.limits.callers
   pub sound : IsSound w.table.list
 
--- The invariant of a core, also with the parts that its world leaves out.
+-- The full invariant of a core. It also covers the parts that `World` leaves out.
 pub record IsAccounted (w : World) (history : Vec Entry) (owed : ℕ) (begun : List Bool) :
     Type 0 where
   pub tells : Tells w

@@ -1,4 +1,5 @@
--- The numbers of transactions that have begun and that have committed, after an answer.
+-- The number of transactions that have begun and the number of those that have committed, after a
+-- step with this answer.
 use Rattle.boost_core.specs.Vocabulary.{Answer}
 use Rattle.boost_core.specs.declared.counts.Counts.{Counts}
 

@@ -1,7 +1,7 @@
 -- What the steps of the machine do, event by event. An event is a step with an answer that is not a
 -- refusal. The definitions say when an event may happen, and what it does to the size, the buckets,
--- the cursors, the helpers, the linked nodes and the last stamp. The entry that it adds to the
--- history is in `Entries.antt` of `txn_words`.
+-- the cursors, the helpers, the linked nodes and the last stamp. `Entries.antt` of `txn_words` says
+-- which entry an event adds to the history.
 use Rattle.std.specs.Prelude.{◌≡◌, ℕ, ◌+◌, ◌*◌, ◌==◌, ◌&&◌, ◌||◌, not, IsTrue, length, slice_set, Option, Some, None, if◌then◌else◌}
 use Rattle.boost_core.specs.Vocabulary.{regular_at, dummy_at, is_began, is_commit, how_many, Op, Step, Begin, Ask, Seek, Act, Save, Back, Commit, Abort, Sweep, InitSeek, InitLink, InitStore, Double, Answer, now, log_of, takes_node, parent_of}
 use Rattle.txn_words.specs.declared.entry.Entry.TheVariants as entries
@@ -14,25 +14,25 @@ use Rattle.boost_core.specs.Nodes.{LeavesNodes, Links, Sweeps, SeeksFrom, SeeksK
 -- What a caller does in a step.
 pub data Deed : Type 0 where
   Began : (transaction : ℕ) → Deed
-  -- It asks for an operation whose stripe is free or is the caller's own.
+  -- The caller asks for an operation, and the operation's stripe is free or is the caller's own.
   Asked : (op : Op) → Deed
-  -- It asks for an operation and meets the holder of the stripe.
+  -- The caller asks for an operation whose stripe is held. The answer names `holder`.
   Busy : (op : Op) (holder : ℕ) → Deed
   Placed : Deed
-  -- It drops its cursor, which no longer fits.
+  -- The caller drops its cursor, which no longer fits.
   Again : Deed
   Done : (reply : Option ℕ) → Deed
   Undone : Deed
-  -- It arrives at a level.
+  -- The caller has taken back every change above the level, and so arrives at the level.
   Returned : (level : ℕ) → Deed
-  -- It arrives at the end.
+  -- The caller has taken back all its changes, and its transaction ends.
   Aborted : Deed
   Saved : (level : ℕ) → Deed
-  -- It leaves to a level, or to the end.
+  -- The caller leaves to a level, or, if there is no level, to the end.
   Leaving : (level : Option ℕ) → Deed
   Committed : (place : ℕ) → Deed
 
--- What a step of the table or of a helper does.
+-- What a step that belongs to no caller does: a sweep, a doubling, or a helper's step.
 pub data Service : Type 0 where
   -- The first marked node is unlinked.
   Swept : Service
@@ -48,10 +48,10 @@ pub data Service : Type 0 where
   Present : (helper : ℕ) → Service
   Linked : (helper : ℕ) → Service
   Stored : (helper : ℕ) → Service
-  -- The size is not the one that was seen.
+  -- The table's size is `size`, not `seen`, so it is not doubled.
   Moved : (seen size : ℕ) → Service
   AtLimit : (seen : ℕ) → Service
-  -- The map has few keys for its size.
+  -- The map has too few keys for the table to be doubled.
   Light : (seen : ℕ) → Service
   Doubled : (seen size : ℕ) → Service
 
@@ -59,8 +59,8 @@ pub data Event : Type 0 where
   By : (caller : ℕ) (deed : Deed) → Event
   Of : (service : Service) → Event
 
--- The event of a step and its answer. There is none if the answer is a refusal, or one that the
--- step never has.
+-- The event of a step and its answer. There is no event if the answer is a refusal, or is one that
+-- the step never has.
 abbrev pub event_of : Step → Answer → Option Event
 event_of (Begin c) (answers.Began t) = Some (By c (Began t))
 event_of (Ask c op) answers.Asked = Some (By c (Asked op))
@@ -132,14 +132,15 @@ MayHappen state (Of (Light seen)) = IsTrue (may_grow state seen && not (is_crowd
 MayHappen state (Of (Doubled seen size)) =
     (size ≡ 2 * state.size) × IsTrue (may_grow state seen && is_crowded state)
 
--- A state with this cursor of a caller: the change number that the cursor noted, or no cursor.
+-- The state with this cursor of the caller `c`. `noted` is the change number that the cursor noted,
+-- or None if the caller has no cursor.
 abbrev pub with_cursor : State → ℕ → Option ℕ → State
 with_cursor state c noted = record state { cursors = slice_set state.cursors c noted }
 
 abbrev pub with_help : State → ℕ → Help → State
 with_help state h help = record state { helpers = slice_set state.helpers h help }
 
--- The state with what an event does to the size, the buckets, the cursors and the helpers.
+-- The state with the size, the buckets, the cursors and the helpers that it has after an event.
 -- `changes` is the list's change number after the event.
 abbrev pub done_by : State → ℕ → Event → State
 done_by state changes (By c Placed) = with_cursor state c (Some changes)
@@ -177,16 +178,17 @@ TouchesBy old (Of (Found h b)) new = SeeksFrom old new (parent_of b) (dummy_at b
 TouchesBy old (Of (Linked h)) new = Links old new (dummy_at (bucket_of old h))
 TouchesBy old event new = LeavesNodes old new
 
--- The last stamp after an event. It rises by one if the event takes a node.
+-- The last stamp after an event. It rises by one if the event asks for an operation that takes a
+-- node, or links a dummy.
 abbrev pub stamp_with : ℕ → Event → ℕ
 stamp_with stamp (By c (Asked op)) = if takes_node op then stamp + 1 else stamp
 stamp_with stamp (By c (Busy op holder)) = if takes_node op then stamp + 1 else stamp
 stamp_with stamp (Of (Linked h)) = stamp + 1
 stamp_with stamp event = stamp
 
--- The cursors that fit before or after an event. A cursor that is placed fits after the event. The
--- events `Again` and `Lost` need a cursor that does not fit. The other events that need a cursor
--- need one that fits.
+-- Which cursor must fit before an event, and which one fits after it. A cursor that the event
+-- places fits after the event. The events `Again` and `Lost` need a cursor that does not fit. All
+-- other events that need a cursor need one that fits.
 abbrev pub FitsBy : State → Event → State → Type 0
 FitsBy old (By c Placed) new = StandsAt new (Caller c) (regular_at (next_key old c))
 FitsBy old (By c Again) new = gap_for old (Caller c) ≡ None

@@ -1,4 +1,5 @@
--- The phases of a call for help that suit the core, whoever else takes steps on it.
+-- The phases of a call for help that suit the state of the core. Steps of others do not make a
+-- phase unsuitable.
 use Rattle.std.specs.Prelude.{◌≡◌, ◌<◌, ℕ, true}
 use Rattle.boost_core.specs.Vocabulary.{IsAncestor, Refusal, NoMemory, StampsUsedUp}
 use Rattle.split_key.specs.Split.{parent_of}
@@ -8,20 +9,23 @@ use Rattle.txn_drive.specs.declared.way.Way.{Way}
 use Rattle.boost_core.specs.State.{State, help_in, is_set, bucket_of}
 use Rattle.boost_core.specs.Refusals.{has_cursor, holds_dummy}
 
--- The way suits the size and the stored buckets.
+-- The way's bucket is its target or one of the target's ancestors. Both are below the size, and the
+-- bucket's parent is stored.
 pub record IsOnWay (m : State) (way : Way) : Type 0 where
   pub ancestor : IsAncestor way.bucket way.target
   pub target : way.target < m.size
   pub bucket : way.bucket < m.size
   pub parent : is_set m.stored (parent_of way.bucket) ≡ true
 
--- A lack of memory or of stamps. After its first step a call for help is refused only for these.
+-- The refusal is for a lack of memory or of stamps. After its first step, a call for help is
+-- refused only for such a lack.
 abbrev pub IsLack : Refusal → Type 0
 IsLack NoMemory = Unit {0}
 IsLack StampsUsedUp = Unit {0}
 IsLack refusal = ⊥
 
--- The buckets and the helper of this number suit the phase of that helper's call for help.
+-- The phase of the call for help by the helper `c` suits the state: the stored buckets and the
+-- helper's cursor or dummy are as the phase needs them.
 abbrev pub HelpSuits : State → ℕ → Phase → Type 0
 HelpSuits m c (Doubling seen) = Unit {0}
 HelpSuits m c (Initialising way again) = IsOnWay m way

@@ -11,7 +11,7 @@ use Rattle.boost_core.specs.Refusals.{refusal_of, MayLack, owner_of}
 use Rattle.boost_core.specs.Nodes.{LeavesNodes, AreNeighbours, HasFit}
 use Rattle.boost_core.specs.Events.{MayHappen, TouchesBy, FitsBy, done_by, placed_in, stamp_with, event_of, if_event}
 
--- The answers that each step may have if nothing refuses it.
+-- Whether a step may have this answer if nothing refuses the step.
 abbrev pub IsAnswer : State → Step → Answer → Type 0
 IsAnswer state step answer = if_event ⊥ (MayHappen state) step answer
 
@@ -39,8 +39,8 @@ after state step answer changes stamp =
       placed = placed_in (event_of step answer);
     }
 
--- The effect of a step and its answer on the nodes, on the change number and on the last stamp.
--- Without an event nothing changes.
+-- The effect of a step and its answer on the nodes and on the change number. If they have no event,
+-- nothing changes.
 abbrev pub Touches : State → Step → Answer → State → Type 0
 Touches old step answer new = if_event (LeavesNodes old new) (λ e. TouchesBy old e new) step answer
 
@@ -48,14 +48,15 @@ abbrev pub stamp_after : ℕ → Step → Answer → ℕ
 stamp_after stamp step answer =
     unwrap_or (option_map (stamp_with stamp) (event_of step answer)) stamp
 
--- The cursors that fit, before and after a step with its answer. A link is refused memory or a
--- stamp only if the helper's cursor fits.
+-- Which cursor must fit before a step with its answer, and which one fits after it. An `InitLink`
+-- is refused memory or a stamp only if the helper's cursor fits.
 abbrev pub Fits : State → Step → Answer → State → Type 0
 Fits old (InitLink h) (answers.Refused NoMemory) new = HasFit old (Helper h)
 Fits old (InitLink h) (answers.Refused StampsUsedUp) new = HasFit old (Helper h)
 Fits old step answer new = if_event (Unit {0}) (λ e. FitsBy old e new) step answer
 
--- The effect of a step and its answer on the list.
+-- The effect of a step and its answer on the list: on its nodes, its change number and its last
+-- stamp.
 pub record Lists (old : State) (step : Step) (answer : Answer) (new : State) : Type 0 where
   pub nodes : Touches old step answer new
   pub rises : old.changes ≤ new.changes
@@ -67,8 +68,8 @@ abbrev pub mover_of : Step → Answer → Option Owner
 mover_of step (answers.Refused refusal) = None
 mover_of step answer = owner_of step
 
--- The cursor of an owner other than the mover still fits, if it fitted and its two nodes are still
--- unmarked neighbours: changes elsewhere do not affect it.
+-- If the cursor of an owner other than the mover fitted, and its two nodes are still unmarked
+-- neighbours, the cursor still fits. Changes elsewhere do not affect it.
 abbrev pub KeepsGaps : State → Step → Answer → State → Type 0
 KeepsGaps old step answer new = (owner : Owner) (gap : Gap) → mover_of step answer ≢ Some owner
     → gap_for old owner ≡ Some gap → AreNeighbours new.nodes gap → gap_for new owner ≡ Some gap
@@ -87,8 +88,8 @@ IsAllowed state step (answers.Refused refusal) =
     ⊎ ((refusal_of state step ≡ None) × MayLack state step refusal)
 IsAllowed state step answer = (refusal_of state step ≡ None) × IsAnswer state step answer
 
--- A step, its answer and the state after it, except for that state's nodes, change number, last
--- stamp and gaps.
+-- The step may have this answer, and the state after it is `new`. Nothing is said about the nodes,
+-- the change number, the last stamp and the gaps of `new`.
 pub record Move (old : State) (step : Step) (answer : Answer) (new : State) : Type 0 where
   pub allowed : IsAllowed old step answer
   pub state : new
@@ -98,8 +99,8 @@ pub record Move (old : State) (step : Step) (answer : Answer) (new : State) : Ty
         helper_gaps = new.helper_gaps;
       }
 
--- A step happens with its answer, and this is all that it does: it makes a move, and `Lists` and
--- `Cursors` say what becomes of the linked nodes, the change number, the last stamp and all cursors.
+-- All that a step with its answer does. It makes a move, and `Lists` and `Cursors` say what happens
+-- to the linked nodes, the change number, the last stamp and all cursors.
 pub record Happens (old : State) (step : Step) (answer : Answer) (new : State) : Type 0 where
   pub move : Move old step answer new
   pub lists : Lists old step answer new
@@ -112,6 +113,7 @@ Moves old (step ∷ steps) (answer ∷ answers) new =
     (between : State) × Happens old step answer between × Moves between steps answers new
 Moves old steps answers new = ⊥
 
--- A run: these answers to these steps, from the start.
+-- A run of the machine: from the start, these steps have these answers, and lead to the state
+-- `last`.
 abbrev pub Run : Sizes → List Step → List Answer → State → Type 0
 Run limits steps answers last = Moves (start limits) steps answers last

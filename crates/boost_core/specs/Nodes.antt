@@ -5,7 +5,7 @@ use Rattle.boost_core.specs.Vocabulary.{option_eq, AllByRecursion, ancestor_of, 
 use Rattle.txn_words.specs.declared.op.Op.TheVariants.{Put, Take, Get, PutIf}
 use Rattle.boost_core.specs.State.{State, Node, Gap, SortKey, Owner, plain_node, marked_node, seat_in, gap_for, is_set}
 
--- Each node is before all that follow it.
+-- The nodes are in rising order of their positions, and no position occurs twice.
 unfoldable pub IsInOrder : List Node → Type 0
 IsInOrder [] = Unit {0}
 IsInOrder (n ∷ rest) = AllByRecursion (λ m. IsBefore n.at m.at) rest × IsInOrder rest
@@ -17,12 +17,14 @@ pub record LeavesNodes (old new : State) : Type 0 where
   pub nodes : new.nodes ≡ old.nodes
   pub changes : new.changes ≡ old.changes
 
--- One value is written, and no node is linked, marked or unlinked.
+-- One value is written. No node is linked, marked or unlinked, and the change number grows by one,
+-- up to 2^64 - 1.
 pub record Writes (old new : State) : Type 0 where
   pub nodes : new.nodes ≡ old.nodes
   pub changes : new.changes ≡ one_more old.changes
 
--- An unmarked node is linked at this position, and nothing else changes.
+-- An unmarked node is linked at this position. No other node changes, and the change number grows
+-- by one, up to 2^64 - 1.
 pub record Links (old new : State) (at : SortKey) : Type 0 where
   pub front : List Node
   pub back : List Node
@@ -30,7 +32,8 @@ pub record Links (old new : State) (at : SortKey) : Type 0 where
   pub new_is : new.nodes ≡ front ++ plain_node at ∷ back
   pub changes : new.changes ≡ one_more old.changes
 
--- The unmarked node at this position is marked, and nothing else changes.
+-- The unmarked node at this position is marked. No other node changes, and the change number grows
+-- by one, up to 2^64 - 1.
 pub record Marks (old new : State) (at : SortKey) : Type 0 where
   pub front : List Node
   pub back : List Node
@@ -38,7 +41,8 @@ pub record Marks (old new : State) (at : SortKey) : Type 0 where
   pub new_is : new.nodes ≡ front ++ marked_node at ∷ back
   pub changes : new.changes ≡ one_more old.changes
 
--- The first marked node is unlinked, and nothing else changes.
+-- The first marked node is unlinked. No other node changes, and the change number grows by one, up
+-- to 2^64 - 1.
 pub record Sweeps (old new : State) : Type 0 where
   pub front : List Node
   pub at : SortKey
@@ -55,9 +59,9 @@ StopsAt at (n ∷ rest) = (n.marked ≡ false) × IsNotBefore n.at at
 abbrev pub is_unmarked : Node → Bool
 is_unmarked n = not n.marked
 
--- A seek from the dummy of a bucket: it passes the nodes up to the first unmarked one that is not
--- before the position sought. The marked nodes that it passes are unlinked, and no other node
--- changes. The change number grows by one for each unlinked node, up to 2^64 - 1.
+-- A seek that starts at the dummy of a bucket. It passes the nodes up to the first unmarked node
+-- that is not before the position sought. The marked nodes that it passes are unlinked, and no
+-- other node changes. The change number grows by one for each unlinked node, up to 2^64 - 1.
 pub record SeeksFrom (old new : State) (bucket : ℕ) (at : SortKey) : Type 0 where
   pub front : List Node
   pub start : Node
@@ -70,7 +74,7 @@ pub record SeeksFrom (old new : State) (bucket : ℕ) (at : SortKey) : Type 0 wh
   pub stops : StopsAt at back
   pub changes : new.changes ≡ changes_after old.changes (length old.nodes - length new.nodes)
 
--- The nearest stored bucket among this one, its parent, the parent's parent and so on.
+-- `nearest` is the first stored bucket among `bucket`, its parent, the parent's parent and so on.
 pub record IsNearest (stored : List Bool) (bucket nearest : ℕ) : Type 0 where
   pub steps : ℕ
   pub is : nearest ≡ ancestor_of steps bucket
@@ -89,13 +93,15 @@ next_key_in phase log = newest_key log
 abbrev pub next_key : State → ℕ → ℕ
 next_key state c = next_key_in (seat_in state.history c).phase (log_of c state.history)
 
--- A key is sought from the dummy of its bucket, or of the nearest ancestor that is stored.
+-- A seek for the key starts at the dummy of the key's bucket. If this bucket is not stored, the
+-- seek starts at the dummy of the nearest ancestor that is stored.
 pub record SeeksKey (old new : State) (key : ℕ) : Type 0 where
   pub bucket : ℕ
   pub nearest : IsNearest old.stored (key % old.size) bucket
   pub seeks : SeeksFrom old new bucket (regular_at key)
 
--- The effect of a change at a key, by the value before it and the value after it.
+-- The effect of a change on the nodes. The arguments after the key are the values before and after
+-- the change, or None if the key is absent.
 abbrev pub Changes : State → State → ℕ → Option ℕ → Option ℕ → Type 0
 Changes old new key None None = LeavesNodes old new
 Changes old new key None (Some value) = Links old new (regular_at key)
@@ -106,7 +112,7 @@ abbrev pub PutsIf : State → State → ℕ → ℕ → Option ℕ → Bool → 
 PutsIf old new key value before true = Changes old new key before (Some value)
 PutsIf old new key value before false = LeavesNodes old new
 
--- The effect of an operation. A get has none.
+-- The effect of an operation on the nodes. A get leaves them as they are.
 abbrev pub OpDoes : State → State → Op → Type 0
 OpDoes old new (Put key value) = Changes old new key (get (now old.history) key) (Some value)
 OpDoes old new (Take key) = Changes old new key (get (now old.history) key) None
@@ -115,19 +121,19 @@ OpDoes old new (PutIf key expected value) =
     PutsIf old new key value (get (now old.history) key)
     (option_eq nat_eq (get (now old.history) key) expected)
 
--- The effect of the operation that waits.
+-- The effect of the waiting operation on the nodes.
 abbrev pub OpDoesIn : State → State → Phase → Type 0
 OpDoesIn old new (Waiting op) = OpDoes old new op
 OpDoesIn old new phase = ⊥
 
--- The effect of taking the newest change back.
+-- The effect on the nodes when the newest change is taken back.
 abbrev pub BackDoes : State → State → List (ℕ × Option ℕ) → Type 0
 BackDoes old new [] = ⊥
 BackDoes old new (change ∷ older) =
     Changes old new change.0 (get (now old.history) change.0) change.1
 
--- The first of these nodes is unmarked and has this sort key; or there is neither a node nor a sort
--- key.
+-- If there is a sort key, the first node has this sort key and is unmarked. If there is no sort
+-- key, there is no node.
 abbrev pub StartsAt : List Node → Option SortKey → Type 0
 StartsAt [] None = Unit {0}
 StartsAt [] (Some at) = ⊥
@@ -141,7 +147,7 @@ pub record AreNeighbours (nodes : List Node) (gap : Gap) : Type 0 where
   pub nodes_are : nodes ≡ front ++ plain_node gap.before ∷ back
   pub next : StartsAt back gap.behind
 
--- The position of this sort key is between the two nodes of the gap.
+-- A node with this sort key belongs between the two nodes of the gap.
 pub record IsBetween (gap : Gap) (at : SortKey) : Type 0 where
   pub before : IsBefore gap.before at
   pub behind : (next : SortKey) → gap.behind ≡ Some next → IsNotBefore next at
@@ -149,7 +155,7 @@ pub record IsBetween (gap : Gap) (at : SortKey) : Type 0 where
 abbrev pub HasFit : State → Owner → Type 0
 HasFit state owner = is_some (gap_for state owner) ≡ true
 
--- The owner's cursor fits, and stands where a node of this sort key belongs.
+-- The owner's cursor fits, and stands where a node with this sort key belongs.
 pub record StandsAt (state : State) (owner : Owner) (at : SortKey) : Type 0 where
   pub gap : Gap
   pub has : gap_for state owner ≡ Some gap

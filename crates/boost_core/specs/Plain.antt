@@ -9,7 +9,8 @@ use Rattle.boost_core.specs.State.{State, seat_in, is_set}
 use Rattle.boost_core.specs.Answers.{is_at_end}
 use Rattle.boost_core.specs.Machine.{Happens, Moves}
 
--- An operation is asked for, sought and done; or the ask has another answer and is the only step.
+-- A caller asks for an operation, seeks its key and does it. If the ask has an answer other than
+-- `Asked`, it is the only step.
 abbrev pub Operates : State → ℕ → Op → Answer → State → Type 0
 Operates old c op Answer.Asked new = ⊥
 Operates old c op (Answer.Done reply) new =
@@ -17,24 +18,25 @@ Operates old c op (Answer.Done reply) new =
     (Answer.Asked ∷ Answer.Placed ∷ Answer.Done reply ∷ []) new
 Operates old c op answer new = Happens old (Ask c op) answer new
 
--- The given steps, preceded by the steps that take this number of changes back: a seek and an act
--- for each change.
+-- The steps that take back this number of changes, followed by the given steps. Each change needs a
+-- seek and an act.
 abbrev pub undoing : ℕ → ℕ → List Step → List Step
 undoing zero c steps = steps
 undoing (suc changes) c steps = undoing changes c (Seek c ∷ Act c ∷ steps)
 
--- The answers to them: `Placed` and `Undone` for each change, and then the given answers.
+-- The answers to the steps of `undoing`: `Placed` and `Undone` for each change, and then the given
+-- answers.
 abbrev pub undone : ℕ → List Answer → List Answer
 undone zero others = others
 undone (suc changes) others = undone changes (Answer.Placed ∷ Answer.Undone ∷ others)
 
--- Some number of changes are taken back, and then the caller arrives at its level or at the end.
+-- The caller takes back some number of changes, and then arrives at its level or at the end.
 abbrev pub Ends : State → ℕ → Answer → State → Type 0
 Ends old c answer new =
     (changes : ℕ) × Moves old (undoing changes c (Act c ∷ [])) (undone changes (answer ∷ [])) new
 
--- A caller goes back to a level: it leaves, and the undoing ends; or the first step has another
--- answer and is the only one.
+-- A caller goes back to a level: it leaves to the level, and takes back its changes until it
+-- arrives there. If the first step has an answer other than `Leaving`, it is the only step.
 abbrev pub Returns : State → ℕ → ℕ → Answer → State → Type 0
 Returns old c n Answer.Leaving new = ⊥
 Returns old c n (Answer.Returned m) new =
@@ -42,14 +44,14 @@ Returns old c n (Answer.Returned m) new =
     × Ends left c (Answer.Returned m) new
 Returns old c n answer new = Happens old (Back c n) answer new
 
--- The step by which a caller leaves to the end. If the Boolean is true, the caller is leaving to
+-- A caller leaves to the end by the step `Abort`. If the Boolean is true, the caller is leaving to
 -- the end already, and no step is taken.
 abbrev pub Leaves : Bool → State → ℕ → State → Type 0
 Leaves true old c left = left ≡ old
 Leaves false old c left = Happens old (Abort c) Answer.Leaving left
 
--- A caller aborts: it leaves to the end, and the undoing ends; or the first step has another answer
--- and is the only one.
+-- A caller aborts: it leaves to the end, unless it does so already, and takes back all its changes.
+-- If its step `Abort` has an answer other than `Leaving`, this is the only step.
 abbrev pub Aborts : State → ℕ → Answer → State → Type 0
 Aborts old c Answer.Leaving new = ⊥
 Aborts old c Answer.Aborted new =
@@ -58,8 +60,8 @@ Aborts old c Answer.Aborted new =
 Aborts old c answer new =
     (is_at_end (seat_in old.history c).phase ≡ false) × Happens old (Abort c) answer new
 
--- This number of moves of a drive in a row: each is the step that the drive names at the table's
--- size, and the drive is told the answer.
+-- A drive makes this number of moves in a row. Each move takes the step that the drive names, given
+-- the table's size. The drive is then given the answer.
 abbrev pub Drives : ℕ → Drive → State → Drive → State → Type 0
 Drives zero drive old last new = (last ≡ drive) × (new ≡ old)
 Drives (suc moves) drive old last new =
@@ -67,16 +69,16 @@ Drives (suc moves) drive old last new =
     × (step_of (sized_of old.size drive) ≡ Some step) × Happens old step answer between
     × Drives moves (told_of (sized_of old.size drive) answer) between last new
 
--- A caller's call for help, from its first move to this end.
+-- A caller's call for help, from its first move until it ends with `outcome`.
 pub record HelpsTo (outcome : End) (old : State) (c key : ℕ) (new : State) : Type 0 where
   pub moves : ℕ
   pub last : Drive
   pub drives : Drives moves (new_drive old.limits.half c (calls.Help key)) old last new
   pub ended : end_of last ≡ Some outcome
 
--- A caller helps, and the bucket of the key is initialised. Or the call is refused: at its
--- beginning for its key, or later for lack of memory or of stamps. If there is no such caller, no
--- step is taken.
+-- A caller's call for help. If it succeeds, the key's bucket is initialised. At its beginning it
+-- may be refused because of its key, and later only for lack of memory or of stamps. If there is no
+-- caller with this number, no step is taken.
 abbrev pub Helps : State → ℕ → ℕ → Result Unit Refusal → State → Type 0
 Helps old c key (Ok done) new =
     HelpsTo End.Helped old c key new × (is_set new.stored (key % new.size) ≡ true)
@@ -86,7 +88,7 @@ Helps old c key (Err NoMemory) new = HelpsTo (End.Refused NoMemory) old c key ne
 Helps old c key (Err StampsUsedUp) new = HelpsTo (End.Refused StampsUsedUp) old c key new
 Helps old c key (Err refusal) new = ⊥
 
--- The result of a call for help, from the end of its drive.
+-- The result of a call for help, given the end of its drive.
 abbrev pub outcome_of : Option End → Result Unit Refusal
 outcome_of (Some (End.Refused refusal)) = Err refusal
 outcome_of outcome = Ok tt

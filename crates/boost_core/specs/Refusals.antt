@@ -1,11 +1,11 @@
--- The refusals of each step, in their order.
+-- The refusals of each step, in the order in which they are tested.
 pub use Rattle.map_ops.specs.Jobs.{takes_node}
 pub use Rattle.txn_words.specs.Seats.{is_closed, is_waiting, is_leaving, has_job, has_target, unready_tests, tests_in, first_of, refusal_in}
 use Rattle.std.specs.Prelude.{ℕ, ◌^◌, ◌-◌, Bool, true, false, not, ◌==◌, ◌&&◌, ◌||◌, nat_le, IsTrue, is_some, List, [], ◌∷◌, ◌++◌, Option, Some, None}
 use Rattle.boost_core.specs.Vocabulary.{Op, Step, Begin, Ask, Seek, Act, Save, Back, Commit, Abort, Sweep, InitSeek, InitLink, InitStore, Double, Refusal, NoSuchCaller, Unplaced, NoSuchBucket, ParentMissing, NoSuchHelper, HelperOutOfOrder, NoMemory, StampsUsedUp, Seat, parent_of, LacksSegment}
 use Rattle.boost_core.specs.State.{State, Owner, Caller, Helper, Help, Sought, Dummy, seat_in, caller_changes, help_in, is_set, bucket_of}
 
--- The owner of a step, if it is a caller's or a helper's.
+-- The owner of a step: its caller or its helper. `Sweep` and `Double` have no owner.
 abbrev pub owner_of : Step → Option Owner
 owner_of (Begin c) = Some (Caller c)
 owner_of (Ask c op) = Some (Caller c)
@@ -21,8 +21,8 @@ owner_of (InitLink h) = Some (Helper h)
 owner_of (InitStore h) = Some (Helper h)
 owner_of (Double n) = None
 
--- Whether a step of a caller lacks the cursor that it acts on; the Boolean says whether the caller
--- has one.
+-- Whether a step needs a cursor that its caller does not have. The Boolean says whether the caller
+-- has a cursor.
 abbrev pub lacks_in : Seat → Bool → Step → Bool
 lacks_in seat there (Act c) = has_target seat && not there
 lacks_in seat there step = false
@@ -40,8 +40,8 @@ abbrev pub holds_dummy : Help → Bool
 holds_dummy (Dummy bucket) = true
 holds_dummy help = false
 
--- The tests of a step that the helper and the buckets decide, each with its refusal, in their
--- order. A bucket that is stored already needs no parent.
+-- The tests of a step that depend on the helper and on the buckets, in order, each with its
+-- refusal. A bucket that is stored already needs no parent.
 abbrev pub tests_at : State → Help → Step → List (Bool × Refusal)
 tests_at state help (InitSeek h b) =
     (nat_le state.size b, NoSuchBucket)
@@ -50,8 +50,8 @@ tests_at state help (InitLink h) = (not (has_cursor help), HelperOutOfOrder) ∷
 tests_at state help (InitStore h) = (not (holds_dummy help), HelperOutOfOrder) ∷ []
 tests_at state help step = []
 
--- All tests of a step. The first tests the number of its caller or helper. The others test the
--- caller's seat and cursor, or the helper and the buckets.
+-- All tests of a step, in order. The first tests whether there is a caller or helper with the
+-- step's number. The others test the caller's seat and cursor, or the helper and the buckets.
 abbrev pub tests_of : State → Option Owner → Step → List (Bool × Refusal)
 tests_of state None step = []
 tests_of state (Some (Caller c)) step =
@@ -64,19 +64,19 @@ tests_of state (Some (Helper h)) step =
 abbrev pub refusal_of : State → Step → Option Refusal
 refusal_of state step = first_of (tests_of state (owner_of step) step)
 
--- Whether a stamp is left: 2^64 - 2, the last one, was not given yet.
+-- Whether a stamp is left. The last stamp that is ever given is 2^64 - 2.
 abbrev pub has_stamp : State → Bool
 has_stamp state = not (state.stamp == 2 ^ 64 - 2)
 
 abbrev pub has_stamp_for : State → Op → Bool
 has_stamp_for state op = not (takes_node op) || has_stamp state
 
--- Whether the dummy of the bucket that a helper sought is still to be linked.
+-- Whether the dummy that a helper sought is not linked yet.
 abbrev pub lacks_dummy : State → ℕ → Bool
 lacks_dummy state h = not (is_set state.linked (bucket_of state h))
 
--- Memory may be refused to a step that reserves some, and stamps may be used up. These tests follow
--- all others.
+-- Whether a step may be refused for lack of memory or of stamps. Memory may be refused only to a
+-- step that reserves some. These tests follow all others.
 abbrev pub MayLack : State → Step → Refusal → Type 0
 MayLack state (Begin c) NoMemory = Unit {0}
 MayLack state (Ask c op) NoMemory = Unit {0}

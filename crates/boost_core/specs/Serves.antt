@@ -1,11 +1,11 @@
--- The answers to the steps that are no caller's, and their effects on the table.
+-- The answers to the steps that belong to no caller, and the effects of these steps on the table.
 use Rattle.std.specs.Prelude.{◌≡◌, ◌≢◌, ℕ, ◌-◌, ◌<◌, ◌^◌, ◌↔◌, Bool, true, false, Some, Result, Ok, Err}
 use Rattle.boost_core.specs.Vocabulary.{slice_get, Step, Sweep, InitSeek, InitLink, InitStore, Double, Answer, count_of, Refusal, TableAt, Help, SweepOutcome, KeepsTable, KeepsList, KeepsSpares, IsClean, content, regular, table_changes, size_of, largest_of, stored_of, linked_of, helps_of, Sweeps, SeekChanges, LinkChanges, StoreChanges, LacksSegment, Doubles, seek_answer, link_answer_of, store_answer, double_answer}
 use Rattle.map_ops.specs.Double.{Double as Doubled}
 use Rattle.map_ops.specs.InitSeek.{InitSeek as Sought}
 use Rattle.map_ops.specs.InitLink.{InitLink as Linked}
 
--- Whether a step is no caller's.
+-- Whether a step belongs to no caller.
 abbrev pub is_served : Step → Bool
 is_served Sweep = true
 is_served (InitSeek h b) = true
@@ -14,7 +14,7 @@ is_served (InitStore h) = true
 is_served (Double seen) = true
 is_served step = false
 
--- The answer to each of these steps, from the outcome of the table's call.
+-- The answer to a sweep, given the outcome of the table's call.
 abbrev pub swept : SweepOutcome → Answer
 swept SweepOutcome.Swept = Answer.Swept
 swept SweepOutcome.Clean = Answer.Clean
@@ -40,8 +40,8 @@ doubled Doubled.AtLimit = Answer.AtLimit
 doubled Doubled.Light = Answer.Light
 doubled (Doubled.Doubled size) = Answer.Doubled size
 
--- The first marked node is unlinked and nothing else has changed, or none is marked and nothing has
--- changed.
+-- A sweep unlinks the first marked node and changes nothing else. If no node is marked, it changes
+-- nothing.
 pub record Sweeping (t t' : TableAt) (answer : Answer) : Type 0 where
   pub outcome : SweepOutcome
   pub answer_is : answer ≡ swept outcome
@@ -51,7 +51,7 @@ pub record Sweeping (t t' : TableAt) (answer : Answer) : Type 0 where
   pub spares : KeepsSpares t t'
   pub stays : outcome ≡ SweepOutcome.Clean → table_changes t' ≡ table_changes t
 
--- A helper seeks the position of a bucket's dummy.
+-- A helper seeks the position of a bucket's dummy, and its step has this answer.
 pub record Seeking (t t' : TableAt) (h b : ℕ) (answer : Answer) : Type 0 where
   pub outcome : Result Sought Refusal
   pub answer_is : answer ≡ answer_to_seek outcome
@@ -60,7 +60,7 @@ pub record Seeking (t t' : TableAt) (h b : ℕ) (answer : Answer) : Type 0 where
   pub regular : regular t' ≡ regular t
   pub linked : linked_of t' ≡ linked_of t
 
--- A helper links the dummy that it sought.
+-- A helper links the dummy whose position it sought, and its step has this answer.
 pub record Linking (t t' : TableAt) (h : ℕ) (answer : Answer) : Type 0 where
   pub outcome : Result Linked Refusal
   pub answer_is : answer ≡ linked outcome
@@ -72,7 +72,7 @@ pub record Linking (t t' : TableAt) (h : ℕ) (answer : Answer) : Type 0 where
   pub changes : LinkChanges t t' h outcome
   pub regular : regular t' ≡ regular t
 
--- A helper stores the dummy that it has.
+-- A helper stores its dummy as the dummy of a bucket, and its step has this answer.
 pub record Storing (t t' : TableAt) (h : ℕ) (answer : Answer) : Type 0 where
   pub outcome : Result Unit Refusal
   pub answer_is : answer ≡ stored outcome
@@ -83,7 +83,7 @@ pub record Storing (t t' : TableAt) (h : ℕ) (answer : Answer) : Type 0 where
   pub changes : StoreChanges t t' h outcome
   pub list : KeepsList t t'
 
--- The size is doubled, or the outcome says why it is not.
+-- The table's size is doubled, or the answer says why it is not.
 pub record Doubling (t t' : TableAt) (seen : ℕ) (answer : Answer) : Type 0 where
   pub outcome : Doubled
   pub answer_is : answer ≡ doubled outcome
@@ -91,7 +91,7 @@ pub record Doubling (t t' : TableAt) (seen : ℕ) (answer : Answer) : Type 0 whe
   pub changes : Doubles t t' outcome
   pub list : KeepsList t t'
 
--- The effect of each step, by its answer.
+-- The answer to a step that belongs to no caller, and its effect on the table.
 abbrev pub Serves : Step → TableAt → Answer → TableAt → Type 0
 Serves Sweep t answer t' = Sweeping t t' answer
 Serves (InitSeek h b) t answer t' = Seeking t t' h b answer

@@ -1,4 +1,5 @@
--- A caller's side, and the effects of its steps on it, on the table and on the locks.
+-- A caller's side of the core, and the effects of the caller's steps on its side, on the table and
+-- on the locks.
 use Rattle.std.specs.Prelude.{◌≡◌, ℕ, ◌+◌, ◌<◌, ◌^◌, ◌≤◌, ◌⊎◌, ◌∷◌, is_some, ◌++◌, Bool, true, false, List, [], Option, Some, None, length, map, reverse, take, option_to_list}
 use Rattle.boost_core.specs.Vocabulary.{Op, Step, Begin, Ask, Seek, Act, Save, Back, Commit, Abort, Answer, NoMemory, StaleWord, Map, get, key_of, set_at, owed_in, stripe_of, Phase, Waiting, LeavingTo, LeavingToEnd, Seat, closed_seat, is_leaving, has_job, has_target, refusal_in, Grants, Refuses, Releases, IsSound, MapJob, PendingAt, takes_node, key_of_job, value_before, spare_of_job, IsDue, TableAt, Cursor, SpareAt, KeepsNodes, content, IsPlaced, fits, last_of, Does, OwnsIf, Places, SeeksNear, Prepares, IsRefused, GivesBack, TakesBack}
 use Rattle.undo_log.specs.UndoLog.{LogAt, kept_at, newest_above}
@@ -41,8 +42,8 @@ abbrev pub IsIdle : Session → Type 0
 IsIdle s =
     side_of s ≡ record { seat = closed_seat; pending = None; cursor = None; jobs = []; kept = [] }
 
--- An operation waits exactly if the phase says so. It then has room for its job, and a spare if it
--- takes a node.
+-- An operation waits exactly if the phase says so. The log then has room for its job, and the
+-- operation has a spare exactly if it takes a node.
 abbrev pub Waits : Phase → Option PendingAt → ℕ → Type 0
 Waits (Waiting op) (Some pending) room =
     (pending.op ≡ op) × (0 < room) × (is_some pending.spare ≡ takes_node op)
@@ -50,7 +51,7 @@ Waits (Waiting op) None room = ⊥
 Waits phase (Some pending) room = ⊥
 Waits phase None room = Unit {0}
 
--- The seat, the waiting operation and the log with this room agree.
+-- The seat, the waiting operation and the log of a caller agree. `room` is the room of the log.
 pub record Agrees (side : Side) (room : ℕ) : Type 0 where
   pub standing : side.seat.standing ≡ length side.jobs
   pub kept : side.seat.kept ≡ 0 ∷ side.kept
@@ -61,7 +62,7 @@ abbrev pub key_of_newest : Option MapJob → Option ℕ
 key_of_newest None = None
 key_of_newest (Some job) = Some (key_of_job job)
 
--- The key that a caller acts on next, if it acts on one.
+-- The key that a caller acts on next, if there is one.
 abbrev pub target_in : Phase → LogAt MapJob → Option ℕ
 target_in (Waiting op) log = Some (key_of op)
 target_in (LeavingTo level) log = key_of_newest (newest_above log level)
@@ -75,7 +76,8 @@ abbrev pub spare_if : Option PendingAt → Option SpareAt
 spare_if None = None
 spare_if (Some pending) = pending.spare
 
--- How often the caller keeps a spare, for its waiting operation and in its log.
+-- How often the caller keeps the spare with this place and stamp, for its waiting operation and in
+-- its log.
 abbrev pub times_kept : Side → ℕ → ℕ → ℕ
 times_kept side place stamp =
     times_of (spare_if side.pending) place stamp + times_in side.jobs place stamp
@@ -86,12 +88,12 @@ change_of job = (key_of_job job, value_before job)
 abbrev pub changes_of : List MapJob → List (ℕ × Option ℕ)
 changes_of jobs = map change_of (reverse jobs)
 
--- Each of these jobs, newest first, is due on the map that is left once the newer ones have run.
+-- The jobs are in order, newest first. Each is due on the map after the newer jobs have run.
 abbrev pub AreDue : Map → List MapJob → Type 0
 AreDue m [] = Unit {0}
 AreDue m (job ∷ jobs) = IsDue m job × AreDue (set_at m (key_of_job job) (value_before job)) jobs
 
--- A cursor, if there is one, was placed for the key that the caller acts on next.
+-- If the caller has a cursor, it was placed for the key that the caller acts on next.
 abbrev pub IsSoughtAt : TableAt → Option Cursor → Option ℕ → Type 0
 IsSoughtAt t None target = Unit {0}
 IsSoughtAt t (Some cursor) None = ⊥
@@ -104,7 +106,8 @@ IsSought t s = IsSoughtAt t s.cursor (target_of s)
 abbrev pub CanSettle : Session → TableAt → Type 0
 CanSettle s t = (others : ℕ → ℕ → ℕ) × IsCoveredWith others (times_in s.log.jobs) t
 
--- A caller's side fits the table.
+-- A caller's side agrees with the table: its cursor was placed on the table, its jobs are due on
+-- the table's content, and its spares belong to the table.
 pub record GoesWith (s : Session) (t : TableAt) : Type 0 where
   pub agrees : Agrees (side_of s) s.log.room
   pub sought : IsSought t s
@@ -116,7 +119,7 @@ pub record KeepsPlaced (t t' : TableAt) : Type 0 where
   pub placed : (cursor : Cursor) (key : ℕ) → IsPlaced t cursor key → IsPlaced t' cursor key
   pub sound : IsSound t.list → IsSound t'.list
 
--- Only the spares of the table have changed, and cursors stay placed.
+-- Only the spares of the table have changed. A cursor that was placed on the table is still placed.
 pub record Rests (t t' : TableAt) : Type 0 where
   pub nodes : KeepsNodes t t'
   pub last : last_of t' ≡ last_of t
@@ -131,7 +134,8 @@ pub record Reach : Type 0 where
 abbrev pub reach : Session → TableAt → List (Option ℕ) → Reach
 reach session table locks = record { session = session; table = table; locks = locks }
 
--- The operation is prepared and waits, with room for its job; the stripe is the caller's.
+-- The operation is prepared and waits, and the log has room for its job. The caller holds the
+-- stripe.
 pub record AsksIn (c stripe : ℕ) (op : Op) (old new : Reach) : Type 0 where
   pub pending : PendingAt
   pub prepares : Prepares old.table new.table op pending
@@ -139,7 +143,7 @@ pub record AsksIn (c stripe : ℕ) (op : Op) (old new : Reach) : Type 0 where
   pub becomes : side_of new.session ≡ record (side_of old.session) { pending = Some pending }
   pub room : 0 < new.session.log.room
 
--- Another caller holds the stripe: the prepared operation is given up, and only the room of the
+-- Another caller holds the stripe, so the prepared operation is given up. Only the room of the
 -- caller's side has changed.
 pub record MeetsIn (c stripe : ℕ) (op : Op) (holder : ℕ) (old new : Reach) : Type 0 where
   pub pending : PendingAt
@@ -159,7 +163,8 @@ pub record SeeksIn (s : Session) (t : TableAt) (s' : Session) (t' : TableAt) : T
   pub places : Places t t' key cursor
   pub near : SeeksNear t t' key
 
--- The waiting operation may be done.
+-- The waiting operation may be done: the cursor was placed for its key, the table owns its spare,
+-- if it has one, and the log has room for its job.
 pub record CanAct (s : Session) (t : TableAt) : Type 0 where
   pub pending : PendingAt
   pub cursor : Cursor
@@ -176,7 +181,7 @@ pub record Drops (s : Session) (t : TableAt) (s' : Session) : Type 0 where
   pub stale : fits t cursor ≡ false
   pub becomes : s' ≡ record s { cursor = None }
 
--- The operation that waits is done, and its job, if it has one, is the newest.
+-- The waiting operation is done. If it has a job, this job is now the newest in the log.
 pub record DoesIn (s : Session) (t : TableAt) (reply : Option ℕ) (s' : Session)
     (t' : TableAt) : Type 0 where
   pub pending : PendingAt
@@ -195,7 +200,8 @@ pub record DoesIn (s : Session) (t : TableAt) (reply : Option ℕ) (s' : Session
         jobs = s.log.jobs ++ option_to_list job;
       }
 
--- The newest change may be taken back.
+-- The newest change above the level may be taken back: the cursor was placed for its key, its job
+-- is due, and the table owns the job's spare, if it has one.
 pub record CanUndo (s : Session) (t : TableAt) : Type 0 where
   pub level : level_of s.seat.seat.phase ≤ length s.log.kept
   pub job : MapJob
@@ -217,18 +223,18 @@ pub record TakesBackIn (s : Session) (t : TableAt) (s' : Session) (t' : TableAt)
   pub jobs : s.log.jobs ≡ s'.log.jobs ++ job ∷ []
   pub becomes : side_of s' ≡ record (side_of s) { cursor = None; jobs = s'.log.jobs }
 
--- A caller that takes changes back has none left above its level.
+-- The caller is taking changes back, and no change above its level remains.
 pub record CanArrive (s : Session) : Type 0 where
   pub leaves : is_leaving s.seat.seat.phase ≡ true
   pub level : level_of s.seat.seat.phase ≤ length s.log.kept
   pub none_above : length s.log.jobs ≤ kept_at s.log.kept (level_of s.seat.seat.phase)
 
--- The caller has returned to its level: the later savepoints are dropped.
+-- The caller has returned to its level. The later savepoints are dropped.
 pub record ReturnsIn (n : ℕ) (s s' : Session) : Type 0 where
   pub phase : s.seat.seat.phase ≡ LeavingTo n
   pub becomes : side_of s' ≡ record (side_of s) { kept = take n s.log.kept }
 
--- The caller has arrived at the end: its stripes are free.
+-- The caller's abort has ended. Its savepoints are dropped, and its stripes are free.
 pub record EndsIn (c : ℕ) (s : Session) (locks : List (Option ℕ)) (s' : Session)
     (locks' : List (Option ℕ)) : Type 0 where
   pub phase : s.seat.seat.phase ≡ LeavingToEnd
@@ -241,25 +247,25 @@ pub record SavesIn (n : ℕ) (s s' : Session) : Type 0 where
   pub room : 0 < s'.seat.room
   pub becomes : side_of s' ≡ record (side_of s) { kept = s.log.kept ++ length s.log.jobs ∷ [] }
 
--- The waiting operation is given up, and the cursor is dropped.
+-- The waiting operation is given up, and the caller's cursor is dropped.
 pub record WithdrawsIn (s : Session) (t : TableAt) (s' : Session) (t' : TableAt) : Type 0 where
   pub rests : Rests t t'
   pub spares : StaysCovered t (times_kept (side_of s)) t' (times_kept (side_of s'))
   pub becomes : s' ≡ record s { pending = None; cursor = None }
 
--- All jobs, with their spares, and all savepoints are dropped.
+-- All jobs of the log are dropped, together with their spares. All savepoints are dropped too.
 pub record SettlesIn (s : Session) (t : TableAt) (s' : Session) (t' : TableAt) : Type 0 where
   pub rests : Rests t t'
   pub spares : StaysCovered t (times_in s.log.jobs) t' (times_in s'.log.jobs)
   pub becomes : side_of s' ≡ record (side_of s) { jobs = []; kept = [] }
 
--- The answer to setting a savepoint, and its effect.
+-- The answer to a step that sets a savepoint, and the effect of this step.
 abbrev pub Saves : Session → Answer → Session → Type 0
 Saves s (Answer.Saved n) s' = SavesIn n s s'
 Saves s (Answer.Refused NoMemory) s' = side_of s' ≡ side_of s
 Saves s answer s' = ⊥
 
--- The answer to asking, and its effect.
+-- The answer to an ask that locks its stripe, and the effect of the ask.
 abbrev pub IsAsked : ℕ → ℕ → Op → Reach → Answer → Reach → Type 0
 IsAsked c stripe op old Answer.Asked new = AsksIn c stripe op old new
 IsAsked c stripe op old (Answer.Busy x) new = MeetsIn c stripe op x old new
@@ -268,12 +274,14 @@ IsAsked c stripe op old (Answer.Refused refusal) new =
     × (side_of new.session ≡ side_of old.session) × (new ≡ record old { session = new.session })
 IsAsked c stripe op old answer new = ⊥
 
--- If another caller holds the stripe, the right to it is stale.
+-- The answer to an ask with the stripe's right, given the answer to an ask that locks the stripe.
+-- `Busy` becomes the refusal `StaleWord`.
 abbrev pub unless_busy : Answer → Answer
 unless_busy (Answer.Busy x) = Answer.Refused StaleWord
 unless_busy answer = answer
 
--- The answer to asking by a claim, and its effect. Asking by a word has no effect.
+-- The answer to an ask with this claim, and the effect of the ask. If the claim is a word, the ask
+-- has no effect.
 abbrev pub AsksBy : Claim → ℕ → ℕ → Op → Reach → Answer → Reach → Type 0
 AsksBy Lock c stripe op old answer new = IsAsked c stripe op old answer new
 AsksBy Right c stripe op old answer new =
@@ -281,25 +289,25 @@ AsksBy Right c stripe op old answer new =
 AsksBy (Held named) c stripe op old answer new = (answer ≡ Answer.Busy named) × (new ≡ old)
 AsksBy Stale c stripe op old answer new = (answer ≡ Answer.Refused StaleWord) × (new ≡ old)
 
--- The answer to an act for the operation that waits, and its effect.
+-- The answer to an act for the waiting operation, and the effect of the act.
 abbrev pub Replies : Session → TableAt → Answer → Session → TableAt → Type 0
 Replies s t Answer.Again s' t' = Drops s t s' × (t' ≡ t)
 Replies s t (Answer.Done reply) s' t' = DoesIn s t reply s' t'
 Replies s t answer s' t' = ⊥
 
--- The answer to taking the newest change back, and its effect.
+-- The answer to an act that takes back the newest change, and the effect of the act.
 abbrev pub Undoes : Session → TableAt → Answer → Session → TableAt → Type 0
 Undoes s t Answer.Again s' t' = Drops s t s' × (t' ≡ t)
 Undoes s t Answer.Undone s' t' = TakesBackIn s t s' t'
 Undoes s t answer s' t' = ⊥
 
--- The answer to the end of the undoing, and its effect.
+-- The answer to the act that ends the undoing, and the effect of the act.
 abbrev pub Arrives : ℕ → Session → List (Option ℕ) → Answer → Session → List (Option ℕ) → Type 0
 Arrives c s locks (Answer.Returned n) s' locks' = ReturnsIn n s s' × (locks' ≡ locks)
 Arrives c s locks Answer.Aborted s' locks' = EndsIn c s locks s' locks'
 Arrives c s locks answer s' locks' = ⊥
 
--- The answer to an act, and its effect.
+-- The answer to an act, and the effect of the act.
 abbrev pub ActsIn : ℕ → Reach → Answer → Reach → Type 0
 ActsIn c old Answer.Again new =
     (has_target old.session.seat.seat ≡ true) × Drops old.session old.table new.session
@@ -317,7 +325,8 @@ ActsIn c old Answer.Aborted new =
     × EndsIn c old.session old.locks new.session new.locks × (new.table ≡ old.table)
 ActsIn c old answer new = ⊥
 
--- The requirements of a step, if no test refuses it.
+-- What must hold before a session takes a caller's step: no test refuses the step, the caller's
+-- side agrees with the table, and the numbers are within their bounds.
 pub record MayTakeStep (stripes : ℕ) (counts : Counts) (step : Step) (old : Reach) : Type 0 where
   pub goes : GoesWith old.session old.table
   pub free : (half : Bool) × (refusal_in half old.session.seat.seat step ≡ None)
@@ -329,8 +338,8 @@ pub record MayTakeStep (stripes : ℕ) (counts : Counts) (step : Step) (old : Re
   pub begins : counts.began < 2 ^ 63
   pub commits : counts.committed < 2 ^ 63
 
--- The effect of each step. It depends on the answer and, if the step is an ask, on the claim. Of
--- the seat only the room may change: the entry of step and answer is added to the seat afterwards.
+-- The effect of a caller's step. It depends on the answer and, if the step is an ask, on the claim.
+-- In the seat only the room may change: the step's entry is added to the seat afterwards.
 abbrev pub HasEffect : Claim → ℕ → Counts → Step → Reach → Answer → Reach → Type 0
 HasEffect claim stripes counts (Begin c) old (Answer.Began n) new =
     (n ≡ counts.began + 1) × (new ≡ old)

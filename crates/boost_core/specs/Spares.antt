@@ -6,25 +6,25 @@ abbrev pub times_of : Option SpareAt → ℕ → ℕ → ℕ
 times_of None place stamp = 0
 times_of (Some spare) place stamp = if spare.place == place && spare.stamp == stamp then 1 else 0
 
--- How often the jobs of a list own the spare of this place and stamp.
+-- How many jobs of the list own the spare with this place and stamp.
 abbrev pub times_in : List MapJob → ℕ → ℕ → ℕ
 times_in jobs place stamp = sum_by (λ job. times_of (spare_of_job job) place stamp) jobs
 
--- How often the spare of this place and stamp is out: once or not at all.
+-- 1 if the spare with this place and stamp is out, else 0.
 abbrev pub times_out : TableAt → ℕ → ℕ → ℕ
 times_out t place stamp = if option_eq nat_eq (spare_out t place) (Some stamp) then 1 else 0
 
--- Each spare is kept exactly as often as it is out: so each that is kept belongs to the table, none
--- is kept twice, and none is lost.
+-- Each spare is kept exactly as often as it is out. So each kept spare belongs to the table, no
+-- spare is kept twice, and none is lost.
 abbrev pub IsCovered : (ℕ → ℕ → ℕ) → TableAt → Type 0
 IsCovered kept t = (place stamp : ℕ) → kept place stamp ≡ times_out t place stamp
 
--- The same, of what one caller keeps beside the others.
+-- `IsCovered` for what one caller keeps together with what the others keep.
 abbrev pub IsCoveredWith : (ℕ → ℕ → ℕ) → (ℕ → ℕ → ℕ) → TableAt → Type 0
 IsCoveredWith others kept t = IsCovered (λ place stamp. others place stamp + kept place stamp) t
 
--- If each spare is kept as often as it is out before a change, so it is afterwards, whichever the
--- others keep.
+-- If each spare is kept as often as it is out before a change, the same holds after the change.
+-- This is so whatever spares the others keep.
 abbrev pub StaysCovered : TableAt → (ℕ → ℕ → ℕ) → TableAt → (ℕ → ℕ → ℕ) → Type 0
 StaysCovered t kept t' kept' =
     (others : ℕ → ℕ → ℕ) → IsCoveredWith others kept t → IsCoveredWith others kept' t'

@@ -18,16 +18,17 @@ plain_node at = record { at = at; marked = false }
 abbrev pub marked_node : SortKey → Node
 marked_node at = record { at = at; marked = true }
 
--- The positions of the two nodes beside a cursor; the second is none at the end of the list.
+-- The positions of the two nodes beside a cursor. At the end of the list there is no second node.
 pub record Gap : Type 0 where
   pub before : SortKey
   pub behind : Option SortKey
 
--- The limits; whether stripes are words; the history; the size; for each bucket whether it is
--- stored and whether its dummy is linked; the linked nodes in order; the list's change number; the
--- last stamp given; for each caller the change number that its cursor noted; for each caller, and
--- then for each helper, the gap of its cursor, if the cursor fits; each helper's state; and the
--- owner of the cursor that the last move placed. A refusal does not count as a move.
+-- A state of the machine. `words` says whether stripes are words. `stored` and `linked` say for
+-- each bucket whether it is stored and whether its dummy is linked. `nodes` are the linked nodes in
+-- order, `changes` is the list's change number, and `stamp` is the last stamp given. `cursors` has
+-- the change number that each caller's cursor noted. `gaps` and `helper_gaps` have the gap of each
+-- caller's and each helper's cursor that fits. `placed` is the owner of the cursor that the last
+-- move placed. A refusal does not count as a move.
 pub record State : Type 0 where
   pub limits : Sizes
   pub words : Bool
@@ -44,8 +45,8 @@ pub record State : Type 0 where
   pub helpers : List Help
   pub placed : Option Owner
 
--- At the start the history is empty, and the table has two buckets, the first of them stored. Only
--- its dummy is linked.
+-- The state at the start. The history is empty. The table has two buckets: the first is stored, and
+-- only its dummy is linked.
 abbrev pub start : Sizes → State
 start limits = record {
   limits = limits;
@@ -67,25 +68,25 @@ start limits = record {
 abbrev pub start_with_words : Sizes → State
 start_with_words limits = record (start limits) { words = true }
 
--- The caller that a Busy entry may name: the one that holds the stripe now, or, if stripes are
--- words, one that has begun a transaction before.
+-- Which caller a Busy entry may name. It is the caller that holds the stripe now or, if stripes are
+-- words, a caller that has begun a transaction before.
 abbrev pub holder_by : Bool → Holder
 holder_by false = Now
 holder_by true = Begun
 
--- The seat that a caller's entries in a history give it: its phase, its standing changes and its
--- savepoints.
+-- The seat of a caller, computed from the caller's entries in the history: its phase, its standing
+-- changes and its savepoints.
 abbrev pub seat_in : List Entry → ℕ → Seat
 seat_in history c = unwrap_or (seat_after (own c history)) closed_seat
 
--- The change number that a caller's cursor noted, if it has a cursor.
+-- The change number that a caller's cursor noted, if the caller has a cursor.
 abbrev pub caller_changes : List (Option ℕ) → ℕ → Option ℕ
 caller_changes cursors c = unwrap_or (slice_get cursors c) None
 
 abbrev pub gap_in : List (Option Gap) → ℕ → Option Gap
 gap_in gaps n = unwrap_or (slice_get gaps n) None
 
--- The nodes beside an owner's cursor, if it fits.
+-- The gap of an owner's cursor, if the owner has a cursor that fits.
 abbrev pub gap_for : State → Owner → Option Gap
 gap_for state (Caller c) = gap_in state.gaps c
 gap_for state (Helper h) = gap_in state.helper_gaps h

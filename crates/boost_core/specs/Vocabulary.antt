@@ -1,4 +1,4 @@
--- The names of lower crates that several specs cite, in one place. Declares nothing.
+-- The names of lower crates that several specs cite, in one place. This file declares nothing.
 pub use Rattle.key_locks.specs.Locks.{Grants, Refuses, Releases}
 pub use Rattle.map_ops.specs.Buckets.{Doubles, LacksSegment, LinkChanges, SeekChanges, StoreChanges, double_answer, helper_fits, link_answer_of, parent_of, seek_answer, store_answer}
 pub use Rattle.map_ops.specs.Changes.{Does, GivesBack, IsRefused, OwnsIf, Places, Prepares, SeeksNear, Sweeps, TakesBack}

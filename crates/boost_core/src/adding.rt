@@ -1,14 +1,15 @@
-//! The end of a caller's step: its entry, if it has one, is added to the caller's seat and to the
-//! history, in room that was reserved before. No other code adds an entry, so seats, history and
-//! the number of entries owed always agree. Takes amortized constant time and no memory.
+//! The end of a caller's step. If the step has an entry, this entry is added to the caller's seat
+//! and to the history, in room that was reserved before. No other code adds an entry, so the seats,
+//! the history and the number of entries owed always agree. Takes amortized constant time and no
+//! memory.
 ghost use Rattle.std.specs.Prelude.{◌≡◌, ◌-◌, ◌+◌, ◌++◌, option_to_list, vec_len, vec_capacity, length};
 ghost use Rattle.txn_words.specs.Owed.{owed_in};
 ghost use Rattle.boost_core.specs.Adding.{CanAdd, Enters};
 
 use txn_trace::{Entry, Seat, SmallEntry};
 
-/// Adds the entry of a step, if it has one, to its caller's seat and to the history, in reserved
-/// room. Answers the number of entries that all callers then owe.
+/// If the step has an entry, adds it to the caller's seat and to the history, in reserved room.
+/// Returns the number of entries that all callers owe after that.
 #[inline(always)]
 pub(crate) fn add(
     seat: &mut Seat,

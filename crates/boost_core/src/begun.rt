@@ -8,14 +8,14 @@ ghost use Rattle.boost_core.specs.Begun.{begun_with};
 use std::alloc::{AllocError, Global};
 use txn_trace::Entry;
 
-/// The flags of this many callers, none of which has begun.
+/// A flag for each of this many callers. No flag is set, since no caller has begun a transaction.
 pub(crate) fn none_begun(alloc: Global, callers: usize) -> Result<Vec<bool>, AllocError>
     ensures { IfOk result (λ begun. begun.items ≡ replicate callers false) }
 {
     vec![in alloc; false; callers]
 }
 
-/// Notes the caller of an entry that begins a transaction.
+/// If the entry begins a transaction, sets the flag of the entry's caller.
 #[inline(always)]
 pub(crate) fn note_begun(begun: &mut Vec<bool>, entry: Option<Entry>)
     ensures { begun.new.items ≡ begun_with begun.old.items entry }

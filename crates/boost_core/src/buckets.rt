@@ -1,4 +1,4 @@
-//! The steps that are no caller's: sweeps, the three steps of a bucket's initialisation, and
+//! The steps that belong to no caller: sweeps, the three steps of a bucket's initialisation, and
 //! doubling. Each is one call of the table, whose outcome is converted to an answer. They add no
 //! entry.
 ghost use Rattle.std.specs.Prelude.{◌≡◌, ◌≤◌, true};
@@ -8,7 +8,7 @@ ghost use Rattle.boost_core.specs.Serves.{is_served, Serves, doubled, linked, an
 use map_ops::{Double, InitLink, InitSeek, SweepOutcome, Table};
 use txn_trace::{Answer, Refusal, Step};
 
-/// Takes a step that is no caller's.
+/// Takes a step that belongs to no caller.
 pub(crate) fn serve(step: Step, table: &mut Table) -> Answer
     requires { is_served step ≡ true }
     ensures serves { Serves step table.old result table.new }
@@ -32,7 +32,6 @@ pub(crate) fn serve(step: Step, table: &mut Table) -> Answer
     }
 }
 
-/// The answer to a sweep.
 fn swept_answer(outcome: SweepOutcome) -> Answer
     ensures { result ≡ swept outcome }
 {
@@ -42,7 +41,6 @@ fn swept_answer(outcome: SweepOutcome) -> Answer
     }
 }
 
-/// The answer to a seek for a bucket.
 fn sought_answer(outcome: Result<InitSeek, Refusal>) -> Answer
     ensures { result ≡ answer_to_seek outcome }
 {
@@ -53,7 +51,6 @@ fn sought_answer(outcome: Result<InitSeek, Refusal>) -> Answer
     }
 }
 
-/// The answer to linking a dummy.
 fn linked_answer(outcome: Result<InitLink, Refusal>) -> Answer
     ensures { result ≡ linked outcome }
 {
@@ -65,7 +62,6 @@ fn linked_answer(outcome: Result<InitLink, Refusal>) -> Answer
     }
 }
 
-/// The answer to storing a dummy.
 fn stored_answer(outcome: Result<(), Refusal>) -> Answer
     ensures { result ≡ stored outcome }
 {
@@ -75,7 +71,6 @@ fn stored_answer(outcome: Result<(), Refusal>) -> Answer
     }
 }
 
-/// The answer to a doubling.
 fn doubled_answer(outcome: Double) -> Answer
     ensures { result ≡ doubled outcome }
 {

@@ -1,7 +1,8 @@
-//! The claims of an operation to its stripe: the core's lock, a right in hand, or a word that names
-//! a holder. One enum has all kinds, so that an ask is the same step whether the core keeps the
-//! stripes or others do. A claim is never stored. A claim by a word takes no spare and reserves no
-//! room: the room for its Busy entry was reserved when the transaction began.
+//! How an operation can claim the stripe of its key: with the core's lock, with a right that the
+//! caller has, or with a word that names a holder. One enum has all kinds, so an ask is the same
+//! step whether the core or others keep the stripes. A claim is never stored. A claim with a word
+//! takes no spare and reserves no room: the room for its Busy entry was reserved when the
+//! transaction began.
 ghost use Rattle.std.specs.Prelude.{◌≡◌};
 
 use txn_trace::Step;
@@ -23,8 +24,8 @@ pub enum Claim {
 impl Claim {
     ghost use Rattle.boost_core.specs.Words.{reserved_by};
 
-    /// The number of entries for which the history makes room before a step is taken by this claim.
-    /// A claim by a word needs none, since there is room for its Busy entry already.
+    /// The number of entries for which the history makes room before a step with this claim is
+    /// taken. A claim with a word needs no room, since there is room for its Busy entry already.
     #[inline(always)]
     pub(crate) fn entry_room(self, step: Step) -> u64
         ensures { result ≡ reserved_by self step }

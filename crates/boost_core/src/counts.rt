@@ -1,12 +1,12 @@
-//! The numbers of transactions that have begun and that have committed. The number of the next
-//! Began or Committed is one more. By the core's invariant both are functions of the history; they
-//! are kept, so that a begin or a commit need not count entries. Only the answer to a step changes
-//! them.
+//! The number of transactions that have begun, and the number of those that have committed. The
+//! next Began entry has the first number plus one, and the next Committed entry the second plus
+//! one. By the core's invariant both counts are functions of the history. They are kept so that a
+//! begin or a commit need not count entries. Only the answer to a step changes them.
 ghost use Rattle.std.specs.Prelude.{◌≡◌};
 
 use txn_trace::Answer;
 
-/// The numbers of transactions that have begun and that have committed.
+/// The number of transactions that have begun, and the number of those that have committed.
 #[derive(Clone, Copy, Debug, PartialEq, Eq)]
 pub struct Counts {
     pub(crate) began: u64,
@@ -16,7 +16,8 @@ pub struct Counts {
 impl Counts {
     ghost use Rattle.boost_core.specs.Counts.{counts_after};
 
-    /// The counts after an answer: `Began` and `Committed` have the new number.
+    /// The counts after a step with this answer. The answers `Began` and `Committed` contain the
+    /// new count.
     #[inline(always)]
     pub(crate) fn after(self, answer: Answer) -> Counts
         ensures { result ≡ counts_after self answer }

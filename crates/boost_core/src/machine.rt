@@ -1,6 +1,6 @@
-//! The core: its fields, its invariant, and the course that each step of a caller takes (`call`).
-//! The refusals are tested, room is reserved, the session takes the step, and its entry is added. A
-//! step that is no caller's (`serve`) goes straight to the table, and adds no entry. The steps
+//! The core: its fields, its invariant, and how it takes a step. For a caller's step, `call` tests
+//! the refusals, reserves room, lets the session take the step, and adds the step's entry. A step
+//! that belongs to no caller goes straight to the table (`serve`), and adds no entry. The steps
 //! themselves are in `session.rt`, `operations.rt`, `transactions.rt` and `buckets.rt`.
 ghost use Rattle.std.specs.Prelude.{◌≡◌, ℕ, ◌<◌, true, false, is_some, Some, IfOk, IfErr, OnErr, length};
 ghost use Rattle.std.specs.List.{All};
@@ -31,11 +31,11 @@ use txn_trace::{Answer, Limits, Refusal, SmallEntry, Step, entry_of, make_room};
 /// transactions (Herlihy and Koskinen, PPoPP 2008, rules 2 and 3) over a split-ordered hash table
 /// (Shalev and Shavit, Journal of the ACM 53(3), 2006, section 2).
 ///
-/// Contracts see the state of the machine, in the words of `specs/State.antt`. For every value of
-/// the type: the history is legal, the content of the table is the map that the history gives now,
-/// the list is that map in order, each stripe has the holder that the history names, each caller's
-/// log takes back exactly its standing changes, and the history has room for all entries that the
-/// callers owe.
+/// Contracts see a core as a state of the machine, which `specs/State.antt` defines. Every core has
+/// these properties: the history is legal, the content of the table is the map that the history
+/// gives now, the list is that map in order, each stripe has the holder that the history names,
+/// each caller's log takes back exactly the caller's standing changes, and the history has room for
+/// all entries that the callers owe.
 #[derive(Drop)]
 pub struct Core {
     pub(crate) limits: Limits,
@@ -46,9 +46,10 @@ pub struct Core {
     // The number of entries that the callers may still add without a new reservation.
     pub(crate) owed: usize,
     pub(crate) locks: KeyLocks,
-    // The owner of the cursor that the last step placed; a refused step does not count.
+    // The owner of the cursor that the last step placed, if it placed one. A refused step does not
+    // count.
     pub(crate) placed: Option<Owner>,
-    // Whether stripes are words.
+    // Whether the stripes are atomic words that others keep.
     pub(crate) words: bool,
     // Whether each caller has begun a transaction.
     pub(crate) begun: Vec<bool>,
@@ -99,7 +100,8 @@ impl Core {
         Core::make(alloc, limits, false, Room::default())
     }
 
-    /// A new core with this room. `words` says whether its stripes are words.
+    /// A new core with this room. `words` says whether its stripes are atomic words that others
+    /// keep.
     pub(crate) fn make(
         alloc: Global,
         limits: Limits,
@@ -180,9 +182,9 @@ impl Core {
         }
     }
 
-    /// Takes a caller's step; an `Ask` comes with the claim to its stripe. Tests the refusals,
-    /// reserves room, lets the session take the step, adds the entry, and notes whose cursor was
-    /// placed.
+    /// Takes a caller's step. If the step is an `Ask`, `claim` is the claim to its stripe. Tests
+    /// the refusals, reserves room, lets the session take the step, adds the entry, and notes whose
+    /// cursor was placed.
     #[inline(always)]
     pub(crate) fn call(&mut self, caller: u64, step: Step, claim: Claim) -> Answer
         requires owner { owner_of step ≡ Some (Owner.Caller caller) }
@@ -225,7 +227,7 @@ impl Core {
         answer
     }
 
-    /// Takes a step that is no caller's, and notes whose cursor was placed.
+    /// Takes a step that belongs to no caller, and notes whose cursor was placed.
     fn serve(&mut self, step: Step) -> Answer
         requires { is_served step ≡ true }
         ensures event { Happens self.old step result self.new }
@@ -247,7 +249,7 @@ impl Core {
     ///
     /// # Cost
     ///
-    /// That of each step, and memory for the answers.
+    /// The cost of each step, and memory for the answers.
     pub fn run(&mut self, alloc: Global, steps: &[Step]) -> Result<Vec<Answer>, AllocError>
         requires { self.old.words ≡ true → All (λ step. is_ask step ≡ false) steps.now }
         ensures ok { IfOk result (λ answers. Moves self.old steps.now answers.items self.new) }
@@ -311,16 +313,16 @@ impl Core {
     ///
     /// # Cost
     ///
-    /// Time in proportion to the nodes, and to n log n for the map of n keys; while it runs, memory
-    /// for two copies of the pairs.
+    /// Time in proportion to the number of nodes, plus n log n for a map of n keys. While it runs,
+    /// memory for two copies of the pairs.
     pub fn map(&self, alloc: Global) -> Result<BTreeMap<u64, u64>, AllocError>
         ensures { IfOk result (IsContent self.now) }
     {
         self.table.content(alloc)
     }
 
-    /// The key and the value of each pair of the map now, in the order of the list, which is that
-    /// of reversed bits.
+    /// The key and the value of each pair of the map now, in the order of the list. The list is
+    /// ordered by the keys with their bits reversed.
     ///
     /// # Errors
     ///
@@ -356,15 +358,16 @@ impl Core {
         self.table.count()
     }
 
-    /// The number of entries for which the history keeps room: enough to end each open transaction
-    /// and take back all its changes without taking memory.
+    /// The number of entries for which the history keeps room. With this room, each open
+    /// transaction can take back all its changes and end, without taking memory.
     pub fn owed(&self) -> usize
         ensures { result ≡ owed self.now.limits.callers self.now.history }
     {
         self.owed
     }
 
-    /// The first test that refuses the step, if one does. Memory and stamps are not tested here.
+    /// The refusal of the first test that refuses the step, if there is one. Memory and stamps are
+    /// not tested here.
     #[inline(always)]
     pub(crate) fn refusal(&self, caller: u64, step: Step) -> Option<Refusal>
         requires { owner_of step ≡ Some (Owner.Caller caller) }

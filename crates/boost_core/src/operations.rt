@@ -18,7 +18,8 @@ impl Session {
     ghost use Rattle.boost_core.specs.Sessions.{AsksBy, GoesWith, IsAsked, SeeksIn, ActsIn, Replies, Undoes, Arrives, CanAct, CanUndo, CanArrive, reach, side_of};
     ghost use Rattle.map_ops.specs.Changes.{Prepares, IsRefused};
 
-    /// Asks for an operation by a claim. A claim by a word reserves and locks nothing.
+    /// Asks for an operation with a claim to its stripe. If the claim is a word, nothing is
+    /// reserved or locked.
     #[inline(always)]
     pub(crate) fn ask_by(
         &mut self,
@@ -84,7 +85,7 @@ impl Session {
         table.prepare(op)
     }
 
-    /// The caller holds the stripe: keeps the prepared operation until the caller acts.
+    /// Keeps the prepared operation until the caller acts. The caller holds the stripe now.
     fn grant(&mut self, pending: Pending) -> Answer
         ensures answer { result ≡ Answer.Asked }
         ensures becomes { self.new ≡ record self.old { pending = Some pending } }
@@ -110,7 +111,7 @@ impl Session {
         Answer::Placed
     }
 
-    /// Acts: does the operation that waits, or takes the newest change back, or ends the undoing.
+    /// Does the waiting operation, or takes back the newest change, or ends the undoing.
     pub(crate) fn act(&mut self, caller: usize, table: &mut Table, locks: &mut KeyLocks) -> Answer
         requires caller { caller < 64 }
         requires goes { GoesWith self.old table.old }
@@ -131,7 +132,7 @@ impl Session {
         }
     }
 
-    /// Acts for the operation that waits, at its cursor.
+    /// Does the waiting operation at its cursor.
     fn reply(&mut self, table: &mut Table) -> Answer
         requires { CanAct self.old table.old }
         ensures acts { Replies self.old table.old result self.new table.new }
@@ -177,7 +178,7 @@ impl Session {
         }
     }
 
-    /// Ends the undoing: no change above the level is left.
+    /// Ends the undoing. No change above the level remains.
     fn arrive(&mut self, caller: usize, locks: &mut KeyLocks) -> Answer
         requires caller { caller < 64 }
         requires arrives { CanArrive self.old }
@@ -195,7 +196,7 @@ impl Session {
     }
 }
 
-/// The answer to an ask with the stripe's right, from the answer of `ask`. `Busy` becomes
+/// The answer to an ask with the stripe's right, given the answer of `ask`. `Busy` becomes
 /// `StaleWord`: another caller holds the stripe, so the word that gave the right was stale.
 fn unless_busy(answer: Answer) -> Answer
     ensures { result ≡ unless_busy answer }
@@ -206,7 +207,7 @@ fn unless_busy(answer: Answer) -> Answer
     }
 }
 
-/// Another caller holds the stripe: gives up the prepared operation.
+/// Gives up the prepared operation, since another caller holds its stripe.
 fn busy(pending: Pending, holder: u64, table: &mut Table) -> Answer
     requires { OwnsIf table.old pending.spare }
     ensures answer { result ≡ Answer.Busy holder }
@@ -217,7 +218,7 @@ fn busy(pending: Pending, holder: u64, table: &mut Table) -> Answer
     Answer::Busy(holder)
 }
 
-/// Adds the job of an operation, if it has one, to the log as the newest, in reserved room.
+/// If an operation has a job, adds this job to the log as the newest, in reserved room.
 fn note(log: &mut UndoLog<MapJob>, job: Option<MapJob>)
     requires { 0 < log.old.room }
     ensures jobs { log.new.jobs ≡ log.old.jobs ++ option_to_list job }

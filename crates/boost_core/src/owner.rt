@@ -11,9 +11,9 @@ use txn_trace::{Answer, Step};
 /// The owner of a cursor. The state of the machine says whose cursor was placed last.
 #[derive(Clone, Copy, Debug, PartialEq, Eq)]
 pub enum Owner {
-    /// The caller of this number.
+    /// The caller with this number.
     Caller(u64),
-    /// The helper of this number.
+    /// The helper with this number.
     Helper(u64),
 }
 

@@ -56,7 +56,7 @@ impl Core {
         self.operate(caller, Op::PutIf(key, expected, value))
     }
 
-    /// Takes a key out, by the same steps as `put` and with the same refusals.
+    /// Removes a key, by the same steps as `put` and with the same refusals.
     ///
     /// # Cost
     ///
@@ -70,7 +70,7 @@ impl Core {
     }
 
     /// Looks up the value at a key, by the same steps as `put` and with the same refusals, except
-    /// the last two.
+    /// `StampsUsedUp` and `NoMemory` for the node.
     ///
     /// # Cost
     ///
@@ -129,26 +129,28 @@ impl Core {
         }
     }
 
-    /// Helps the table to grow, by the steps of a drive's call `Help`, taken in a row: doubles it
-    /// if it has more than two keys for each bucket and is not at its largest size, and then
-    /// initialises the bucket that the key has at the size now, its ancestors first. It needs no
-    /// transaction, and the map and the history are unchanged. No other plain call doubles a table:
-    /// without `help` beside `put`, each seek walks one long list.
+    /// Helps the table to grow. Takes the steps of a drive's call `Help` in a row. First it doubles
+    /// the table, if the table has more than two keys for each bucket and is not at its largest
+    /// size. Then it initialises the bucket that the key has at the table's size, after the
+    /// bucket's ancestors. `help` needs no transaction, and leaves the map and the history
+    /// unchanged. No other plain call doubles a table: with the other plain calls alone, each seek
+    /// walks one long list.
     ///
     /// # Errors
     ///
-    /// A doubling before the refusal stays, and buckets that were initialised stay initialised.
-    /// - `NoSuchHelper` if there is no caller of this number: nothing is done.
+    /// If the table was doubled before the refusal, it stays doubled. Buckets that were initialised
+    /// stay initialised.
+    /// - `NoSuchHelper` if there is no caller with this number: nothing is done.
     /// - `BadKey` if the limits have half keys and the key is 2^63 or more: nothing is done.
     /// - `StampsUsedUp` if no stamp is left, and `NoMemory` if memory is refused or the list has no
     ///   place left.
     ///
     /// # Cost
     ///
-    /// One step to double, then one step for each bucket on the way that is initialised already,
-    /// and three steps for each that is not. There are at most 16 buckets on the way. The seek for
-    /// a bucket takes time in proportion to the nodes that it passes. May take memory for each
-    /// bucket's dummy and segment.
+    /// One step to double, then one step for each bucket on the path that is initialised already,
+    /// and three steps for each that is not. There are at most 16 buckets on the path to the key's
+    /// bucket. The seek for a bucket takes time in proportion to the nodes that it passes. May take
+    /// memory for each bucket's dummy and segment.
     pub fn help(&mut self, caller: u64, key: u64) -> Result<(), Refusal>
         ensures helps { Helps self.old caller key result self.new }
         ensures words { self.new.words ≡ self.old.words }
@@ -164,7 +166,7 @@ impl Core {
         outcome_of(drive.ended())
     }
 
-    /// The step that a drive takes next, if it has one, at the size that the table has now.
+    /// The drive's next step at the table's present size, if there is one.
     fn next_step(&self, drive: &mut Drive) -> Option<Step>
         ensures whole { IsWhole self.now }
         ensures drive { drive.new ≡ sized_of self.now.size drive.old }
@@ -228,7 +230,7 @@ impl Core {
     }
 }
 
-/// The result of a call for help, from the end of its drive.
+/// The result of a call for help, given the end of its drive.
 fn outcome_of(end: Option<End>) -> Result<(), Refusal>
     ensures { result ≡ outcome_of end }
 {

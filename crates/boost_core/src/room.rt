@@ -1,14 +1,14 @@
-//! The room with which a core is made, for users who know how much is to come. A core that grows
-//! while its lock is held keeps the other callers waiting, since each growth copies what is there.
-//! The room is no limit: once more entries, nodes, changes or savepoints are needed, the core
-//! grows.
+//! The room with which a core is made, for users who know how much the core will hold. A core that
+//! grows while its lock is held keeps the other callers waiting, since each growth copies what is
+//! there. The room is no limit: once more entries, nodes, changes or savepoints are needed, the
+//! core grows.
 
-/// What the transactions of one caller need. The default is nothing.
+/// How much room the transactions of one caller need. By default they need none.
 #[derive(Clone, Copy, Debug, Default)]
 pub struct CallerRoom {
-    /// The largest number of changes that one of its transactions makes.
+    /// The largest number of changes that one of the caller's transactions makes.
     pub changes: usize,
-    /// The largest number of savepoints that one of its transactions has at a time.
+    /// The largest number of savepoints that one of the caller's transactions has at a time.
     pub savepoints: usize,
 }
 
@@ -18,11 +18,11 @@ pub struct CallerRoom {
 pub struct Room<'a> {
     /// The entries of the history.
     pub entries: usize,
-    /// The nodes of the table: one for each key, for each key that is taken and not yet swept, for
-    /// each stored bucket, and for each spare that is out.
+    /// The nodes of the table: one for each key, one for each removed key that is not yet swept,
+    /// one for each stored bucket, and one for each spare that is out.
     pub nodes: usize,
-    /// For each caller, what its transactions need. Callers beyond the end of the slice get no
-    /// room.
+    /// For each caller, the room that its transactions need. Callers beyond the end of the slice
+    /// get no room.
     pub callers: &'a [CallerRoom],
     /// Whether the whole room is written once, so that none of its pages is touched for the first
     /// time under the lock. With one caller nobody waits for the lock, and writing the room only

@@ -28,7 +28,7 @@ impl Session {
     ghost use Rattle.boost_core.specs.Refusals.{lacks_in};
     ghost use Rattle.map_ops.specs.TableAt.{table_changes};
 
-    /// The caller of this number, without a transaction. Its seat and its log have the caller's
+    /// The caller with this number, without a transaction. Its seat and its log have the caller's
     /// part of the room.
     pub(crate) fn new(alloc: Global, caller: usize, room: Room<'_>) -> Result<Session, AllocError>
         ensures { IfOk result IsIdle }
@@ -42,7 +42,7 @@ impl Session {
         })
     }
 
-    /// Whether a step of this caller lacks the cursor that it acts on.
+    /// Whether this step needs a cursor that the caller does not have.
     #[inline(always)]
     pub(crate) fn lacks_cursor(&self, step: Step) -> bool
         ensures { result ≡ lacks_in self.now.seat.seat (is_some self.now.cursor) step }
@@ -53,7 +53,7 @@ impl Session {
         }
     }
 
-    /// Whether the caller takes all its changes back.
+    /// Whether the caller is taking back all its changes.
     pub(crate) fn leaves_to_end(&self) -> bool
         ensures { result ≡ is_at_end self.now.seat.seat.phase }
     {
@@ -70,8 +70,8 @@ impl Session {
         }
     }
 
-    /// Takes a step of this caller that no test refuses. The seat is unchanged except for room: the
-    /// step's entry is added to it afterwards.
+    /// Takes a step of this caller that no test refuses. The seat is unchanged except for its room,
+    /// because the step's entry is added to the seat afterwards.
     #[inline(always)]
     pub(crate) fn answer(
         &mut self,

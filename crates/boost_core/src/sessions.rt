@@ -1,6 +1,6 @@
-//! The sides of all callers, idle. They are made with the core, so no step makes a side later. They
-//! are in one vector, in the order of the callers' numbers; a `Session` does not know the others.
-//! The vector takes one allocation. An idle side takes more memory only for its part of the room.
+//! The idle sides of all callers. They are made with the core, so no step makes a side later. They
+//! are in one vector, in the order of the callers' numbers. No `Session` knows another. The vector
+//! takes one allocation. An idle side takes more memory only for its part of the room.
 ghost use Rattle.std.specs.Prelude.{◌≡◌, IfOk, length};
 ghost use Rattle.std.specs.List.{All};
 ghost use Rattle.boost_core.specs.Sessions.{IsIdle};
@@ -9,7 +9,7 @@ use crate::room::Room;
 use crate::session::Session;
 use std::alloc::{AllocError, Global};
 
-/// This number of callers without a transaction, each with its room.
+/// Makes `count` callers without a transaction, each with its part of the room.
 pub(crate) fn idle_sessions(
     alloc: Global,
     count: usize,

@@ -58,7 +58,7 @@ impl Core {
         Core::make(alloc, limits, true, room)
     }
 
-    /// Whether stripes are words: no step changes it.
+    /// Whether the stripes are atomic words that others keep. No step changes this.
     pub fn words(&self) -> bool
         ensures { result ≡ self.now.words }
     {
@@ -68,11 +68,11 @@ impl Core {
     /// Asks for an operation with the right to the stripe of its key, like the step `Ask` of a core
     /// whose stripes are not words.
     ///
-    /// The answer is `Asked`, or the first refusal whose test holds: `NoSuchCaller`, `NotOpen`,
-    /// `Leaving`, `OperationUnfinished`, `BadKey`, `NoMemory` for the history and the log,
-    /// `StampsUsedUp`, `NoMemory` for the node, and `StaleWord` if by the core's record another
-    /// caller holds the stripe. A refusal leaves the state unchanged, except that `StaleWord` may
-    /// use up a stamp.
+    /// The answer is `Asked` or a refusal. The refusals are tested in this order: `NoSuchCaller`,
+    /// `NotOpen`, `Leaving`, `OperationUnfinished`, `BadKey`, `NoMemory` for the history and the
+    /// log, `StampsUsedUp`, `NoMemory` for the node, and `StaleWord` if by the core's record
+    /// another caller holds the stripe. A refusal leaves the state unchanged, except that
+    /// `StaleWord` may use up a stamp.
     ///
     /// # Cost
     ///
@@ -91,8 +91,8 @@ impl Core {
         self.call(caller, Step::Ask(caller, op), Claim::Right)
     }
 
-    /// Asks for an operation whose stripe has a word that names a caller. The word is one more than
-    /// that caller's number.
+    /// Asks for an operation with the word of its stripe, which names a caller. The word is the
+    /// number of that caller plus one.
     ///
     /// The answer is `Busy` with the number of the caller that the word names, or a refusal. After
     /// `Busy` the asking caller leaves to the end. The refusals are tested in this order:
