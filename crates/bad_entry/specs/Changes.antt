@@ -13,7 +13,8 @@ use Rattle.bad_entry.specs.declared.change.Fate.TheVariants.{Open, Committed, Un
 use Rattle.bad_entry.specs.Desks.{txn_in, waiting_in}
 use Rattle.bad_entry.specs.Places.{last_answer}
 
--- True if an operation waits, it is on the key, and it is a change if it gets this reply.
+-- Whether a reply to the waiting operation makes this operation a change of the key. False if no
+-- operation waits.
 abbrev pub changes_key : ℕ → Option Op → Option ℕ → Bool
 changes_key k None r = false
 changes_key k (Some op) r = (key_of op == k) && changes op r
@@ -31,7 +32,8 @@ change_at k i g _ = None
 abbrev pub last_change : ℕ → List Entry → Option Change
 last_change k h = last_answer (λ g e. change_at k (length g) g e) h
 
--- True if an operation waits, and it is a change if it gets this reply.
+-- Whether a reply to the waiting operation makes this operation a change. False if no operation
+-- waits.
 abbrev pub is_change : Option Op → Option ℕ → Bool
 is_change None r = false
 is_change (Some op) r = changes op r

@@ -93,7 +93,7 @@ fn waiting_in(alloc: Global, entries: &[SmallEntry], caller: u64) -> Result<Opti
     Ok(desks.at(caller).waiting)
 }
 
-/// Judging by locks, returns the reason why a reply to this caller is wrong.
+/// Returns the reason why a reply to this caller is wrong by the rules of locks.
 fn reply_reason(
     alloc: Global,
     entries: &[SmallEntry],
@@ -156,8 +156,8 @@ fn shape_reason(callers: &Callers, began: u64, caller: u64) -> Reason
     }
 }
 
-/// Judging by locks, returns the reason why the entry `bad` breaks this rule after the legal
-/// history `entries`.
+/// Returns the reason why the entry `bad` breaks the rule `rule` after the legal history `entries`.
+/// The history is judged by locks.
 ///
 /// # Errors
 ///

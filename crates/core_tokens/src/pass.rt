@@ -48,8 +48,8 @@ impl<L: Ledger> Pass<L> {
     ghost use Rattle.core_tokens.specs.Claims.{IsIdle};
     ghost use Rattle.core_tokens.specs.Tokens.{IsUnused};
 
-    /// The pass for this number, with the number's seat and a share of one part that has counted
-    /// nothing.
+    /// The pass of the caller with this number. It has the caller's seat, and a share of the ledger
+    /// with one part, which has counted nothing yet.
     pub(crate) fn new(number: u64, limits: Limits, share: Share<L>, claims: Claims) -> Pass<L>
         requires parts { share.parts ≡ 1 }
         requires amount { share.amount ≡ 0 }

@@ -12,7 +12,7 @@ use Rattle.history_check.specs.declared.live_map.LiveMap.{LiveMap}
 use Rattle.history_check.specs.Callers.{HaveEntered}
 use Rattle.history_check.specs.Remainders.{Have}
 
--- The live map shows the history: it has the values that the map has after the history, and each
+-- The live map agrees with a history: it has the values of the map after the history, and each
 -- stripe has the holder that it has after the history.
 pub record Shows (holder : Holder) (stripes : ℕ) (h : List Entry) (live : LiveMap) : Type 0 where
   pub holder_is : live.holder ≡ holder

@@ -43,8 +43,8 @@ says_legal (Illegal entry rule) = false
 abbrev pub SaysLegal : Verdict → Type 0
 SaysLegal outcome = IsTrue (says_legal outcome)
 
--- The outcome means the same as the definitions' verdict on the history. It says that the history
--- is legal exactly if the history is legal by the definitions.
+-- The outcome agrees with the verdict of the definitions on the history: the outcome is legal if
+-- and only if the history is legal by the definitions.
 pub record IsVerdictOn (holder : Holder) (stripes : ℕ) (h : List Entry) (outcome : Verdict) :
     Type 0 where
   pub meaning : meaning_of outcome ≡ legal.verdict holder stripes h

@@ -99,8 +99,8 @@ stripes_in_word word =
     if is_numeral digits && (nat_le 1 stripes && nat_le stripes max_stripes)
     then Some stripes else None
 
--- The rules to judge by, given the flag and the word for the number of locks. Each of these two may
--- be missing. If both are given, the words are no call.
+-- The rules to judge by. The arguments are the flag, and the word for the number of locks if there
+-- is one. If both the flag and the word are given, the command line is a usage error.
 abbrev pub basis_for : Bool → Option Text → Option Basis
 basis_for true None = Some Commits
 basis_for true (Some word) = None

@@ -216,8 +216,8 @@ fn call_named<'a>(name: &str, found: &ArgMatches<'a>) -> Option<Call<'a>>
     }
 }
 
-/// Returns the call that words ask for, if `clap` returns an error of this kind for them. `clap`
-/// also returns an error if the words ask for help or for the version.
+/// Turns an error of `clap` into the call that the command line asks for, if it asks for one: words
+/// that ask for help or for the version are errors for `clap`.
 fn call_for<'a>(kind: ErrorKind) -> Result<Call<'a>, Failure>
     ensures call { IfOk result (λ call. IsCallOf kind (Some (asked_of call))) }
     ensures stripes { IfOk result (λ call. HasStripesIf (asked_of call)) }

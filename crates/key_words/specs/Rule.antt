@@ -44,8 +44,8 @@ pub record IsOrderly (s : State (Option ℕ) View) : Type 0 where
   pub named : (stripe : ℕ) → stripe < length s.words → IsNamed s.views (slice_index s.words stripe)
   pub held : (i : ℕ) (v : View) → get_elem? s.views i ≡ some v → (stripe : ℕ)
       → times stripe v.held ≡ once_for v.number (slice_index s.words stripe)
-  -- If a stripe's word is 0, the stripe's home has its slot, with its right in the slot. If the
-  -- word is not 0, the home is empty.
+  -- If a stripe's word is 0, the stripe is at home: its home has the slot, and the slot has the
+  -- stripe's right. If the word is not 0, the home is empty.
   pub home : (stripe : ℕ) → stripe < length s.words → slice_index s.words stripe ≡ 0
       → get_elem? s.homes stripe ≡ some (some (Some stripe))
   pub out : (stripe : ℕ) → stripe < length s.words → slice_index s.words stripe ≢ 0

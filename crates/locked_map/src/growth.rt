@@ -57,8 +57,8 @@ pub(crate) enum Due {
 }
 
 impl Due {
-    /// Does what the thread has to do outside the lock. Afterwards there is at most memory to hand
-    /// over.
+    /// Does what the thread has to do outside the lock. Afterwards the thread has nothing more to
+    /// do, or only has memory to hand over.
     #[inline(never)]
     pub(crate) fn settle(&mut self, alloc: Global) {
         match mem::replace(self, Due::Nothing) {

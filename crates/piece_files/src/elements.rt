@@ -1,6 +1,6 @@
 //! Functions that take the elements of an array from the front of a slice, one after the other.
-//! With them, a kind of pieces need not look at tokens. Each function takes constant time and no
-//! memory. It returns `None` if the elements are not those that the function takes.
+//! With them, the readers of pieces need not look at tokens. Each function takes constant time and
+//! no memory. It returns `None` if the elements are not those that the function takes.
 
 ghost use Rattle.std.specs.Prelude.{◌≡◌, map, option_map};
 ghost use Rattle.piece_files.specs.Plain.{data_of};

@@ -108,7 +108,8 @@ const WRONG_STEP: Option<FileFault> = Some(FileFault::Piece(Part::Step, 0));
 /// The first rows have nested values. A file may have at most 127 levels. The object of the file is
 /// one of these levels, and the array of its steps is another. The other rows have many scripts or
 /// actions. A file may have at most 10,000 scripts, and a script may have at most 10,000 actions.
-/// If a wrong script comes after too many scripts or actions, the fault is the wrong script.
+/// If a file has too many scripts or actions and, behind them, a wrong script, the reported fault
+/// is the wrong script.
 const GROWN: &[Grown] = &[
     (Kind::Steps, "#", 200, ["[", "", "]"], NOT_JSON),
     (Kind::Steps, BEYOND_STEPS, 125, ["[", "0", "]"], None),

@@ -24,8 +24,9 @@ use txn_trace::Scripts;
 ///
 /// # Cost
 ///
-/// The cost of `Core::new` and of the steps. Each time a worker's last script is over, also time in
-/// proportion to the number of workers. Memory for the workers, the core and the steps.
+/// The cost of `Core::new` and of the steps. When a worker's last script is over, the worker is
+/// removed from the list of live workers. This takes time in proportion to their number. Takes
+/// memory for the workers, the core and the steps.
 pub fn mix_scripts(alloc: Global, seed: u64, work: &Scripts) -> Result<Core, AllocError>
     ensures { IfOk result (λ core. IsMixed work.now seed core) }
 {

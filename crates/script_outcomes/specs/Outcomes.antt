@@ -80,8 +80,8 @@ CommitsCounted callers c fed h outcomes =
 
 -- The outcomes of a caller's scripts in a history. `HasCome` holds for each outcome. Commits are in
 -- the order of the scripts, and so are aborts. So each transaction is counted for at most one
--- script. If the caller's transactions that commit play its scripts in order, each of these
--- transactions is counted.
+-- script. If the committed transactions of the caller play its scripts in order, each of them is
+-- counted.
 pub record AreOutcomesOf (callers : ℕ) (scripts : List (List Action)) (h : List Entry)
     (outcomes : List Outcome) (c : ℕ) : Type 0 where
   pub each : (n : ℕ) (script : List Action) (outcome : Outcome)

@@ -56,9 +56,9 @@ pub record IsPlayedBy (c : ℕ) (script : List Action) (txn place : ℕ) (replie
   pub replied : replies_in es ≡ replies
 
 -- The entries that a caller has added while it ran a script with this outcome. If the script is
--- committed, the entries end with those of the committed transaction, and the entries before these
--- commit nothing. If the script is not committed, no entry commits. A Busy outcome also needs at
--- least `tries + 1` Busy entries.
+-- committed, the last entries are those of the committed transaction, and no earlier entry is a
+-- commit. If the script is not committed, no entry is a commit. A Busy outcome also needs at least
+-- `tries + 1` Busy entries.
 abbrev pub IsAccount : ℕ → ℕ → List Action → Outcome → List Entry → Type 0
 IsAccount c tries script (Committed txn place replies) es =
     (before : List Entry) × (part : List Entry) × (es ≡ before ++ part) × CommitNothing before

@@ -510,7 +510,7 @@ fn listed<R: Abort>(rt: &R, alloc: Global, one: Sided, other: Sided) -> Vec<Side
     all
 }
 
-/// Gives each caller a side value, and calls `meet` with both.
+/// Gives each of the two callers a side value, and calls `meet` with the two callers.
 fn met<R: Abort>(rt: &R, alloc: Global, one: Caller, other: Caller) -> Vec<Sided>
     requires same_map { one.map.value ≡ other.map.value }
 {

@@ -599,8 +599,8 @@ fn take_step(
     Ok(())
 }
 
-/// Returns true if a list has the nodes of a plain list, and its marked nodes begin at the same
-/// split key.
+/// Compares a list with a plain list. Returns true if both have the same nodes, and if the marked
+/// nodes of both begin at the same split key.
 fn is_as_plain(alloc: Global, list: &NodeList, plain: &[Plain; 8]) -> Result<bool, AllocError> {
     let found = nodes(alloc, list)?;
     let wanted = plain_nodes(alloc, plain)?;

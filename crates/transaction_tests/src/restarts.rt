@@ -58,8 +58,8 @@ fn is_made(rt: &impl Abort, alloc: Global, old: &Core, finished: Finished<bool>)
     finished.core
 }
 
-/// Makes `works` looks on a new map that begins with the pairs of a core. The core has the keys
-/// below `keys`. Checks that all looks were started, and returns the new map's core.
+/// Opens a new map with the pairs of a core, whose keys are below `keys`. Then `works` works look
+/// at keys of the map. Checks that all of them were started, and returns the new map's core.
 fn restart<R: Threads + Wait + Sync + Abort>(
     rt: &R,
     alloc: Global,

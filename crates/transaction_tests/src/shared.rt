@@ -229,8 +229,8 @@ fn has_grown(rt: &impl Abort, core: &Core, count: u64) {
     }
 }
 
-/// Makes a new map with the pairs of a core, on which one work looks at the first key. If memory is
-/// not refused, checks that the new core has the same pairs.
+/// Makes a new map with the pairs of a core. One work looks at the first key of the map. If memory
+/// is not refused, checks that the new core has the same pairs.
 fn goes_on<R: Threads + Wait + Sync + Abort>(
     rt: &R,
     alloc: Global,

@@ -1,5 +1,5 @@
--- If a text is written into a list so that it ends right before position `end`, the part of the
--- list from the text's start on is the text, followed by the elements from `end` on.
+-- A text is written into a list so that it ends right before position `end`. Then the list, from
+-- the start of the text on, is the text followed by the old elements from `end` on.
 use Rattle.std.proofs.Common.{◌≡◌, ℕ, ◌+◌, ◌-◌, ◌≤◌, List, ◌++◌, length, take, drop, arith, ap, ◌∙◌, length-take-le}
 use Rattle.std.proofs.lemmas.List.{drop_at, drop-drop}
 use borrow.Rule.Slice.PartMut.{put_mid, post_of}

@@ -45,8 +45,8 @@ may_name Now stripes s g x = list_any (λ y. y == x) (holders stripes s g)
 may_name Begun stripes s g x = has_begun x g
 
 -- Whether the rule of locks allows an entry after the history `g`. An Asked is allowed if no other
--- caller holds the stripe of its key. A Busy is allowed if it names another caller, and `may_name`
--- allows this caller. An entry of another kind is always allowed.
+-- caller holds the stripe of its key. A Busy is allowed if the caller that it names is another one
+-- and `may_name` allows that caller. An entry of another kind is always allowed.
 abbrev pub is_locked : Holder → ℕ → List Entry → Entry → Bool
 is_locked holder stripes g (Asked c op) =
     list_all (λ x. x == c) (holders stripes (stripe_of stripes (key_of op)) g)

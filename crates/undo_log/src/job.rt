@@ -12,10 +12,10 @@ pub trait UndoJob: Drop {
     /// The world that was changed, such as a table of nodes.
     type World;
 
-    /// The world shows the state after the change, as the job names it.
+    /// The state of the world is the one that the job names as the state after its change.
     ghost shows_after: { Self → Self.World → Type 0 };
 
-    /// The world shows the state before the change, as the job names it.
+    /// The state of the world is the one that the job names as the state before its change.
     ghost shows_before: { Self → Self.World → Type 0 };
 
     /// The second world is the first world without the job's change, and everything else is the

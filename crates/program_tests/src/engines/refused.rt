@@ -260,7 +260,7 @@ struct CallerState {
     holds: bool,
     /// The number of the caller's changes that are not taken back.
     changes: u64,
-    /// The number of entries that the caller may still add without memory.
+    /// The number of entries that the caller may still add without a request for memory.
     owed: usize,
 }
 
