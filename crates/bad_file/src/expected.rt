@@ -1,6 +1,6 @@
 //! Names for the values that the format of history files allows, and the words by which a flaw
 //! prints them. The tests of values against these names are in `values`. The words are constants
-//! that include the ranges, as the contract says (`expected_text`).
+//! that include the ranges, which the contract requires (`expected_text`).
 ghost use Rattle.std.specs.Prelude.{◌≡◌};
 ghost use Rattle.bad_file.specs.Texts.{expected_text};
 

@@ -31,7 +31,7 @@ fn is_met(ranged: bool, expected: Expected, value: Option<&Value>) -> bool
     }
 }
 
-/// If the value at a place is not as expected, the flaw at this place.
+/// If the value at a place is not as expected, returns the flaw at this place.
 #[tactic(auto, using(crate::proofs::Places::flaw_none, crate::proofs::Places::flaw_some))]
 fn flaw_at(ranged: bool, place: Place, value: Option<&Value>, expected: Expected) -> Option<Flaw>
     ensures { (d : Data) → at place d ≡ option_map (λ v. view v.now) value.entry
@@ -94,7 +94,7 @@ fn value_at(values: &[Value], index: usize) -> Option<&Value>
     }
 }
 
-/// The flaw of the entry at an index, if the entry has one.
+/// The flaw of the entry at an index. Returns `None` if the entry has no flaw.
 ///
 /// # Errors
 ///
@@ -127,7 +127,8 @@ fn flaw_in_entry(
     }))
 }
 
-/// The flaw of the first element of `entries` that is not an entry, if there is one.
+/// The flaw of the first element of `entries` that is not an entry. Returns `None` if all elements
+/// are entries.
 ///
 /// # Errors
 ///
@@ -151,14 +152,14 @@ fn flaw_in_entries(
     Ok(None)
 }
 
-/// The entries of a file, if it has some.
+/// The entries of a file. Returns `None` if the file has no array of entries.
 fn entries_in(file: &Value) -> Option<&[Value]>
     ensures { option_map (λ values. map view values.now) result ≡ entries_of (view file.now) }
 {
     elements_in(file.get("entries")?)
 }
 
-/// The flaw of a file that is JSON, if it has one.
+/// The flaw of a file that is JSON. Returns `None` if the file has no flaw.
 ///
 /// # Errors
 ///

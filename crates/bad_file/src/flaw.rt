@@ -14,7 +14,7 @@ use std::fmt;
 pub enum Flaw {
     /// The file has more than 16,777,216 bytes.
     TooLong,
-    /// The file is no JSON, or nests too deep, or has a number that is too large for a float.
+    /// The file is not JSON, nests too deep, or has a number that is too large for a float.
     NotJson {
         /// The line where the fault shows, counted from 1.
         line: usize,

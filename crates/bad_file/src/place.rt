@@ -1,6 +1,6 @@
-//! The places that a flaw may name, and their JSON paths; `file` decides which one a flaw names. An
-//! entry is a flat array in this format, so two indices reach each element. A member that the
-//! format does not have is never at fault, so it has no place.
+//! The places that a flaw may name, and their JSON paths. The module `file` decides which place a
+//! flaw names. An entry is a flat array in this format, so two indices reach each element. A member
+//! that the format does not have is never at fault, so it has no place.
 use std::fmt;
 
 /// A place in a history file. It is printed as a JSON path.

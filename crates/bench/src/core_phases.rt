@@ -35,7 +35,7 @@ fn sum_with(sum: u64, byte: u8) -> u64 {
     (sum ^ u64::from(byte)).wrapping_mul(0x0100_0000_01b3)
 }
 
-/// A hash of the lines that the answers are written as.
+/// A hash of the answers, each written as a line.
 fn sum_of(alloc: Global, answers: &[Answer]) -> Result<u64, AllocError> {
     let mut sum = 0xcbf2_9ce4_8422_2325;
     for answer in answers {

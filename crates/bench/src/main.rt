@@ -21,7 +21,7 @@
 //!
 //! With `all`, these three are the third, the fourth and the fifth argument. For `striped`, the
 //! other arguments are the numbers of threads, of keys, of each thread's transactions and of
-//! stripes. The last ones may be omitted.
+//! stripes. Arguments at the end may be omitted.
 #![tactic(auto)]
 
 mod any_map;

@@ -17,8 +17,8 @@ use std::time::{Clock, Instant};
 /// The number of stripes.
 const STRIPES: u64 = 4096;
 
-/// From one take to the next, the stripe of a thread rises by this number times the number of
-/// threads. So two stripes that a thread takes one after the other are not side by side.
+/// From one take to the next, the index of a thread's stripe rises by this number times the number
+/// of threads. So two stripes that a thread takes one after the other are not side by side.
 const STRIDE: u64 = 1021;
 
 /// A thread's seat at the words. Two takers that are side by side in a list share no cache line.

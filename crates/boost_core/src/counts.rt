@@ -1,7 +1,8 @@
 //! The number of transactions that have begun, and the number of those that have committed. The
-//! next Began entry has the first number plus one, and the next Committed entry the second plus
-//! one. By the core's invariant both counts are functions of the history. They are kept so that a
-//! begin or a commit need not count entries. Only the answer to a step changes them.
+//! number in the next Began entry is the first count plus one. The number in the next Committed
+//! entry is the second count plus one. By the core's invariant both counts are functions of the
+//! history. They are kept so that a begin or a commit need not count entries. Only the answer to a
+//! step changes them.
 ghost use Rattle.std.specs.Prelude.{◌≡◌};
 
 use txn_trace::Answer;

@@ -1,6 +1,6 @@
 //! The history of a core that is no longer needed, moved out without a copy. A core has a `Drop`,
-//! and only this code takes a core apart. A vector of entries has no invariant that says it is
-//! legal, so the contract states all that the contract of `trace` states.
+//! and only this code takes a core apart. No invariant of a vector of entries says that the history
+//! is legal, so the contract states all that the contract of `trace` states.
 ghost use Rattle.std.specs.Prelude.{◌≡◌, ◌<◌};
 ghost use Rattle.std.specs.List.{All};
 ghost use Rattle.txn_words.specs.Kinds.{caller_of};
@@ -21,7 +21,7 @@ impl Core {
     ///
     /// # Cost
     ///
-    /// That of dropping the table, the callers and the stripes; takes no memory.
+    /// The cost of dropping the table, the callers and the stripes. Takes no memory.
     pub fn into_trace(self) -> Vec<SmallEntry>
         ensures value { result.items ≡ self.history }
         ensures shape { HasShape self }

@@ -1,8 +1,8 @@
-//! The core of a transactional map for 1 to 64 callers, one step at a time: boosted transactions
-//! (Herlihy and Koskinen, "Transactional Boosting: A Methodology for Highly-Concurrent
-//! Transactional Objects", PPoPP 2008, rules 2 and 3: abstract locks and inverses) over a
-//! split-ordered hash table (Shalev and Shavit, "Split-Ordered Lists: Lock-Free Extensible Hash
-//! Tables", Journal of the ACM 53(3), 2006, section 2).
+//! The core of a transactional map for 1 to 64 callers, which takes one step at a time. It runs
+//! boosted transactions (Herlihy and Koskinen, "Transactional Boosting: A Methodology for
+//! Highly-Concurrent Transactional Objects", PPoPP 2008, rules 2 and 3: abstract locks and
+//! inverses) over a split-ordered hash table (Shalev and Shavit, "Split-Ordered Lists: Lock-Free
+//! Extensible Hash Tables", Journal of the ACM 53(3), 2006, section 2).
 //!
 //! An operation takes the stripe of its key. It is then done on the table by a seek and an act;
 //! other callers may act between the two. An operation that is a change leaves an inverse. A commit
@@ -24,9 +24,9 @@
 //! `Drive` names the steps of a caller's call; others may act between these steps.
 //!
 //! A step costs the time of its work on the table. Memory is taken only to begin, to ask, to save,
-//! to go back, to link a bucket's dummy and to store the first bucket of a segment: all that an
-//! operation and its undoing need is reserved when it is asked for. Calls take constant time and no
-//! memory unless they say otherwise.
+//! to go back, to link a bucket's dummy and to store the first bucket of a segment. An ask reserves
+//! all that its operation and the operation's undoing need. Calls take constant time and no memory
+//! unless they say otherwise.
 #![tactic(auto)]
 
 mod adding;

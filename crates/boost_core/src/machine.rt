@@ -27,9 +27,9 @@ use std::collections::BTreeMap;
 use std::marker::Model;
 use txn_trace::{Answer, Limits, Refusal, SmallEntry, Step, entry_of, make_room};
 
-/// A transactional map for 1 to 64 callers, its history, and the state of each caller: boosted
-/// transactions (Herlihy and Koskinen, PPoPP 2008, rules 2 and 3) over a split-ordered hash table
-/// (Shalev and Shavit, Journal of the ACM 53(3), 2006, section 2).
+/// A transactional map for 1 to 64 callers, with its history and the state of each caller. It runs
+/// boosted transactions (Herlihy and Koskinen, PPoPP 2008, rules 2 and 3) over a split-ordered hash
+/// table (Shalev and Shavit, Journal of the ACM 53(3), 2006, section 2).
 ///
 /// Contracts see a core as a state of the machine, which `specs/State.antt` defines. Every core has
 /// these properties: the history is legal, the content of the table is the map that the history
@@ -51,7 +51,7 @@ pub struct Core {
     pub(crate) placed: Option<Owner>,
     // Whether the stripes are atomic words that others keep.
     pub(crate) words: bool,
-    // Whether each caller has begun a transaction.
+    // For each caller, whether it has begun a transaction.
     pub(crate) begun: Vec<bool>,
 }
 
@@ -139,10 +139,10 @@ impl Core {
     /// are allowed, and what the state is after each. `specs/Events.antt` says what a step does to
     /// the linked nodes and to the cursors of callers and helpers.
     ///
-    /// If tests refuse the step, the first refusal is the answer, and the state is unchanged.
-    /// Only `Begin`, `Ask`, `Save`, `Back`, `InitLink` and `InitStore` may be refused with
-    /// `NoMemory`, after all tests; so no caller needs memory to seek, to act, to commit or to
-    /// abort. `InitStore` is refused memory only if no bucket of its segment of 64 is stored.
+    /// If tests refuse the step, the first refusal is the answer, and the state is unchanged. Only
+    /// `Begin`, `Ask`, `Save`, `Back`, `InitLink` and `InitStore` may be refused with `NoMemory`,
+    /// after all tests; so no caller needs memory to seek, to act, to commit or to abort.
+    /// `InitStore` is refused memory only if no bucket of its segment of 64 is stored.
     ///
     /// `Again` means that the cursor of the caller or helper no longer fits, and was dropped. As
     /// long as the cursor's two nodes stay neighbours and unmarked, the answer is never `Again`,
@@ -152,7 +152,7 @@ impl Core {
     ///
     /// # Cost
     ///
-    /// A `Seek` walks to the key's position from the dummy of its bucket, or from the dummy of the
+    /// A `Seek` walks to the key's position from the dummy of the key's bucket, or of that bucket's
     /// nearest initialised ancestor. An `InitSeek` walks from the dummy of the bucket's parent. A
     /// `Sweep` walks up to the first marked node. A `Commit` takes time in proportion to the jobs,
     /// savepoints and stripes of the transaction. The end of an abort takes time in proportion to
@@ -285,8 +285,8 @@ impl Core {
     }
 
     /// Makes room in the history for this many more entries, besides those that callers owe now.
-    /// The history then need not grow until more than this many entries are added or newly owed.
-    /// If `is_written`, the room is written, so that no later entry is the first to touch a page of
+    /// The history then need not grow until more than this many entries are added or newly owed. If
+    /// `is_written`, the room is written, so that no later entry is the first to touch a page of
     /// it. The core is unchanged.
     ///
     /// # Errors
@@ -295,8 +295,8 @@ impl Core {
     ///
     /// # Cost
     ///
-    /// At most one allocation, with which the history is copied. If the room is written, also time
-    /// in proportion to the room.
+    /// At most one allocation, with which the history is copied. If the room is written, this also
+    /// takes time in proportion to the room.
     pub fn reserve(&mut self, entries: usize, is_written: bool) -> Result<(), AllocError>
         ensures { self.new ≡ self.old }
     {
@@ -313,8 +313,8 @@ impl Core {
     ///
     /// # Cost
     ///
-    /// Time in proportion to the number of nodes, plus n log n for a map of n keys. While it runs,
-    /// memory for two copies of the pairs.
+    /// Time in proportion to the number of nodes, plus n log n for a map of n keys. While the call
+    /// runs, it needs memory for two copies of the pairs.
     pub fn map(&self, alloc: Global) -> Result<BTreeMap<u64, u64>, AllocError>
         ensures { IfOk result (IsContent self.now) }
     {
@@ -366,8 +366,8 @@ impl Core {
         self.owed
     }
 
-    /// The refusal of the first test that refuses the step, if there is one. Memory and stamps are
-    /// not tested here.
+    /// The refusal of the first test that refuses the step, or `None` if no test refuses it. Memory
+    /// and stamps are not tested here.
     #[inline(always)]
     pub(crate) fn refusal(&self, caller: u64, step: Step) -> Option<Refusal>
         requires { owner_of step ≡ Some (Owner.Caller caller) }

@@ -17,8 +17,8 @@ pub enum Owner {
     Helper(u64),
 }
 
-/// The owner of the cursor that was placed last, after a step and its answer. A refusal leaves the
-/// owner unchanged.
+/// Returns the owner of the cursor that this step placed, or `None` if it placed no cursor. If the
+/// step was refused, returns `before`, the owner before the step.
 #[inline(always)]
 pub(crate) fn placed_after(before: Option<Owner>, step: Step, answer: Answer) -> Option<Owner>
     ensures { result ≡ placed_then before step answer }

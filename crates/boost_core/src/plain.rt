@@ -22,17 +22,17 @@ impl Core {
     /// which each seek walks.
     ///
     /// The answer is `Done` with the reply. If another caller holds the key's stripe, the answer is
-    /// `Busy` instead, and this caller now leaves to the end. If the ask is refused, the answer is
-    /// the refusal, and the state is unchanged. The refusals are tested in this order:
-    /// `NoSuchCaller`, `NotOpen`, `Leaving`, `OperationUnfinished`, `BadKey` if the limits have
-    /// half keys and the key is 2^63 or more, `NoMemory` for the history and the log,
-    /// `StampsUsedUp`, `NoMemory` for the node.
+    /// `Busy` instead. The caller is then taking back all its changes, and `abort` finishes this.
+    /// If the ask is refused, the answer is the refusal, and the state is unchanged. The refusals
+    /// are tested in this order: `NoSuchCaller`, `NotOpen`, `Leaving`, `OperationUnfinished`,
+    /// `BadKey` if the limits have half keys and the key is 2^63 or more, `NoMemory` for the
+    /// history and the log, `StampsUsedUp`, `NoMemory` for the node.
     ///
     /// # Cost
     ///
-    /// Time in proportion to the nodes from the dummy of the key's bucket, or of its nearest
-    /// initialised ancestor, to the key's position; may take memory for the history, the log and a
-    /// node.
+    /// Time in proportion to the number of nodes that the seek passes. The seek walks to the key's
+    /// position from the dummy of the key's bucket, or of that bucket's nearest initialised
+    /// ancestor. May take memory for the history, the log and a node.
     pub fn put(&mut self, caller: u64, key: u64, value: u64) -> Answer
         requires { self.old.words ≡ false }
         ensures operates { Operates self.old caller (Op.Put key value) result self.new }
@@ -41,13 +41,13 @@ impl Core {
         self.operate(caller, Op::Put(key, value))
     }
 
-    /// Puts a value at a key exactly if the key has the expected value, or has no value if none is
-    /// expected. It takes the same steps as `put`, with the same refusals. The reply is the value
-    /// that the key had, so the value was put exactly if the reply equals `expected`.
+    /// Puts a value at a key exactly if the key's value is the expected one. If `None` is expected,
+    /// the key must be absent. Takes the same steps as `put`, with the same refusals. The reply is
+    /// the value that the key had, so the value was put exactly if the reply equals `expected`.
     ///
     /// # Cost
     ///
-    /// That of `put`.
+    /// The cost of `put`.
     pub fn put_if(&mut self, caller: u64, key: u64, expected: Option<u64>, value: u64) -> Answer
         requires { self.old.words ≡ false }
         ensures operates { Operates self.old caller (Op.PutIf key expected value) result self.new }
@@ -60,7 +60,7 @@ impl Core {
     ///
     /// # Cost
     ///
-    /// That of `put`.
+    /// The cost of `put`.
     pub fn take(&mut self, caller: u64, key: u64) -> Answer
         requires { self.old.words ≡ false }
         ensures operates { Operates self.old caller (Op.Take key) result self.new }
@@ -74,7 +74,7 @@ impl Core {
     ///
     /// # Cost
     ///
-    /// That of `put`, without the memory for a node.
+    /// The cost of `put`, without the memory for a node.
     pub fn get(&mut self, caller: u64, key: u64) -> Answer
         requires { self.old.words ≡ false }
         ensures operates { Operates self.old caller (Op.Get key) result self.new }
@@ -105,12 +105,12 @@ impl Core {
     }
 
     /// Aborts: withdraws the waiting operation, takes back every change, newest first, gives back
-    /// all stripes and closes the transaction. A caller that already leaves to the end, as after
-    /// `Busy`, continues to do so.
+    /// all stripes and closes the transaction. If the caller is already taking back all its
+    /// changes, for instance after `Busy`, the call finishes this.
     ///
     /// The answer is `Aborted`, or a refusal. A refusal leaves the state unchanged. The refusals
-    /// are tested in this order: `NoSuchCaller`, `NotOpen`, and `Leaving` if the caller leaves to a
-    /// level.
+    /// are tested in this order: `NoSuchCaller`, `NotOpen`, and `Leaving` if the caller is taking
+    /// changes back to a level.
     ///
     /// # Cost
     ///
@@ -142,8 +142,8 @@ impl Core {
     /// stay initialised.
     /// - `NoSuchHelper` if there is no caller with this number: nothing is done.
     /// - `BadKey` if the limits have half keys and the key is 2^63 or more: nothing is done.
-    /// - `StampsUsedUp` if no stamp is left, and `NoMemory` if memory is refused or the list has no
-    ///   place left.
+    /// - `StampsUsedUp` if no stamp is left.
+    /// - `NoMemory` if memory is refused or the list has no place left.
     ///
     /// # Cost
     ///
@@ -208,7 +208,7 @@ impl Core {
         self.call(caller, Step::Act(caller), Claim::Lock)
     }
 
-    /// Whether a caller has a change to take back.
+    /// Returns true if a caller has a change to take back.
     fn has_job(&self, caller: u64) -> bool
         ensures { result ≡ has_job (seat_in self.now.history caller) }
     {
@@ -218,7 +218,7 @@ impl Core {
         }
     }
 
-    /// Whether a caller leaves to the end.
+    /// Returns true if a caller is taking back all its changes.
     fn leaves_to_end(&self, caller: u64) -> bool
         ensures value { result ≡ is_at_end (seat_in self.now.history caller).phase }
         ensures within { result ≡ true → nat_le self.now.limits.callers caller ≡ false }

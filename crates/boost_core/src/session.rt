@@ -42,7 +42,7 @@ impl Session {
         })
     }
 
-    /// Whether this step needs a cursor that the caller does not have.
+    /// Returns true if this step needs a cursor that the caller does not have.
     #[inline(always)]
     pub(crate) fn lacks_cursor(&self, step: Step) -> bool
         ensures { result ≡ lacks_in self.now.seat.seat (is_some self.now.cursor) step }
@@ -53,7 +53,7 @@ impl Session {
         }
     }
 
-    /// Whether the caller is taking back all its changes.
+    /// Returns true if the caller is taking back all its changes.
     pub(crate) fn leaves_to_end(&self) -> bool
         ensures { result ≡ is_at_end self.now.seat.seat.phase }
     {

@@ -25,7 +25,7 @@ impl Session {
         }
     }
 
-    /// Leaves to a level: drops the caller's cursor, if there is one.
+    /// Starts the return to a level: drops the caller's cursor, if there is one.
     pub(crate) fn drop_cursor(&mut self) -> Answer
         ensures answer { result ≡ Answer.Leaving }
         ensures becomes { self.new ≡ record self.old { cursor = None } }
@@ -34,7 +34,7 @@ impl Session {
         Answer::Leaving
     }
 
-    /// Leaves to the end: gives up the caller's cursor and its waiting operation, if there are any.
+    /// Starts an abort: gives up the caller's cursor and its waiting operation, if there are any.
     pub(crate) fn withdraw(&mut self, table: &mut Table) -> Answer
         requires { OwnsIf table.old (spare_if self.old.pending) }
         ensures answer { result ≡ Answer.Leaving }

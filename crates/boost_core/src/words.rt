@@ -47,10 +47,10 @@ impl Core {
     ///
     /// # Cost
     ///
-    /// That of `with_words`, and the memory for the room: 32 bytes for an entry of the history, 40
-    /// for a node, 4 for a bucket, 16 for each savepoint of a caller, and 48 for each change of a
-    /// caller that has room for more than eight changes. If the room is written, time in proportion
-    /// to it.
+    /// The cost of `with_words`, and the memory for the room: 32 bytes for an entry of the history,
+    /// 40 for a node, 4 for a bucket, 16 for each savepoint of a caller, and 48 for each change of
+    /// a caller that has room for more than eight changes. If the room is written, this also takes
+    /// time in proportion to the room.
     pub fn with_room(alloc: Global, limits: Limits, room: Room<'_>) -> Result<Core, Refusal>
         ensures ok { IfOk result (λ core. core ≡ start_with_words limits) }
         ensures err { IfErr result (λ refusal. refusal ≡ Refusal.NoMemory) }
@@ -58,7 +58,7 @@ impl Core {
         Core::make(alloc, limits, true, room)
     }
 
-    /// Whether the stripes are atomic words that others keep. No step changes this.
+    /// Returns true if the stripes are atomic words that others keep. No step changes this.
     pub fn words(&self) -> bool
         ensures { result ≡ self.now.words }
     {
@@ -70,8 +70,8 @@ impl Core {
     ///
     /// The answer is `Asked` or a refusal. The refusals are tested in this order: `NoSuchCaller`,
     /// `NotOpen`, `Leaving`, `OperationUnfinished`, `BadKey`, `NoMemory` for the history and the
-    /// log, `StampsUsedUp`, `NoMemory` for the node, and `StaleWord` if by the core's record
-    /// another caller holds the stripe. A refusal leaves the state unchanged, except that
+    /// log, `StampsUsedUp`, `NoMemory` for the node, and `StaleWord` if the core has recorded
+    /// another caller as the stripe's holder. A refusal leaves the state unchanged, except that
     /// `StaleWord` may use up a stamp.
     ///
     /// # Cost
@@ -95,11 +95,11 @@ impl Core {
     /// number of that caller plus one.
     ///
     /// The answer is `Busy` with the number of the caller that the word names, or a refusal. After
-    /// `Busy` the asking caller leaves to the end. The refusals are tested in this order:
-    /// `NoSuchCaller`, `NotOpen`, `Leaving`, `OperationUnfinished`, `BadKey`, and `StaleWord` if
-    /// the word names the asking caller or a caller that has never begun a transaction. A refusal
-    /// leaves the state unchanged. No spare is taken, and the room for the entry was reserved when
-    /// the transaction began.
+    /// `Busy` the asking caller is taking back all its changes (its phase is `LeavingToEnd`). The
+    /// refusals are tested in this order: `NoSuchCaller`, `NotOpen`, `Leaving`,
+    /// `OperationUnfinished`, `BadKey`, and `StaleWord` if the word names the asking caller or a
+    /// caller that has never begun a transaction. A refusal leaves the state unchanged. No spare is
+    /// taken, and the room for the entry was reserved when the transaction began.
     pub fn ask_held(&mut self, caller: u64, op: Op, word: u64) -> Answer
         requires words { self.old.words ≡ true }
         requires word { word ≢ 0 }
@@ -126,7 +126,7 @@ impl Core {
         }
     }
 
-    /// Whether a caller has begun a transaction.
+    /// Returns true if a caller has begun a transaction.
     fn has_begun(&self, caller: u64) -> bool
         ensures { result ≡ has_begun caller self.now.history }
     {

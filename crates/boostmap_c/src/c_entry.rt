@@ -53,11 +53,11 @@ pub struct CEntry {
     pub value: u64,
     /// The value that a `put if` operation expects.
     pub expected: u64,
-    /// The transaction of began, the commit number of committed, the level of leave and returned,
-    /// or the holder that busy names.
+    /// For began, the transaction's number. For committed, the commit number. For leave and
+    /// returned, the level. For busy, the holder that it names.
     pub number: u64,
-    /// 0 if did has no reply, put if expects no value, or leave has no level to go back to. Any
-    /// other number if there is one.
+    /// 0 if a did says that the key had no value, if a `put if` expects no value, or if a leave has
+    /// no level to go back to. Otherwise any other number.
     pub has: u64,
 }
 

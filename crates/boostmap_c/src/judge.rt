@@ -1,7 +1,7 @@
 //! The judge of histories for C: a checker, of `history_check` or of `serial_check`, behind a
-//! handle of its own. It is fed entry by entry. It needs no map of this library, since entries are
-//! C's numbers. Invariant: the tag says whether the handle has a checker. If memory is refused to a
-//! feed, the feed may be repeated.
+//! handle of its own. C feeds it the entries one by one, as numbers, so the history need not come
+//! from a map of this library. Invariant: the tag says whether the handle has a checker. If a feed
+//! fails because memory is refused, the same entry may be fed again.
 ghost use Rattle.std.specs.Prelude.{◌≡◌, ◌<◌, Some, None, IfSome, IsNone, true, is_some};
 ghost use Rattle.boostmap_c.specs.Judges.{BeginsJudging, FedFront, Feeds, FeedsAll, FeedsEntry, Frees, TellsVerdict, verdict_of, way_for};
 ghost use Rattle.boostmap_c.specs.Entries.{judged_entry};
@@ -153,10 +153,10 @@ fn feed_front(referee: &mut Referee, entries: &[CEntry]) -> (usize, u32)
     (entries.len(), DONE)
 }
 
-/// Begins to judge the history of a map with this number of stripes, by a rule. Rules 0 and 1 are
-/// by locks. By rule 0, the caller that a Busy entry names must hold the stripe now. By rule 1,
-/// this caller must have begun a transaction before. Rule 2 is by the order of commits, and ignores
-/// the stripes.
+/// Begins to judge the history of a map with this number of stripes. Rules 0 and 1 judge by locks.
+/// Under rule 0, the caller that a Busy entry names must hold the stripe at that time. Under rule
+/// 1, this caller must have begun a transaction before. Rule 2 judges by the order of commits, and
+/// ignores the stripes.
 ///
 /// # Errors
 ///
@@ -276,11 +276,12 @@ pub extern "C" fn boostmap_judge_verdict(
 ///
 /// # Errors
 ///
-/// 3 if the handle has no checker.
+/// The status is 3 if the handle has no checker.
 ///
 /// # Cost
 ///
-/// Time in proportion to the stripes, the keys and the standing changes; takes no memory.
+/// Time in proportion to the stripes, the keys and the changes of open transactions; takes no
+/// memory.
 #[unsafe(no_mangle)]
 pub extern "C" fn boostmap_judge_free(alloc: Global, judge: &mut Judge) -> u32
     ensures { Frees judge.old.held.referee result judge.new.held.referee }

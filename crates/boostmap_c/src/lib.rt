@@ -37,9 +37,9 @@
 //! If a call is done, its word is one of these: a value; the number of a transaction, level, commit
 //! or caller; a count of keys, pairs or entries. Some calls have no word.
 //!
-//! On a striped map a refusal with `NoMemory` may leave the transaction with more stripes than
-//! before, and a 7 leaves it with every stripe. A `boostmap_help` that is refused may have doubled
-//! the table and initialised buckets.
+//! On a striped map, a refusal with `NoMemory` may leave the transaction with more stripes than
+//! before, and a call that returns 7 leaves it with every stripe. A `boostmap_help` that is refused
+//! may have doubled the table and initialised buckets.
 //!
 //! No export has a `requires`. There is a status for a caller's number, a level or a limit that is
 //! out of range, for a call out of order, and for an empty handle. The rest of what C must do is in

@@ -55,7 +55,7 @@ pub extern "C" fn boostmap_new(
 ///
 /// # Errors
 ///
-/// 3 if the handle has no map.
+/// The status is 3 if the handle has no map.
 ///
 /// # Cost
 ///
@@ -74,7 +74,7 @@ pub extern "C" fn boostmap_free(alloc: Global, map: &mut Handle) -> u32
 ///
 /// # Errors
 ///
-/// 3 if the handle has no map.
+/// The status is 3 if the handle has no map.
 #[unsafe(no_mangle)]
 pub extern "C" fn boostmap_count(alloc: Global, map: &mut Handle, word: &mut u64) -> u32
     ensures { Counts map.old.held.core result word.old word.new map.new.held.core }
@@ -93,9 +93,15 @@ pub extern "C" fn boostmap_count(alloc: Global, map: &mut Handle, word: &mut u64
 ///
 /// # Errors
 ///
-/// The status is 3 if the handle has no map. Otherwise the errors are those of `Core::help`: 28
-/// (`NoSuchHelper`), 32 (`StampsUsedUp`), 30 (`NoMemory`). If the table was doubled before the
-/// refusal, it stays doubled, and buckets that were initialised stay initialised.
+/// The status is one of these:
+///
+/// - 3 if the handle has no map.
+/// - 28 (`NoSuchHelper`) if the map has no caller with this number. Nothing is done.
+/// - 32 (`StampsUsedUp`) if no stamp is left.
+/// - 30 (`NoMemory`) if memory is refused, or if the list has no place left.
+///
+/// After 30 or 32, a table that was doubled stays doubled, and buckets that were initialised stay
+/// initialised.
 ///
 /// # Cost
 ///

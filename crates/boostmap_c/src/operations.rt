@@ -14,9 +14,16 @@ use txn_trace::Op;
 ///
 /// # Errors
 ///
-/// The status is 3 if the handle has no map. It is 2 if another caller holds the key's stripe;
-/// after this the transaction can only abort. A refusal changes nothing: 18 (`NoSuchCaller`), 19
-/// (`NotOpen`), 22 (`Leaving`), 30 (`NoMemory`), 32 (`StampsUsedUp`).
+/// The status is one of these. If it is 18 or more, nothing has changed.
+///
+/// - 3 if the handle has no map.
+/// - 2 if another caller holds the key's stripe. The word is that caller's number, and the
+///   transaction can then only abort.
+/// - 18 (`NoSuchCaller`) if the map has no caller with this number.
+/// - 19 (`NotOpen`) if the caller has no transaction.
+/// - 22 (`Leaving`) if an earlier operation of the transaction was busy.
+/// - 30 (`NoMemory`) if memory is refused.
+/// - 32 (`StampsUsedUp`) if no stamp is left.
 ///
 /// # Cost
 ///
@@ -47,9 +54,16 @@ pub extern "C" fn boostmap_put(
 ///
 /// # Errors
 ///
-/// The status is 3 if the handle has no map. It is 2 if another caller holds the key's stripe;
-/// after this the transaction can only abort. A refusal changes nothing: 18 (`NoSuchCaller`), 19
-/// (`NotOpen`), 22 (`Leaving`), 30 (`NoMemory`), 32 (`StampsUsedUp`).
+/// The status is one of these. If it is 18 or more, nothing has changed.
+///
+/// - 3 if the handle has no map.
+/// - 2 if another caller holds the key's stripe. The word is that caller's number, and the
+///   transaction can then only abort.
+/// - 18 (`NoSuchCaller`) if the map has no caller with this number.
+/// - 19 (`NotOpen`) if the caller has no transaction.
+/// - 22 (`Leaving`) if an earlier operation of the transaction was busy.
+/// - 30 (`NoMemory`) if memory is refused.
+/// - 32 (`StampsUsedUp`) if no stamp is left.
 ///
 /// # Cost
 ///
@@ -81,9 +95,16 @@ pub extern "C" fn boostmap_put_if_absent(
 ///
 /// # Errors
 ///
-/// The status is 3 if the handle has no map. It is 2 if another caller holds the key's stripe;
-/// after this the transaction can only abort. A refusal changes nothing: 18 (`NoSuchCaller`), 19
-/// (`NotOpen`), 22 (`Leaving`), 30 (`NoMemory`), 32 (`StampsUsedUp`).
+/// The status is one of these. If it is 18 or more, nothing has changed.
+///
+/// - 3 if the handle has no map.
+/// - 2 if another caller holds the key's stripe. The word is that caller's number, and the
+///   transaction can then only abort.
+/// - 18 (`NoSuchCaller`) if the map has no caller with this number.
+/// - 19 (`NotOpen`) if the caller has no transaction.
+/// - 22 (`Leaving`) if an earlier operation of the transaction was busy.
+/// - 30 (`NoMemory`) if memory is refused.
+/// - 32 (`StampsUsedUp`) if no stamp is left.
 ///
 /// # Cost
 ///
@@ -114,9 +135,16 @@ pub extern "C" fn boostmap_put_if_equal(
 ///
 /// # Errors
 ///
-/// The status is 3 if the handle has no map. It is 2 if another caller holds the key's stripe;
-/// after this the transaction can only abort. A refusal changes nothing: 18 (`NoSuchCaller`), 19
-/// (`NotOpen`), 22 (`Leaving`), 30 (`NoMemory`), 32 (`StampsUsedUp`).
+/// The status is one of these. If it is 18 or more, nothing has changed.
+///
+/// - 3 if the handle has no map.
+/// - 2 if another caller holds the key's stripe. The word is that caller's number, and the
+///   transaction can then only abort.
+/// - 18 (`NoSuchCaller`) if the map has no caller with this number.
+/// - 19 (`NotOpen`) if the caller has no transaction.
+/// - 22 (`Leaving`) if an earlier operation of the transaction was busy.
+/// - 30 (`NoMemory`) if memory is refused.
+/// - 32 (`StampsUsedUp`) if no stamp is left.
 ///
 /// # Cost
 ///
@@ -145,9 +173,15 @@ pub extern "C" fn boostmap_take(
 ///
 /// # Errors
 ///
-/// The status is 3 if the handle has no map. It is 2 if another caller holds the key's stripe;
-/// after this the transaction can only abort. A refusal changes nothing: 18 (`NoSuchCaller`), 19
-/// (`NotOpen`), 22 (`Leaving`), 30 (`NoMemory`).
+/// The status is one of these. If it is 18 or more, nothing has changed.
+///
+/// - 3 if the handle has no map.
+/// - 2 if another caller holds the key's stripe. The word is that caller's number, and the
+///   transaction can then only abort.
+/// - 18 (`NoSuchCaller`) if the map has no caller with this number.
+/// - 19 (`NotOpen`) if the caller has no transaction.
+/// - 22 (`Leaving`) if an earlier operation of the transaction was busy.
+/// - 30 (`NoMemory`) if memory is refused.
 ///
 /// # Cost
 ///

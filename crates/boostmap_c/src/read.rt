@@ -1,6 +1,6 @@
-//! Writes the content of a map into an array of C's: all pairs if there is room for them, and none
-//! otherwise. The module `striped_read` also calls `lay_all`, so C has one type of pairs.
-//! `boostmap_read` takes memory for the pairs, and frees it before it returns.
+//! Writes the content of a map into an array that belongs to C: all pairs if there is room for
+//! them, and none otherwise. The module `striped_read` also calls `lay_all`, so C has one type of
+//! pairs. `boostmap_read` takes memory for the pairs, and frees it before it returns.
 ghost use Rattle.std.specs.Prelude.{◌≡◌, ◌≤◌, length};
 ghost use Rattle.boostmap_c.specs.Contents.{LaysOf, Lie, Reads};
 

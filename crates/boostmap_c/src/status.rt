@@ -6,7 +6,7 @@ ghost use Rattle.boostmap_c.specs.Replies.{refused, status_of_answer, status_of_
 
 use txn_trace::{Answer, Refusal};
 
-/// The call is done. Its word, if it has one, is a value, a number or a count.
+/// The call is done. Its word is a value, a number or a count. Some calls have no word.
 pub(crate) const DONE: u32 = 0;
 
 /// The call is done, and the key had no value.

@@ -110,7 +110,7 @@ pub extern "C" fn boostmap_striped_open(
 /// # Errors
 ///
 /// On an error both handles are unchanged. The status is 4 if the second handle has a caller
-/// already, 3 if the first handle has none, 18 (`NoSuchCaller`) if no caller waits, and 30
+/// already, 3 if the first handle has no caller, 18 (`NoSuchCaller`) if no caller waits, and 30
 /// (`NoMemory`) if memory is refused.
 ///
 /// # Cost
@@ -151,7 +151,7 @@ pub extern "C" fn boostmap_striped_join(
 ///
 /// # Errors
 ///
-/// 3 if the handle has no caller.
+/// The status is 3 if the handle has no caller.
 ///
 /// # Cost
 ///

@@ -33,10 +33,14 @@ pub extern "C" fn boostmap_striped_begin(caller: &mut CallerHandle) -> u32
 ///
 /// # Errors
 ///
-/// The status is 3 if the handle has no caller. It is 2 if another caller held the key's stripe.
-/// Then the transaction is aborted, all its changes are taken back, and the word is the holder. The
-/// refusals are 19 (`NotOpen`) and 30 (`NoMemory`). They leave the transaction unchanged, except
-/// that after 30 it may hold the key's stripe.
+/// The status is one of these:
+///
+/// - 3 if the handle has no caller.
+/// - 2 if another caller held the key's stripe. The word is that caller's number. The transaction
+///   is then aborted, and all its changes are taken back.
+/// - 19 (`NotOpen`) if the caller has no transaction.
+/// - 30 (`NoMemory`) if memory is refused. The transaction is then unchanged, but it may hold the
+///   key's stripe.
 ///
 /// # Cost
 ///
@@ -58,10 +62,14 @@ pub extern "C" fn boostmap_striped_get(caller: &mut CallerHandle, key: u64, word
 ///
 /// # Errors
 ///
-/// The status is 3 if the handle has no caller. It is 2 if another caller held the key's stripe.
-/// Then the transaction is aborted, all its changes are taken back, and the word is the holder. The
-/// refusals are 19 (`NotOpen`) and 30 (`NoMemory`). They leave the transaction unchanged, except
-/// that after 30 it may hold the key's stripe.
+/// The status is one of these:
+///
+/// - 3 if the handle has no caller.
+/// - 2 if another caller held the key's stripe. The word is that caller's number. The transaction
+///   is then aborted, and all its changes are taken back.
+/// - 19 (`NotOpen`) if the caller has no transaction.
+/// - 30 (`NoMemory`) if memory is refused. The transaction is then unchanged, but it may hold the
+///   key's stripe.
 ///
 /// # Cost
 ///
@@ -88,10 +96,14 @@ pub extern "C" fn boostmap_striped_put(
 ///
 /// # Errors
 ///
-/// The status is 3 if the handle has no caller. It is 2 if another caller held the key's stripe.
-/// Then the transaction is aborted, all its changes are taken back, and the word is the holder. The
-/// refusals are 19 (`NotOpen`) and 30 (`NoMemory`). They leave the transaction unchanged, except
-/// that after 30 it may hold the key's stripe.
+/// The status is one of these:
+///
+/// - 3 if the handle has no caller.
+/// - 2 if another caller held the key's stripe. The word is that caller's number. The transaction
+///   is then aborted, and all its changes are taken back.
+/// - 19 (`NotOpen`) if the caller has no transaction.
+/// - 30 (`NoMemory`) if memory is refused. The transaction is then unchanged, but it may hold the
+///   key's stripe.
 ///
 /// # Cost
 ///
@@ -114,10 +126,14 @@ pub extern "C" fn boostmap_striped_take(caller: &mut CallerHandle, key: u64, wor
 ///
 /// # Errors
 ///
-/// The status is 3 if the handle has no caller. It is 2 if another caller held the key's stripe.
-/// Then the transaction is aborted, all its changes are taken back, and the word is the holder. The
-/// refusals are 19 (`NotOpen`) and 30 (`NoMemory`). They leave the transaction unchanged, except
-/// that after 30 it may hold the key's stripe.
+/// The status is one of these:
+///
+/// - 3 if the handle has no caller.
+/// - 2 if another caller held the key's stripe. The word is that caller's number. The transaction
+///   is then aborted, and all its changes are taken back.
+/// - 19 (`NotOpen`) if the caller has no transaction.
+/// - 30 (`NoMemory`) if memory is refused. The transaction is then unchanged, but it may hold the
+///   key's stripe.
 ///
 /// # Cost
 ///
@@ -145,10 +161,14 @@ pub extern "C" fn boostmap_striped_put_if_absent(
 ///
 /// # Errors
 ///
-/// The status is 3 if the handle has no caller. It is 2 if another caller held the key's stripe.
-/// Then the transaction is aborted, all its changes are taken back, and the word is the holder. The
-/// refusals are 19 (`NotOpen`) and 30 (`NoMemory`). They leave the transaction unchanged, except
-/// that after 30 it may hold the key's stripe.
+/// The status is one of these:
+///
+/// - 3 if the handle has no caller.
+/// - 2 if another caller held the key's stripe. The word is that caller's number. The transaction
+///   is then aborted, and all its changes are taken back.
+/// - 19 (`NotOpen`) if the caller has no transaction.
+/// - 30 (`NoMemory`) if memory is refused. The transaction is then unchanged, but it may hold the
+///   key's stripe.
 ///
 /// # Cost
 ///
@@ -176,8 +196,8 @@ pub extern "C" fn boostmap_striped_put_if_equal(
 ///
 /// # Errors
 ///
-/// 3 if the handle has no caller. A refusal leaves the transaction unchanged: 19 (`NotOpen`), 30
-/// (`NoMemory`).
+/// The status is 3 if the handle has no caller, 19 (`NotOpen`) if the caller has no transaction,
+/// and 30 (`NoMemory`) if memory is refused. In each case nothing has changed.
 ///
 /// # Cost
 ///
@@ -200,8 +220,9 @@ pub extern "C" fn boostmap_striped_save(caller: &mut CallerHandle, word: &mut u6
 ///
 /// # Errors
 ///
-/// 3 if the handle has no caller. A refusal leaves the transaction unchanged: 19 (`NotOpen`), 25
-/// (`NoSuchLevel`).
+/// The status is 3 if the handle has no caller, 19 (`NotOpen`) if the caller has no transaction,
+/// and 25 (`NoSuchLevel`) if the level is above the number of savepoints. In each case nothing has
+/// changed.
 ///
 /// # Cost
 ///
@@ -223,7 +244,8 @@ pub extern "C" fn boostmap_striped_back(caller: &mut CallerHandle, level: u64) -
 ///
 /// # Errors
 ///
-/// 3 if the handle has no caller, 19 (`NotOpen`) if the caller has no transaction.
+/// The status is 3 if the handle has no caller, and 19 (`NotOpen`) if the caller has no
+/// transaction.
 ///
 /// # Cost
 ///
@@ -245,7 +267,8 @@ pub extern "C" fn boostmap_striped_commit(caller: &mut CallerHandle, word: &mut 
 ///
 /// # Errors
 ///
-/// 3 if the handle has no caller, 19 (`NotOpen`) if the caller has no transaction.
+/// The status is 3 if the handle has no caller, and 19 (`NotOpen`) if the caller has no
+/// transaction.
 ///
 /// # Cost
 ///

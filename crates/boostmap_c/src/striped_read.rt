@@ -16,10 +16,14 @@ use crate::stops::{tell_number, tell_stop};
 ///
 /// # Errors
 ///
-/// The status is 3 if the handle has no caller. It is 2 if another caller held a stripe. Then the
-/// transaction is aborted, all its changes are taken back, and the word is the holder. The refusals
-/// are 19 (`NotOpen`) and 30 (`NoMemory`). They leave the transaction unchanged, except that it may
-/// hold more stripes.
+/// The status is one of these:
+///
+/// - 3 if the handle has no caller.
+/// - 2 if another caller held a stripe. The word is that caller's number. The transaction is then
+///   aborted, and all its changes are taken back.
+/// - 19 (`NotOpen`) if the caller has no transaction.
+/// - 30 (`NoMemory`) if memory is refused, or if 64 bits cannot count the pairs. The transaction is
+///   then unchanged, but it may hold more stripes.
 ///
 /// # Cost
 ///
@@ -43,8 +47,8 @@ pub extern "C" fn boostmap_striped_count(caller: &mut CallerHandle, word: &mut u
 ///
 /// # Errors
 ///
-/// Those of `boostmap_striped_count`, and 7 if the array has too few places. After 7 the word is
-/// the number of places that are needed. The array is unchanged after each error.
+/// The errors of `boostmap_striped_count`, and 7 if the array has too few places. After 7 the word
+/// is the number of places that are needed. The array is unchanged after each error.
 ///
 /// # Cost
 ///

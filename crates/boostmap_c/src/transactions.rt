@@ -15,8 +15,13 @@ use txn_trace::Step;
 ///
 /// # Errors
 ///
-/// 3 if the handle has no map. A refusal changes nothing: 18 (`NoSuchCaller`), 20 (`AlreadyOpen`),
-/// 22 (`Leaving`), 30 (`NoMemory`).
+/// The status is one of these. After each, nothing has changed.
+///
+/// - 3 if the handle has no map.
+/// - 18 (`NoSuchCaller`) if the map has no caller with this number.
+/// - 22 (`Leaving`) if the caller has a transaction in which an operation was busy.
+/// - 20 (`AlreadyOpen`) if the caller has any other transaction.
+/// - 30 (`NoMemory`) if memory is refused.
 ///
 /// # Cost
 ///
@@ -43,8 +48,13 @@ pub extern "C" fn boostmap_begin(
 ///
 /// # Errors
 ///
-/// 3 if the handle has no map. A refusal changes nothing: 18 (`NoSuchCaller`), 19 (`NotOpen`), 22
-/// (`Leaving`), 30 (`NoMemory`).
+/// The status is one of these. After each, nothing has changed.
+///
+/// - 3 if the handle has no map.
+/// - 18 (`NoSuchCaller`) if the map has no caller with this number.
+/// - 19 (`NotOpen`) if the caller has no transaction.
+/// - 22 (`Leaving`) if an operation of the transaction was busy.
+/// - 30 (`NoMemory`) if memory is refused.
 ///
 /// # Cost
 ///
@@ -67,8 +77,14 @@ pub extern "C" fn boostmap_save(alloc: Global, map: &mut Handle, caller: u64, wo
 ///
 /// # Errors
 ///
-/// 3 if the handle has no map. A refusal changes nothing: 18 (`NoSuchCaller`), 19 (`NotOpen`), 22
-/// (`Leaving`), 25 (`NoSuchLevel`), 30 (`NoMemory`).
+/// The status is one of these. After each, nothing has changed.
+///
+/// - 3 if the handle has no map.
+/// - 18 (`NoSuchCaller`) if the map has no caller with this number.
+/// - 19 (`NotOpen`) if the caller has no transaction.
+/// - 22 (`Leaving`) if an operation of the transaction was busy.
+/// - 25 (`NoSuchLevel`) if the level is above the number of savepoints.
+/// - 30 (`NoMemory`) if memory is refused.
 ///
 /// # Cost
 ///
@@ -97,8 +113,12 @@ pub extern "C" fn boostmap_back(
 ///
 /// # Errors
 ///
-/// 3 if the handle has no map. A refusal changes nothing: 18 (`NoSuchCaller`), 19 (`NotOpen`), 22
-/// (`Leaving`).
+/// The status is one of these. After each, nothing has changed.
+///
+/// - 3 if the handle has no map.
+/// - 18 (`NoSuchCaller`) if the map has no caller with this number.
+/// - 19 (`NotOpen`) if the caller has no transaction.
+/// - 22 (`Leaving`) if an operation of the transaction was busy.
 ///
 /// # Cost
 ///
@@ -126,7 +146,8 @@ pub extern "C" fn boostmap_commit(
 ///
 /// # Errors
 ///
-/// 3 if the handle has no map. A refusal changes nothing: 18 (`NoSuchCaller`), 19 (`NotOpen`).
+/// The status is 3 if the handle has no map, 18 (`NoSuchCaller`) if the map has no caller with this
+/// number, and 19 (`NotOpen`) if the caller has no transaction. In each case nothing has changed.
 ///
 /// # Cost
 ///

@@ -1,7 +1,7 @@
 //! The faults of the program, with the exit status and the line of each, and the usage text. All
-//! commands and the programs above share these faults: a command returns its fault, and a program
-//! prints the fault's line. Contracts state each status and text (`specs/Faults.antt`). No text
-//! takes memory.
+//! commands, and the programs that use this crate, share these faults: a command returns its fault,
+//! and a program prints the fault's line. Contracts state each status and text
+//! (`specs/Faults.antt`). No text takes memory.
 ghost use Rattle.std.specs.Prelude.{◌≡◌};
 ghost use Rattle.boostmap_engine.specs.Faults.{status_of, message_of, of_file};
 ghost use Rattle.boostmap_engine.specs.declared.fault.Fault.TheVariants as faults;

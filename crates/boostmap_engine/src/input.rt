@@ -1,6 +1,7 @@
-//! Reads the input of each command, including `run` in the crate above. Reads at most one byte more
-//! than a file may have, so a file that is too long is found without reading all of it. A reader is
-//! not called again after it failed. Takes memory for the bytes, and 64 KB for a chunk.
+//! Reads the input of each command, including `run`, which is in `boostmap_program`. Reads at most
+//! one byte more than a file may have, so a file that is too long is found without reading all of
+//! it. A reader is not called again after it failed. Takes memory for the bytes, and 64 KB for a
+//! chunk.
 ghost use Rattle.std.specs.Prelude.{◌≡◌, length, IfOk, IfErr};
 ghost use Rattle.boostmap_engine.specs.Written.{IsRead};
 ghost use Rattle.piece_files.specs.Faults.{Gives};

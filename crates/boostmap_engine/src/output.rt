@@ -1,6 +1,6 @@
 //! Writes a whole text, or only a proper prefix of the text if the writer fails. All commands,
-//! including `run`, write by the two functions of this module. So it is proved only once what a
-//! failed write leaves. A writer is not called again after it failed or took no bytes.
+//! including `run`, write by the two functions of this module. So one proof says, for all commands,
+//! what a failed write leaves. A writer is not called again after it failed or took no bytes.
 ghost use Rattle.std.specs.Prelude.{◌≡◌, OnOk, OnErr, IfErr};
 ghost use Rattle.std.specs.Io.KnownBytes.{Appends};
 ghost use Rattle.txn_files.specs.HistoryText.{text_of_history};
@@ -18,8 +18,8 @@ use txn_words::SmallEntry;
 ///
 /// # Errors
 ///
-/// `Write` if the writer fails or takes no bytes. Then it is not called again, and a proper prefix
-/// of the text is written.
+/// `Write` if the writer fails or takes no bytes. Then the writer is not called again, and a proper
+/// prefix of the text is written.
 ///
 /// # Cost
 ///
@@ -48,8 +48,8 @@ pub fn write_text<W: Write>(output: &mut W, text: &[u8]) -> Result<(), Fault>
 ///
 /// - `NoMemory` if memory is refused. All memory is taken before the first write, so nothing is
 ///   written.
-/// - `Write` if the writer fails or takes no bytes. Then it is not called again, and a proper
-///   prefix of the line is written.
+/// - `Write` if the writer fails or takes no bytes. Then the writer is not called again, and a
+///   proper prefix of the line is written.
 ///
 /// # Cost
 ///

@@ -2,9 +2,9 @@
 //!
 //! `boostmap replay FILE` runs the steps of a file on a transactional map and prints a report;
 //! `boostmap run FILE` runs the scripts of a file, each worker in its own thread, and prints the
-//! history; `boostmap mix --seed N FILE` runs the scripts of a file in one thread, with the
-//! workers' turns mixed as the seed says; `boostmap check FILE` says whether the recorded history
-//! of a file is legal.
+//! history; `boostmap mix --seed N FILE` runs the scripts of a file in one thread, where the seed
+//! decides how the workers' turns are mixed; `boostmap check FILE` says whether the recorded
+//! history of a file is legal.
 //!
 //! `run` does all that the program does. It works over any system that has words and opens files,
 //! and over any two writers. It promises (`Runs` of `unthreaded_program`) that one of two things
@@ -12,11 +12,12 @@
 //!
 //! - An engine ran on the file that the words name. It is the engine of the command that the words
 //!   ask for, and standard output has exactly what this engine wrote.
-//! - No engine ran, and standard output is unchanged. The reason is that the words are no call,
-//!   that their file was not opened, or that memory was refused.
+//! - No engine ran, and standard output is unchanged. The reason is that the words are no valid
+//!   call, that their file was not opened, or that memory was refused.
 //!
 //! If there is a fault, its line and nothing else is written to standard error, unless writing the
-//! line fails. Otherwise standard error is unchanged. The exit status is that of the outcome.
+//! line fails. Otherwise standard error is unchanged. The exit status is 0 if all is well, 1 if
+//! `check` finds an illegal history, and otherwise the status of the fault.
 //!
 //! `threaded::run` is the engine of the command `run` (`specs/Threaded.antt`): it writes a legal
 //! history of a run of the scripts in threads (`HasRunScripts`). All else is in

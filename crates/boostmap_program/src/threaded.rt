@@ -32,10 +32,13 @@ struct ThreadedHistory {
 ///
 /// # Errors
 ///
-/// `Input` if the bytes are no script file; `NoMemory` if memory is refused outside a call;
-/// `NoThread` if a thread could not be started; `OutOfStep` if the history is not what the workers
-/// saw. Before a thread starts, the map takes room for what the scripts add. If memory for this
-/// room is refused, the run continues.
+/// - `Input` if the bytes are no script file.
+/// - `NoMemory` if memory is refused outside a script's call.
+/// - `NoThread` if a thread could not be started.
+/// - `OutOfStep` if the history is not what the workers saw.
+///
+/// Before a thread starts, the map takes room for what the scripts add. If memory for this room is
+/// refused, the run continues.
 ///
 /// # Cost
 ///
@@ -72,7 +75,7 @@ fn run_in_threads<R: Threads + Wait + Sync>(
     })
 }
 
-/// The fault of a run that was refused as a whole.
+/// The fault that reports the refusal of a whole run.
 fn fault_of(refusal: Refusal) -> Fault
     ensures { result ≡ of_run refusal }
 {
@@ -97,12 +100,13 @@ fn fault_of(refusal: Refusal) -> Fault
 ///
 /// - `Read` if a read fails.
 /// - `Input` if the file is refused.
-/// - `NoMemory` if memory is refused outside a call. Before a thread starts, the map takes room for
-///   what the scripts add. If memory for this room is refused, the run continues. If a call is
-///   refused memory, its script ends as refused.
-/// - `NoThread` if a thread could not be started; the workers that were started finish.
+/// - `NoMemory` if memory is refused outside a script's call. Before a thread starts, the map takes
+///   room for what the scripts add. If memory for this room is refused, the run continues. If
+///   memory is refused in a script's call, the script ends as refused.
+/// - `NoThread` if a thread could not be started. The workers that were started finish first.
 /// - `OutOfStep` if the history is not what the workers saw.
-/// - `Write` if a write fails or takes no byte. Then a proper beginning of the line is written.
+/// - `Write` if a write fails or takes no byte. Then only the first bytes of the line are written,
+///   or none.
 ///
 /// # Cost
 ///

@@ -87,7 +87,7 @@ impl From<SpareFault> for InitRefusal {
 /// buckets.
 #[derive(Clone, Copy, Debug, PartialEq, Eq)]
 pub enum Double {
-    /// The size is not the one that the caller saw; it is this number.
+    /// The size is not the one that the caller saw. The size is this number.
     Moved(u32),
     /// The size is the largest one allowed.
     AtLimit,

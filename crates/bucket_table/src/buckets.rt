@@ -53,8 +53,8 @@ impl Buckets {
     ghost use Rattle.bucket_table.specs.Answers.{seek_answer, link_answer_at, store_answer, double_answer};
     ghost use Rattle.bucket_table.specs.Changes.{SeekChanges, LinkChanges, StoreChanges, after_double};
 
-    /// Two buckets and idle helpers. Only bucket 0 is stored; its dummy is the list's first node.
-    /// `max` is the largest size, in buckets.
+    /// Makes a table of two buckets, with `helpers` idle helpers. Only bucket 0 is stored; its
+    /// dummy is the list's first node. `max` is the largest size, in buckets.
     ///
     /// # Errors
     ///
@@ -73,7 +73,7 @@ impl Buckets {
         Buckets::with_capacity(alloc, max, helpers, list, 0)
     }
 
-    /// Buckets as `new` makes them. This call also takes the memory for the entries of the first
+    /// Makes the same table as `new`. This call also takes the memory for the entries of the first
     /// `buckets` buckets, and writes it.
     ///
     /// # Errors
@@ -119,8 +119,9 @@ impl Buckets {
         self.entries.get(bucket)
     }
 
-    /// The dummy of a bucket, or that of its nearest stored ancestor. A seek for any key of the
-    /// bucket may begin at this dummy, since the dummy precedes all keys of the bucket.
+    /// Returns the dummy of a bucket. If the bucket is not stored, returns the dummy of its nearest
+    /// stored ancestor. A seek for any key of the bucket may begin at the returned dummy, since
+    /// this dummy precedes all keys of the bucket.
     ///
     /// # Cost
     ///
@@ -184,9 +185,13 @@ impl Buckets {
     ///
     /// # Errors
     ///
-    /// In this order: `NoSuchHelper`; `NoSuchBucket` if the bucket is not below the size;
-    /// `ParentMissing` if neither the bucket nor its parent is stored. The helper, the buckets and
-    /// the list are then unchanged.
+    /// The first of these that applies:
+    ///
+    /// - `NoSuchHelper` if the helper's number is not below the number of helpers.
+    /// - `NoSuchBucket` if the bucket is not below the size.
+    /// - `ParentMissing` if neither the bucket nor its parent is stored.
+    ///
+    /// The helper, the buckets and the list are then unchanged.
     ///
     /// # Cost
     ///
@@ -269,18 +274,23 @@ impl Buckets {
         }
     }
 
-    /// If the helper's cursor no longer fits, drops the cursor, and the helper is idle. Otherwise
-    /// links the dummy of the helper's bucket at the cursor, unless this dummy is linked already,
-    /// and gives the helper the dummy.
+    /// Links the dummy of the helper's bucket at the helper's cursor, and gives the helper the
+    /// dummy. If the cursor no longer fits, only drops the cursor, and the helper is then idle. If
+    /// the cursor fits and the dummy is linked already, only gives the helper the dummy.
     ///
     /// The content of the list is unchanged.
     ///
     /// # Errors
     ///
-    /// In this order: `NoSuchHelper`; `HelperOutOfOrder` if the helper has no cursor. If a dummy is
-    /// to be linked, also `StampsUsedUp` if no stamp is left, then `NoMemory` if memory is refused
-    /// or the list has no place left. The helper with its cursor, the buckets and the list are then
-    /// unchanged.
+    /// The first of these that applies:
+    ///
+    /// - `NoSuchHelper` if the helper's number is not below the number of helpers.
+    /// - `HelperOutOfOrder` if the helper has no cursor.
+    /// - `StampsUsedUp` if a dummy is to be linked and no stamp is left.
+    /// - `NoMemory` if a dummy is to be linked, and memory is refused or the list has no place
+    ///   left.
+    ///
+    /// The helper with its cursor, the buckets and the list are then unchanged.
     ///
     /// # Cost
     ///
@@ -308,9 +318,14 @@ impl Buckets {
     ///
     /// # Errors
     ///
-    /// In this order: `NoSuchHelper`; `HelperOutOfOrder` if the helper has no dummy; `NoMemory` if
-    /// memory is refused, which happens only if no bucket of the bucket's segment is stored. The
-    /// helper with its dummy and the buckets are then unchanged.
+    /// The first of these that applies:
+    ///
+    /// - `NoSuchHelper` if the helper's number is not below the number of helpers.
+    /// - `HelperOutOfOrder` if the helper has no dummy.
+    /// - `NoMemory` if memory is refused. Memory is needed only if no bucket of the bucket's
+    ///   segment is stored.
+    ///
+    /// The helper with its dummy and the buckets are then unchanged.
     ///
     /// # Cost
     ///

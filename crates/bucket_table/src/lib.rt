@@ -38,17 +38,18 @@
 //! Contracts see a `Directory`: the size, the place of each stored bucket's dummy, and each
 //! helper's state. For every value of `Buckets` the size and the largest size are powers of two,
 //! and no bucket is stored before its parent (`IsSound`). Buckets are *at home* on their list
-//! (`IsHome`) if two things hold. Each stored bucket names its linked dummy, and each helper's
-//! dummy is the linked dummy of the helper's bucket. Each helper's cursor was placed on this list,
-//! for the dummy of the helper's bucket. Each call keeps the buckets at home, and so does any
-//! change of the list (`still_home`). The state before a call determines its answer, unless the
-//! answer is `NoMemory` (`Answers`). A refused call changes nothing, and no call changes the
-//! content of the list. A doubling changes only the size: no node moves.
+//! (`IsHome`) if three things hold. Each stored bucket names its linked dummy. Each helper's dummy
+//! is the linked dummy of the helper's bucket. Each helper's cursor was placed on this list, for
+//! the dummy of the helper's bucket. Each call keeps the buckets at home, and so does any change of
+//! the list (`still_home`). The state before a call determines its answer, unless the answer is
+//! `NoMemory` (`Answers`). A refused call changes nothing, and no call changes the content of the
+//! list. A doubling changes only the size: no node moves.
 //!
 //! Calls take constant time and no memory unless they say otherwise. `Buckets::new` and
 //! `Buckets::with_capacity` take memory. `Buckets::init_link` may take memory for a new dummy, and
 //! `Buckets::init_store` for a new segment. `nearest` walks up from a bucket to its ancestors, at
-//! most one step for each 1 bit of the bucket. `init_seek` walks the list from the parent's dummy.
+//! most one step for each 1 bit of the bucket's number. `init_seek` walks the list from the
+//! parent's dummy.
 #![tactic(auto)]
 
 mod answer;

@@ -1,11 +1,12 @@
 //! The command line of `boostmap`.
 //!
-//! `call_in` reads the words by the rules of `clap`. It returns the call that the words ask for, or
-//! an error if they are no call (`asked`, `specs/Words.antt`). The calls are `replay FILE`, `run
-//! FILE`, `mix --seed N FILE` and `check FILE`.
+//! `call_in` reads the words by the rules of `clap`. It returns the call that the words ask for: a
+//! command and the name of its file. If the words are not a valid call, it returns an error
+//! (`asked`, `specs/Words.antt`). The calls are `replay FILE`, `run FILE`, `mix --seed N FILE` and
+//! `check FILE`.
 //!
 //! The programs that run the engine of a call are other crates (`unthreaded_program`,
-//! `boostmap_program`). The words need none of the proofs about engines and threads.
+//! `boostmap_program`). Reading the words needs none of the proofs about engines and threads.
 #![tactic(auto)]
 
 mod no_call;

@@ -1,6 +1,6 @@
-//! The reason why there is no call, as an error with a text. It is not the `Fault` of the engines,
-//! since nothing in this crate depends on an engine. The programs turn the reason into a fault.
-//! `NoCall` has no fields, so making one takes no memory.
+//! The reason why `call_in` returns no call, as an error with a text. It is not the `Fault` of the
+//! engines, since nothing in this crate depends on an engine. The programs turn the reason into a
+//! fault. `NoCall` has no fields, so making one takes no memory.
 ghost use Rattle.std.specs.Prelude.{◌≡◌};
 ghost use Rattle.command_line.specs.declared.no_call.NoCall.TheVariants.{NoMemory};
 
@@ -8,10 +8,10 @@ use std::alloc::AllocError;
 use std::error::Error;
 use std::fmt;
 
-/// The reason why there is no call.
+/// The reason why `call_in` returns no call.
 #[derive(Clone, Copy, Debug, PartialEq, Eq)]
 pub enum NoCall {
-    /// The words are no call of the program.
+    /// The words are not a valid call of the program.
     Usage,
     /// Memory was refused.
     NoMemory,

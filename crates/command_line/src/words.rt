@@ -1,6 +1,6 @@
-//! Reads the command line by the rules of `clap`: finds the call that the words ask for, if they
-//! are a call. No file is opened here; a call borrows the name of its file from the words. Each
-//! command is made and added separately, which keeps the proof of `all_commands` cheap.
+//! Reads the command line by the rules of `clap`: finds the command and the file that the words
+//! name. No file is opened here; a call borrows the name of its file from the words. Each command
+//! is made and added separately, which keeps the proof of `all_commands` cheap.
 ghost use Rattle.std.specs.Prelude.{◌≡◌, ◌⊎◌, Some, None, false, IfOk, IfErr, codes, map, option_map};
 ghost use Rattle.std.specs.String.{string_bytes};
 ghost use Rattle.clap.specs.Words.{found_of, rows_of, rule_of};
@@ -31,7 +31,7 @@ pub enum Command {
     Check,
 }
 
-/// The call that the words ask for.
+/// A call of the program: a command, and the file that it runs on.
 #[derive(Clone, Copy, Debug, PartialEq, Eq)]
 pub struct Call<'a> {
     /// The command.
@@ -40,7 +40,7 @@ pub struct Call<'a> {
     pub file: &'a str,
 }
 
-/// The name of a file, which may not be left out.
+/// The argument for the name of a file. It is required.
 fn file_name<'a>(alloc: Global) -> Arg<'a>
     ensures rule { rule_of result ≡ file_word (codes "FILE") }
     ensures local { result.global ≡ false }
@@ -50,7 +50,7 @@ fn file_name<'a>(alloc: Global) -> Arg<'a>
         .action(ArgAction::Set)
 }
 
-/// The option for a seed, which may not be left out.
+/// The option for a seed. It is required.
 fn seed_option<'a>(alloc: Global) -> Arg<'a>
     ensures rule { rule_of result ≡ seed_word }
     ensures local { result.global ≡ false }
@@ -127,13 +127,14 @@ fn call_named<'a>(name: &str, found: &ArgMatches<'a>) -> Option<Call<'a>>
     }
 }
 
-/// The call that the words ask for, by the rules of `clap`. The first word is the program's name.
+/// Reads the words of a command line by the rules of `clap`, and returns the call that they ask
+/// for. The first word is the program's name.
 ///
 /// # Errors
 ///
 /// - `NoMemory` if memory is refused.
-/// - Otherwise `Usage` if the words are no call of the program, and only then. Words that ask for
-///   help are no call.
+/// - Otherwise `Usage`, exactly if the words are not a valid call of the program. Words that ask
+///   for help are not a valid call.
 ///
 /// # Cost
 ///

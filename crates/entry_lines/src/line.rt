@@ -1,7 +1,7 @@
 //! Reads a line. The result is the line's entry, or none if the line is blank, or the line's first
 //! fault. Each line is read on its own, so reading many lines needs memory for one line only. The
-//! line's length is tested first, so that memory is bounded. The entry's callers are tested last,
-//! against the limits of a map.
+//! line's length is tested first, so that memory is bounded. The numbers of the entry's caller and
+//! holder are tested last: they must be below 64.
 ghost use Rattle.std.specs.Prelude.{◌≡◌, ◌<◌, List, true, Some, None, Err, MatchResult, IfOk, IfSome, option_and_then};
 ghost use Rattle.std.specs.List.{list_all};
 ghost use Rattle.serde_json.specs.Data.{Data};
@@ -32,14 +32,14 @@ const MAX_DEPTH: usize = 127;
 /// The number of elements of the longest entry: `["busy",0,"put_if",1,10,12,2]`.
 const MAX_ELEMENTS: usize = 7;
 
-/// Whether a byte is white space in JSON.
+/// Returns true if a byte is white space in JSON.
 fn is_space(byte: u8) -> bool
     ensures { result ≡ is_space byte }
 {
     byte == b' ' || byte == b'\t' || byte == b'\r' || byte == b'\n'
 }
 
-/// Whether a line has only white space.
+/// Returns true if a line has only white space.
 fn is_blank(line: &[u8]) -> bool
     ensures { result ≡ is_blank line.now }
 {
@@ -147,8 +147,9 @@ fn entry_in_text(text: &str, scratch: &mut Scratch<Global>) -> Result<Option<Ent
     }
 }
 
-/// Reads the entry from a line, given without its line feed. The line has the array that a history
-/// file of the newest version has for the entry. Returns `Ok(None)` if the line is blank.
+/// Reads the entry on a line. Pass the line without its line feed. The line must have the array
+/// that stands for the entry in history files of the newest version. Returns `Ok(None)` if the line
+/// is blank.
 ///
 /// # Errors
 ///

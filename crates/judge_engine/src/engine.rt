@@ -1,8 +1,8 @@
-//! The commands of `judge` that give a verdict. Each takes a reader and a writer; other modules
-//! read, judge and write. Each command makes the whole text of a verdict before it writes. So a
-//! fault before the first write leaves the output unchanged, except that `why` writes the flaw of a
-//! refused file. `watch` keeps a checker and a part of the input in memory; the others keep a whole
-//! file.
+//! The commands of `judge` that give a verdict. Each takes a reader and a writer, and leaves the
+//! reading, judging and writing to other modules. Each command makes the whole text of a verdict
+//! before it writes. So a fault before the first write leaves the output unchanged, except that
+//! `why` writes the flaw of a refused file. `watch` keeps a checker and a part of the input in
+//! memory; the others keep a whole file.
 ghost use Rattle.std.specs.Prelude.{IfOk, IfErr};
 ghost use Rattle.judge_engine.specs.Bases.{HasStripes};
 ghost use Rattle.judge_engine.specs.Files.{Checks, FailsToCheck, FailsToExplain};
@@ -29,14 +29,14 @@ use std::io::{Read, Write};
 ///
 /// # Errors
 ///
-/// Nothing is written at any error except `Write`.
+/// If the error is not `Write`, nothing was written.
 ///
-/// - `Line` for the first line that is refused, if no entry before it is bad: the line has more
-///   than 1,000 bytes, is no entry, or names a caller above 63.
+/// - `Line` for the first line that is refused, if no entry before it is bad. A line is refused if
+///   it has more than 1,000 bytes, is no entry, or names a caller above 63.
 /// - `Read` if a read fails.
 /// - `NoMemory` if memory is refused.
-/// - `Write` if a write fails or takes nothing: the beginning of the verdict's line may be written,
-///   but not the whole line.
+/// - `Write` if a write fails or takes nothing. Then the beginning of the verdict's line may be
+///   written, but not the whole line.
 ///
 /// # Cost
 ///
@@ -60,20 +60,20 @@ pub fn watch<R: Read, W: Write>(
 }
 
 /// Reads a history file to its end, judges the history by the order of commits or by the locks of
-/// the file's stripes, and writes the verdict as `watch` does. Returns whether the history is
-/// legal.
+/// the file's stripes, and writes the verdict in the same form as `watch`. Returns whether the
+/// history is legal.
 ///
 /// At most 16,777,217 bytes are read. A read or a write is tried again only if it was interrupted.
 ///
 /// # Errors
 ///
-/// Nothing is written at any error except `Write`.
+/// If the error is not `Write`, nothing was written.
 ///
 /// - `Read` if a read fails.
 /// - `Input` if the file is refused.
 /// - `NoMemory` if memory is refused.
-/// - `Write` if a write fails or takes nothing: the beginning of the verdict's line may be written,
-///   but not the whole line.
+/// - `Write` if a write fails or takes nothing. Then the beginning of the verdict's line may be
+///   written, but not the whole line.
 ///
 /// # Cost
 ///
@@ -96,13 +96,13 @@ pub fn check<R: Read + Drop, W: Write>(
     write_verdict(alloc, verdict, output)
 }
 
-/// Judges a history file as `check` does, and writes the verdict's line. If the history is illegal,
+/// Judges a history file and writes the verdict's line, like `check`. If the history is illegal,
 /// lines that explain the bad entry follow. Returns whether the history is legal.
 ///
-/// If the file is refused, one line is written instead: the flaw that `bad_file` finds. Either the
-/// line says that the file is too long or no JSON, or it has the JSON path of the first place at
-/// fault, the value there, and the values that are allowed instead, with their range. If no value
-/// is allowed there, the line has the path and the words "an element too many".
+/// If the file is refused, one line is written instead: the flaw that `bad_file` finds. The line
+/// may say that the file is too long or is not JSON. Otherwise the line has the JSON path of the
+/// first place that is wrong, the value there, and the values that are allowed instead, with their
+/// range. If no value is allowed there, the line has the path and the words "an element too many".
 ///
 /// # Errors
 ///

@@ -152,7 +152,7 @@ fn put_transaction(
     Ok(())
 }
 
-/// Adds who changed a key last.
+/// Adds the line that says who changed a key last.
 fn put_last(text: &mut String, key: u64, last: Option<(Change, Fate)>) -> Result<(), AllocError> {
     match last {
         Some((change, fate)) => writeln!(
@@ -184,7 +184,7 @@ fn put_first_torn(
     Ok(())
 }
 
-/// Adds who holds a lock.
+/// Adds the line that says who holds a lock.
 fn put_holder(text: &mut String, stripe: u64, holder: Option<Held>) -> Result<(), AllocError> {
     match holder {
         Some(held) => writeln!(
@@ -231,7 +231,7 @@ fn put_shape(
     }
 }
 
-/// If the bad entry is a Busy, adds why it may not name the caller that it names. Adds nothing for
+/// If the bad entry is a Busy, adds what is wrong with the caller that it names. Adds nothing for
 /// an entry of another kind.
 fn put_named(text: &mut String, entry: Entry, holder: Holder) -> Result<(), AllocError> {
     let Entry::Busy(caller, _, named) = entry else {
@@ -299,7 +299,7 @@ fn put_reason(
     }
 }
 
-/// The lines that explain the bad entry of a verdict by locks. There are no lines if the verdict is
+/// The lines that explain the bad entry of a verdict by locks. There are no lines if the history is
 /// legal.
 pub(crate) fn lines_by_locks(
     alloc: Global,
@@ -327,7 +327,7 @@ pub(crate) fn lines_by_locks(
 }
 
 /// The lines that explain the bad entry of a verdict by the order of commits. There are no lines if
-/// the verdict is legal.
+/// the history is legal.
 pub(crate) fn lines_by_commits(
     alloc: Global,
     entries: &[SmallEntry],
@@ -347,8 +347,8 @@ pub(crate) fn lines_by_commits(
     Ok(text)
 }
 
-/// If the verdict is illegal, the index of the bad entry and the rule that it breaks. The index is
-/// below `count`.
+/// If the verdict is that the history is illegal, returns the index of the bad entry and the rule
+/// that this entry breaks. The index is below `count`.
 fn bad_in(verdict: Verdict, count: usize) -> Option<(usize, Rule)>
     ensures { IfSome result (λ bad. bad.0 < count) }
 {

@@ -245,13 +245,13 @@ fn entries_in<R: Read + Drop>(alloc: Global, input: R) -> Result<Vec<SmallEntry>
 ///
 /// # Errors
 ///
-/// Nothing is written at any error except `Write`.
+/// If the error is not `Write`, nothing was written.
 ///
 /// - `ScriptsRead` if a read of the script file fails; `Scripts` if that file is refused.
 /// - `HistoryRead` if a read of the history file fails; `History` if that file is refused.
 /// - `NoMemory` if memory is refused.
-/// - `Write` if a write fails or takes nothing: the beginning of the lines may be written, but not
-///   all of them.
+/// - `Write` if a write fails or takes nothing. Then the beginning of the lines may be written, but
+///   not all of them.
 ///
 /// # Cost
 ///

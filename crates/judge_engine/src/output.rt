@@ -87,8 +87,8 @@ pub(crate) fn write_explained<W: Write>(
 }
 
 /// If the fault is that a history file is refused, writes the flaw of the file with these bytes, in
-/// one line. Returns `fault`, or `NoMemory` if memory is refused, or `Write` if the writer fails or
-/// takes nothing.
+/// one line. Returns `fault`. If memory is refused, returns `NoMemory` instead. If the writer fails
+/// or takes nothing, returns `Write` instead.
 pub(crate) fn tell<W: Write>(alloc: Global, fault: Fault, bytes: &[u8], output: &mut W) -> Fault
     ensures { (result ≡ fault) ⊎ ((result ≡ faults.NoMemory) ⊎ (result ≡ faults.Write)) }
 {

@@ -54,8 +54,8 @@ fn buffer(alloc: Global) -> Result<Vec<u8>, AllocError>
     vec![in alloc; 0u8; CHUNK]
 }
 
-/// Gives a new watcher the bytes that a reader gives, until there is a verdict. `chunk` is the
-/// buffer for the reads.
+/// Passes the bytes of a reader to a new watcher, until there is a verdict. `chunk` is the buffer
+/// for the reads.
 fn read_on<R: Read>(
     input: &mut R,
     watcher: &mut Watcher,

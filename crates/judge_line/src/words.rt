@@ -1,7 +1,7 @@
 //! Reads the command line of `judge`, by the rules of `clap`, and finds the call that the words ask
-//! for, if they ask for one. Numbers are tested here, so an engine can run every call that is found
-//! (`HasStripesIf`): `watch` has 1 to 4,096 locks. Each command is made and added separately, which
-//! keeps the proof of `command` short.
+//! for. Numbers are tested here, so an engine can run every call that is found (`HasStripesIf`):
+//! `watch` has 1 to 4,096 locks. Each command is made and added separately, which keeps the proof
+//! of `command` short.
 ghost use Rattle.std.specs.Prelude.{◌≡◌, ◌⊎◌, false, Some, None, IfOk, IfErr, IfSome, codes, map, option_map};
 ghost use Rattle.std.specs.String.{string_bytes};
 ghost use Rattle.clap.specs.Words.{first_of, found_of, rows_of, rule_of};
@@ -216,8 +216,9 @@ fn call_named<'a>(name: &str, found: &ArgMatches<'a>) -> Option<Call<'a>>
     }
 }
 
-/// Turns an error of `clap` into the call that the command line asks for, if it asks for one: words
-/// that ask for help or for the version are errors for `clap`.
+/// Returns the call that words ask for, given the error that `clap` returns for these words. For
+/// `clap`, words that ask for help or for the version are errors; here they are calls. Other errors
+/// are failures here too.
 fn call_for<'a>(kind: ErrorKind) -> Result<Call<'a>, Failure>
     ensures call { IfOk result (λ call. IsCallOf kind (Some (asked_of call))) }
     ensures stripes { IfOk result (λ call. HasStripesIf (asked_of call)) }

@@ -99,8 +99,8 @@ impl KeyLocks {
         }
     }
 
-    /// Frees all stripes that the caller holds, and no other stripe. If the number is `CALLERS` or
-    /// more, frees no stripe.
+    /// Frees all stripes that the caller holds, and no other stripe. If the caller's number is
+    /// `CALLERS` or more, frees no stripe.
     ///
     /// # Cost
     ///

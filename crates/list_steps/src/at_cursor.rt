@@ -1,7 +1,7 @@
-//! Tests a cursor and takes one step at it, in one call. `steps.rt` has the test and the steps as
-//! separate calls. If the cursor does not fit, nothing changes, and a spare that was passed in is
-//! returned. Of the linked nodes, a call touches only the two that the cursor notes, so it takes
-//! constant time.
+//! Each call of this module tests a cursor and takes one step at the cursor's position. `steps.rt`
+//! has the test and the steps as separate calls. If the cursor does not fit, nothing changes, and a
+//! spare that was passed in is returned. Of the linked nodes, a call touches only the two that the
+//! cursor notes, so it takes constant time.
 ghost use Rattle.std.specs.Prelude.{◌≡◌, ◌<◌, ◌-◌, ◌^◌, is_ok, IsOk, IfOk, IfErr, OnOk, OnErr};
 ghost use Rattle.node_list.specs.Nodes.{IsOut, filled};
 ghost use Rattle.node_list.specs.Follow.{Follows};
@@ -12,9 +12,9 @@ use crate::cursor::{Again, Cursor};
 use crate::steps::{link_at, look, mark_at, swap_at};
 use node_list::{NodeList, NodeRef, Spare};
 
-/// Links the node of a spare at the cursor, and returns that node. The spare belongs to this list,
-/// and its sort key is the one sought. It is required that, if the cursor fits, no node has that
-/// sort key. `look` reports whether this is so.
+/// Links the node of a spare at the cursor, and returns that node. The spare must belong to this
+/// list, and its sort key must be the one sought. If the cursor fits, there must be no node with
+/// that sort key (`look` says whether there is one).
 ///
 /// If the node is regular, its pair is added to the content. A dummy leaves the content unchanged.
 ///

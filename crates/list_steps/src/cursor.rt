@@ -21,8 +21,8 @@ pub struct Noted {
 
 /// The position of a sort key in a list, as a seek found it.
 ///
-/// It is plain data: the list may change while a cursor is kept, and `look` tests whether the
-/// cursor still fits.
+/// A cursor is plain data: the list may change while the cursor is kept, and `look` tests whether
+/// the cursor still fits.
 #[derive(Clone, Copy, Debug, PartialEq, Eq)]
 pub struct Cursor {
     pub(crate) pred: Noted,

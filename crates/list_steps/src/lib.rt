@@ -18,14 +18,14 @@
 //! A cursor of any age may be passed in, because every change of the list keeps the property that
 //! makes the cursor safe (`IsPlaced`, by the lemma `still_placed`).
 //!
-//! A cursor needs only one test. If it fits, `look` returns the node with the sort key, or that
-//! there is none, and `link_at`, `mark_at` and `swap_at` rely on that result. `link`, `mark` and
-//! `swap` test and act in one call.
+//! A cursor needs only one test. If it fits, `look` returns the node with the sort key, or `None`
+//! if there is no such node. The calls `link_at`, `mark_at` and `swap_at` rely on that result.
+//! `link`, `mark` and `swap` test and act in one call.
 //!
-//! A contract sees the list as `node_list` does, and its content as `pairs`: the key and the value
-//! of each regular, unmarked node, in order. Linking a regular node adds a pair, marking a node
-//! removes a pair, and a swap changes a value. Seeks, sweeps and linking a dummy leave the content
-//! unchanged.
+//! A contract sees the list in the same form as the contracts of `node_list`, and the list's
+//! content as `pairs`: the key and the value of each regular, unmarked node, in order. Linking a
+//! regular node adds a pair, marking a node removes a pair, and a swap changes a value. Seeks,
+//! sweeps and linking a dummy leave the content unchanged.
 //!
 //! Calls take no memory, and all but seeks and sweeps take constant time. A seek visits each node
 //! from its start to the position once. A sweep walks to the first marked node: `sweep` from the

@@ -29,9 +29,9 @@ fn node_there(list: &NodeList, cursor: &Cursor) -> Option<NodeRef>
 /// regular, its pair is in the content. Returns `None` if no linked node, marked or not, has the
 /// sort key. In that case a node with this sort key belongs right after `cursor.pred()`.
 ///
-/// The caller may rely on the result until the list changes. If there is no node, `link_at` may
-/// link one after `cursor.pred()`. If there is a regular node, `mark_at` or `swap_at` may change
-/// it.
+/// The caller may rely on the result until the list changes. If the result is `None`, `link_at` may
+/// link a node after `cursor.pred()`. If the result is a regular node, `mark_at` or `swap_at` may
+/// change it.
 ///
 /// # Errors
 ///

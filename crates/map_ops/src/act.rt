@@ -1,7 +1,7 @@
 //! What `act` and `undo` return: either the call is done, or the cursor no longer fits and the
 //! argument is returned. Both types are enums, so that a value that owns a spare cannot be lost
-//! when the cursor does not fit. No value of these types can be copied: until a spare is used it
-//! has one owner, an operation or a job.
+//! when the cursor does not fit. No value of these types can be copied. So until a spare is used,
+//! it has exactly one owner: an operation or a job.
 use crate::job::MapJob;
 use crate::pending::Pending;
 use txn_words::Reply;

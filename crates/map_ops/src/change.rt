@@ -201,7 +201,7 @@ pub(crate) fn give_up_job(list: &mut NodeList, job: MapJob)
     }
 }
 
-/// Returns true if what the key had is what was expected: the same value, or no value.
+/// Returns true if the key had the expected value, or if it had no value and none was expected.
 fn is_expected(was: Reply, expected: Reply) -> bool
     ensures { result ≡ option_eq nat_eq was expected }
 {
@@ -313,9 +313,9 @@ fn take_key(
     }
 }
 
-/// Does an operation at the node of its key or, if the key has no node, right after `pred`. Returns
-/// the value that the key had and, if the operation is a change, the job that takes the change
-/// back.
+/// Does an operation at the node of its key. If the key has no node, does the operation right after
+/// `pred`. Returns the value that the key had and, if the operation is a change, the job that takes
+/// the change back.
 #[inline(always)]
 pub(crate) fn change(
     list: &mut NodeList,
@@ -360,7 +360,8 @@ fn place_in(pred: NodeRef, there: Option<NodeRef>) -> NodeRef
     }
 }
 
-/// Takes a change back at the node of its key or, if the key has no node, right after `pred`.
+/// Takes a change back at the node of its key. If the key has no node, links one right after
+/// `pred`.
 pub(crate) fn restore(list: &mut NodeList, job: MapJob, pred: NodeRef, there: Option<NodeRef>)
     requires sound { IsSound list.old }
     requires belong { Belong list.old.nodes }

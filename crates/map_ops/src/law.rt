@@ -25,10 +25,9 @@ pub fn there_and_back()
         → Applies old new op reply None → content new ≡ content old }
 {}
 
-/// Two jobs of different keys may be taken back in either order. Both orders leave the same
-/// content, the same list of pairs and the same spares that are out. Clause `due` says: if the
-/// spares of the two jobs are at different places, the second job may still be taken back after the
-/// first.
+/// Two jobs of different keys may run in either order. After both orders the content and the list
+/// of pairs are the same, and the same spares are out. Clause `due` says: if the spares of the two
+/// jobs are at different places, the second job may still run after the first.
 ///
 /// The function does nothing. Its contract states the law, which follows from the contract of
 /// `Table::take_back`.

@@ -16,8 +16,8 @@
 //!   inverse.
 //! - `law::there_and_back` says that an `apply` and then the `take_back` of its job leave the
 //!   content and the list of pairs unchanged.
-//! - `law::either_order` says that jobs of different keys may be taken back in either order, with
-//!   the same result.
+//! - `law::either_order` says that jobs of different keys may run in either order, with the same
+//!   result.
 //! - `prepare`, `place` and `act` do an operation in steps; `place_job` and `undo` take a change
 //!   back in steps. If the cursor's two nodes are no longer neighbours, or one is marked, `act` or
 //!   `undo` returns `Again`, and nothing is lost.

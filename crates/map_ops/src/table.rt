@@ -88,9 +88,9 @@ impl Table {
     ///
     /// # Cost
     ///
-    /// The cost of `new`, plus 40 bytes of memory for each node. If `is_written`, also time in
-    /// proportion to that memory, and 4 bytes of memory for each bucket entry taken, in whole
-    /// segments.
+    /// The cost of `new`, plus 40 bytes of memory for each node. If `is_written`, this also takes
+    /// time in proportion to that memory, and 4 bytes of memory for each bucket entry. Bucket
+    /// entries are taken in whole segments.
     pub fn with_capacity(
         alloc: Global,
         max: u32,
@@ -289,8 +289,8 @@ impl Table {
     ///
     /// # Cost
     ///
-    /// Time in proportion to the number of nodes, plus n log n for the map of n keys. While it
-    /// runs, the pairs are in memory twice: in a vector and in the map.
+    /// Time in proportion to the number of nodes, plus n log n for the map of n keys. While the
+    /// call runs, the pairs are in memory twice: in a vector and in the map.
     pub fn content(&self, alloc: Global) -> Result<BTreeMap<u64, u64>, AllocError>
         ensures { IfOk result (λ map. (key : ℕ)
             → value_at nat_cmp map key ≡ get (content self.now) key) }
@@ -382,9 +382,11 @@ impl Table {
     ///
     /// # Errors
     ///
-    /// In this order: `NoSuchHelper`; `NoSuchBucket` if the bucket is not below the size;
-    /// `ParentMissing` if neither the bucket nor its parent is initialised. Each leaves the table
-    /// unchanged.
+    /// The first of these, in this order. Each leaves the table unchanged.
+    ///
+    /// - `NoSuchHelper` if the helper's number is not below the number of helpers.
+    /// - `NoSuchBucket` if the bucket is not below the size.
+    /// - `ParentMissing` if neither the bucket nor its parent is initialised.
     ///
     /// # Cost
     ///
@@ -405,15 +407,19 @@ impl Table {
     /// Links the dummy of a helper's bucket at the helper's cursor. The content and the list of
     /// pairs are unchanged.
     ///
-    /// Returns `Again` if the cursor no longer fits: the cursor is dropped, and the helper is idle.
-    /// Else returns `Present` if that dummy was linked already, or `Linked` if this call has linked
-    /// it. In both of these cases the helper now has the dummy.
+    /// Returns `Again` if the cursor no longer fits. The cursor is then dropped, and the helper is
+    /// idle. Else returns `Present` if that dummy was linked already, or `Linked` if this call has
+    /// linked it. In both of these cases the helper now has the dummy.
     ///
     /// # Errors
     ///
-    /// In this order: `NoSuchHelper`; `HelperOutOfOrder` if the helper has no cursor. If a dummy is
-    /// to be linked, then also: `StampsUsedUp` if no stamp is left; `NoMemory` if memory is refused
-    /// or the list has no place left. Each leaves the table unchanged.
+    /// The first of these, in this order. Each leaves the table unchanged. The last two are
+    /// possible only if the dummy is not linked yet.
+    ///
+    /// - `NoSuchHelper` if the helper's number is not below the number of helpers.
+    /// - `HelperOutOfOrder` if the helper has no cursor.
+    /// - `StampsUsedUp` if no stamp is left.
+    /// - `NoMemory` if memory is refused or the list has no place left.
     ///
     /// # Cost
     ///
@@ -439,9 +445,13 @@ impl Table {
     ///
     /// # Errors
     ///
-    /// In this order: `NoSuchHelper`; `HelperOutOfOrder` if the helper has no dummy; `NoMemory` if
-    /// memory is refused, which happens only if no bucket of the bucket's segment is initialised.
-    /// Each leaves the table unchanged. So after `NoMemory` the helper still has its dummy.
+    /// The first of these, in this order. Each leaves the table unchanged, so after `NoMemory` the
+    /// helper still has its dummy.
+    ///
+    /// - `NoSuchHelper` if the helper's number is not below the number of helpers.
+    /// - `HelperOutOfOrder` if the helper has no dummy.
+    /// - `NoMemory` if memory is refused. This happens only if no bucket of the bucket's segment is
+    ///   initialised.
     ///
     /// # Cost
     ///

@@ -56,7 +56,8 @@ fn advance(changes: &mut u64)
 }
 
 impl NodeList {
-    /// Makes a list that has only the dummy of bucket 0, with this stamp. Its change number is 0.
+    /// Makes a list that has only the dummy of bucket 0, with this stamp. The list's change number
+    /// is 0.
     ///
     /// # Errors
     ///
@@ -87,8 +88,8 @@ impl NodeList {
     ///
     /// # Cost
     ///
-    /// The cost of `new`, and 40 bytes of memory for each node. If the memory is written, also time
-    /// in proportion to the memory.
+    /// The cost of `new`, and 40 bytes of memory for each node. If the memory is written, this also
+    /// takes time in proportion to the memory.
     pub fn with_capacity(
         alloc: Global,
         first_stamp: u64,

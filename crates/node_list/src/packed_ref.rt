@@ -11,7 +11,7 @@ use std::mem::size_of;
 /// The place of a node, or None, in 4 bytes, for users that keep many places. An `Option<NodeRef>`
 /// takes 8 bytes. The greatest number of 32 bits is the place of no node, so it stands for None.
 ///
-/// A contract sees it as the option.
+/// A contract sees a `PackedRef` as the option that it stands for.
 #[derive(Clone, Copy, Debug)]
 pub struct PackedRef {
     place: u32,

@@ -1,6 +1,7 @@
-//! The slots of the slab. A slot has a linked node, or its place is kept for a spare. A slot is as
-//! large as a node, 32 bytes, since the node's flag `is_linked` says which it is. Only this module
-//! reads this flag. For the list and for each contract, a slot is one of these two cases.
+//! The slots of the slab. A slot has a linked node, or its place is kept for a spare. The node's
+//! flag `is_linked` tells the two cases apart, so a slot is only as large as a node: 32 bytes. Only
+//! this module reads this flag. For the list and for each contract, a slot is one of these two
+//! cases.
 ghost use Rattle.std.specs.Prelude.{◌≡◌, [], Some, IfOk, true, option_copied};
 ghost use Rattle.slab.specs.Slab.{get, with_value, ContainsKey};
 ghost use Rattle.node_list.specs.declared.node.Node.{Node};
@@ -15,7 +16,8 @@ use std::marker::Model;
 use std::mem::size_of;
 
 /// A linked node, or the stamp of a spare for which the place is kept. The node's flag `is_linked`,
-/// a byte beside its mark, says which it is. An enum would take one more word for each slot.
+/// a byte beside its mark, tells the two cases apart. An enum would take one more word for each
+/// slot.
 #[derive(Drop)]
 pub struct Slot {
     node: Node,

@@ -1,7 +1,7 @@
 //! Spares: places for nodes that are not linked yet. A node's place is allocated before it is
-//! needed, so that linking the node takes no memory; until then the list's user keeps the spare.
-//! Only a list gives spares, no spare can be copied, and a spare is used up when it is linked or
-//! given back.
+//! needed, so that linking the node takes no memory. Until the node is linked, the list's user
+//! keeps the spare. Only a list gives spares, no spare can be copied, and a spare is used up when
+//! it is linked or given back.
 ghost use Rattle.std.specs.Prelude.{◌≡◌};
 ghost use Rattle.node_list.specs.Layout.{stored_node};
 ghost use Rattle.node_list.specs.Nodes.{filled, first_dummy};

@@ -31,8 +31,9 @@
 //!   transaction by value, so it cannot be used afterwards.
 //! - When the table grows, the history is unchanged (`IsGrown`).
 //!
-//! The table grows by itself: each operation whose key was absent adds at most one bucket. If a
-//! growth is refused memory, it initialises no bucket. No contract of this crate states this.
+//! The table grows by itself: each operation whose key was absent adds at most one bucket. If the
+//! memory for a growth is refused, the growth initialises no bucket. No contract of this crate
+//! states this.
 //!
 //! One definition, `Keeps`, says what holds of every call of a work: the transaction is still the
 //! same, and it continues. A work's proof joins the work's calls by `keeps_stay` and `keeps_on` of

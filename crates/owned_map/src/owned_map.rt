@@ -2,7 +2,8 @@
 //!
 //! Each call of `Transaction` makes a call of `OwnedMap`, which names the caller and has a contract
 //! about states of the core. `grown` is the number of the next bucket to initialise. It rises only
-//! when that bucket was stored, so every bucket below it is initialised. No contract states this.
+//! after that bucket is initialised, so all buckets below it are initialised. No contract states
+//! this.
 ghost use Rattle.std.specs.Prelude.{◌≡◌, ◌==◌, true, false, ℕ, ◌⊎◌, IfOk, IfErr, OnOk, OnErr, Ok, Err};
 ghost use Rattle.txn_words.specs.Map.{count_of};
 ghost use Rattle.txn_trace.specs.Now.{now};
@@ -71,8 +72,8 @@ impl OwnedMap {
         self.core.count()
     }
 
-    /// Returns true if the map has no keys, including the changes of open transactions. Takes
-    /// constant time.
+    /// Returns true if the map, with the changes of open transactions, has no keys. Takes constant
+    /// time.
     pub fn is_empty(&self) -> bool
         ensures { result ≡ (count_of (now self.now.core.history) == 0) }
     {
@@ -120,7 +121,8 @@ impl OwnedMap {
         }
     }
 
-    /// Does an operation. If the key was absent, then grows the table if it has too few buckets.
+    /// Does an operation. If the key was absent and the table has too few buckets, the table then
+    /// grows.
     #[tactic(auto, using(crate::proofs::Savepoints::keeps_operated, crate::proofs::Savepoints::keeps_grown))]
     pub(crate) fn operate(&mut self, caller: u64, op: Op) -> Result<Reply, Stop>
         ensures goes_on { GoesOn caller self.old.core self.new.core }
@@ -236,8 +238,8 @@ impl OwnedMap {
         most.min(few.max(keys / KEYS_A_BUCKET))
     }
 
-    /// If too few buckets are initialised, initialises the next one. For this, doubles the table
-    /// first if all its buckets are initialised.
+    /// If too few buckets are initialised, initialises the next one. If that bucket is not below
+    /// the table's size, doubles the table first.
     pub(crate) fn grow(&mut self, caller: u64)
         ensures { IsGrown self.old.core self.new.core }
     {
@@ -281,13 +283,14 @@ impl OwnedMap {
     ///
     /// # Errors
     ///
-    /// If an error is returned, the map is unchanged and nothing was committed. The error is one of
-    /// these:
+    /// If an error is returned, the map is unchanged and nothing was committed. The error is the
+    /// work's error, or one of these, converted to the work's error type:
     ///
-    /// - The work's error.
-    /// - A `Stop`, converted to the work's error type: `Refused` with `NoSuchCaller`, with
-    ///   `AlreadyOpen` if the caller has a transaction, with `NoMemory`, or with `Leaving` if the
-    ///   work continued after a `Busy`.
+    /// - `Refused` with `NoSuchCaller` if the map has no caller with this number.
+    /// - `Refused` with `AlreadyOpen` if the caller has a transaction.
+    /// - `Refused` with `NoMemory` if memory is refused.
+    /// - `Refused` with `Leaving` if the work returned `Ok` although one of its operations was
+    ///   `Busy`.
     ///
     /// # Cost
     ///

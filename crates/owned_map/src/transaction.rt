@@ -32,13 +32,14 @@ impl Transaction<'_> {
     ///
     /// # Errors
     ///
-    /// The map is unchanged.
+    /// Each error leaves the map unchanged. After `BadKey` or `NoMemory` the transaction can
+    /// continue.
     ///
     /// - `Busy` if another caller's open transaction holds the key's stripe. This transaction can
-    ///   then only be aborted: every further operation is refused as `Leaving`.
-    /// - `Refused` with `BadKey` if the limits have half keys and the key is 2^63 or more, with
-    ///   `NoMemory`, or with `Leaving` after a `Busy`. After `BadKey` or `NoMemory` the transaction
-    ///   can continue.
+    ///   then only be aborted.
+    /// - `Refused` with `Leaving` if an earlier operation of this transaction was `Busy`.
+    /// - `Refused` with `BadKey` if the limits allow only half keys and the key is 2^63 or more.
+    /// - `Refused` with `NoMemory` if memory is refused.
     ///
     /// # Cost
     ///
@@ -137,9 +138,9 @@ impl Transaction<'_> {
         self.operate(Op::Take(key))
     }
 
-    /// Puts a value at a key if the key has the expected value. If none is expected, puts the value
-    /// if the key is absent. Returns the value that the key had before. The new value was put
-    /// exactly if the returned one is the expected one.
+    /// Puts a value at a key if the key has the expected value. If `expected` is `None`, puts the
+    /// value if the key is absent. Returns the value that the key had before. The new value was put
+    /// exactly if the result equals `expected`.
     ///
     /// # Errors
     ///
@@ -164,8 +165,8 @@ impl Transaction<'_> {
         self.operate(Op::PutIf(key, expected, value))
     }
 
-    /// Puts a value at a key as `put_if` does, and returns whether the value was put. This call is
-    /// for work that need not know the value before.
+    /// Does the same as `put_if`, but returns whether the value was put. This call is for work that
+    /// need not know the old value.
     ///
     /// # Errors
     ///
@@ -202,8 +203,8 @@ impl Transaction<'_> {
         self.map.len()
     }
 
-    /// Returns true if the map has no keys, including the changes of open transactions. Takes
-    /// constant time.
+    /// Returns true if the map, with the changes of open transactions, has no keys. Takes constant
+    /// time.
     pub fn is_empty(&self) -> bool
         ensures { result ≡ (count_of (now self.now.map.now.core.history) == 0) }
     {
@@ -217,11 +218,12 @@ impl Transaction<'_> {
         self.map.buckets()
     }
 
-    /// Sets a savepoint at the present map, and returns its level. The first savepoint has level 1.
+    /// Sets a savepoint, and returns its level. The first savepoint has level 1.
     ///
     /// # Errors
     ///
-    /// `Refused` with `NoMemory`, or with `Leaving` after a `Busy`. Nothing is changed.
+    /// `Refused` with `NoMemory` if memory is refused, or with `Leaving` if an operation of this
+    /// transaction was `Busy`. Nothing is changed.
     ///
     /// # Cost
     ///
@@ -247,8 +249,11 @@ impl Transaction<'_> {
     ///
     /// # Errors
     ///
-    /// `Refused` with `NoSuchLevel`, with `NoMemory`, or with `Leaving` after a `Busy`. The map is
-    /// unchanged.
+    /// Each error leaves the map unchanged.
+    ///
+    /// - `Refused` with `NoSuchLevel` if the level is above the number of savepoints.
+    /// - `Refused` with `NoMemory` if memory is refused.
+    /// - `Refused` with `Leaving` if an operation of this transaction was `Busy`.
     ///
     /// # Cost
     ///
@@ -270,7 +275,7 @@ impl Transaction<'_> {
         self.map.back(caller, level)
     }
 
-    /// Does an operation, as `OwnedMap::operate` says.
+    /// Does an operation by a call of `OwnedMap::operate`.
     #[tactic(auto, using(crate::proofs::Calls::keeps_by))]
     fn operate(&mut self, op: Op) -> Result<Reply, Stop>
         ensures keeps { Keeps self.old self.new }
@@ -319,8 +324,8 @@ impl Transaction<'_> {
         }
     }
 
-    /// Aborts the transaction, as a drop does: takes back every change, newest first, and gives all
-    /// stripes back.
+    /// Aborts the transaction: takes back every change, newest first, and gives all stripes back.
+    /// Dropping the transaction does the same.
     ///
     /// # Cost
     ///

@@ -24,12 +24,12 @@ impl OwnedMap {
     /// Cuts the history off. Returns the present core, whose history is legal, and replaces it with
     /// a new core that has the same limits and the same map. The new history begins with one
     /// committed transaction, in which caller 0 puts the pairs of the map, in the order of the
-    /// list. So the new history is legal by itself, and the map after its first transaction is the
-    /// one that the old history leaves. Transactions and commits are again numbered from 1.
+    /// list. So the new history is legal by itself. After its first transaction, the map has the
+    /// content that the old history leaves. Transactions and commits are again numbered from 1.
     ///
     /// # Errors
     ///
-    /// Each leaves the map and its core unchanged.
+    /// Each error leaves the map and its core unchanged.
     ///
     /// - `AlreadyOpen` if a caller has a transaction.
     /// - `NoMemory` if memory is refused.

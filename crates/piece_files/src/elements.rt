@@ -1,6 +1,6 @@
-//! Functions that take the elements of an array from the front of a slice, one after the other.
-//! With them, the readers of pieces need not look at tokens. Each function takes constant time and
-//! no memory. It returns `None` if the elements are not those that the function takes.
+//! Functions that take the elements of an array from the front of a slice, one after the other. The
+//! readers of pieces use them, and so need not look at tokens. Each function takes constant time
+//! and no memory. It returns `None` if the elements do not have the form that the function expects.
 
 ghost use Rattle.std.specs.Prelude.{◌≡◌, map, option_map};
 ghost use Rattle.piece_files.specs.Plain.{data_of};
@@ -9,8 +9,8 @@ ghost use Rattle.piece_files.specs.Elements.{optional_of};
 
 use crate::plain::Plain;
 
-/// The first element, which is a whole number below 2^64, and the elements after it. Returns `None`
-/// if there is no element, or if the first is no such number.
+/// Returns the first element, which must be a whole number below 2^64, and the elements after it.
+/// Returns `None` if there is no element, or if the first is no such number.
 ///
 /// # Cost
 ///
@@ -27,8 +27,8 @@ pub fn number_in<'v, 'a>(values: &'v [Plain<'a>]) -> Option<(u64, &'v [Plain<'a>
     }
 }
 
-/// The first element, which is a text, and the elements after it. Returns `None` if there is no
-/// element, or if the first is no text.
+/// Returns the first element, which must be a text, and the elements after it. Returns `None` if
+/// there is no element, or if the first is no text.
 ///
 /// # Cost
 ///
@@ -45,8 +45,8 @@ pub fn word_in<'v, 'a>(values: &'v [Plain<'a>]) -> Option<(&'a str, &'v [Plain<'
     }
 }
 
-/// The only element, which is a whole number below 2^64. Returns `None` if there is not exactly one
-/// element, or if the element is no such number.
+/// Returns the only element, which must be a whole number below 2^64. Returns `None` if there is
+/// not exactly one element, or if the element is no such number.
 ///
 /// # Cost
 ///
@@ -71,9 +71,9 @@ pub fn end_in(values: &[Plain<'_>]) -> Option<()>
     if values.is_empty() { Some(()) } else { None }
 }
 
-/// The first element, and the elements after it. The first is a whole number below 2^64, or `null`,
-/// which is read as `None`. Returns `None` if there is no element, or if the first is any other
-/// value.
+/// Returns the first element, and the elements after it. The first element must be a whole number
+/// below 2^64 or `null`. For `null`, the number in the result is `None`. If there is no element, or
+/// if the first is any other value, the whole result is `None`.
 ///
 /// # Cost
 ///
@@ -93,9 +93,9 @@ pub fn leading_optional_in<'v, 'a>(
     }
 }
 
-/// The only element, which is a whole number below 2^64, or `null`. Returns `Some(None)` for
-/// `null`. Returns `None` if there is not exactly one element, or if the element is any other
-/// value.
+/// Returns the only element, which must be a whole number below 2^64 or `null`. Returns
+/// `Some(None)` for `null`. Returns `None` if there is not exactly one element, or if the element
+/// is any other value.
 ///
 /// # Cost
 ///
@@ -108,8 +108,8 @@ pub fn optional_in(values: &[Plain<'_>]) -> Option<Option<u64>>
     if rest.is_empty() { Some(value) } else { None }
 }
 
-/// The two elements in their order. Both are whole numbers below 2^64. Returns `None` if the
-/// elements are not exactly two such numbers.
+/// Returns the two elements in their order. Both must be whole numbers below 2^64. Returns `None`
+/// if the elements are not exactly two such numbers.
 ///
 /// # Cost
 ///

@@ -21,7 +21,7 @@ use std::alloc::Global;
 /// The greatest length of a file, in bytes.
 const MAX_BYTES: usize = 16_777_216;
 
-/// The numbers, if all were found.
+/// All the numbers. Returns `None` if one of them was not found.
 fn all_numbers<const N: usize>(found: [Option<u64>; N]) -> Option<[u64; N]>
     ensures { result ≡ all_of found.entry }
 {
@@ -42,8 +42,8 @@ fn is_version(version: u64) -> bool
     1 <= version && version <= MAX_VERSION
 }
 
-/// The pieces that were found in a member, if the member is there and all its elements are pieces
-/// of this version.
+/// The pieces that were found in a member. Returns a fault if the member is missing, or if one of
+/// its elements is no piece of this version.
 fn pieces_found<K: PieceKind>(
     found: Option<Pieces<K::Piece>>,
     version: u64,
@@ -87,7 +87,7 @@ fn contents_found<K: PieceKind, const N: usize>(
 }
 
 /// Reads the version, the numbers and the pieces of a file of version 1 to 3. Such a file is an
-/// object in JSON. The member `version` has the version. Each name in `numbers` is the name of a
+/// object in JSON. The member `version` holds the version. Each name in `numbers` is the name of a
 /// member with a number. The argument `pieces` is the name of the member with the array of pieces.
 ///
 /// Other members of the object are skipped. If a member is given more than once, the last one
@@ -101,12 +101,12 @@ fn contents_found<K: PieceKind, const N: usize>(
 /// - `NotJson` if the bytes are not UTF-8 or not JSON, if arrays and objects nest deeper than 127,
 ///   or if a number is too large for a float.
 /// - `Member` if the value is no object, or if a member is missing or of the wrong kind.
-/// - `Piece` for the first element of the array that is no piece or, in a file of version 1, no
-///   piece of version 1.
+/// - `Piece` if an element of the array is no piece, or if the file is of version 1 and an element
+///   is no piece of version 1. The fault names the first such element.
 /// - `Limit` if the version is not 1 to 3, or if there are more than `K::most()` pieces.
 ///
-/// `NoMemory` if memory is refused. It can take the place of any other result, unless there are too
-/// many bytes or they are not UTF-8.
+/// `NoMemory` if memory is refused. It can take the place of any other result, except the errors
+/// for too many bytes and for bytes that are not UTF-8.
 ///
 /// # Cost
 ///

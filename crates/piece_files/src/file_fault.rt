@@ -10,7 +10,8 @@ use crate::part::Part;
 use std::alloc::{AllocError, AllocFailed};
 use std::fmt;
 
-/// Why a file was refused. A fault is printed as its number, followed by the place if it has one.
+/// Why a file was refused. A fault is printed as its number. If it names a piece, the kind and the
+/// index of the piece follow, as in `21 step 5`.
 #[derive(Clone, Copy, Debug, PartialEq, Eq)]
 pub enum FileFault {
     /// 20: the bytes are not JSON.

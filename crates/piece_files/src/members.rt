@@ -1,6 +1,7 @@
 //! Reads the members of a file, one after the other. Members that belong to the kind of file are
-//! kept, and all others are skipped. `plain_members` tries each text first. If it gives up, the
-//! reader of JSON reads the text from its start and decides. So a text is read at most twice.
+//! kept, and all others are skipped. The module `plain_members` tries to read each text first. If
+//! it gives up, the reader of JSON reads the text from its start and decides. So a text is read at
+//! most twice.
 
 ghost use Rattle.std.specs.Prelude.{◌≡◌, ◌∷◌, ◌≤◌, ◌<◌, true, false, map, length, replicate, Option, Some, None, Ok, Err, IfOk, OnOk, OnErr, MatchResult, codes};
 ghost use Rattle.json.specs.Reads.{token_of};

@@ -1,7 +1,7 @@
-//! The value of a number's text in JSON, if it is a whole number below 2^64. Nearly all numbers in
-//! a file have at most 19 digits, and one short loop reads them. All other numbers are read by
-//! `fast_float`, which no other module of this crate uses. The functions take time in proportion to
-//! the text, and no memory.
+//! Computes the value of a number from its text in JSON, if this value is a whole number below
+//! 2^64. Nearly all numbers in a file have at most 19 digits, and one short loop reads them. All
+//! other numbers are read by `fast_float`, which no other module of this crate uses. The functions
+//! take time in proportion to the text, and no memory.
 
 ghost use Rattle.std.specs.Prelude.{◌≡◌, false, option_map, IfSome};
 ghost use Rattle.std.specs.Prelude as prelude;
@@ -46,8 +46,8 @@ fn float_in(is_negative: bool, bytes: &[u8]) -> Option<Option<u64>>
     if float.is_finite() { Some(None) } else { None }
 }
 
-/// The value of a number's text, which has no sign: `None` if it is too large for a float,
-/// `Some(None)` if it has a fraction or an exponent, or is 2^64 or more.
+/// The value of a number whose text has no sign. Returns `None` if the number is too large for a
+/// float. Returns `Some(None)` if it has a fraction or an exponent, or is 2^64 or more.
 #[inline(always)]
 fn unsigned_in(bytes: &[u8]) -> Option<Option<u64>>
     ensures { result ≡ option_map as_u64 (number_from prelude.false (scan bytes.now)) }
@@ -61,8 +61,8 @@ fn unsigned_in(bytes: &[u8]) -> Option<Option<u64>>
     }
 }
 
-/// The value of a negative number, given its text without the minus sign: `None` if it is out of
-/// range of a float, else `Some(None)`.
+/// The value of a negative number, whose text is given without the minus sign. Returns `None` if
+/// the number is out of range of a float, else `Some(None)`.
 #[cold]
 #[inline(never)]
 fn negative_in(bytes: &[u8]) -> Option<Option<u64>>
@@ -76,8 +76,8 @@ fn negative_in(bytes: &[u8]) -> Option<Option<u64>>
     float_in(true, bytes)
 }
 
-/// The value of a number's text: `None` if it is too large for a float, `Some(None)` if it has a
-/// minus sign, a fraction or an exponent, or is 2^64 or more.
+/// The value of a number's text. Returns `None` if the number is too large for a float. Returns
+/// `Some(None)` if it has a minus sign, a fraction or an exponent, or is 2^64 or more.
 #[inline(always)]
 pub(crate) fn number_in_text(text: &str) -> Option<Option<u64>>
     ensures { result ≡ option_map as_u64 (number_of text.now) }

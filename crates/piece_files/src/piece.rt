@@ -50,7 +50,7 @@ pub trait PieceKind {
     ///
     /// # Cost
     ///
-    /// Depends on the kind; at most time in proportion to the length of the piece.
+    /// The time depends on the kind. It is at most in proportion to the length of the piece.
     fn is_old(piece: &Self::Piece) -> bool
         ensures { result ≡ is_old piece.now };
 
@@ -85,11 +85,11 @@ pub trait PieceKind {
         ensures memory { result ≡ Err NoMemory → takes_memory ≡ true }
         ensures shorter { OnOk result (length reader.new < length reader.old) };
 
-    /// Reads the elements of a piece, and returns the piece. `at` is the place of the first
-    /// element, after the bracket that opens the elements' array, and moves to just after the
-    /// bracket that closes the array. Returns `None` if no piece is there, or if the elements have
-    /// no plain form. `at` may then be anywhere, and `read` decides. A kind may always return
-    /// `None`.
+    /// Reads the elements of a piece in plain form, and returns the piece. At the call, `at` is the
+    /// place of the first element, after the bracket that opens the array. Afterwards, `at` is just
+    /// after the bracket that closes the array. Returns `None` if no piece is there, or if the
+    /// elements have no plain form. Then `at` may be anywhere, and `read` must read the elements
+    /// again. A kind may always return `None`.
     ///
     /// # Errors
     ///

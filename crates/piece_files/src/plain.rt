@@ -15,7 +15,7 @@ use crate::passing::pass_value;
 use arrayvec::ArrayVec;
 use json::{Invalid, Reader, Token};
 
-/// A plain value. A text stays where it was read.
+/// A plain value: null, a text, or a whole number. A text is borrowed from where it was read.
 #[derive(Clone, Copy, Debug, Drop, Default)]
 pub enum Plain<'a> {
     /// Null.

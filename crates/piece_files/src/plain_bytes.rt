@@ -150,7 +150,7 @@ fn plain_len(bytes: &[u8]) -> usize
     len
 }
 
-/// The value of the digits at the front, and their number. At most 19 digits are read.
+/// The value of the digits at the front, and how many digits were read. At most 19 digits are read.
 #[inline(always)]
 fn digits_in(bytes: &[u8]) -> (u64, usize)
     ensures few { result.1 ≤ length bytes.now }
@@ -201,7 +201,7 @@ fn null_at(bytes: &[u8], at: usize) -> Option<usize>
     Some(at + 4)
 }
 
-/// The text at a place, and the place after it.
+/// The text at a place, and the place after it. Returns `None` if no text in plain form is there.
 #[inline(always)]
 fn text_at(text: &str, at: usize) -> Option<(&str, usize)>
     ensures place { IfSome result (λ found. (at < found.1) × (found.1 ≤ length text.now)) }
@@ -240,7 +240,8 @@ pub(crate) fn plain_at(text: &str, at: usize) -> Option<(Plain<'_>, usize)>
     Some((Plain::Null, end))
 }
 
-/// The key at a place, and the place of the member's value.
+/// The key at a place, and the place of the member's value. Returns `None` if no key in plain form
+/// is there.
 #[tactic(auto, using(crate::proofs::PlainLemmas::key_is))]
 pub(crate) fn key_at(text: &str, at: usize) -> Option<(&str, usize)>
     requires { at ≤ length text.now }

@@ -1,7 +1,7 @@
 //! The reasons why reading tokens stops early: the text is not JSON, or memory was refused. They
-//! have a type of their own, because the loops over tokens stop early for no other reason that a
-//! `FileFault` names. `?` turns an error of the reader or the allocator into a `Stop`, and
-//! `members` turns a `Stop` into a `FileFault`.
+//! have a type of their own, because the loops over tokens never stop for the other reasons in
+//! `FileFault`. `?` turns an error of the reader or the allocator into a `Stop`, and `members`
+//! turns a `Stop` into a `FileFault`.
 ghost use Rattle.std.specs.Prelude.{◌≡◌};
 ghost use Rattle.piece_files.specs.declared.stop.Stop.TheVariants.{NotJson, NoMemory};
 

@@ -182,7 +182,7 @@ impl ProbeMap {
     ///
     /// # Cost
     ///
-    /// That of `get`; takes no memory.
+    /// The cost of `get`. Takes no memory.
     #[inline(always)]
     pub fn insert(&mut self, key: u64, value: u64) -> Option<u64>
         requires { 0 < self.old.spare }
@@ -205,7 +205,7 @@ impl ProbeMap {
     ///
     /// # Cost
     ///
-    /// That of `get`; takes no memory, and frees none.
+    /// The cost of `get`. Takes no memory, and frees none.
     #[inline(always)]
     pub fn remove(&mut self, key: u64) -> Option<u64>
         ensures before { result ≡ get self.old.content key }
@@ -232,8 +232,8 @@ impl ProbeMap {
     ///
     /// # Cost
     ///
-    /// Constant time if there is room. Otherwise, the time of a walk over the slots, and time and
-    /// memory for a new array. This amounts to amortized constant time for each new key.
+    /// Constant time if there is room. Otherwise, this takes the time of a walk over the slots, and
+    /// time and memory for a new array. This amounts to amortized constant time for each new key.
     #[inline(always)]
     pub fn reserve(&mut self, keys: usize) -> Result<(), AllocError>
         ensures content { self.new.content ≡ self.old.content }

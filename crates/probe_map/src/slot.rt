@@ -20,7 +20,7 @@ pub(crate) enum Slot {
 const _: () = prove!(size_of::<Slot>() == 24);
 
 impl Slot {
-    /// Whether the probe for a key stops at this slot.
+    /// Returns true if the probe for a key stops at this slot.
     #[inline(always)]
     pub(crate) fn stops(&self, key: u64) -> bool
         ensures { result ≡ stops (key_in self.now) key }
@@ -31,7 +31,7 @@ impl Slot {
         }
     }
 
-    /// Whether the slot is empty.
+    /// Returns true if the slot is empty.
     #[inline(always)]
     pub(crate) fn is_empty(&self) -> bool
         ensures { result ≡ is_empty self.now }

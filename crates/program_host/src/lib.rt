@@ -1,12 +1,13 @@
-//! The system that a program runs on. All programs share this crate, which is below their command
-//! lines.
+//! The system that a program runs on. All programs use this crate, and so do the crates that read
+//! their command lines.
 //!
-//! `System` has the services that a program needs: the words of its call, and files. So a program
-//! can also be tried on a system in memory. `Host` is the system behind a runtime.
-//! `specs/Words.antt` has three definitions for a command line that `clap` reads. They say what it
-//! means that a command is an application of `clap`, which word names a file, and which words are
-//! numerals. `proofs/` has lemmas about these definitions and about the result of a parse. Both
-//! command lines cite them.
+//! `System` has the services that a program needs: the words of its call, which are its command
+//! line, and files. It is a trait, so a program can also be tried on a system in memory. `Host` is
+//! the system that a process runs on. `specs/Words.antt` has three definitions for a command line
+//! that `clap` reads. They say when a command of `clap` is built as an application defines it,
+//! which rule a word must meet that names a file, and which words are numerals. `proofs/` has
+//! lemmas about these definitions and about the result of a parse. The crates `command_line` and
+//! `judge_line` use them.
 #![tactic(auto)]
 
 mod system;

@@ -1,6 +1,7 @@
-//! The system that a program runs on, as a trait, and `Host`, the system behind a runtime. Programs
-//! are written for the trait. Their contracts say more if the words and the files are known. The
-//! toolchain promises nothing about a process's words and files, so those of `Host` are unknown.
+//! The system that a program runs on, as a trait, and `Host`, the system that a process runs on.
+//! Programs are written for the trait. Their contracts say more if the words and the files are
+//! known. The toolchain promises nothing about a process's words and files, so those of `Host` are
+//! unknown.
 ghost use Rattle.std.specs.Prelude.{◌≡◌, ℕ, List, Option, Some, None, IfOk, IfErr, IfSome, map};
 ghost use Rattle.std.specs.String.{string_bytes};
 ghost use Rattle.std.specs.IoError.{error_kind};
@@ -12,7 +13,8 @@ use std::fs::Files;
 use std::io::Read;
 use std::{env, fs, io};
 
-/// The services that a program needs of its system: the words of its call, and files.
+/// The services that a program needs of its system: the words of its call, which are its command
+/// line, and files.
 pub trait System {
     /// A file that is open for reading.
     type Input: Read + Drop;
@@ -28,11 +30,11 @@ pub trait System {
     /// # Errors
     ///
     /// - `OutOfMemory` if memory is refused.
-    /// - Another kind if a word is not text. This cannot happen if the words are known.
+    /// - An error of another kind if a word is not text. This cannot happen if the words are known.
     ///
     /// # Cost
     ///
-    /// That of the system.
+    /// Depends on the system.
     fn words(&self, alloc: Global) -> io::Result<Vec<String>>
         ensures words { IfOk result (λ words. IfSome (spoken self.now)
             (λ known. map string_bytes words.items ≡ known)) }
@@ -44,11 +46,11 @@ pub trait System {
     /// # Errors
     ///
     /// - `OutOfMemory` if memory is refused.
-    /// - Another kind if the file cannot be opened.
+    /// - An error of another kind if the file cannot be opened.
     ///
     /// # Cost
     ///
-    /// That of the system.
+    /// Depends on the system.
     fn open(&self, name: &str) -> io::Result<Self::Input>
         ensures { IfOk result (λ input. IfSome (bytes self.now name.now)
             (λ known. Self.Input.remaining input ≡ Some known)) };
@@ -61,7 +63,7 @@ pub struct Host<'a, R> {
 }
 
 impl<'a, R> Host<'a, R> {
-    /// The system behind this runtime.
+    /// The system of this process, which is used through the runtime `rt`.
     pub fn new(rt: &'a R) -> Host<'a, R> {
         Host { rt }
     }

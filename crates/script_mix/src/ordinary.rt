@@ -1,7 +1,7 @@
-//! `OrdinaryCore`, the type of a core whose stripes are not words. On such a core a worker's turn
-//! may ask without a claim. The type's invariant says that the stripes are not words, so the loops
-//! over turns need not carry this fact. Each method makes one call of the core and costs what this
-//! call costs, or only moves the core.
+//! `OrdinaryCore`, the type of a core that keeps the locks of its stripes itself. In other cores
+//! the stripes are atomic words that others keep, and not every step may be taken. The type's
+//! invariant excludes such cores, so the loops over turns need not mention them. Each method either
+//! makes one call of the core, and costs what this call costs, or only moves the core.
 ghost use Rattle.std.specs.Prelude.{◌≡◌, false, IfOk};
 ghost use Rattle.boost_core.specs.Machine.{start};
 
@@ -10,8 +10,8 @@ use std::alloc::Global;
 use std::marker::Model;
 use txn_trace::{Answer, Limits, Refusal, Step};
 
-/// A core whose stripes are not words, so that it may take every step. Contracts see the core's
-/// state.
+/// A core whose stripes are not atomic words that others keep. Such a core may take every step.
+/// Contracts see the core's state.
 #[derive(Drop)]
 pub(crate) struct OrdinaryCore {
     core: Core,

@@ -21,7 +21,8 @@ fn new_ways(alloc: Global, workers: usize) -> Result<Vec<Way>, AllocError>
     Ok(ways)
 }
 
-/// One outcome for each of `scripts` scripts, before the first entry: `GivenUp`.
+/// One outcome for each of `scripts` scripts. Before the first entry is read, each outcome is
+/// `GivenUp`.
 fn none_yet(alloc: Global, scripts: usize) -> Result<Vec<Outcome>, AllocError>
     ensures { IfOk result (λ outcomes. AreNone scripts outcomes.items) }
 {

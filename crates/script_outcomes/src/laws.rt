@@ -12,8 +12,8 @@ ghost use Rattle.txn_words.specs.declared.entry.Entry.TheVariants as entries;
 ghost use Rattle.script_outcomes.specs.declared.outcome.Outcome.{Outcome};
 ghost use Rattle.script_outcomes.specs.Outcomes.{CommitsCounted, AreOutcomes, CommitsScript};
 
-/// If the history has the right shape, as each legal history has, and a script has the outcome
-/// committed, then a committed transaction plays the script (`Plays` of `txn_trace`). The last
+/// Let the history have the right shape, which each legal history has. If a script then has the
+/// outcome committed, a committed transaction plays the script (`Plays` of `txn_trace`). The last
 /// entry of this transaction is a Committed entry with the script's caller and the outcome's place.
 ///
 /// The law is the contract of this function.

@@ -11,8 +11,8 @@
 //!
 //! - If a script has the outcome committed, there is a Committed entry of its worker, at the index
 //!   and with the `place` of the outcome. The transaction of this entry plays the script. If the
-//!   history has the right shape, this transaction has a number, and `txn_trace` also says of the
-//!   transaction with this number that it is committed and plays the script
+//!   history has the right shape, this transaction has a number, and by the definitions of
+//!   `txn_trace` the transaction with this number is committed and plays the script
 //!   (`laws::committed_plays`).
 //! - If a script has the outcome aborted, there is an Aborted entry of its worker, at the index of
 //!   the outcome. The transaction of this entry did exactly the script's actions up to the script's
@@ -24,9 +24,9 @@
 //!
 //! Only tested: each script that aborts itself in a run has the outcome aborted.
 //!
-//! `outcomes` reads the history once. Each transaction that has ended, unless it ended after a
-//! Busy, is compared with scripts until one fits. No script is compared with two commits or with
-//! two aborts, but no contract promises this.
+//! `outcomes` reads the history once. Each transaction that has ended is compared with scripts
+//! until one fits, except a transaction that ended after a Busy. No script is compared with two
+//! commits or with two aborts, but no contract promises this.
 #![tactic(auto)]
 
 mod assigning;

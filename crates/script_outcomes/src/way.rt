@@ -1,8 +1,8 @@
 //! The progress of a worker through its scripts, as the entries of the worker's caller show it. The
 //! pass over a history has one `Way` for each worker, and gives it only the entries of that
 //! worker's caller. The two positions of a `Way`, `next` and `turn`, are numbers of scripts. They
-//! never fall, and modulo the number of workers each is the worker's number (`Advances`). No
-//! contract says how often a script is compared with transactions.
+//! never decrease. Each of them, modulo the number of workers, is the worker's number (`Advances`).
+//! No contract says how often a script is compared with transactions.
 ghost use Rattle.std.specs.Prelude.{◌≡◌, ◌⊎◌, ℕ, ◌+◌, ◌%◌, ◌^◌, ◌<◌, ◌≤◌, [], OnOk, length};
 ghost use Rattle.script_outcomes.specs.Outcomes.{grown};
 ghost use Rattle.script_outcomes.specs.Ways.{IsFirstPlayed, IsFirstLeft, MayCount, CountsCommit, CountsAbort, TakesEntry};
@@ -107,8 +107,8 @@ impl Way {
         (number, false)
     }
 
-    /// Sets `next` to `number`, and `turn` too if it is smaller. The scripts before `number` are
-    /// over.
+    /// Sets `next` to `number`. If `turn` is smaller than `number`, also sets `turn` to `number`.
+    /// The scripts before `number` are over.
     fn go_on(&mut self, number: usize)
         ensures part { self.new.part.items ≡ self.old.part.items }
         ensures next { self.new.next ≡ number }

@@ -22,7 +22,7 @@ pub enum Stage {
 /// An attempt at a script: the transaction from its begin to its end.
 #[derive(Clone, Copy, Debug, PartialEq, Eq)]
 pub struct Attempt {
-    /// How many attempts at the script were made before.
+    /// How many attempts at the script were made before this one.
     pub again: u64,
     /// The stage of this attempt.
     pub stage: Stage,
@@ -77,7 +77,7 @@ impl Attempt {
         }
     }
 
-    /// The attempt's next call. Pass the script that the attempt is at.
+    /// The attempt's next call. Pass the script of this attempt.
     pub fn call(self, script: &[PackedAction]) -> Call
         ensures { result ≡ call_at script.now self.stage }
     {
@@ -91,12 +91,13 @@ impl Attempt {
         }
     }
 
-    /// The progress after the call that `call` names has ended with `end`.
+    /// What follows when the attempt's call, which `call` returns, has ended with `end`.
     ///
     /// If a stripe was held, the script is attempted again, provided that fewer than `tries`
-    /// attempts were made before this one. If an operation, a savepoint, a return or help is
-    /// refused, the transaction is aborted. Any other refusal ends the script at once, and so does
-    /// `OutOfStep` from any call.
+    /// attempts were made before this one. If any call is refused with `OutOfStep`, the script ends
+    /// at once. If an operation, a savepoint, a return or help is refused with another refusal, the
+    /// transaction is aborted. If a begin, a commit or an abort is refused, the script ends at
+    /// once.
     pub fn progress(self, script: &[PackedAction], tries: u64, end: End) -> Progress
         ensures { result ≡ progress_of script.now tries self end }
     {

@@ -2,13 +2,14 @@
 //!
 //! A script is a list of actions. An attempt at a script begins a transaction, does the actions in
 //! order, and commits. If another caller holds a key's stripe, the transaction is aborted and the
-//! script is attempted again, as often as is allowed. If an operation, a savepoint, a return or
-//! help is refused, the transaction is aborted and the script is over. Any other refusal ends the
-//! script at once, and so does `OutOfStep` from any call. A script may also have an action that
-//! aborts its transaction. Like a `Drive` of `txn_drive`, a worker names the next step of its
-//! present call and is then given the answer. `take_turn` takes a whole turn, with a closure that
-//! takes the steps. A worker takes no step itself, so its owner decides how the steps of several
-//! workers mix. A worker takes no memory.
+//! script is attempted again, up to an allowed number of times. If any call is refused with
+//! `OutOfStep`, the script ends at once. If an operation, a savepoint, a return or help is refused
+//! with another refusal, the transaction is aborted and the script is over. If a begin, a commit or
+//! an abort is refused, the script ends at once. A script may also have an action that aborts its
+//! transaction. Like a `Drive` of `txn_drive`, a worker names the next step of its present call and
+//! is then given the answer. `take_turn` takes a whole turn, with a closure that takes the steps. A
+//! worker takes no step itself, so its owner decides how the steps of several workers mix. A worker
+//! takes no memory.
 //!
 //! A contract sees a worker as its number, the limits of the map, and the script that it is at,
 //! with the attempt and the call's drive. The map's callers are the workers. The functions of

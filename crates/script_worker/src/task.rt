@@ -1,6 +1,6 @@
-//! The script that a worker is at, and what an answer changes. The answer goes to the drive. If the
-//! call has then ended, the script's next call follows. If the script is over, the worker's next
-//! script follows. A worker without a script left has no task.
+//! The script that a worker is at, and how an answer changes it. The call's drive receives the
+//! answer. If the call has then ended, the script's next call follows. If the script is over, the
+//! worker's next script follows. A worker without a script left has no task.
 ghost use Rattle.std.specs.Prelude.{◌≡◌};
 ghost use Rattle.script_worker.specs.Workers.{started, progressed, settled, task_told};
 ghost use Rattle.script_worker.specs.Workers.{finish_at, finish_by, finish_after};
@@ -9,7 +9,8 @@ use crate::attempt::{Attempt, Finish, Progress};
 use txn_drive::{Call, Drive};
 use txn_trace::{Answer, Limits, Script};
 
-/// A script that a worker is at. The drive's call may have ended.
+/// A script that a worker is at, with the attempt and the drive of the attempt's call. This call
+/// may have ended already.
 #[derive(Clone, Copy, Debug, PartialEq, Eq)]
 pub struct Task {
     /// The number of the script among all scripts, from 0.

@@ -26,7 +26,7 @@ use txn_trace::{Answer, Limits, Script, Step};
 pub struct Worker {
     /// The number of the worker and of its caller, counted from 0.
     number: usize,
-    /// The limits of the map; its callers are the workers.
+    /// The limits of the map. The callers of the map are the workers.
     limits: Limits,
     /// The script that the worker is at, or `None` if no script is left.
     task: Option<Task>,
@@ -102,8 +102,8 @@ impl Worker {
     }
 
     /// Takes the next turn. `size` is the present size of the table. The closure `step` takes each
-    /// step of the turn, and the worker is given each answer, as by `told`. If this turn ends the
-    /// worker's script, returns how the script ended.
+    /// step of the turn, and `told` gives each answer to the worker. If this turn ends the worker's
+    /// script, returns how the script ended.
     ///
     /// # Cost
     ///

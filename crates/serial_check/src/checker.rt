@@ -1,8 +1,7 @@
-//! The checker that judges a history by the order of its commits. The checker adds two things to
-//! the state: the number of entries and the first bad entry. After a bad entry the verdict no
-//! longer changes. A transaction's replies are judged at its Committed entry. Before that entry,
-//! `misread` and `is_torn` report whether the transaction could commit. These two calls change
-//! nothing.
+//! The checker that judges a history by the order of its commits. Besides the `State`, the checker
+//! keeps the number of entries and the first bad entry. After a bad entry the verdict no longer
+//! changes. A transaction's replies are judged at its Committed entry. Before that entry, `misread`
+//! and `is_torn` report whether the transaction could commit. These two calls change nothing.
 ghost use Rattle.std.specs.Prelude.{◌≡◌, ℕ, ◌<◌, ◌++◌, [], ◌∷◌, List, IfOk, OnOk, OnErr, IfSome, IsNone, Some, true, false};
 ghost use Rattle.txn_words.specs.Kinds.{caller_of};
 ghost use Rattle.serial_check.specs.Verdicts.{IsVerdictOn};
@@ -155,8 +154,8 @@ impl Checker {
         self.state.commits.misread(caller)
     }
 
-    /// Returns true if the replies of a caller's open transaction contradict one another. No map
-    /// then gives the transaction all its replies, and it may only abort.
+    /// Returns true if the replies of a caller's open transaction contradict one another. Then no
+    /// map gives the transaction all its replies, so it can only abort.
     ///
     /// The caller must be below 64. If an entry is bad, or if the caller has no open transaction,
     /// the result means nothing.

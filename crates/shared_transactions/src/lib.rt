@@ -1,12 +1,12 @@
 //! Transactions as values on a map that threads share, work that is run in a transaction, and calls
 //! that make such a map.
 //!
-//! - A `Transaction` is a caller's token together with the map. It is begun, worked in, and
-//!   committed. If it is dropped before it is committed, for example at a `?` or an early return,
-//!   it is aborted.
+//! - A `Transaction` is a caller's token together with the map. Its calls begin a transaction, work
+//!   in the transaction and commit it. If the value is dropped before the commit, for example at a
+//!   `?` or an early return, the transaction is aborted.
 //! - `transact` begins a transaction, runs the work and commits. If another caller held a stripe,
 //!   the thread yields or sleeps, and the work begins again. The `Retry` says how often, and how
-//!   long the thread waits. After any other refusal, everything is taken back, and the refusal is
+//!   long the thread waits. After any other error, all changes are taken back, and the error is
 //!   returned.
 //! - `run_works` makes the map, does each `Work` in its own thread and closes the map. Its user
 //!   need not name the map's ledger. `run_works_after` does one more work before all others.
@@ -49,7 +49,7 @@
 //!   the core's pairs in the order of the core's list (`IsRefilled`). If `refill` returns `Err`,
 //!   nothing was committed (`IsUndone`): memory was refused for the list of pairs, or a call of the
 //!   transaction failed (`IsNotRefilled`).
-//! - The outcome of a session is as the session promises (`Session::promises`).
+//! - The outcome of a session is what the session promises (`Session::promises`).
 //! - Each work in a thread keeps its promise (`Work::promises`). The promise is about a token with
 //!   exactly the entries that the work's caller has in the history of the closed map. Work `i` has
 //!   caller `i`. The history is legal, and has no entries but those of these callers (`AreDone`).
@@ -57,7 +57,7 @@
 //!   If the token has an entry for which the rule of shape (`row` of `txn_words`) has no row,
 //!   something may have been committed.
 //!
-//! What a map holds is known when the map is closed, as `locked_map` says. It is not known after a
+//! What a map holds is known when the map is closed (see `locked_map`). It is not known after a
 //! call, because other callers may take steps at the same time. No clause is about time: none says
 //! that a call returns, or how long it waits.
 //!

@@ -15,7 +15,8 @@ use std::marker::Brand;
 use std::sync::ledger::{Blank, Ledger};
 use txn_trace::{Limits, Refusal};
 
-/// A session on a map of threads. It must work for any name of the map's ledger.
+/// Code that runs on a new map of threads, with a pass for each caller. It must work for any name
+/// of the map's ledger.
 pub trait Session<R> {
     /// The outcome of the session.
     type Output;

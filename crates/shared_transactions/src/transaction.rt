@@ -60,8 +60,8 @@ impl<'a, L: Ledger, R: Wait> Transaction<'a, L, R> {
     ///
     /// # Errors
     ///
-    /// Each `Refused` of the map's `begin`. In that case no transaction was begun, and nothing was
-    /// committed.
+    /// `Refused` for the same reasons as the map's `begin`. In that case no transaction was begun,
+    /// and nothing was committed.
     ///
     /// # Cost
     ///
@@ -82,7 +82,7 @@ impl<'a, L: Ledger, R: Wait> Transaction<'a, L, R> {
     ///
     /// - `Busy` if another caller held the key's stripe. The transaction is then aborted, and each
     ///   further call in it is refused as `NotOpen`.
-    /// - Each `Refused` of the map's `get`.
+    /// - `Refused` for the same reasons as the map's `get`.
     ///
     /// # Cost
     ///
@@ -98,7 +98,7 @@ impl<'a, L: Ledger, R: Wait> Transaction<'a, L, R> {
         self.operate(Op::Get(key))
     }
 
-    /// Whether a key is there.
+    /// Returns true if the key is there.
     ///
     /// # Errors
     ///
@@ -119,16 +119,17 @@ impl<'a, L: Ledger, R: Wait> Transaction<'a, L, R> {
         Ok(self.get(key)?.is_some())
     }
 
-    /// Puts a value at a key, and returns the value that the key had. If the key is new, the table
-    /// also grows by a step if it needs to: it is doubled if it is full, and the key's bucket is
-    /// initialised. If memory or a stamp is refused for this, the table remains smaller, and
-    /// nothing else changes.
+    /// Puts a value at a key, and returns the value that the key had. If the key is new, the call
+    /// then helps the table to grow: it doubles the table if the table is full, and initialises the
+    /// key's bucket. If this fails for lack of memory or stamps, the table remains smaller, and the
+    /// put still succeeds.
     ///
     /// # Errors
     ///
-    /// `Busy` as for `get`, and each `Refused` of the map's `put`. Also `Refused` with `OutOfStep`
-    /// if the put was done, but growing the table was refused as `OutOfStep`. The token is then
-    /// broken.
+    /// - `Busy` if another caller held the key's stripe, as for `get`.
+    /// - `Refused` for the same reasons as the map's `put`.
+    /// - `Refused` with `OutOfStep` if the put was done, but the growth of the table was refused
+    ///   with `OutOfStep`. The token is then broken.
     ///
     /// # Cost
     ///
@@ -148,7 +149,8 @@ impl<'a, L: Ledger, R: Wait> Transaction<'a, L, R> {
     ///
     /// # Errors
     ///
-    /// `Busy` as for `get`, and each `Refused` of the map's `take`.
+    /// - `Busy` if another caller held the key's stripe, as for `get`.
+    /// - `Refused` for the same reasons as the map's `take`.
     ///
     /// # Cost
     ///
@@ -164,14 +166,16 @@ impl<'a, L: Ledger, R: Wait> Transaction<'a, L, R> {
         self.operate(Op::Take(key))
     }
 
-    /// Puts a value at a key if the key has the expected value. If no value is expected, puts the
+    /// Puts a value at a key if the key has the expected value. If `expected` is `None`, puts the
     /// value if the key is absent. Returns the value that the key had before. The new value was put
-    /// exactly if the value before is the expected one.
+    /// exactly if the result equals `expected`.
     ///
     /// # Errors
     ///
-    /// `Busy` as for `get`, and each `Refused` of the map's `put_if`. Also `Refused` with
-    /// `OutOfStep` if growing the table was refused, as for `put`.
+    /// - `Busy` if another caller held the key's stripe, as for `get`.
+    /// - `Refused` for the same reasons as the map's `put_if`.
+    /// - `Refused` with `OutOfStep` if the growth of the table was refused with `OutOfStep`, as for
+    ///   `put`.
     ///
     /// # Cost
     ///
@@ -187,7 +191,7 @@ impl<'a, L: Ledger, R: Wait> Transaction<'a, L, R> {
         self.operate_growing(Op::PutIf(key, expected, value))
     }
 
-    /// Puts a value at a key if the key has the expected value. If no value is expected, puts the
+    /// Puts a value at a key if the key has the expected value. If `expected` is `None`, puts the
     /// value if the key is absent. Returns whether the value was put. `put_if` does the same, but
     /// returns the value that the key had.
     ///
@@ -216,8 +220,8 @@ impl<'a, L: Ledger, R: Wait> Transaction<'a, L, R> {
     ///
     /// # Errors
     ///
-    /// Each `Refused` of the map's `save`. The map's `save` documents the state of the transaction
-    /// after each of them.
+    /// `Refused` for the same reasons as the map's `save`. The documentation of the map's `save`
+    /// says in which state the transaction is after each error.
     ///
     /// # Cost
     ///
@@ -239,8 +243,8 @@ impl<'a, L: Ledger, R: Wait> Transaction<'a, L, R> {
     ///
     /// # Errors
     ///
-    /// Each `Refused` of the map's `back`. The map's `back` documents the state of the transaction
-    /// after each of them.
+    /// `Refused` for the same reasons as the map's `back`. The documentation of the map's `back`
+    /// says in which state the transaction is after each error.
     ///
     /// # Cost
     ///
@@ -261,8 +265,8 @@ impl<'a, L: Ledger, R: Wait> Transaction<'a, L, R> {
     ///
     /// # Errors
     ///
-    /// Each `Refused` of the map's `commit`. The transaction is then aborted, unless the token is
-    /// broken.
+    /// `Refused` for the same reasons as the map's `commit`. The transaction is then aborted,
+    /// unless the token is broken.
     ///
     /// # Cost
     ///
@@ -278,7 +282,7 @@ impl<'a, L: Ledger, R: Wait> Transaction<'a, L, R> {
         end(rt, map, me)
     }
 
-    /// Aborts the transaction, as a drop does.
+    /// Aborts the transaction. Dropping it does the same.
     ///
     /// # Cost
     ///
@@ -398,7 +402,7 @@ fn end<L: Ledger, R: Wait>(
     }
 }
 
-/// Aborts a caller's transaction, if it has one.
+/// Aborts a caller's transaction, if one is open.
 #[tactic(auto, using(crate::proofs::Within::taken_back_by, crate::proofs::Within::idle_abort))]
 fn take_back<L: Ledger, R: Wait>(rt: &R, map: &SharedMap<L>, me: &mut Caller<L, NoSide>)
     ensures back { IsTakenBack me.old me.new }

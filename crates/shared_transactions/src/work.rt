@@ -226,14 +226,14 @@ pub fn run_works<R: Threads + Wait + Sync, W: Work<R> + Send + Drop>(
     run_under::<Brand, R, W>(rt, alloc, blank, limits, works)
 }
 
-/// Does the work `opening` in this thread, and then the other works as `run_works` does. The
-/// opening gives the map its first pairs, and its caller has the number `works.len()`. Returns the
-/// opening's outcome too.
+/// Does the work `opening` in this thread, and then each of the other works in its own thread, like
+/// `run_works`. The opening gives the map its first pairs, and its caller has the number
+/// `works.len()`. Returns the opening's outcome too.
 ///
-/// If the result is `Ok`, the opening has kept its promise as the works have, and the history has
-/// only the entries of the opening and of the works. The opening's entries are the first of the
-/// history, since no other thread is started before the opening ends. No clause says this, because
-/// no contract sees through the map's lock.
+/// If the result is `Ok`, the opening and the works have kept their promises, and the history has
+/// only their entries. The opening's entries are the first of the history, since no other thread is
+/// started before the opening ends. No clause says this, because no contract sees through the map's
+/// lock.
 ///
 /// # Errors
 ///
@@ -263,10 +263,10 @@ pub fn run_works_after<R: Threads + Wait + Sync, O: Work<R> + Drop, W: Work<R> +
     open_under::<Brand, R, O, W>(rt, alloc, blank, limits, opening, works)
 }
 
-/// Puts the pairs of a closed map's core into a new map, as `refill` does, in this thread. Then
-/// does the works as `run_works` does. The caller that puts the pairs has the number `works.len()`.
-/// The core is unchanged. The limits need not be the core's, but they must allow a caller for each
-/// work, and one more for the pairs.
+/// Puts the pairs of a closed map's core into a new map, by a call of `refill` in this thread. Then
+/// does each work in its own thread, like `run_works`. The caller that puts the pairs has the
+/// number `works.len()`. The core is unchanged. The limits need not be the core's, but they must
+/// allow a caller for each work, and one more for the pairs.
 ///
 /// If the result is `Ok`, the caller that puts the pairs has exactly the entries of one committed
 /// transaction, which puts the pairs in the order of the core's list. That transaction is the first

@@ -132,7 +132,7 @@ impl<S: Side> SidedCaller<S> {
         Ok(())
     }
 
-    /// Returns the value of a key, or `None` if the key is absent, as `Caller::get` does.
+    /// Returns the value of a key, or `None` if the key is absent.
     ///
     /// # Errors
     ///
@@ -158,12 +158,13 @@ impl<S: Side> SidedCaller<S> {
         outcome
     }
 
-    /// Puts a value at a key. Returns the key's value before, or `None` if the key was absent, as
-    /// `Caller::put` does.
+    /// Puts a value at a key. Returns the value that the key had before, or `None` if the key was
+    /// absent.
     ///
     /// # Errors
     ///
-    /// Those of `Caller::put`, with the same effect on the side value as in `get`.
+    /// Those of `Caller::put`. After `Busy` the side value has the words that it had when the
+    /// transaction began. After a refusal it is unchanged.
     ///
     /// # Cost
     ///
@@ -184,12 +185,12 @@ impl<S: Side> SidedCaller<S> {
         outcome
     }
 
-    /// Takes a key out. Returns the key's value, or `None` if the key was absent, as `Caller::take`
-    /// does.
+    /// Removes a key. Returns the value that the key had, or `None` if the key was absent.
     ///
     /// # Errors
     ///
-    /// Those of `Caller::take`, with the same effect on the side value as in `get`.
+    /// Those of `Caller::take`. After `Busy` the side value has the words that it had when the
+    /// transaction began. After a refusal it is unchanged.
     ///
     /// # Cost
     ///
@@ -211,12 +212,13 @@ impl<S: Side> SidedCaller<S> {
     }
 
     /// Puts a value at a key if the key has the expected value. If `expected` is `None`, puts the
-    /// value if the key is absent. Returns the key's value before, or `None` if the key was absent,
-    /// as `Caller::put_if` does.
+    /// value if the key is absent. Returns the value that the key had before, or `None` if the key
+    /// was absent.
     ///
     /// # Errors
     ///
-    /// Those of `Caller::put_if`, with the same effect on the side value as in `get`.
+    /// Those of `Caller::put_if`. After `Busy` the side value has the words that it had when the
+    /// transaction began. After a refusal it is unchanged.
     ///
     /// # Cost
     ///
@@ -243,8 +245,8 @@ impl<S: Side> SidedCaller<S> {
     ///
     /// # Errors
     ///
-    /// Those of `Caller::save`, and `NoMemory` if memory for the side value's level is refused. On
-    /// an error the side value is unchanged.
+    /// Those of `Caller::save`, and `Refused(NoMemory)` if memory for the side value's level is
+    /// refused. On an error the side value is unchanged.
     ///
     /// # Cost
     ///
@@ -273,8 +275,8 @@ impl<S: Side> SidedCaller<S> {
     }
 
     /// Takes back the changes of the map and of the side value that were made after the savepoint
-    /// with this level. Level 0 is the beginning of the transaction. The transaction stays open,
-    /// later savepoints are dropped, and the stripes stay held.
+    /// with this level. Level 0 is the beginning of the transaction. Savepoints with a higher level
+    /// are dropped. The transaction stays open, and the stripes stay held.
     ///
     /// # Errors
     ///
@@ -359,8 +361,8 @@ impl<S: Side> SidedCaller<S> {
         Ok(())
     }
 
-    /// Lets this caller see all that the other caller has seen, as `Caller::catch_up` does. Open
-    /// transactions and both side values are unchanged.
+    /// Lets this caller see all that the other caller has seen, by a call of `Caller::catch_up`.
+    /// Open transactions and both side values are unchanged.
     ///
     /// # Cost
     ///

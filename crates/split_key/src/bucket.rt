@@ -22,9 +22,9 @@ pub fn parent(bucket: u32) -> u32
     bucket - (1 << bucket.ilog2())
 }
 
-/// The bucket of a key in a table of this size, a power of two: the key's lowest bits. The dummies
-/// of the bucket and of all its ancestors precede the key, so a search for the key may begin at any
-/// of them.
+/// The bucket of a key in a table of this size: the key's lowest bits. The size is a power of two.
+/// The dummies of the bucket and of all its ancestors precede the key, so a search for the key may
+/// begin at any of them.
 pub fn bucket_of(key: Key, size: u32) -> u32
     requires { IsPowerOfTwo size }
     ensures value { result ≡ key % size }
@@ -34,10 +34,10 @@ pub fn bucket_of(key: Key, size: u32) -> u32
     (key.number() & u64::from(size - 1)) as u32
 }
 
-/// The bucket to which the position `split` of the split order belongs, in a table of this size, a
-/// power of two. Among the table's dummies with a split key of at most `split`, the dummy of this
-/// bucket has the greatest split key. The split keys of its ancestors' dummies are at most `split`
-/// too.
+/// The bucket to which the position `split` of the split order belongs, in a table of this size.
+/// The size is a power of two. Among the table's dummies with a split key of at most `split`, the
+/// dummy of this bucket has the greatest split key. The split keys of its ancestors' dummies are at
+/// most `split` too.
 pub fn bucket_at(split: u64, size: u32) -> u32
     requires { IsPowerOfTwo size }
     ensures value { result ≡ reversed split % size }

@@ -27,8 +27,8 @@ impl Model for Key {
     ghost inverse = { λ number. record { number = number } };
 }
 
-/// The error for a number that is no half key, since it is 2^63 or more. It is printed as `a key is
-/// a number below 2^63`.
+/// The error for a number that is not a half key, since it is 2^63 or more. The error is printed as
+/// `a key is a number below 2^63`.
 #[derive(Clone, Copy, Debug, PartialEq, Eq)]
 pub struct BadKey;
 

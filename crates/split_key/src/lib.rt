@@ -7,8 +7,8 @@
 //! of a key is odd, since the key's top bit is set before the reversal. The split key of a bucket
 //! is the bucket's number with its bits reversed, which is even. A split key begins with the lowest
 //! bits of its key, and these bits give the bucket. So in the order of split keys, the keys of a
-//! bucket are together, right after the bucket's dummy node. This holds for each power of two as
-//! the table's size. The list of a table of size 4 with the keys 0 to 7 is as follows. A number is
+//! bucket are together, right after the bucket's dummy node. This holds for each table size that is
+//! a power of two. The list of a table of size 4 with the keys 0 to 7 is as follows. A number is
 //! shown by its lowest four bits, and a split key by its first four and its last four:
 //!
 //! ```text
@@ -29,9 +29,9 @@
 //!
 //! A table that doubles moves no node. At size 8 the dummy of bucket 4, `0010 .. 0000`, is put
 //! right before key 4. The new dummy splits bucket 0: the keys 0, 8, 16 and so on stay before the
-//! dummy. The dummies of 6, 5 and 7 are put right before the keys 6, 5 and 7. The parent of a
-//! bucket other than 0 is the bucket without its highest 1 bit. It is the bucket from which this
-//! bucket was split off.
+//! dummy. The dummies of the buckets 6, 5 and 7 are put right before the keys 6, 5 and 7. The
+//! parent of a bucket other than 0 is the bucket without its highest 1 bit. A bucket is split off
+//! from its parent.
 //!
 //! A key may be any number of 64 bits. The top bit of a key is set before it is reversed, so two
 //! keys that differ only in that bit, such as 1 and 2^63 + 1, share a split key. The list is

@@ -1,7 +1,7 @@
 //! Reverses the bits of a word, by six swaps of neighbouring groups of bits. This module knows
 //! neither keys nor buckets; the `split` module uses it to make split keys. A second reversal
-//! restores the word, so `sort` and `bucket` also use it, to find the key and the bucket of a split
-//! key.
+//! restores the word. So the modules `sort` and `bucket` use it to find the key and the bucket of a
+//! split key.
 ghost use Rattle.std.specs.Prelude.{◌≡◌, ℕ, ◌-◌, ◌*◌, ◌/◌, ◌%◌, ◌<◌};
 ghost use Rattle.std.specs.Int.{bit_at};
 ghost use Rattle.split_key.specs.Split.{reversed};

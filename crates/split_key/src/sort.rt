@@ -94,8 +94,8 @@ impl SortKey {
         }
     }
 
-    /// The sort key of a bucket's dummy. If the bucket is not 0, it comes after the sort key of
-    /// bucket 0's dummy.
+    /// The sort key of a bucket's dummy. If the bucket is not 0, this sort key comes after the one
+    /// of bucket 0's dummy.
     pub fn dummy(bucket: u32) -> SortKey
         ensures value { result ≡ dummy_at bucket }
         ensures behind_first { bucket ≢ 0 → IsBefore (dummy_at 0) result }
@@ -113,7 +113,7 @@ impl SortKey {
         word(self.split)
     }
 
-    /// The key of a regular node, which is found by reversing its split key, or 0 for a dummy.
+    /// The key of a regular node, or 0 for a dummy. The key is found by reversing the split key.
     pub fn key(self) -> u64
         ensures { result ≡ self.key }
     {

@@ -23,8 +23,8 @@ pub fn regular(key: Key) -> u64
 }
 
 /// The split key of a bucket's dummy node: the bucket's bits in reverse order. It is even, and no
-/// other bucket has it. It is above the split key of each ancestor of the bucket, except the bucket
-/// itself.
+/// other bucket has it. It is above the split key of every other bucket that is an ancestor of this
+/// bucket.
 pub fn dummy(bucket: u32) -> u64
     ensures value { result ≡ reversed bucket }
     ensures even { result % 2 ≡ 0 }

@@ -1,7 +1,7 @@
-//! `Caller::transact`, which runs a work in a transaction, and begins again if another caller holds
-//! a stripe. The method is not in the module `caller`, since it builds on `Transaction`. Each try
-//! runs the work in a `Transaction`, so a work that fails leaves no transaction open. Between two
-//! tries the caller holds no stripe.
+//! Defines `Caller::transact`, which runs a work in a transaction, and begins again if another
+//! caller holds a stripe. The method is not in the module `caller`, since it builds on
+//! `Transaction`. Each try runs the work in a `Transaction`, so a work that fails leaves no
+//! transaction open. Between two tries the caller holds no stripe.
 ghost use Rattle.std.specs.Prelude.{◌≡◌, ℕ, ◌≤◌, true, false, Ok, IfOk, IfErr, OnOk, OnErr};
 ghost use Rattle.txn_words.specs.declared.refusal.Refusal.TheVariants.{AlreadyOpen};
 ghost use Rattle.striped_map.specs.Attempts.{on_callers, Fails, FailsBusy};
@@ -44,9 +44,9 @@ impl Caller {
     ///
     /// # Errors
     ///
-    /// - `AlreadyOpen` if the caller is in a transaction. This transaction is unchanged.
+    /// - `Refused(AlreadyOpen)` if the caller is in a transaction. This transaction is unchanged.
     /// - Otherwise the error of the last try. The error is `Busy` only if all tries are used up. It
-    ///   is `NotOpen` if the work continued after one of its calls was busy.
+    ///   is `Refused(NotOpen)` if the work continued after one of its calls was busy.
     ///
     /// # Cost
     ///

@@ -1,7 +1,8 @@
 //! A caller's hand: its seat, and the stripes, changes and levels of its transaction.
 //!
 //! The parts of the stripes that the hand holds stay in their slots, where an operation works on
-//! them as plain memory. A method may be called only in the right phase; the hand does not test it.
+//! them as plain memory. A method may be called only in the right phase of a transaction, which the
+//! hand does not test.
 ghost use Rattle.std.specs.Prelude.{◌≡◌, ◌≢◌, ℕ, ◌+◌, ◌-◌, ◌/◌, ◌<◌, ◌≤◌, ◌%◌, ◌^◌, [], ◌∷◌, IfOk, IfErr, IfSome, OnOk, OnErr, None, Some, true, slice_get, slice_index, length, take, drop, vec_len, vec_capacity};
 ghost use mathlib.Core.List.{IsPrefix};
 ghost use Rattle.txn_words.specs.declared.entry.Entry.TheVariants.{Began, Asked, Did, Saved, Leave, Returned, Committed};
@@ -87,7 +88,7 @@ fn mark_of(levels: &Vec<usize>, level: usize) -> usize
     if level == 0 { 0 } else { levels[level - 1] }
 }
 
-/// The operation under another key.
+/// The same operation on another key.
 #[inline(always)]
 fn under(op: Op, key: u64) -> Op
     ensures { result ≡ Rattle.striped_map.specs.Handling.under op key }
@@ -287,7 +288,7 @@ impl Hand {
         Ok(pairs)
     }
 
-    /// Looks at the history. It has all entries of the seats that were merged into this hand's
+    /// Looks at the history, which has all entries of the seats that were merged into this hand's
     /// seat.
     pub(crate) fn gather(&mut self, map: &StripedMap)
         requires map { IsOf self.old.seat map.now }

@@ -44,10 +44,10 @@ pub fn open_map(
     open_map_with_capacity(alloc, stripes, callers, 0)
 }
 
-/// Opens a map as `open_map` does, and gives each stripe room for its share of `keys` keys, rounded
-/// up. So the stripes take no memory for the first `keys` keys, on two conditions. The keys must be
-/// spread evenly over the stripes, as consecutive keys are. And each transaction must do at most
-/// one operation in each stripe, not counting gets.
+/// Opens a map like `open_map`, and gives each stripe room for its share of `keys` keys, rounded
+/// up. The stripes then take no memory for the first `keys` keys if two conditions hold. The keys
+/// must be spread evenly over the stripes, which is so for consecutive keys. And each transaction
+/// must do at most one operation in each stripe, not counting gets.
 ///
 /// # Errors
 ///
@@ -56,7 +56,8 @@ pub fn open_map(
 ///
 /// # Cost
 ///
-/// Time and memory in proportion to the stripes, the callers and the keys, all taken by this call.
+/// Time and memory in proportion to the stripes, the callers and the keys. This call takes all of
+/// the memory.
 pub fn open_map_with_capacity(
     alloc: Global,
     stripes: usize,

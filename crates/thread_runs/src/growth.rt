@@ -19,10 +19,10 @@ use txn_trace::{Answer, Op, Refusal};
 /// takes about ten holds: one to double the table, and one for each ancestor of the key's bucket.
 /// An operation takes three holds. So a help for each new key would make the other workers wait.
 /// The number is odd, and the number of buckets is a power of two. So if the keys are consecutive
-/// numbers, each bucket has its turn.
+/// numbers, in time each bucket gets a help.
 const EVERY: u8 = 7;
 
-/// The number of new keys that a worker has put since its last help.
+/// The number of calls with a new key (`new_key`) that a worker has made since its last help.
 #[derive(Drop)]
 pub(crate) struct Growth {
     new_keys: u8,
@@ -34,8 +34,8 @@ impl Growth {
         Growth { new_keys: 0 }
     }
 
-    /// Counts the new key of a call with this end, if it has one. If the worker has to help now,
-    /// returns the key to help for. A call for help sets the count back to 0.
+    /// If the call with this end has a new key (`new_key`), counts the key. If the worker has to
+    /// help now, returns the key to help for. A call for help sets the count back to 0.
     fn key_due(&mut self, call: Call, end: End) -> Option<u64>
         ensures { IfSome result (λ key. end ≡ End.Answered (Answer.Done None)) }
     {
@@ -83,7 +83,7 @@ fn is_out(end: End) -> bool
 }
 
 /// The key of a put or a put-if that found no value at the key. This includes a put-if that
-/// expected a value, although it has put nothing.
+/// expected a value, although such a call puts nothing.
 fn new_key(call: Call, end: End) -> Option<u64>
     ensures { IfSome result (λ key. end ≡ End.Answered (Answer.Done None)) }
 {

@@ -2,9 +2,9 @@
 //!
 //! Worker `w` is caller `w`, and script `i` belongs to worker `i mod workers`. A worker runs its
 //! scripts in their order, by the rules of `script_worker`. The same rules hold for workers that
-//! take turns in one thread. A gate is called as the workers reach certain points, and may make
-//! them wait. After some new keys without a help, a worker helps the table to grow even if its
-//! script does not ask for it. So scripts without a help do not become slow.
+//! take turns in one thread. A gate is called when a worker reaches certain points, and may make
+//! this worker wait. After some new keys without a help, a worker helps the table to grow even if
+//! its script does not ask for it. So scripts without a help do not become slow.
 //!
 //! A contract sees the result of a run: the history, and an outcome for each script. Proved
 //! (`run_scripts`, by `IsRunOf` of `specs/Runs.antt`): the history is legal by the rule that a Busy

@@ -11,9 +11,9 @@ pub enum Outcome {
     Committed {
         /// The number of the transaction.
         txn: u64,
-        /// Its number in the commit order, from 1.
+        /// The transaction's number in the commit order, from 1.
         place: u64,
-        /// The replies of its operations, in order.
+        /// The replies of the transaction's operations, in order.
         replies: Vec<Reply>,
     },
     /// The script has aborted its transaction itself.

@@ -55,7 +55,7 @@ const OWED: usize = 8;
 /// # Errors
 ///
 /// - `NoMemory` if memory is refused for the map, for the list of threads or for their results.
-/// - `NoThread` if a thread was not started; the workers that were started finish.
+/// - `NoThread` if a thread could not be started. The workers that were started finish first.
 /// - `OutOfStep` if what the workers saw is not the history.
 ///
 /// # Cost
@@ -158,7 +158,7 @@ fn needs_of(
     Ok(needs)
 }
 
-/// The numbers of changes and of savepoints that a script may make.
+/// How many changes and how many savepoints a script may make.
 fn need_of(actions: &[PackedAction]) -> CallerRoom {
     let mut need = CallerRoom::default();
     for packed in actions {
@@ -184,15 +184,15 @@ fn larger(one: CallerRoom, other: CallerRoom) -> CallerRoom {
 /// Room for what scripts add if no change is taken back. `needs` has for each worker the largest
 /// numbers of changes and of savepoints that one of its scripts may make.
 ///
-/// - Entries: two for each action that is not a help, and a begin and an end for each script. With
-///   several workers there is room for half as many again, and for `MORE` further entries, since
-///   attempts are repeated. If that room runs out, the history grows; with several workers it grows
+/// - Entries: two for each action that is not a help, and a begin and an end for each script.
+///   Several workers repeat attempts, so there is then room for half as many entries more, and for
+///   `MORE` entries on top. If that room runs out, the history grows. With several workers it grows
 ///   outside the lock.
 /// - Nodes: one for each put or put-if. This is enough however often an attempt is repeated, since
-///   no two linked nodes have the same key. There are as many again for the dummies of buckets, but
-///   at least two and at most the largest number of buckets. For each worker, there is a spare for
-///   each change in `needs`.
-/// - Logs and seats: what `needs` has for the worker.
+///   no two linked nodes have the same key. The dummies of buckets have the same number of nodes,
+///   but at least two and at most the largest number of buckets. In addition, each worker has one
+///   spare for each change in `needs`.
+/// - Logs and seats: for as many changes and savepoints as `needs` has for the worker.
 ///
 /// With several workers, the room is written before they start.
 fn room_for<'a>(scripts: &[Script], limits: Limits, needs: &'a [CallerRoom]) -> Room<'a> {

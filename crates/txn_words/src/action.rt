@@ -13,8 +13,8 @@ pub enum Action {
     Save,
     /// Goes back to the savepoint with this number; 0 is the start of the transaction.
     Back(u64),
-    /// Helps the table to grow: doubles it if it has more than twice as many keys as buckets and
-    /// may still grow, and initialises the bucket of this key.
+    /// Helps the table to grow. Doubles the table if it has more than twice as many keys as buckets
+    /// and is below its largest size. Then initialises the bucket of this key.
     Help(u64),
     /// Aborts the transaction and ends the script.
     Abort,

@@ -16,7 +16,8 @@ pub enum Answer {
     Began(u64),
     /// The caller has asked for the operation.
     Asked,
-    /// The caller with this number was found to hold the stripe. The transaction aborts.
+    /// The caller with this number was found to hold the stripe. The transaction that asked for the
+    /// stripe aborts.
     Busy(u64),
     /// The caller or the helper now has a cursor at the position that it sought.
     Placed,
@@ -40,17 +41,17 @@ pub enum Answer {
     Swept,
     /// No marked node is linked.
     Clean,
-    /// The bucket was initialised before.
+    /// The bucket is initialised already.
     Ready,
-    /// The bucket's dummy was linked before.
+    /// The bucket's dummy is linked already.
     Present,
-    /// The bucket's dummy is linked.
+    /// The bucket's dummy is now linked.
     Linked,
-    /// The bucket is initialised.
+    /// The bucket is now initialised.
     Stored,
     /// The table's size is this number, not the size that the step named.
     Moved(u64),
-    /// The size is the largest one allowed.
+    /// The table has the largest size allowed, so it is not doubled.
     AtLimit,
     /// There are too few keys to double the table.
     Light,

@@ -21,8 +21,8 @@ pub enum Entry {
     Did(u64, Reply),
     /// A savepoint was set.
     Saved(u64),
-    /// The caller starts to go back to this level or, if the second field is `None`, to abort its
-    /// transaction.
+    /// The caller starts to go back to this level. If the second field is `None`, the caller starts
+    /// to abort its transaction.
     Leave(u64, Option<u64>),
     /// The newest of the transaction's remaining changes was taken back.
     Undone(u64),

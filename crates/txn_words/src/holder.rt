@@ -1,6 +1,7 @@
 //! The two rules that say which caller a Busy entry may name. The rule of locks takes one of these
-//! two rules as a parameter. So one definition of legal histories serves both maps that record an
-//! entry when they test the stripe and maps that record the entry later.
+//! two rules as a parameter. So one definition of legal histories serves two kinds of maps: those
+//! that record an entry at the moment when they test the stripe, and those that record the entry
+//! later.
 
 /// The rule that says which caller a Busy entry may name as the holder of the stripe. Under both
 /// rules the holder is not the entry's own caller.

@@ -1,13 +1,13 @@
 //! The vocabulary of transactions on a map: operations, scripts, steps and their answers, refusals,
 //! limits, the entries of a history, a caller's seat, and the finite maps that operations act on.
 //!
-//! The meaning of a history is in `txn_trace`, which uses this crate. So a crate that only names
+//! `txn_trace`, which uses this crate, defines what a history means. So a crate that only names
 //! operations, entries or refusals needs none of the laws of histories.
 //!
-//! The functions of this crate compute what the crates above share: limits and texts, the entry
-//! that a step adds to a history, packed actions, entries and steps, the room in a history that an
-//! operation or a step needs, and a caller's seat. A call takes constant time and no memory unless
-//! its comment says otherwise.
+//! The functions of this crate compute what the crates that use it have in common: limits and
+//! texts, the entry that a step adds to a history, packed actions, entries and steps, the room in a
+//! history that an operation or a step needs, and a caller's seat. A call takes constant time and
+//! no memory unless its comment says otherwise.
 #![tactic(auto)]
 
 mod action;

@@ -30,8 +30,8 @@ impl Op {
         key
     }
 
-    /// Returns true if the operation is a change on some map. This holds for every operation but
-    /// `Get`.
+    /// Returns true if there is a map on which the operation is a change. This holds for every
+    /// operation but `Get`.
     pub fn may_change(self) -> bool
         ensures { result ≡ may_change self }
     {

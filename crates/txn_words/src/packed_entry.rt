@@ -1,7 +1,7 @@
 //! An entry of a history in 48 bytes instead of 64, and the parts of an operation, which packed
-//! actions and packed steps use too. Unlike in a `SmallEntry`, the caller may have any number. The
-//! model of a packed entry is the entry itself, so a contract reads a list of packed entries as a
-//! history.
+//! actions and packed steps use too. Unlike a `SmallEntry`, a packed entry can have a caller with
+//! any number. The model of a packed entry is the entry itself, so a contract reads a list of
+//! packed entries as a history.
 ghost use Rattle.std.specs.Prelude.{◌≡◌};
 ghost use Rattle.txn_words.specs.Packed.{packed_op, packed_entry};
 

@@ -17,8 +17,8 @@ use std::fmt;
 pub enum Refusal {
     /// 1: the key is 2^63 or more, and the limits allow only half keys.
     BadKey,
-    /// 2: the caller's number is not below the number of callers. In C it also means that a join
-    /// finds no caller of the striped map that still waits to be joined.
+    /// 2: the caller's number is not below the number of callers. In C, a join is also refused with
+    /// 2 if no caller of the striped map still waits to be joined.
     NoSuchCaller,
     /// 3: the caller has no transaction.
     NotOpen,
@@ -44,8 +44,8 @@ pub enum Refusal {
     HelperOutOfOrder,
     /// 14: memory was refused.
     NoMemory,
-    /// 15: at this call or at an earlier one, a caller's token did not agree with the core or with
-    /// the caller's side value; or the map cannot be closed.
+    /// 15: a caller's token did not agree with the core or with the caller's side value, at this
+    /// call or at an earlier one. A map that cannot be closed is also refused with 15.
     OutOfStep,
     /// 16: no stamp below 2^64 - 1 is left.
     StampsUsedUp,
@@ -53,16 +53,16 @@ pub enum Refusal {
     CallersMissing,
     /// 18: a worker could not be started.
     NoThread,
-    /// 19: the claim to a stripe is stale. A right is stale if the core has recorded another caller
-    /// as the stripe's holder. A word is stale if it names the caller itself, or a caller that has
-    /// never begun a transaction.
+    /// 19: the claim to a stripe is stale. A claim by a right is stale if the core has recorded
+    /// another caller as the stripe's holder. A claim by a word is stale if the word names the
+    /// asking caller itself, or a caller that has never begun a transaction.
     StaleWord,
     /// 20: a file is not JSON.
     NotJson,
     /// 21: a file, or a part of it, does not have the shape that it should have.
     WrongShape,
-    /// 22: something is out of range: a file, a number in a file, or a number that is given to make
-    /// a map or a judge.
+    /// 22: something is out of range: the size of a file or of a part of it, a number in a file, or
+    /// a number that is given to make a map or a judge.
     Limit,
 }
 
@@ -145,7 +145,7 @@ impl Refusal {
     }
 }
 
-/// Converts an allocation error to `NoMemory`, as `?` does.
+/// An allocation error becomes `NoMemory`; `?` does this conversion.
 impl From<AllocError> for Refusal {
     ghost use Rattle.txn_words.specs.declared.refusal.Refusal.TheVariants.{NoMemory};
 

@@ -7,8 +7,9 @@ use crate::entry::Entry;
 use crate::small_entry::SmallEntry;
 use std::alloc::AllocError;
 
-/// Makes room in a list for `more` more entries. If `is_written`, fills all of the list's room
-/// once, so that no later entry is the first to touch a page of memory. The entries are unchanged.
+/// Makes room in a list for this many entries (`more`) besides those that it has. If `is_written`,
+/// fills all of the list's room once, so that no later entry is the first to touch a page of
+/// memory. The entries are unchanged.
 ///
 /// # Errors
 ///
@@ -17,7 +18,7 @@ use std::alloc::AllocError;
 /// # Cost
 ///
 /// At most one allocation, with a copy of the entries if there are any. If the room is written,
-/// also time in proportion to the room.
+/// this also takes time in proportion to the room.
 pub fn make_room(
     entries: &mut Vec<SmallEntry>,
     more: usize,

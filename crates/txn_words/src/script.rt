@@ -117,7 +117,7 @@ impl Scripts {
         self.version
     }
 
-    /// The limits of the map; its callers are the workers.
+    /// The limits of the map. The callers of the map are the workers.
     pub fn limits(&self) -> Limits
         ensures { result ≡ self.now.sizes }
     {

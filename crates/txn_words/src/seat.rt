@@ -1,5 +1,5 @@
-//! The seat of a caller: the caller's state in the rule of shape, after the caller's own entries.
-//! Most refusals of the caller's next step depend only on this state.
+//! A caller's seat: the state that the rule of shape gives a caller. It depends only on the
+//! caller's own entries so far. Most refusals of the caller's next step depend only on this state.
 //!
 //! The tests of the seat are inlined into the code of each step (`inline(always)`). The kind of
 //! step is known there, so most tests take no instruction.
@@ -33,10 +33,11 @@ pub enum Phase {
     LeavingToEnd,
 }
 
-/// A caller's seat: its phase, how many of its changes stand, and how many stood at each savepoint.
+/// A caller's seat: the caller's phase, how many of its changes stand, and how many stood at each
+/// savepoint. A change stands until it is taken back or its transaction ends.
 ///
-/// A contract sees two parts. `seat` is the seat of the definitions, which also lists level 0, at
-/// which no change stood. `room` is the number of further `Saved` entries for which the seat has
+/// A contract sees two parts. `seat` is the seat as the definitions have it. It also lists level 0,
+/// at which no change stood. `room` is the number of further `Saved` entries for which the seat has
 /// memory.
 #[derive(Drop)]
 pub struct Seat {
@@ -79,8 +80,8 @@ impl Seat {
     ///
     /// # Cost
     ///
-    /// One allocation, or none if `savepoints` is 0. If the room is written, also time in
-    /// proportion to the room.
+    /// One allocation, or none if `savepoints` is 0. If the room is written, this also takes time
+    /// in proportion to the room.
     pub fn with_capacity(
         alloc: Global,
         savepoints: usize,
@@ -101,7 +102,7 @@ impl Seat {
         self.phase
     }
 
-    /// How many of the caller's changes stand.
+    /// How many of the caller's changes stand, which means that they are not taken back.
     pub fn standing(&self) -> u64
         ensures { result ≡ self.now.seat.standing }
     {
@@ -137,7 +138,8 @@ impl Seat {
         }
     }
 
-    /// Whether there is something to seek: an operation that waits, or a change to take back.
+    /// Returns true if there is something to seek: an operation that waits, or a change to take
+    /// back.
     #[inline(always)]
     pub fn has_target(&self) -> bool
         ensures { result ≡ has_target self.now.seat }
@@ -145,8 +147,8 @@ impl Seat {
         matches!(self.phase, Phase::Waiting(_)) || self.has_job()
     }
 
-    /// The refusal of this step of the seat's caller, or `None` if the seat does not refuse the
-    /// step. The limits say whether only half keys are allowed.
+    /// The refusal that the seat gives to this step of its caller, or `None` if the seat does not
+    /// refuse the step. The limits say whether only half keys are allowed.
     #[inline(always)]
     pub fn refusal(&self, limits: Limits, step: Step) -> Option<Refusal>
         ensures { result ≡ refusal_in limits.half self.now.seat step }
@@ -258,8 +260,8 @@ impl Seat {
     ///
     /// # Cost
     ///
-    /// At most one allocation, with a copy of the savepoints. If the room is written, also time in
-    /// proportion to the room.
+    /// At most one allocation, with a copy of the savepoints. If the room is written, this also
+    /// takes time in proportion to the room.
     pub fn make_room(&mut self, savepoints: usize, is_written: bool) -> Result<(), AllocError>
         ensures seat { self.new.seat ≡ self.old.seat }
         ensures room { self.old.room ≤ self.new.room }

@@ -1,7 +1,7 @@
-//! An entry of a history in 32 bytes, half the size of an `Entry`. Its caller and the holder that
-//! it names must be below 65,536, as every caller of a map is. The model of a small entry is the
-//! entry itself, so a contract reads a list of small entries as a history. `Unpacked` iterates over
-//! such a list. All calls take constant time and no memory.
+//! An entry of a history in 32 bytes, half the size of an `Entry`. The numbers of its caller and of
+//! the holder that it names must be below 65,536. The callers of a map all have such numbers. The
+//! model of a small entry is the entry itself, so a contract reads a list of small entries as a
+//! history. `Unpacked` iterates over such a list. All calls take constant time and no memory.
 ghost use Rattle.std.specs.Prelude.{◌≡◌, ◌↔◌, true, IsTrue};
 ghost use Rattle.txn_words.specs.Kinds.{caller_of};
 ghost use Rattle.txn_words.specs.Packed.{holder_part, packed_entry, small_entry};

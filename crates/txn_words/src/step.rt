@@ -23,15 +23,16 @@ pub enum Step {
     /// operation and its undoing need.
     ///
     /// Refused, in this order: `NoSuchCaller`, `NotOpen`, `Leaving`, `OperationUnfinished`,
-    /// `BadKey`; then `NoMemory` or, if the operation takes a node, `StampsUsedUp`; and last, if
-    /// stripes are words, `StaleWord`.
+    /// `BadKey`, then `NoMemory` or `StampsUsedUp`, then `StaleWord`. `StampsUsedUp` is possible
+    /// only if the operation takes a node, and `StaleWord` only if stripes are words.
     Ask(u64, Op),
     /// Seeks the position of the operation that was asked for, or of the newest change to take
     /// back.
     ///
     /// Refused, in this order: `NoSuchCaller`, `NotOpen`, `NothingToSeek`.
     Seek(u64),
-    /// Acts at the position that was sought, or ends the undoing.
+    /// Does the operation, or takes back the newest change, at the position that was sought. If no
+    /// change is left to take back, ends the undoing.
     ///
     /// Refused, in this order: `NoSuchCaller`, `NotOpen`, `NothingToSeek`, `Unplaced`.
     Act(u64),

@@ -33,8 +33,8 @@ impl<J: UndoJob, const INLINE: usize> Model for InlineJobs<J, INLINE> {
 impl<J: UndoJob, const INLINE: usize> InlineJobs<J, INLINE> {
     ghost use Rattle.std.specs.Prelude.{◌≡◌, ◌≤◌, [], IfOk, IsOk};
 
-    /// An empty store, with room for this many jobs. If `is_written`, the room is written now. Then
-    /// a job that is added later never touches a page of the room for the first time.
+    /// An empty store, with room for this many jobs. If `is_written` is true, the memory of the
+    /// room is written now, so that a later push is never the first access to one of its pages.
     pub(crate) fn with_capacity(
         alloc: Global,
         jobs: usize,

@@ -1,13 +1,13 @@
-//! The trait for the inverse of a change: what the world shows before and after the change, and the
-//! law that `run` obeys. A log stores jobs but runs none, so a log names no world. The world of the
-//! map's jobs is the table, and the world of a side value's jobs is the value itself. The cost of a
-//! run is not bounded.
+//! The trait for the inverse of a change: the state of the world before and after the change, and
+//! the law that `run` obeys. A log stores jobs and runs none, so a log needs no world. The world of
+//! the map's jobs is the table, and the world of a side value's jobs is the value itself. The cost
+//! of a run is not bounded.
 /// The inverse of one change, which is run at most once.
 ///
-/// The contract of `run` is its law. A job names the state after its change and the state before
-/// it. `run` takes a world that shows the state after the change, and returns a world that shows
-/// the state before it. `takes_back` says what differs between the two worlds, and that everything
-/// else is the same. A job that is no longer needed is dropped.
+/// The contract of `run` is its law. A job names two states: the one before its change and the one
+/// after its change. `run` takes a world in the state after the change, and returns a world in the
+/// state before the change. `takes_back` says what differs between the two worlds, and that
+/// everything else is the same. A job that is no longer needed is dropped.
 pub trait UndoJob: Drop {
     /// The world that was changed, such as a table of nodes.
     type World;

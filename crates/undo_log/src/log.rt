@@ -13,9 +13,9 @@ use std::marker::Model;
 /// The inverses of a transaction's changes, and its savepoints.
 ///
 /// Contracts see the `jobs`, oldest first. `kept` says how many jobs there were at each savepoint,
-/// savepoint 1 first. `room` is the room that is reserved for jobs, and `save_room` the room for
-/// savepoints. A level is the number of a savepoint, or 0 for the beginning. A call with a level
-/// requires that the level exists.
+/// savepoint 1 first. `room` says for how many more jobs room is reserved, and `save_room` for how
+/// many more savepoints. A level is the number of a savepoint, or 0 for the beginning. A call that
+/// takes a level requires that the level exists.
 ///
 /// `S` is the type of the job store. `S.inline` is the number of jobs that take no memory.
 #[derive(Drop)]
@@ -48,9 +48,9 @@ impl<S: JobStore> Model for JobLog<S> {
 }
 
 impl<J: UndoJob, const INLINE: usize> JobLog<InlineJobs<J, INLINE>> {
-    /// An empty log at level 0, with room for this many jobs and savepoints. If `is_written`, the
-    /// room is written now. Then a job or a savepoint that is added later never touches a page of
-    /// the room for the first time.
+    /// An empty log at level 0, with room for this many jobs and savepoints. If `is_written` is
+    /// true, the memory of the room is written now, so that adding a job or a savepoint later is
+    /// never the first access to one of its pages.
     ///
     /// # Errors
     ///
@@ -60,7 +60,7 @@ impl<J: UndoJob, const INLINE: usize> JobLog<InlineJobs<J, INLINE>> {
     /// # Cost
     ///
     /// One allocation if `jobs` is above `INLINE`, and one if `savepoints` is above 0. If the room
-    /// is written, also time in proportion to the room.
+    /// is written, the call also takes time in proportion to the room.
     pub fn with_capacity(
         alloc: Global,
         jobs: usize,
@@ -192,8 +192,8 @@ impl<S: JobStore> JobLog<S> {
         self.kept.reserve(1)
     }
 
-    /// Makes a savepoint here, which keeps all present jobs. Returns the number of the savepoint,
-    /// which is one more than the number of savepoints before the call.
+    /// Makes a savepoint that keeps all present jobs. Returns the number of the savepoint, which is
+    /// one more than the number of savepoints before the call.
     ///
     /// # Errors
     ///

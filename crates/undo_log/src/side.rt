@@ -27,8 +27,8 @@ pub trait Side: Drop + Send {
     fn words(&self) -> [u64; 4]
         ensures { result ≡ words_of self.now };
 
-    /// Takes back the job's change, by what the job stores, and returns the value without the
-    /// change. The side type determines the cost.
+    /// Takes back the job's change with the data that the job stores, and returns the value without
+    /// the change. The side type determines the cost.
     fn undo(self, job: Self::Job) -> Self
         requires { words_of self ≡ after job }
         ensures { words_of result ≡ before job };

@@ -15,9 +15,9 @@ use std::marker::Model;
 ///
 /// Contracts see the `value`. `levels` has the words of the value at the beginning and at each
 /// savepoint, level 0 first. `changes` says how many changes can be taken back, and `kept` how many
-/// of them each level keeps. `room` is the room that is reserved for changes, and `save_room` the
-/// room for savepoints. The words of the levels are not stored: each job names the words that it
-/// restores.
+/// of them each level keeps. `room` says for how many more changes room is reserved, and
+/// `save_room` for how many more savepoints. The words of the levels are not stored: each job names
+/// the words that it restores.
 #[derive(Drop)]
 pub struct SideValue<S: Side> {
     value: S,
@@ -79,9 +79,9 @@ impl<S: Side> SideValue<S> {
 
     /// Changes the value, and logs the job that takes the change back.
     ///
-    /// The current value must meet what `change` requires, and its words must be those that the job
-    /// names as the words before its change. The value that `change` returns must have the words
-    /// that the job names as the words after its change.
+    /// The current value must meet what `change` requires. The words of this value must be those
+    /// that the job names as the words before its change. The value that `change` returns must have
+    /// the words that the job names as the words after its change.
     ///
     /// # Errors
     ///

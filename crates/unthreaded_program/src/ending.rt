@@ -29,7 +29,7 @@ fn status_of(outcome: &Result<bool, Fault>) -> u8
 }
 
 /// If the outcome is a fault, writes the line of the fault to `errors`. Returns the exit status,
-/// and whether `errors` took the line. The status does not depend on whether it did.
+/// and whether `errors` took the line. A failed write does not change the status.
 ///
 /// # Cost
 ///

@@ -2,10 +2,10 @@
 //! exit status.
 //!
 //! A program opens the file that the words name (`open`), runs the command on the file
-//! (`run_command`), and ends with the line of a fault, if there is one, and a status (`end`).
-//! `boostmap_program` does so with an engine that runs the command `run` in threads. The function
-//! `run` of this crate has no such engine. It is the whole program `unthreaded`, in which the
-//! command `run` fails since no thread can be started.
+//! (`run_command`), and ends with an exit status and, after a fault, with the line of the fault
+//! (`end`). `boostmap_program` does so with an engine that runs the command `run` in threads. The
+//! function `run` of this crate has no such engine. It is the whole program `unthreaded`, in which
+//! the command `run` fails since no thread can be started.
 //!
 //! This is a separate crate, since nothing in it needs the proofs about threads. The proof of a
 //! program that only replays, mixes and judges takes two thirds of the time of the proof of
@@ -18,8 +18,8 @@
 //! - No engine ran, and standard output is unchanged: the words are no call, their file was not
 //!   opened, or memory was refused.
 //!
-//! Standard error has the line of the fault, if there is a fault, and nothing else, unless writing
-//! the line failed. The status is that of the outcome.
+//! Unless writing to standard error failed, it has exactly the line of the fault, or nothing if
+//! there is no fault. The status is that of the outcome.
 #![tactic(auto)]
 
 mod ending;

@@ -1,7 +1,7 @@
 //! Visits to one map, each in its own thread. In one transaction, a visitor puts a value at a key
 //! and gets the value at this key. `Visit` is the work of a thread. It promises that if it got a
-//! reply, the last entries that its caller has seen are those of the visit. From these promises
-//! follows what `visit_all` ensures about the history of the map.
+//! reply, the last entries that its caller has seen are those of the visit. What `visit_all`
+//! ensures about the history of the map follows from these promises.
 ghost use Rattle.std.specs.Prelude.{◌≡◌, ◌⊎◌, IfOk, IfErr, length};
 ghost use Rattle.shared_transactions.specs.Keeps.{Keeps};
 ghost use Rattle.txn_words.specs.declared.refusal.Refusal.{Refusal};
@@ -34,7 +34,7 @@ impl Visit {
     ///
     /// # Errors
     ///
-    /// The first `Stop` of its calls.
+    /// The first `Stop` that one of these two calls returns.
     #[tactic(auto, using(shared_transactions::proofs::Within::keeps_stay, shared_transactions::proofs::Within::keeps_on, crate::proofs::Whole::has_done))]
     fn put_and_get<L: Ledger, R: Wait>(self, t: &mut Transaction<'_, L, R>) -> Result<Reply, Stop>
         ensures keeps { Keeps t.old.me t.new.me }
@@ -49,7 +49,7 @@ impl Visit {
     ///
     /// # Errors
     ///
-    /// The first refusal of its calls.
+    /// The first refusal that a call of the transaction returns.
     fn make<L: Ledger, R: Wait>(
         self,
         rt: &R,
