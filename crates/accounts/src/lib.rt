@@ -12,8 +12,8 @@ ghost use Rattle.accounts.specs.Transfers.{GivesUp, HasTransferred, HasWorked};
 
 use striped_map::{Caller, Stop, Transaction};
 
-/// Moves a sum from one account to another, in a separate transaction, and returns whether the sum
-/// was moved. The sum is not moved if the first account has less than the sum, or if the second
+/// Moves a sum from one account to another, in a transaction of its own, and returns whether the
+/// sum was moved. The sum is not moved if the first account has less than the sum, or if the second
 /// would have 2^64 or more. An account without a key has 0.
 ///
 /// If a stripe is busy, the transaction aborts and the transfer is tried again, at most `tries`

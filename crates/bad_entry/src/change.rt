@@ -16,11 +16,11 @@ use txn_trace::{Entry, Op, Reply, SmallEntry};
 /// A change of a key.
 #[derive(Clone, Copy, Debug, PartialEq, Eq)]
 pub struct Change {
-    /// The index (from 0) of the Did that made the change.
+    /// The index (from 0) of the Did entry that made the change.
     pub did: u64,
     /// The caller that made the change.
     pub caller: u64,
-    /// The transaction that the change belongs to, if its caller had begun one.
+    /// The transaction that the change belongs to, or `None` if its caller had begun none.
     pub txn: Option<u64>,
 }
 
@@ -35,7 +35,8 @@ pub enum Fate {
     Undone,
 }
 
-/// The change of a key that an entry at this index makes, if it makes one.
+/// Returns the change that this entry makes to the key, or `None` if the entry makes no such
+/// change.
 fn change_at(desks: &Desks, key: u64, index: u64, entry: Entry) -> Option<Change>
     requires { caller_of entry < 64 }
     ensures { (h : List Entry) → HaveNoted h desks.now → result ≡ change_at key index h entry }
@@ -82,7 +83,7 @@ pub fn last_change(
     Ok(last)
 }
 
-/// Returns true if an operation waits and, given this reply, it is a change.
+/// Returns true if an operation waits, and is a change if it gets this reply.
 fn is_change(waiting: Option<Op>, reply: Reply) -> bool
     ensures { result ≡ is_change waiting reply }
 {
@@ -92,8 +93,8 @@ fn is_change(waiting: Option<Op>, reply: Reply) -> bool
     }
 }
 
-/// Returns the fate that an entry gives to a change of this caller, if it gives one. `above` is the
-/// number of the caller's newer changes that are not taken back.
+/// Returns the fate that an entry gives to a change of this caller, or `None` if the entry does not
+/// decide it. `above` is the number of the caller's newer changes that are not taken back.
 fn decided(caller: u64, above: u64, entry: Entry) -> Option<Fate>
     ensures { result ≡ decided caller above entry }
 {
@@ -122,8 +123,8 @@ fn waiting_after(caller: u64, waiting: Option<Op>, entry: Entry) -> Option<Op>
     }
 }
 
-/// Returns the number of this caller's newer changes that are not taken back after one more entry.
-/// `above` is their number before the entry.
+/// Returns the number of this caller's newer changes that have not been taken back, counted after
+/// one more entry. `above` is this number before the entry.
 fn above_after(caller: u64, waiting: Option<Op>, above: u64, entry: Entry) -> u64
     requires { above < 2 ^ 63 }
     ensures above { result ≡ above_after caller waiting above entry }
@@ -139,7 +140,7 @@ fn above_after(caller: u64, waiting: Option<Op>, above: u64, entry: Entry) -> u6
     }
 }
 
-/// Returns the fate of a change of this caller, given the entries after the change's Did.
+/// Returns the fate of a change of this caller, given the entries after the change's Did entry.
 fn fate_in(after: &[SmallEntry], caller: u64) -> Fate
     ensures { result ≡ fate_from caller None 0 after.now }
 {

@@ -1,7 +1,7 @@
-//! Questions that need a checker: the value of a key, the last commit that changed this value, and
-//! the first reply of a transaction that contradicts earlier ones. Each call feeds all entries to a
-//! new checker, so it costs as much as a verdict, or more. The contracts say something about the
-//! results only if no entry is bad.
+//! Answers questions that need a checker: the value of a key, the last commit that changed this
+//! value, and the first reply of a transaction that contradicts earlier ones. Each call feeds all
+//! entries to a new checker, so it costs as much as a verdict, or more. The contracts say something
+//! about the results only if no entry is bad.
 ghost use Rattle.std.specs.Prelude.{◌≡◌, ℕ, ◌<◌, List, Some, None, if◌then◌else◌, IfOk};
 ghost use Rattle.std.specs.List.{All};
 ghost use Rattle.std.specs.Option.{option_or};
@@ -78,7 +78,7 @@ pub fn value_now(
 }
 
 /// Finds the last commit, in a serializable history, that changed a key's value in the map of the
-/// committed transactions. Returns the index of its Committed, and its caller.
+/// committed transactions. Returns the index of the Committed entry, and the commit's caller.
 ///
 /// # Errors
 ///
@@ -109,7 +109,7 @@ pub fn last_commit(
 
 /// Returns the index of the first reply of a caller's open transaction that contradicts the replies
 /// before it. From that entry on, no map gives the transaction all of its replies. Returns `None`
-/// if some map gives it all of them.
+/// if some map gives the transaction all of its replies.
 ///
 /// # Errors
 ///
@@ -147,8 +147,8 @@ fn since_after(is_torn: bool, index: u64, since: Option<u64>) -> Option<u64>
     if is_torn { since.or(Some(index)) } else { None }
 }
 
-/// The index and the caller of an entry, if it is a commit that changes the value of a key from
-/// `before` to `after`.
+/// Returns the index and the caller of an entry if the entry is a commit and it changes the key's
+/// value (`before` and `after` differ). Otherwise returns `None`.
 fn settled(index: u64, entry: Entry, before: Reply, after: Reply) -> Option<(u64, u64)>
     ensures { result ≡ settling_commit index entry before after }
 {

@@ -22,7 +22,7 @@ pub struct Held {
     pub caller: u64,
     /// The transaction that the caller is in.
     pub txn: Option<u64>,
-    /// The index of the Asked by which that transaction took the stripe.
+    /// The index of the Asked entry by which that transaction took the stripe.
     pub since: Option<u64>,
 }
 
@@ -51,8 +51,8 @@ fn holder_in(entries: &[SmallEntry], stripes: u64, stripe: u64) -> Option<u64>
     held
 }
 
-/// Returns the index of an entry, if the entry asks for a key of the stripe and its transaction
-/// `txn` is the transaction `wanted`.
+/// Returns the index of an entry if the entry asks for a key of the stripe, and its transaction
+/// (`txn`) is `wanted`.
 fn asked_in(
     txn: Option<u64>,
     wanted: Option<u64>,

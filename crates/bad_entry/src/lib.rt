@@ -2,15 +2,15 @@
 //! illegal verdict.
 //!
 //! `history_check` and `serial_check` say which entry of a history is the first that breaks a rule.
-//! This crate answers what a person asks next, by the definitions of a history: Which reply would
-//! have been right? Who last changed the key, and what is the fate of that change? Who holds a
-//! lock, and since which entry? Which entries are allowed in place of the bad one?
+//! This crate answers what a person asks next: Which reply would have been right? Who last changed
+//! the key, and what is the fate of that change? Who holds a lock, and since which entry? Which
+//! entries are allowed in place of the bad one?
 //!
 //! Each question is answered by separate passes over the entries before the bad one. A pass takes
-//! constant time for each entry, or, if it feeds a checker, the checker's time. Nothing is kept
-//! between two questions.
+//! constant time for each entry. But a pass that feeds a checker takes the checker's time. Nothing
+//! is kept between two questions.
 //!
-//! Proved, if no entry before the bad one is bad: each answer is the one that the definitions give.
+//! Proved, if the bad entry is the first one that is bad: each answer is what the definitions give.
 //! The right reply is that of the present map or of the committed map. The holder of a lock is
 //! `holder_of`. The last change of a key, its fate, and the entry since which a lock is held are as
 //! defined in `specs/`. The number of transactions that began (`Reason::Shape`) is not proved.

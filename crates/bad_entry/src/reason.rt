@@ -26,7 +26,7 @@ use txn_trace::{Entry, Holder, Op, Phase, Reply, SmallEntry};
 /// The reason why an entry is bad.
 #[derive(Clone, Copy, Debug, PartialEq, Eq)]
 pub enum Reason {
-    /// When judged by locks: the reply is not the one that the present map gives.
+    /// If judged by locks: the reply differs from the reply that the present map gives.
     Reply {
         /// The operation that the caller waits for.
         op: Op,
@@ -35,8 +35,8 @@ pub enum Reason {
         /// The last change of the key, and the fate of this change.
         last: Option<(Change, Fate)>,
     },
-    /// When judged by the order of commits: at a key, the committing transaction read a value that
-    /// the committed map does not have.
+    /// If judged by the order of commits: for some key, the committing transaction read a value
+    /// that differs from the key's value in the committed map.
     Misread {
         /// The key.
         key: u64,
@@ -44,22 +44,22 @@ pub enum Reason {
         read: Reply,
         /// The value of the key in the committed map, which the reply should have been.
         due: Reply,
-        /// The last commit that changed the key's value in the committed map: the index of its
-        /// Committed, and its caller.
+        /// The last commit that changed the key's value in the committed map: the index of the
+        /// Committed entry, and the commit's caller.
         commit: Option<(u64, u64)>,
     },
-    /// When judged by the order of commits: the replies of the committing transaction contradict
-    /// one another, so no map gives it all of them.
+    /// If judged by the order of commits: the replies of the committing transaction contradict one
+    /// another, so no map gives the transaction all of its replies.
     Torn {
         /// The index of the first reply that contradicts those before it.
         since: Option<u64>,
     },
-    /// Another caller holds the lock of the operation's key, or the entry is a Busy and names a
-    /// caller that it may not name.
+    /// Another caller holds the lock of the operation's key, or the entry is a Busy entry and names
+    /// a caller that it must not name.
     Lock {
         /// The stripe of the key.
         stripe: u64,
-        /// The holder of the stripe, if there is one.
+        /// The holder of the stripe, or `None` if the stripe is free.
         holder: Option<Held>,
     },
     /// The entry is not allowed after the earlier entries of its caller, or does not have the next
@@ -76,7 +76,7 @@ pub enum Reason {
         committed: u64,
     },
     /// No reason can be given: entries of this kind do not break this rule, or the entry is a Did
-    /// whose caller waits for no operation.
+    /// entry whose caller waits for no operation.
     Nothing,
 }
 
@@ -198,7 +198,7 @@ pub fn by_locks(
     }
 }
 
-/// The reason why this caller's transaction may not commit.
+/// The reason why this caller's transaction must not commit.
 fn commit_reason(alloc: Global, entries: &[SmallEntry], caller: u64) -> Result<Reason, AllocError>
     requires caller { caller < 64 }
     requires callers { All (λ entry. caller_of entry < 64) entries.now }
@@ -219,8 +219,8 @@ fn commit_reason(alloc: Global, entries: &[SmallEntry], caller: u64) -> Result<R
     })
 }
 
-/// Judging by the order of commits, returns the reason why the entry `bad` breaks this rule after
-/// the serializable history `entries`.
+/// Returns the reason why the entry `bad` breaks the rule `rule` after the serializable history
+/// `entries`. The history is judged by the order of commits.
 ///
 /// # Errors
 ///

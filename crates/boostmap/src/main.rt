@@ -1,6 +1,6 @@
 //! The program `boostmap`. `boostmap_program::run` decides what the program does with its
 //! command-line words, its file and its outputs, and with which status it exits. Nothing is decided
-//! here. This is a crate apart from `boostmap_program`, since it needs a process: the process's
+//! here. This crate is separate from `boostmap_program`, since it needs a process: the process's
 //! runtime, memory and outputs.
 #![tactic(auto)]
 

@@ -34,10 +34,10 @@ pub struct Booked<L: Ledger> {
 }
 
 impl<L: Ledger> Booked<L> {
-    /// A new core with these limits, a book that has counted nothing, and a pass for each caller's
-    /// number, in rising order. The callers of all passes share the words of the core's stripes,
-    /// and all these words are free. The blank ledger must be named `L` and have one part for each
-    /// caller.
+    /// Makes a core with these limits, a book that has counted nothing, and one pass for each
+    /// caller, in rising order of the callers' numbers. The callers of all passes share the words
+    /// of the core's stripes, and all these words are free. The blank ledger must be named `L` and
+    /// have one part for each caller.
     ///
     /// # Errors
     ///
@@ -119,8 +119,8 @@ impl<L: Ledger> Booked<L> {
     }
 }
 
-/// Moves the shares of all callers into `all` for a moment, which shows that together they count
-/// everything in the book, and then gives each caller its share back.
+/// Moves the shares of all callers into `all`, and then gives each caller its share back. In
+/// between, `all` shows that the shares together count everything in the book.
 fn gather<L: Ledger, S: Side>(callers: &mut [Caller<L, S>], all: &mut Share<L>, book: &mut Book<L>)
     requires { all.old.parts + length callers.old ≡ L.parts }
     ensures total { all.old.amount + sum_by (λ k. length k.seen) callers.old ≡ book.old.total }

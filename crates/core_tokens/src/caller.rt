@@ -129,12 +129,12 @@ impl<L: Ledger, S: Side> Caller<L, S> {
     }
 
     /// Makes room in `seen` for `entries` more entries, so that `seen` need not grow while they are
-    /// added. If `is_written`, the room is also written, so that no later entry is the first to
-    /// touch a page of memory. The token is unchanged.
+    /// added. If `is_written` is true, also writes the memory of the room, so that no later entry
+    /// is the first to touch a page of memory. The token is unchanged.
     ///
     /// # Errors
     ///
-    /// `AllocError` if memory is refused; the token is unchanged.
+    /// `AllocError` if memory is refused. The token is then unchanged too.
     ///
     /// # Cost
     ///
@@ -146,8 +146,8 @@ impl<L: Ledger, S: Side> Caller<L, S> {
         self.seen.reserve_entries(entries, is_written)
     }
 
-    /// Whether the caller has no transaction open and may begin one. A broken token may do nothing,
-    /// so for a broken token the result only describes the entries in `seen`.
+    /// Returns true if the caller has no transaction open and may begin one. A broken token can
+    /// take no step, so for a broken token the result only describes the entries in `seen`.
     pub fn is_idle(&self) -> bool
         ensures { result ≡ is_over (seat_after self.now.seen) }
     {
@@ -170,19 +170,20 @@ impl<L: Ledger, S: Side> Caller<L, S> {
     ///
     /// The core takes only the steps of the turn, and `seen` gains only their entries. An operation
     /// asks with the right to its stripe, or with the word that was tried last. So call
-    /// `make_ready` or `try_word` once before its first turn. The side value and the rights are
-    /// unchanged: `follow` changes them as the end of the call requires.
+    /// `make_ready` or `try_word` once before the first turn of an operation. The side value and
+    /// the rights are unchanged: `follow` changes them as the end of the call requires.
     ///
     /// # Errors
     ///
-    /// The end is `Refused` with
-    /// - `OutOfStep` if the token is broken: no step is taken;
-    /// - `OutOfStep` if the core does not have as many stripes as the map has words: no step is
-    ///   taken, and the token breaks;
-    /// - `NoMemory` if memory is refused for room in `seen`: no step is taken;
-    /// - `NoMemory`, `StampsUsedUp` or `StaleWord` if the core gives this refusal to the step;
-    /// - `OutOfStep` if the core's answer is impossible in the token's state, or if the token would
-    ///   have refused the call, for instance help with a bad key: the token breaks.
+    /// The end is `Refused` with one of these refusals:
+    /// - `OutOfStep` if the token is broken. No step is taken.
+    /// - `OutOfStep` if the core does not have as many stripes as the map has words. No step is
+    ///   taken, and the token breaks.
+    /// - `NoMemory` if memory is refused for room in `seen`. No step is taken.
+    /// - `NoMemory`, `StampsUsedUp` or `StaleWord` if the core gives this refusal to the step.
+    /// - `OutOfStep` if the core's answer is impossible in the token's state. The token breaks.
+    /// - `OutOfStep` if the token would have refused the call, for instance help with a bad key.
+    ///   The token breaks.
     ///
     /// If the core and the token are in step, they stay in step, and the end is never `OutOfStep`.
     ///
@@ -262,9 +263,9 @@ impl<L: Ledger, S: Side> Caller<L, S> {
     /// # Errors
     ///
     /// In both cases no word was tried, and the token is unchanged:
-    /// - The token's refusal of the operation, as `make_ready` gives it. So a token without a
-    ///   transaction tries no word.
-    /// - After that test, `NoMemory` if memory is refused for one more right.
+    /// - If the token refuses the operation, the refusal that `make_ready` returns for it. So a
+    ///   token without a transaction tries no word.
+    /// - Otherwise `NoMemory` if memory is refused for one more right.
     ///
     /// # Cost
     ///
@@ -285,7 +286,7 @@ impl<L: Ledger, S: Side> Caller<L, S> {
         self.try_stripe(op)
     }
 
-    /// `try_word`, for a token that does not refuse the operation.
+    /// Does what `try_word` does, but does not test whether the token refuses the operation.
     fn try_stripe(&mut self, op: Op) -> Result<(), Refusal>
         ensures same { IsSameSeen self.old self.new }
         ensures side { self.new.side ≡ self.old.side }
@@ -306,23 +307,25 @@ impl<L: Ledger, S: Side> Caller<L, S> {
     ///
     /// If the last `reserve` wrote its room, `make_ready` also makes and writes room in `seen` for
     /// all entries of the call, so that no hold is the first to touch a page of this room. If
-    /// memory for it is refused, each hold makes its own room.
+    /// memory for this room is refused, each hold makes its own room.
     ///
     /// # Errors
     ///
-    /// - The token's refusal of the call: `OutOfStep` if the token is broken; else the first
-    ///   refusal that the entries in `seen` give; else `BadKey` for help with a bad key. The token
-    ///   is unchanged.
-    /// - After that test, `NoMemory` if memory is refused for one more right or for the level of a
-    ///   save. No word was tried, and the token is unchanged.
+    /// The first of these that applies. In all cases but the last, the token is unchanged.
+    /// - `OutOfStep` if the token is broken.
+    /// - The first refusal of the call that follows from the entries in `seen`, for instance
+    ///   `NotOpen`.
+    /// - `BadKey` for help with a bad key.
+    /// - `NoMemory` if memory is refused for one more right or for the level of a save. No word was
+    ///   tried.
     /// - `OutOfStep` if the side value does not have the level to which the call returns. The token
     ///   breaks, and all else is unchanged.
     ///
     /// # Cost
     ///
     /// For an operation, the cost of `try_word`. Otherwise amortized constant time. Takes memory
-    /// only if there is no room for one more right or for the level of a save, or, if the last
-    /// `reserve` wrote its room, no room in `seen`.
+    /// only if there is no room for one more right or for the level of a save. If the last
+    /// `reserve` wrote its room, also takes memory if there is no room in `seen`.
     pub fn make_ready(&mut self, call: Call) -> Result<(), Refusal>
         ensures free { OnOk result (refused_by self.old call ≡ None) }
         ensures same { OnOk result (IsSameSeen self.old self.new) }
@@ -362,8 +365,8 @@ impl<L: Ledger, S: Side> Caller<L, S> {
     ///
     /// # Cost
     ///
-    /// A step for each right that is given back and for each savepoint and side job that is
-    /// dropped, and one run of each side job that takes a change back. Takes no memory except what
+    /// Takes a step for each right that is given back, and for each savepoint and each side job
+    /// that is dropped. Runs each side job that takes a change back. Takes no memory except what
     /// these runs take.
     pub fn follow(&mut self, end: End)
         requires { CanFollow end self.old.side }
@@ -372,7 +375,7 @@ impl<L: Ledger, S: Side> Caller<L, S> {
         ensures claims { self.new.claims ≡ claims_at end self.old.claims }
     {
         self.claims.follow(end);
-        // By the contract of `level`, the side value has a level 0.
+        // By the contract of `level`, the side value has level 0.
         let _levels = self.side.level();
         match end {
             End::Answered(Answer::Began(_) | Answer::Committed(_)) => self.side.settle(),
@@ -387,14 +390,15 @@ impl<L: Ledger, S: Side> Caller<L, S> {
 
     /// Changes the side value, and logs the job that takes the change back.
     ///
-    /// The words of the present side value must be the job's `before`, and the words of the value
-    /// that `change` returns must be the job's `after`. No transaction is needed: a change that is
-    /// made outside of a transaction is not taken back. Nothing is added to `seen`.
+    /// The words of the present side value must be the job's `before`. The words of the value that
+    /// `change` returns must be the job's `after`. No transaction is needed, but a change made
+    /// outside of a transaction is never taken back. Nothing is added to `seen`.
     ///
     /// # Errors
     ///
-    /// `change` was not called, nothing has changed, and `change` and `job` are returned:
-    /// - `OutOfStep` if the token is broken;
+    /// In both cases `change` was not called, nothing has changed, and `change` and `job` are
+    /// returned with the error:
+    /// - `OutOfStep` if the token is broken.
     /// - `NoMemory` if memory is refused.
     ///
     /// # Cost

@@ -1,8 +1,8 @@
 //! The rights to stripes that a caller has, and the word that it tried last. An operation asks with
-//! one of the rights or with the word. Both are kept apart from `seen`, since words are tried and
-//! rights are given back between holds, and a hold changes neither. Invariant: a right that the
-//! last trial found is at the position that the trial names, so asking with this right takes
-//! constant time.
+//! one of the rights or with the word. Rights and word are kept apart from `seen`, since they
+//! change only between holds, and `seen` changes only in holds. Invariant: a right that the last
+//! trial found is at the position that the trial names, so asking with this right takes constant
+//! time.
 ghost use Rattle.std.specs.Prelude.{◌≡◌, ◌<◌, [], true, None, IfErr, OnOk};
 ghost use Rattle.txn_trace.specs.Locks.{stripe_of};
 ghost use Rattle.txn_words.specs.Map.{key_of};
@@ -49,7 +49,7 @@ impl Model for Claims {
 impl Claims {
     ghost use Rattle.key_words.specs.Seats.{IsOf, known, stripes_of};
 
-    /// New claims with this seat, which has tried nothing. Takes no memory.
+    /// The claims of a caller with this seat, which has tried no word yet. Takes no memory.
     pub(crate) fn new(alloc: Global, words: Arc<KeyWords, Global>, seat: KeySeat) -> Claims
         requires seat { IsOf seat words.value }
         requires held { (known seat).held ≡ [] }

@@ -16,8 +16,8 @@ pub(crate) fn breaks(is_whole: bool, call: Call, end: Option<End>) -> bool
     !is_whole || odd_if(call, end)
 }
 
-/// What a hold returns after its turn: the refusal `OutOfStep` if the token is broken, otherwise
-/// the drive's end, if the drive has ended.
+/// What a hold returns after its turn. If the token is broken, this is the refusal `OutOfStep`.
+/// Otherwise it is the drive's end, or `None` if the drive has not ended.
 pub(crate) fn end_in(is_broken: bool, end: Option<End>) -> Option<End>
     ensures { result ≡ end_in is_broken end }
 {

@@ -1,10 +1,10 @@
 //! The law of holds: an empty function whose contract is the law. It is about the holds of a call
-//! for help. Each clause is about one hold, so the clauses also serve those who call `hold`
-//! themselves. Together they say which bucket the call initialises, over all its holds. The
-//! contract of `Caller::hold` covers a single hold, so it cannot say this. Each clause assumes
-//! `Held`, which that contract ensures. The clauses about the last hold, `stored` and `at_once`,
-//! also assume that the core is `IsWhole`. The clause `stored` is for a last hold that is not the
-//! first. It assumes, in addition, that the core and the token are in step.
+//! for help. Each clause is about one hold, so the clauses also serve code that calls `hold`
+//! itself. Together they say which bucket the call initialises, over all its holds. The contract of
+//! `Caller::hold` covers a single hold, so it cannot say this. Each clause assumes `Held`, which
+//! that contract ensures. The clauses about the last hold, `stored` and `at_once`, also assume that
+//! the core is `IsWhole`. The clause `stored` is for a last hold that is not the first. It assumes,
+//! in addition, that the core and the token are in step.
 ghost use Rattle.std.specs.Prelude.{◌≡◌, ◌%◌, ℕ, true, Some, None};
 ghost use Rattle.txn_drive.specs.declared.drive.Drive.{Drive};
 ghost use Rattle.txn_drive.specs.declared.«end».End.TheVariants.{Helped};

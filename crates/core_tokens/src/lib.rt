@@ -1,4 +1,5 @@
-//! Tokens: each is one caller of a core that other callers use too. This crate takes no lock.
+//! Tokens for the callers of a core. A token stands for one caller, and several callers use the
+//! same core. This crate takes no lock.
 //!
 //! - A *token*, `Caller`, is one caller. `Booked::new` makes a core with a `Pass` for each caller's
 //!   number, and each pass makes the one token with its number. A token keeps in `seen` the entries
@@ -9,26 +10,26 @@
 //!   their entries. Other callers may take their steps between any two holds.
 //! - To make a call, call `make_ready`, then `hold` until it returns an end, then `follow` with
 //!   this end.
-//! - Unless its token has the right to the stripe of its key, an operation first tries the stripe's
-//!   *word*, an atomic word beside the core that says who holds the stripe. If the word was free,
-//!   the token has the right from then on, and asks the core with this right. If not, the token
-//!   asks with the word. Unless the core refuses this, the operation is then busy with the caller
-//!   that the word names. A token keeps its rights until its transaction has committed or aborted;
-//!   then `follow` gives all of them back. So a Busy entry may name a caller whose transaction has
-//!   just ended.
+//! - An operation first tries the *word* of its key's stripe, unless its token has the right to
+//!   this stripe. The word is an atomic word beside the core that says who holds the stripe. If the
+//!   word was free, the token has the right from then on, and asks the core with this right. If
+//!   not, the token asks with the word. The operation is then busy with the caller that the word
+//!   names, unless the core refuses the word. A token keeps its rights until its transaction has
+//!   committed or aborted; then `follow` gives all of them back. So a Busy entry may name a caller
+//!   whose transaction has just ended.
 //! - Between two holds a token knows of the core only its own entries, and the seat that they give
 //!   it. If the core gives an answer that the entries rule out, the call ends with `OutOfStep`, and
 //!   so does every later call of the token.
 //! - No entry can be added without a token: a ledger counts the entries, `Booked` has the ledger's
 //!   book, and each token has a share. So the history of the core that `Booked::into_core` returns
 //!   has as many entries as the tokens saw together. The ledger is `std`'s `sync::ledger`. Its name
-//!   `L` is the first parameter of `Booked`, `Pass` and `Caller`, and is picked as `sync::ledger`
-//!   says.
+//!   `L` is the first parameter of `Booked`, `Pass` and `Caller`. `sync::ledger` says how to choose
+//!   this name.
 //! - `laws::helped` is about the holds of a call for help: if the call ends with `Helped`, the
 //!   bucket of its key is initialised.
 //!
-//! This crate is separate since nothing in it waits: the crates above say how callers take turns at
-//! the core. Calls take constant time and no memory unless they say otherwise.
+//! This crate is separate since nothing in it waits. The crates that use it say how callers take
+//! turns at the core. Calls take constant time and no memory unless they say otherwise.
 #![tactic(auto)]
 
 mod booked;

@@ -48,8 +48,8 @@ impl<L: Ledger> Pass<L> {
     ghost use Rattle.core_tokens.specs.Claims.{IsIdle};
     ghost use Rattle.core_tokens.specs.Tokens.{IsUnused};
 
-    /// The pass of the caller with this number. It has the caller's seat, and a share of the ledger
-    /// with one part, which has counted nothing yet.
+    /// Makes the pass of the caller with this number. The pass has the caller's seat, and a share
+    /// of the ledger. The share has one part, and has counted nothing yet.
     pub(crate) fn new(number: u64, limits: Limits, share: Share<L>, claims: Claims) -> Pass<L>
         requires parts { share.parts ≡ 1 }
         requires amount { share.amount ≡ 0 }
@@ -71,8 +71,8 @@ impl<L: Ledger> Pass<L> {
         self.number
     }
 
-    /// Makes the caller with the pass's number. It has seen no entries, and `side` is the level 0
-    /// of its side value.
+    /// Makes the caller with the pass's number. The caller has seen no entries, and `side` is level
+    /// 0 of its side value.
     pub fn caller<S: Side>(self, alloc: Global, side: S) -> Caller<L, S>
         ensures number { result.number ≡ self.number }
         ensures limits { result.limits ≡ self.limits }

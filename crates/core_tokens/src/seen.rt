@@ -20,12 +20,13 @@ use txn_trace::{
     Answer, Entry, Limits, Phase, Refusal, Seat, SmallEntry, Step, entry_of, make_room,
 };
 
-/// The number of entries for which a call needs room at its beginning, besides the entries that its
-/// caller owes. No call needs room for more than three of these entries, and only its first step
+/// The number of entries for which room is made before a call, in addition to the room for the
+/// entries that its caller owes. This is enough for every call, and only the first step of a call
 /// needs it.
 const CALL: usize = 3;
 
-/// The entries that a caller's calls have added, in order, and the seat that they give it.
+/// The entries that a caller's calls have added, in order, and the caller's seat after these
+/// entries.
 ///
 /// The type guarantees that there is room for all entries that the caller owes, and that the share
 /// of the map's ledger counts the entries.
@@ -35,7 +36,7 @@ pub(crate) struct Seen<L: Ledger> {
     seat: Seat,
     is_whole: bool,
     txn: u64,
-    // Whether room that is made for a call is written.
+    // If true, room that is made for a call is also written.
     is_written: bool,
     pub(crate) share: Share<L>,
 }
@@ -89,7 +90,8 @@ impl<L: Ledger> Seen<L> {
         self.is_whole
     }
 
-    /// Whether no transaction is open. Also true if the rule of shape does not allow some entry.
+    /// Returns true if no transaction is open. Also returns true if there is an entry that the rule
+    /// of shape does not allow.
     pub(crate) fn is_over(&self) -> bool
         ensures { result ≡ is_over (seat_after self.now.entries) }
     {
@@ -184,7 +186,8 @@ impl<L: Ledger> Seen<L> {
         Ok(())
     }
 
-    /// Adds the entries of a step with this answer to those seen, and counts them in the book.
+    /// Adds the entries of a step with this answer to the entries seen, and counts them in the
+    /// book.
     #[inline(always)]
     pub(crate) fn note(&mut self, book: &mut Book<L>, step: Step, answer: Answer)
         requires whole { is_some (seat_after self.old.entries) ≡ true }

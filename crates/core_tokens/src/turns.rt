@@ -1,8 +1,8 @@
 //! The turns of a drive on the core. One function, `take`, takes a step on the core, adds its
-//! entries to `seen`, counts them in the book, and gives the drive the answer, so that none of the
-//! four misses a step. `Caller::hold` tests the token before and after. Room for the entries of a
-//! turn is made before its first step. If memory for the room is refused, the core, the entries and
-//! the drive are unchanged.
+//! entries to `seen`, counts them in the book, and gives the drive the answer. So the core, `seen`,
+//! the book and the drive all get every step. `Caller::hold` tests the token before and after. Room
+//! for the entries of a turn is made before its first step. If memory for the room is refused, the
+//! core, the entries and the drive are unchanged.
 ghost use Rattle.std.specs.Prelude.{◌≡◌, ℕ, true, false, Some, List, [], is_some};
 ghost use Rattle.txn_words.specs.declared.entry.Entry.{Entry};
 ghost use Rattle.txn_words.specs.declared.refusal.Refusal.{Refusal};
@@ -22,9 +22,10 @@ use boost_core::{Drive, Turn};
 use std::sync::ledger::Ledger;
 use txn_trace::{Answer, Step};
 
-/// Takes a turn if there is room for what the turn may add. Returns whether there was room. An
-/// operation takes the steps `Ask`, `Seek` and `Act`. Each of these steps has its own arm, so that
-/// `take_one` is compiled for this step alone.
+/// Makes room for what the turn may add, and takes the turn. If memory for the room is refused,
+/// takes no step and returns false. Otherwise returns true. An operation takes the steps `Ask`,
+/// `Seek` and `Act`. Each of these steps has its own arm, so that `take_one` is compiled separately
+/// for it.
 pub(crate) fn take_turn<L: Ledger>(
     seen: &mut Seen<L>,
     claims: &Claims,

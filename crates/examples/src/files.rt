@@ -1,5 +1,5 @@
 //! Runs the files of the folder `examples`, each by the engine of its command: `replay`, `mix` or
-//! `check`. The command `run` is left out: what it prints may depend on its threads, but the gate
+//! `check`. The command `run` is left out: what it prints may depend on its threads, but `.ci/run`
 //! compares this program's output with a fixed text.
 use anyhow::anyhow;
 use boostmap_engine::{Fault, check, mix, replay};
@@ -19,7 +19,7 @@ const CALLS: [(Command, &str); 7] = [
     (Command::Check, "checked.json"),
 ];
 
-/// A command of the program `boostmap`, with the seed if it has one. It is printed as the words
+/// A command of the program `boostmap`. Only `mix` has a seed. A command is printed as the words
 /// that a user types.
 #[derive(Clone, Copy, Debug)]
 enum Command {

@@ -1,6 +1,7 @@
 //! A queue of jobs in one map, from which four threads take jobs. A key is a job, and its value is
 //! the job's state. The only other key is `DONE`, whose value counts the jobs that were done. Each
-//! job is done once, and a caller that stops in the middle of a transaction leaves nothing behind.
+//! job is done once. If a caller stops in the middle of a transaction, the transaction's changes
+//! are taken back.
 ghost use Rattle.shared_transactions.specs.Keeps.{Keeps};
 
 use boost_core::Core;
@@ -120,7 +121,7 @@ impl<R: Wait> Work<R> for Filler {
     }
 }
 
-/// Claims a job, if it waits, and finishes it.
+/// If a job waits, claims the job and finishes it.
 fn work_on<L: Ledger, R: Wait>(t: &mut Transaction<'_, L, R>, job: u64) -> Result<(), Stop> {
     if commit(t, Task::Claim(job))? {
         commit(t, Task::Finish(job))?;

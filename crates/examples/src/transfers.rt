@@ -1,9 +1,9 @@
 //! Four threads move sums between the accounts of one map, and the sum of all accounts stays the
 //! same.
 //!
-//! Each transfer is one transaction. It reads two accounts and, if they differ and the sum can be
-//! moved, writes both. If another thread holds a key's stripe, the transaction is aborted and tried
-//! again, as often as needed.
+//! Each transfer is one transaction. It reads two accounts. If they are not the same account and
+//! the sum can be moved, it writes both. If another thread holds a key's stripe, the transaction is
+//! aborted and tried again, as often as needed.
 ghost use Rattle.shared_transactions.specs.Keeps.{Keeps};
 
 use boost_core::Core;
@@ -57,8 +57,8 @@ impl Transfer {
         }
     }
 
-    /// Moves the sum, if the first account has enough, the second stays below 2^64, and the two
-    /// differ.
+    /// Moves the sum, if the first account has enough, the second stays below 2^64, and they are
+    /// not the same account.
     #[tactic(auto, using(shared_transactions::proofs::Within::keeps_stay, shared_transactions::proofs::Within::keeps_on))]
     fn make<L: Ledger, R: Wait>(self, t: &mut Transaction<'_, L, R>) -> Result<(), Stop>
         ensures { Keeps t.old.me t.new.me }
@@ -95,7 +95,7 @@ impl<R: Wait> Work<R> for Opening {
     }
 }
 
-/// All transfers of one thread, each in a transaction.
+/// All transfers of one thread, each in its own transaction.
 #[derive(Clone, Copy)]
 struct Transfers {
     rounds: u64,

@@ -1,7 +1,7 @@
 //! The state of a caller after its entries so far: its seat, whether it has begun a transaction,
-//! and the value before each of its standing changes, which are those that no Undone has taken
-//! back. `callers.rt` numbers the transactions, across all callers. Invariant: the seat's number of
-//! standing changes is the number of changes that are noted.
+//! and its standing changes with the values before them. A change stands while no Undone entry has
+//! taken it back. `callers.rt` numbers the transactions, across all callers. Invariant: the seat's
+//! number of standing changes is the number of changes that are noted.
 ghost use Rattle.std.specs.Prelude.{◌≡◌, ◌<◌, [], true, false, reverse, slice_get, vec_len, vec_capacity, is_some, OnOk};
 ghost use Rattle.txn_words.specs.Kinds.{is_began};
 ghost use Rattle.txn_words.specs.Shape.{closed_seat, row};
@@ -52,7 +52,7 @@ impl Caller {
         !matches!(self.seat.phase(), Phase::Closed)
     }
 
-    /// Returns true if this entry may be the caller's next entry.
+    /// Returns true if the rule of shape allows this entry as the caller's next entry.
     #[inline(always)]
     pub(crate) fn allows(&self, entry: &Entry) -> bool
         ensures { result ≡ is_some (row (seat_of self.now) (seat_of self.now).phase entry.now) }
@@ -107,8 +107,9 @@ fn begins(entry: Entry) -> bool
     matches!(entry, Entry::Began(..))
 }
 
-/// Notes the change that a Did entry may make in this phase. An Undone entry drops the newest
-/// change. A Began, Committed or Aborted entry drops all changes.
+/// Updates the list of changes by an entry in this phase. A Did entry adds its change, if it makes
+/// a change. An Undone entry drops the newest change. A Began, Committed or Aborted entry drops all
+/// changes.
 #[inline(always)]
 fn note(changes: &mut Vec<(u64, Reply)>, phase: Phase, entry: Entry)
     requires { is_did entry ≡ true → vec_len changes.old < vec_capacity changes.old }

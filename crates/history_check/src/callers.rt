@@ -1,6 +1,6 @@
-//! The callers of a history. They are the judge of the rule of shape, and both judges of replies
-//! use them. They keep each caller's seat and changes, and how many transactions have begun and
-//! committed. An entry takes amortized constant time.
+//! The type `Callers`, which judges the rule of shape. The judge by locks and the judge by the
+//! order of commits both use it. The type keeps each caller's seat and changes, and how many
+//! transactions have begun and committed. An entry takes amortized constant time.
 ghost use Rattle.std.specs.Prelude.{◌≡◌, ℕ, ◌+◌, ◌<◌, ◌==◌, ◌++◌, [], ◌∷◌, List, length, true, slice_get, IfOk, OnOk, vec_len};
 ghost use Rattle.txn_words.specs.Kinds.{caller_of, is_began, is_commit};
 ghost use Rattle.txn_words.specs.Shape.{how_many, is_numbered, is_shaped};
@@ -11,11 +11,11 @@ use key_locks::CALLERS;
 use std::alloc::{AllocError, Global};
 use txn_trace::{Entry, Phase, Reply};
 
-/// The 64 callers of a history. Each has its seat, and the standing changes of its transaction.
-/// Also counts how many transactions began and committed.
+/// The 64 callers of a history. Each has its seat, and the standing changes of its transaction. The
+/// type also counts how many transactions began and committed.
 ///
-/// This type is the judge of the rule of shape. `has_shape` returns true if an entry may follow,
-/// and `enter` adds an entry that may follow. In a contract, `HaveEntered h callers` says that the
+/// This type is the judge of the rule of shape. `has_shape` returns true if an entry is allowed
+/// next, and `enter` adds such an entry. In a contract, `HaveEntered h callers` says that the
 /// entries `h` were added to `callers`, and that they have the right shape.
 #[derive(Drop)]
 pub struct Callers {
@@ -34,7 +34,7 @@ impl Callers {
     ghost use Rattle.txn_trace.specs.Log.{log_of};
     ghost use Rattle.history_check.specs.Callers.{HaveEntered, IsIn, HasRoomFor};
 
-    /// All callers before the first entry of a history.
+    /// The state of all callers before the first entry of a history.
     ///
     /// # Errors
     ///
@@ -83,9 +83,9 @@ impl Callers {
             .count() as u64
     }
 
-    /// Returns true if the entry has the right shape: the rule of shape (`row` of `txn_words`) has
-    /// a row for the entry after its caller's earlier entries, and the number of a Began or
-    /// Committed entry is the next one.
+    /// Returns true if the entry has the right shape. That is so if the rule of shape (`row` of
+    /// `txn_words`) has a row for the entry after its caller's earlier entries. A Began or
+    /// Committed entry must also have the next number.
     ///
     /// # Cost
     ///

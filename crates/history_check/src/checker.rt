@@ -1,6 +1,6 @@
 //! The checker that is fed entry by entry. It has a state, the number of entries so far, and the
 //! first bad entry. The state judges one entry, and the checker stores the verdict. Once an entry
-//! breaks a rule, no later entry changes the verdict. If memory is refused, the entry may be fed
+//! breaks a rule, no later entry changes the verdict. If memory is refused, the entry can be fed
 //! again.
 ghost use Rattle.std.specs.Prelude.{◌≡◌, ℕ, ◌<◌, ◌++◌, [], ◌∷◌, List, IfOk, OnOk, OnErr};
 ghost use Rattle.txn_words.specs.Kinds.{caller_of};
@@ -20,8 +20,8 @@ use txn_trace::{Entry, Holder};
 #[derive(Drop)]
 pub struct Checker {
     state: State,
-    /// The number of entries that were fed before the first bad entry, or of all entries if none is
-    /// bad.
+    /// The number of entries that were fed before the first bad entry. If no entry is bad, the
+    /// number of all entries that were fed.
     fed: u64,
     /// The index of the first bad entry and the rule that it breaks, if an entry is bad.
     bad: Option<(u64, Rule)>,
@@ -62,7 +62,7 @@ impl Checker {
     /// # Errors
     ///
     /// `AllocError` if memory is refused, or if 2^64 - 1 entries were fed and none of them is bad.
-    /// Then the entry was not fed, and may be fed again.
+    /// Then the entry was not fed, and can be fed again.
     ///
     /// # Cost
     ///
@@ -108,8 +108,8 @@ impl Checker {
         }
     }
 
-    /// If no entry is bad, the callers after the entries so far. A caller's phase says which
-    /// entries of this caller may follow.
+    /// The callers after the entries so far, provided that none of them is bad. A caller's phase
+    /// says which entries of this caller may follow.
     ///
     /// # Cost
     ///
@@ -121,12 +121,12 @@ impl Checker {
         &self.state.callers
     }
 
-    /// If no entry is bad, the value of a key in the map as it is now. This is also the right reply
-    /// to the next operation on the key.
+    /// The value of a key in the map as it is now, provided that no entry is bad. This is also the
+    /// right reply to the next operation on the key.
     ///
     /// # Cost
     ///
-    /// The logarithm of the number of keys; takes no memory.
+    /// Time in proportion to the logarithm of the number of keys; takes no memory.
     pub fn value(&self, key: u64) -> Option<u64>
         ensures { (holder : Holder) (stripes : ℕ) (h : List Entry) →
             IsFed holder stripes h self.now → IsLegal holder stripes h → result ≡ get (now h) key }

@@ -16,9 +16,9 @@ use txn_trace::{Entry, Holder, SmallEntry};
 /// says which callers a Busy entry may name.
 ///
 /// If the history is legal, the verdict is `Legal`, with the number of commits and the number of
-/// callers that are in a transaction at the end. If it is not legal, the verdict is `Illegal`. It
-/// then has the index (from 0) of the first entry that breaks a rule, and the first rule that this
-/// entry breaks, in the order shape, replies, locks.
+/// callers that are in a transaction at the end. If it is not legal, the verdict is `Illegal`, with
+/// the index (from 0) of the first entry that breaks a rule. The verdict also names the first rule
+/// that this entry breaks, in the order shape, replies, locks.
 ///
 /// # Errors
 ///
@@ -47,7 +47,7 @@ pub fn check(
     Ok(checker.verdict())
 }
 
-/// Judges a whole history of packed entries, as `check` does.
+/// Judges a whole history like `check`, but takes packed entries.
 ///
 /// # Errors
 ///

@@ -2,8 +2,8 @@
 //!
 //! A history is a list of `txn_trace`'s entries. It is legal (`IsLegal` of `txn_trace`) if three
 //! rules hold:
-//! - Each open transaction has the same replies as if it ran alone on the map that the committed
-//!   transactions leave.
+//! - Each open transaction has the same replies as if it ran alone on the map that results from the
+//!   committed transactions.
 //! - A stripe of keys belongs to at most one open transaction at a time.
 //! - Each caller's entries have the right shape.
 //!

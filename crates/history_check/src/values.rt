@@ -79,8 +79,8 @@ impl Values {
         Ok(())
     }
 
-    /// Gives a key the value that it had before a change, or removes the key if it had none. Costs
-    /// the logarithm of the number of keys.
+    /// Takes back a change: gives the key the value `before`. If `before` is `None`, removes the
+    /// key. Costs the logarithm of the number of keys.
     #[inline(always)]
     pub(crate) fn restore(&mut self, key: u64, before: Option<u64>) -> Result<(), AllocError>
         ensures ok { OnOk result ((m : Map) → Have m self.old →

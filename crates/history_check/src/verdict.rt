@@ -1,6 +1,6 @@
 //! The verdict on a history and the rule that an entry breaks, with the texts that `check` prints.
 //! The judge by locks and the judge by the order of commits both return a `Verdict`, so this module
-//! uses neither judge. Proved: each text is the one that the specs give (`specs/Verdicts.antt`).
+//! uses neither judge. Proved: each text is as `specs/Verdicts.antt` defines it.
 ghost use Rattle.std.specs.Prelude.{◌≡◌};
 ghost use Rattle.history_check.specs.Verdicts.{number_of};
 
@@ -10,12 +10,12 @@ use std::fmt;
 /// A rule that an entry of a history may break. It is printed with its number, such as `rule 1`.
 #[derive(Clone, Copy, Debug, PartialEq, Eq)]
 pub enum Rule {
-    /// Each open transaction has the same replies as if it ran alone on the map that the committed
-    /// transactions leave. This includes the replies of operations that it has taken back. The
-    /// judge by the order of commits applies this rule only to a transaction that commits.
+    /// Each open transaction has the same replies as if it ran alone on the map that results from
+    /// the committed transactions. This includes the replies of operations that it has taken back.
+    /// The judge by the order of commits applies this rule only to a transaction that commits.
     Replies = 1,
-    /// A stripe of keys belongs to one open transaction at a time. An Asked entry finds no other
-    /// holder. A Busy entry names another caller, which holds the stripe or has begun a
+    /// A stripe of keys belongs to at most one open transaction at a time. An Asked entry finds no
+    /// other holder. A Busy entry names another caller, which holds the stripe or has begun a
     /// transaction. `Holder` says which of the two is required.
     Locks = 2,
     /// Each caller's entries have the right shape (`row` of `txn_words`), and transactions and

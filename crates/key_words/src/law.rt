@@ -3,10 +3,10 @@
 //! law, because such a contract is about one seat, and the law compares the views of two seats.
 ghost use Rattle.key_words.specs.Laws.{HeldOnce};
 
-/// No two views hold the same stripe.
+/// Each stripe is listed as held in at most one seat's view.
 ///
-/// This function does nothing. Its contract states the law, which follows from the rule of the
-/// words.
+/// This law is the contract of this function, which does nothing. The law follows from the rule of
+/// the words.
 #[tactic(auto, using(crate::proofs::Moves::held_once))]
 pub fn held_once()
     ensures { HeldOnce }

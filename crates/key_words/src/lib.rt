@@ -3,16 +3,16 @@
 //!
 //! A thread acts through a seat (`KeySeat`), which has a number. A stripe's word is 0 if the stripe
 //! is free, and `n + 1` if seat `n` holds it. Each stripe has one right, which lies in the stripe's
-//! slot while no seat holds the stripe. A take is one compare-exchange of the word from 0. It
-//! returns the right or, if the stripe was held, the word, which names the holder. A give puts the
-//! right back into the slot and stores 0.
+//! slot while no seat holds the stripe. A take is one compare-exchange of the word from 0. If the
+//! stripe was free, the take returns the right. Otherwise it returns the word, which names the
+//! holder. A give puts the right back into the slot and stores 0.
 //!
 //! A rule holds between any two atomic steps of any threads. From the rule it follows that a stripe
 //! is held by at most one seat (`held_once`), which is the seat that its word names. A stripe's
 //! slot is at home (with no seat) and has the right exactly if the word is 0. So only one seat at a
 //! time gets the right. A take names a seat as the holder only after that seat has taken the
-//! stripe. So no take returns that a stripe is held if no seat has ever taken it. No call waits. It
-//! is not proved that a take ever succeeds. Calls take constant time and no memory unless they say
+//! stripe. So no take reports a stripe as held if no seat has ever taken it. No call waits. It is
+//! not proved that a take ever succeeds. Calls take constant time and no memory unless they say
 //! otherwise.
 #![tactic(auto)]
 

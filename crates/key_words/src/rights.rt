@@ -1,6 +1,6 @@
 //! A seat, and the rights of the stripes that it holds, in one value, so that no call can separate
-//! them. Invariant: the rights are those of the stripes that the seat holds, one for each. The list
-//! of rights has no index, so a take searches it before it tries a word.
+//! them. Invariant: there is exactly one right for each stripe that the seat holds. The list of
+//! rights has no index, so a take searches it before it tries a word.
 ghost use Rattle.std.specs.Prelude.{◌≡◌, ◌<◌, [], reverse, vec_len, slice_get, Some, IfErr, IfOk, IfSome, IfNone};
 ghost use Rattle.key_words.specs.Rule.{Holds};
 ghost use Rattle.key_words.specs.Seats.{IsOf, known, stripes_of};
@@ -13,8 +13,8 @@ use std::alloc::{AllocError, Global};
 
 /// A caller's seat, and the rights of the stripes that the seat holds, the newest last.
 ///
-/// The type guarantees that the rights are those of the stripes that the seat holds, one for each.
-/// So no call loses a right. Rights are lost only if the whole value is dropped.
+/// The type guarantees that there is exactly one right for each stripe that the seat holds, and no
+/// other right. So no call loses a right. Rights are lost only if the whole value is dropped.
 #[derive(Drop)]
 pub struct Rights {
     pub(crate) seat: KeySeat,
@@ -25,7 +25,7 @@ pub struct Rights {
 impl Rights {
     ghost use Rattle.key_words.specs.Kept.{IsSame, Tries, none_held};
 
-    /// A seat that holds nothing, with no rights.
+    /// Makes a `Rights` from a seat that holds no stripe. Its list of rights is empty.
     pub fn new(alloc: Global, seat: KeySeat) -> Rights
         requires { (known seat).held ≡ [] }
         ensures { (result.seat ≡ seat) × (result.rights.items ≡ []) }
@@ -83,7 +83,7 @@ impl Rights {
         }
     }
 
-    /// The right at a position.
+    /// The right at a position in the list.
     pub fn right(&self, place: usize) -> &StripeRight
         requires { place < vec_len self.now.rights }
         ensures { Some result.now ≡ slice_get self.now.rights.items place }

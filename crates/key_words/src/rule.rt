@@ -37,7 +37,7 @@ impl Play<Slot, View> for Bring {
     ghost then = { brought };
 }
 
-/// A store of 0. The first of the seat's slots returns to its home.
+/// A store of 0. The first of the seat's slots returns to the table.
 pub(crate) struct Free;
 
 impl Play<Slot, View> for Free {

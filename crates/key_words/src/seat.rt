@@ -1,7 +1,7 @@
-//! A seat at the words: what one thread needs for an atomic step on the words. It consists of the
-//! seat's number and a seat at the atomic table. The rights of the seat's stripes are kept
-//! elsewhere, so that a caller that takes a single stripe needs no list. Invariant: the number is
-//! below 64. The slots that the seat has out are those of its stripes, and are empty.
+//! What one thread needs for atomic steps on the words: the seat's number, and a seat at the atomic
+//! table. The rights of the seat's stripes are kept elsewhere, so that a caller that takes a single
+//! stripe needs no list. Invariant: the number is below 64. The slots that are with the seat are
+//! those of the stripes that it holds. These slots are empty.
 ghost use Rattle.std.specs.Prelude.{◌≡◌, ℕ, ◌<◌, []};
 ghost use Rattle.key_words.specs.Rule.{Holds};
 ghost use Rattle.key_words.specs.Steps.{emptied};
@@ -10,8 +10,8 @@ use crate::rule::Slot;
 use crate::view::View;
 use atomic_table::Seat;
 
-/// A seat at the words, for one thread at a time. The slots that it has out are exactly those of
-/// the stripes that it holds, and they are empty.
+/// A seat through which one thread at a time acts on the words. The slots that are with the seat
+/// are exactly those of the stripes that it holds. These slots are empty.
 #[derive(Drop)]
 pub struct KeySeat {
     pub(crate) number: u64,

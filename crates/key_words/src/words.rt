@@ -1,6 +1,6 @@
 //! The words of the stripes, and a slot for each stripe's right. Invariant, between any two atomic
-//! steps: a stripe's word is 0 exactly if its slot is at home and has the stripe's right. Any other
-//! word names the one seat that holds the stripe.
+//! steps: a stripe's word is 0 exactly if no seat has the stripe's slot and the slot has the
+//! stripe's right. Any other word names the one seat that holds the stripe.
 ghost use Rattle.std.specs.Prelude.{◌≡◌, ◌<◌, ◌≤◌, [], replicate, IfErr, IfOk, vec_capacity, vec_len};
 ghost use Rattle.key_locks.specs.Rights.{AreAll};
 ghost use Rattle.key_words.specs.Rule.{Holds, view};
@@ -38,8 +38,8 @@ impl KeyWords {
     ///
     /// # Errors
     ///
-    /// `Refusal::NoMemory` if memory is refused; the rights that were passed in are returned with
-    /// it.
+    /// `Refusal::NoMemory` if memory is refused. The error then also has the rights that were
+    /// passed in.
     ///
     /// # Cost
     ///
@@ -82,8 +82,8 @@ impl KeyWords {
         }
     }
 
-    /// Splits the other seats off the first seat. Returns all seats, including the first, in the
-    /// order of their numbers.
+    /// Makes the other seats by splitting them off the first seat. Returns all seats, including the
+    /// first, in the order of their numbers.
     fn make_seats(
         &self,
         mut first: Seat<Slot, View>,

@@ -2,8 +2,8 @@
 //!
 //! Each call but `side` is a series of turns, each under one hold of the lock. A call adds to the
 //! token's `seen` exactly the entries that the call's contract states. Before a call takes the
-//! lock, the token may refuse the call (`refused_by`), by the first refusal in the call's list that
-//! applies. The token is then unchanged. If the core gives an answer that is impossible in the
+//! lock, the token may refuse the call (`refused_by`), with the first refusal in the call's list
+//! that applies. The token is then unchanged. If the core gives an answer that is impossible in the
 //! token's state, the call ends with `OutOfStep`. The token is then broken, and what the call has
 //! done is not undone: `seen` keeps the entries that the call has added, and `close` compares them
 //! with the history. Each call but `side` has the clauses
@@ -47,17 +47,19 @@ impl<L: Ledger> SharedMap<L> {
     ///
     /// # Errors
     ///
-    /// `Refused`. In all cases but the last, the transaction, if there is one, is unchanged.
+    /// `Refused` with one of these, tested in this order. In all cases but the last, the
+    /// transaction, if there is one, is unchanged.
     /// - `OutOfStep` if the token is broken.
-    /// - `Leaving` if the caller takes changes back, `AlreadyOpen` if it has a transaction.
-    /// - Then `NoMemory` if memory is refused.
+    /// - `Leaving` if the caller is taking changes back.
+    /// - `AlreadyOpen` if the caller has a transaction.
+    /// - `NoMemory` if memory is refused.
     /// - `OutOfStep` if the core gives an answer that is impossible in the token's state. The token
     ///   is then broken, and what the call did is not undone.
     ///
     /// # Cost
     ///
-    /// One hold of the lock, of amortized constant time, and constant time for each side job that
-    /// is dropped. May take memory.
+    /// Takes one hold of the lock, which lasts amortized constant time, and constant time for each
+    /// side job that is dropped. May take memory.
     pub fn begin<S: Side, R: Wait>(&self, rt: &R, me: &mut Caller<L, S>) -> Result<u64, Stop>
         ensures ok { IfOk result (λ txn. me.new.seen
             ≡ me.old.seen ++ entries.Began me.old.number txn ∷ []) }
@@ -71,18 +73,23 @@ impl<L: Ledger> SharedMap<L> {
         }
     }
 
-    /// Puts a value at a key, and returns the key's old value, if it had one.
+    /// Puts a value at a key. Returns the key's old value, or `None` if the key was not there.
     ///
     /// # Errors
     ///
-    /// `Refused` with one of the refusals below. In all cases but the last, the transaction is
-    /// unchanged, except that it may now hold the key's stripe.
+    /// `Refused` with one of the refusals below. The first five are tested before all else, in this
+    /// order. In all cases but the last, the transaction is unchanged, except that it may now hold
+    /// the key's stripe.
     /// - `OutOfStep` if the token is broken.
-    /// - `NotOpen`, `Leaving`, `OperationUnfinished` and `BadKey`, the first that applies. `BadKey`
-    ///   is for a key of 2^63 or more, if the limits allow only half keys.
-    /// - Then `NoMemory` if memory is refused, for one more right (no word was tried then) or for
-    ///   the operation; `StampsUsedUp` if no stamp is left; `StaleWord` if by the core's record the
-    ///   word of the key's stripe names no caller that may hold the stripe.
+    /// - `NotOpen` if the caller has no transaction.
+    /// - `Leaving` if the caller is taking changes back.
+    /// - `OperationUnfinished` if an earlier operation has no reply yet.
+    /// - `BadKey` if the key is 2^63 or more, and the limits allow only half keys.
+    /// - `NoMemory` if memory is refused for one more right (no word was tried then) or for the
+    ///   operation.
+    /// - `StampsUsedUp` if no stamp is left.
+    /// - `StaleWord` if, by the core's record, the word of the key's stripe names no caller that
+    ///   may hold the stripe.
     /// - `OutOfStep` if the core gives an answer that is impossible in the token's state. The token
     ///   is then broken, and what the call did is not undone.
     ///
@@ -92,11 +99,12 @@ impl<L: Ledger> SharedMap<L> {
     ///
     /// # Cost
     ///
-    /// Outside the lock, time in proportion to the number of the token's rights, and one try of the
-    /// stripe's word unless the token has the right to the stripe. Then three holds of the lock,
-    /// one of which seeks the position of the key, and at most two further holds each time a
-    /// position no longer fits. If the key is busy, also two holds for each change that is taken
-    /// back, constant time for each savepoint, and a run of each side job. May take memory.
+    /// Outside the lock, the call takes time in proportion to the number of the token's rights. It
+    /// tries the stripe's word once, unless the token has the right to the stripe. Then it takes
+    /// three holds of the lock. One of them seeks the position of the key. Each time a position no
+    /// longer fits, it takes at most two more. If the key is busy, it also takes two holds for each
+    /// change that is taken back and constant time for each savepoint, and runs each side job. May
+    /// take memory.
     pub fn put<S: Side, R: Wait>(
         &self,
         rt: &R,
@@ -115,18 +123,23 @@ impl<L: Ledger> SharedMap<L> {
         self.operate(rt, me, Op::Put(key, value))
     }
 
-    /// Takes a key out, and returns its value, if the key was there.
+    /// Takes a key out. Returns its value, or `None` if the key was not there.
     ///
     /// # Errors
     ///
-    /// `Refused` with one of the refusals below. In all cases but the last, the transaction is
-    /// unchanged, except that it may now hold the key's stripe.
+    /// `Refused` with one of the refusals below. The first five are tested before all else, in this
+    /// order. In all cases but the last, the transaction is unchanged, except that it may now hold
+    /// the key's stripe.
     /// - `OutOfStep` if the token is broken.
-    /// - `NotOpen`, `Leaving`, `OperationUnfinished` and `BadKey`, the first that applies. `BadKey`
-    ///   is for a key of 2^63 or more, if the limits allow only half keys.
-    /// - Then `NoMemory` if memory is refused, for one more right (no word was tried then) or for
-    ///   the operation; `StampsUsedUp` if no stamp is left; `StaleWord` if by the core's record the
-    ///   word of the key's stripe names no caller that may hold the stripe.
+    /// - `NotOpen` if the caller has no transaction.
+    /// - `Leaving` if the caller is taking changes back.
+    /// - `OperationUnfinished` if an earlier operation has no reply yet.
+    /// - `BadKey` if the key is 2^63 or more, and the limits allow only half keys.
+    /// - `NoMemory` if memory is refused for one more right (no word was tried then) or for the
+    ///   operation.
+    /// - `StampsUsedUp` if no stamp is left.
+    /// - `StaleWord` if, by the core's record, the word of the key's stripe names no caller that
+    ///   may hold the stripe.
     /// - `OutOfStep` if the core gives an answer that is impossible in the token's state. The token
     ///   is then broken, and what the call did is not undone.
     ///
@@ -136,11 +149,12 @@ impl<L: Ledger> SharedMap<L> {
     ///
     /// # Cost
     ///
-    /// Outside the lock, time in proportion to the number of the token's rights, and one try of the
-    /// stripe's word unless the token has the right to the stripe. Then three holds of the lock,
-    /// one of which seeks the position of the key, and at most two further holds each time a
-    /// position no longer fits. If the key is busy, also two holds for each change that is taken
-    /// back, constant time for each savepoint, and a run of each side job. May take memory.
+    /// Outside the lock, the call takes time in proportion to the number of the token's rights. It
+    /// tries the stripe's word once, unless the token has the right to the stripe. Then it takes
+    /// three holds of the lock. One of them seeks the position of the key. Each time a position no
+    /// longer fits, it takes at most two more. If the key is busy, it also takes two holds for each
+    /// change that is taken back and constant time for each savepoint, and runs each side job. May
+    /// take memory.
     pub fn take<S: Side, R: Wait>(
         &self,
         rt: &R,
@@ -161,14 +175,19 @@ impl<L: Ledger> SharedMap<L> {
     ///
     /// # Errors
     ///
-    /// `Refused` with one of the refusals below. In all cases but the last, the transaction is
-    /// unchanged, except that it may now hold the key's stripe.
+    /// `Refused` with one of the refusals below. The first five are tested before all else, in this
+    /// order. In all cases but the last, the transaction is unchanged, except that it may now hold
+    /// the key's stripe.
     /// - `OutOfStep` if the token is broken.
-    /// - `NotOpen`, `Leaving`, `OperationUnfinished` and `BadKey`, the first that applies. `BadKey`
-    ///   is for a key of 2^63 or more, if the limits allow only half keys.
-    /// - Then `NoMemory` if memory is refused, for one more right (no word was tried then) or for
-    ///   the operation; `StampsUsedUp` if no stamp is left; `StaleWord` if by the core's record the
-    ///   word of the key's stripe names no caller that may hold the stripe.
+    /// - `NotOpen` if the caller has no transaction.
+    /// - `Leaving` if the caller is taking changes back.
+    /// - `OperationUnfinished` if an earlier operation has no reply yet.
+    /// - `BadKey` if the key is 2^63 or more, and the limits allow only half keys.
+    /// - `NoMemory` if memory is refused for one more right (no word was tried then) or for the
+    ///   operation.
+    /// - `StampsUsedUp` if no stamp is left.
+    /// - `StaleWord` if, by the core's record, the word of the key's stripe names no caller that
+    ///   may hold the stripe.
     /// - `OutOfStep` if the core gives an answer that is impossible in the token's state. The token
     ///   is then broken, and what the call did is not undone.
     ///
@@ -178,11 +197,12 @@ impl<L: Ledger> SharedMap<L> {
     ///
     /// # Cost
     ///
-    /// Outside the lock, time in proportion to the number of the token's rights, and one try of the
-    /// stripe's word unless the token has the right to the stripe. Then three holds of the lock,
-    /// one of which seeks the position of the key, and at most two further holds each time a
-    /// position no longer fits. If the key is busy, also two holds for each change that is taken
-    /// back, constant time for each savepoint, and a run of each side job. May take memory.
+    /// Outside the lock, the call takes time in proportion to the number of the token's rights. It
+    /// tries the stripe's word once, unless the token has the right to the stripe. Then it takes
+    /// three holds of the lock. One of them seeks the position of the key. Each time a position no
+    /// longer fits, it takes at most two more. If the key is busy, it also takes two holds for each
+    /// change that is taken back and constant time for each savepoint, and runs each side job. May
+    /// take memory.
     pub fn put_if<S: Side, R: Wait>(
         &self,
         rt: &R,
@@ -203,18 +223,22 @@ impl<L: Ledger> SharedMap<L> {
         self.operate(rt, me, Op::PutIf(key, expected, value))
     }
 
-    /// Returns the value of a key, if the key is there.
+    /// Returns the value of a key, or `None` if the key is not there.
     ///
     /// # Errors
     ///
-    /// `Refused` with one of the refusals below. In all cases but the last, the transaction is
-    /// unchanged, except that it may now hold the key's stripe.
+    /// `Refused` with one of the refusals below. The first five are tested before all else, in this
+    /// order. In all cases but the last, the transaction is unchanged, except that it may now hold
+    /// the key's stripe.
     /// - `OutOfStep` if the token is broken.
-    /// - `NotOpen`, `Leaving`, `OperationUnfinished` and `BadKey`, the first that applies. `BadKey`
-    ///   is for a key of 2^63 or more, if the limits allow only half keys.
-    /// - Then `NoMemory` if memory is refused, for one more right (no word was tried then) or for
-    ///   the operation; `StaleWord` if by the core's record the word of the key's stripe names no
-    ///   caller that may hold the stripe.
+    /// - `NotOpen` if the caller has no transaction.
+    /// - `Leaving` if the caller is taking changes back.
+    /// - `OperationUnfinished` if an earlier operation has no reply yet.
+    /// - `BadKey` if the key is 2^63 or more, and the limits allow only half keys.
+    /// - `NoMemory` if memory is refused for one more right (no word was tried then) or for the
+    ///   operation.
+    /// - `StaleWord` if, by the core's record, the word of the key's stripe names no caller that
+    ///   may hold the stripe.
     /// - `OutOfStep` if the core gives an answer that is impossible in the token's state. The token
     ///   is then broken, and what the call did is not undone.
     ///
@@ -224,11 +248,12 @@ impl<L: Ledger> SharedMap<L> {
     ///
     /// # Cost
     ///
-    /// Outside the lock, time in proportion to the number of the token's rights, and one try of the
-    /// stripe's word unless the token has the right to the stripe. Then three holds of the lock,
-    /// one of which seeks the position of the key, and at most two further holds each time a
-    /// position no longer fits. If the key is busy, also two holds for each change that is taken
-    /// back, constant time for each savepoint, and a run of each side job. May take memory.
+    /// Outside the lock, the call takes time in proportion to the number of the token's rights. It
+    /// tries the stripe's word once, unless the token has the right to the stripe. Then it takes
+    /// three holds of the lock. One of them seeks the position of the key. Each time a position no
+    /// longer fits, it takes at most two more. If the key is busy, it also takes two holds for each
+    /// change that is taken back and constant time for each savepoint, and runs each side job. May
+    /// take memory.
     pub fn get<S: Side, R: Wait>(
         &self,
         rt: &R,
@@ -249,16 +274,19 @@ impl<L: Ledger> SharedMap<L> {
     ///
     /// # Errors
     ///
-    /// `Refused`. In all cases but the last, the transaction is unchanged.
+    /// `Refused` with one of these, tested in this order. In all cases but the last, the
+    /// transaction is unchanged.
     /// - `OutOfStep` if the token is broken.
-    /// - `NotOpen`, `Leaving` and `OperationUnfinished`, the first that applies.
-    /// - Then `NoMemory` if memory is refused.
+    /// - `NotOpen` if the caller has no transaction.
+    /// - `Leaving` if the caller is taking changes back.
+    /// - `OperationUnfinished` if an operation has no reply yet.
+    /// - `NoMemory` if memory is refused.
     /// - `OutOfStep` if the core gives an answer that is impossible in the token's state. The token
     ///   is then broken, and what the call did is not undone.
     ///
     /// # Cost
     ///
-    /// One hold of the lock, of amortized constant time. May take memory.
+    /// Takes one hold of the lock, which lasts amortized constant time. May take memory.
     pub fn save<S: Side, R: Wait>(&self, rt: &R, me: &mut Caller<L, S>) -> Result<u64, Stop>
         ensures ok { OnOk result (me.new.seen ≡ me.old.seen ++ entries.Saved me.old.number ∷ []) }
         ensures level { IfOk result (λ level. (s : Seat) → seat_after me.new.seen ≡ Some s
@@ -279,20 +307,24 @@ impl<L: Ledger> SharedMap<L> {
     ///
     /// # Errors
     ///
-    /// `Refused`. In all cases but the last, the transaction is unchanged.
+    /// `Refused` with one of these, tested in this order. In all cases but the last, the
+    /// transaction is unchanged.
     /// - `OutOfStep` if the token is broken.
-    /// - `NotOpen`, `Leaving`, `OperationUnfinished` and `NoSuchLevel`, the first that applies.
-    /// - Then `OutOfStep` if the side value has no such level, because a save was made by `hold`.
-    ///   The token is then broken.
-    /// - `NoMemory` if memory is refused, before anything is taken back.
+    /// - `NotOpen` if the caller has no transaction.
+    /// - `Leaving` if the caller is taking changes back.
+    /// - `OperationUnfinished` if an operation has no reply yet.
+    /// - `NoSuchLevel` if the level is above the number of savepoints.
+    /// - `OutOfStep` if the side value has no such level, because a save was made by `hold`. The
+    ///   token is then broken.
+    /// - `NoMemory` if memory is refused. Nothing has been taken back then.
     /// - `OutOfStep` if the core gives an answer that is impossible in the token's state. The token
     ///   is then broken, and what the call did is not undone.
     ///
     /// # Cost
     ///
-    /// Three holds of the lock, and at most two further holds for each change that is taken back
-    /// and each time a position no longer fits. A run of each side job, and constant time for each
-    /// savepoint above the level. May take memory, before anything is taken back.
+    /// Takes three holds of the lock. Takes at most two more for each change that is taken back,
+    /// and each time a position no longer fits. Runs each side job, and takes constant time for
+    /// each savepoint above the level. May take memory, but only before anything is taken back.
     pub fn back<S: Side, R: Wait>(
         &self,
         rt: &R,
@@ -317,17 +349,20 @@ impl<L: Ledger> SharedMap<L> {
     ///
     /// # Errors
     ///
-    /// `Refused`. In all cases but the last, the transaction is unchanged.
+    /// `Refused` with one of these, tested in this order. In all cases but the last, the
+    /// transaction is unchanged.
     /// - `OutOfStep` if the token is broken.
-    /// - `NotOpen`, `Leaving` and `OperationUnfinished`, the first that applies.
-    /// - Then `OutOfStep` if the core gives an answer that is impossible in the token's state. The
-    ///   token is then broken, and what the call did is not undone.
+    /// - `NotOpen` if the caller has no transaction.
+    /// - `Leaving` if the caller is taking changes back.
+    /// - `OperationUnfinished` if an operation has no reply yet.
+    /// - `OutOfStep` if the core gives an answer that is impossible in the token's state. The token
+    ///   is then broken, and what the call did is not undone.
     ///
     /// # Cost
     ///
-    /// One hold of the lock, for a time in proportion to the changes, the savepoints and the
-    /// stripes of the transaction. Then constant time for each right and each side job. Takes no
-    /// memory.
+    /// Takes one hold of the lock, for a time in proportion to the changes, the savepoints and the
+    /// stripes of the transaction. Then takes constant time for each right and each side job. Takes
+    /// no memory.
     pub fn commit<S: Side, R: Wait>(&self, rt: &R, me: &mut Caller<L, S>) -> Result<Receipt, Stop>
         ensures ok { IfOk result (λ receipt. (receipt.txn ≡ last_txn me.old.seen) × (me.new.seen
             ≡ me.old.seen ++ entries.Committed me.old.number receipt.place ∷ [])) }
@@ -348,17 +383,19 @@ impl<L: Ledger> SharedMap<L> {
     ///
     /// # Errors
     ///
-    /// `Refused`. In all cases but the last, the transaction is unchanged.
+    /// `Refused` with one of these, tested in this order. In all cases but the last, the
+    /// transaction is unchanged.
     /// - `OutOfStep` if the token is broken.
-    /// - `NotOpen` and `Leaving`, the first that applies.
-    /// - Then `OutOfStep` if the core gives an answer that is impossible in the token's state. The
-    ///   token is then broken, and what the call did is not undone.
+    /// - `NotOpen` if the caller has no transaction.
+    /// - `Leaving` if the caller is taking changes back.
+    /// - `OutOfStep` if the core gives an answer that is impossible in the token's state. The token
+    ///   is then broken, and what the call did is not undone.
     ///
     /// # Cost
     ///
-    /// Three holds of the lock, and at most two further holds for each change that is taken back
-    /// and each time a position no longer fits. A run of each side job, and constant time for each
-    /// savepoint and each right. Takes no memory but what the side jobs take.
+    /// Takes three holds of the lock. Takes at most two more for each change that is taken back,
+    /// and each time a position no longer fits. Runs each side job, and takes constant time for
+    /// each savepoint and each right. Takes no memory but what the side jobs take.
     pub fn abort<S: Side, R: Wait>(&self, rt: &R, me: &mut Caller<L, S>) -> Result<(), Stop>
         ensures ok { OnOk result ((undone : ℕ) × (me.new.seen ≡ me.old.seen
             ++ (entries.Leave me.old.number None ∷ undone_by me.old.number undone
@@ -379,20 +416,21 @@ impl<L: Ledger> SharedMap<L> {
     ///
     /// # Errors
     ///
-    /// `Refused`. The transaction, if there is one, is unchanged. Buckets that were initialised
-    /// before the refusal remain initialised.
+    /// `Refused` with one of these. The transaction, if there is one, is unchanged. Buckets that
+    /// were initialised before the refusal remain initialised.
     /// - `OutOfStep` if the token is broken.
-    /// - `BadKey` for a key of 2^63 or more, if the limits allow only half keys.
-    /// - Then `NoMemory` if memory is refused, and `StampsUsedUp` if no stamp is left.
+    /// - `BadKey` if the key is 2^63 or more, and the limits allow only half keys.
+    /// - `NoMemory` if memory is refused.
+    /// - `StampsUsedUp` if no stamp is left.
     /// - `OutOfStep` if the core gives an answer that is impossible in the token's state. The token
     ///   is then broken.
     ///
     /// # Cost
     ///
-    /// One hold of the lock to double the table. Then further holds for the key's bucket and for
-    /// each of the bucket's ancestors except bucket 0: one hold if the bucket is initialised;
-    /// otherwise three holds, and at most two more each time the bucket's position no longer fits.
-    /// May take memory.
+    /// Takes one hold of the lock to double the table. Then takes holds for the key's bucket, and
+    /// for each of its ancestors except bucket 0. A bucket that is initialised already takes one
+    /// hold. Any other bucket takes three holds, and at most two more each time its position no
+    /// longer fits. May take memory.
     #[tactic(auto, using(crate::proofs::Refusing::help_bad_key))]
     pub fn help<S: Side, R: Wait>(
         &self,
@@ -426,8 +464,8 @@ impl<L: Ledger> SharedMap<L> {
     /// # Errors
     ///
     /// In both cases `change` was not called, nothing has changed, and `change` and `job` are
-    /// returned:
-    /// - `OutOfStep` if the token is broken;
+    /// returned with the error:
+    /// - `OutOfStep` if the token is broken.
     /// - `NoMemory` if memory is refused.
     ///
     /// # Cost

@@ -20,13 +20,13 @@ use txn_trace::{Limits, SmallEntry};
 use undo_log::Side;
 
 impl<L: Ledger> SharedMap<L> {
-    /// If one caller with each number is passed in, takes the core out of the map and compares the
-    /// core's history with the entries that the callers saw.
+    /// Closes the map: takes the core out, and compares the core's history with the entries that
+    /// the callers saw. Exactly one caller with each number must be passed in.
     ///
     /// If this returns `Ok`, the core has the map's limits. Its history is legal by the rule that a
-    /// Busy may name any other caller that has begun a transaction. Each caller's own entries in
-    /// the history are exactly those that the caller saw, and the history has no others. `Ok` and
-    /// both errors return the callers unchanged, in their order.
+    /// Busy entry may name any other caller that has begun a transaction. Each caller's own entries
+    /// in the history are exactly those that the caller saw, and the history has no others. `Ok`
+    /// and both errors return the callers unchanged, in their order.
     ///
     /// # Errors
     ///

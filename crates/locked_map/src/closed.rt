@@ -1,6 +1,6 @@
 //! The result of `close`: the core and the callers, in one value, so that neither is dropped by
-//! mistake. Its fields are public, so anyone may make a `Closed` of other parts: only the clauses
-//! of `close` promise that the history is legal and has exactly the callers' entries.
+//! mistake. The fields are public, so code can also make a `Closed` from other parts. Only the
+//! contract of `close` promises that the history is legal and has exactly the callers' entries.
 use boost_core::Core;
 use core_tokens::Caller;
 use std::sync::ledger::Ledger;

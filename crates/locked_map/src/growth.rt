@@ -35,7 +35,7 @@ enum Growth {
     /// Under the lock, as entries are added, because the room of the map was not written or memory
     /// was refused.
     UnderLock,
-    /// The next thread that sees little room makes more.
+    /// The next thread that sees little room makes more room.
     Ready,
     /// A thread makes room.
     InProgress,

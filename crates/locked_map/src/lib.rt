@@ -3,8 +3,8 @@
 //! - A *token*, a `Caller` of `core_tokens`, stands for one caller. `SharedMap::new` makes a `Pass`
 //!   for each number, and each pass makes the token with its number, only once. The calls are made
 //!   on a `&SharedMap` with a `&mut Caller`: `begin`, `put`, `put_if`, `take`, `get`, `save`,
-//!   `back`, `commit`, `abort` and `help`; `run`, which makes any of these from a value of `Call`;
-//!   and `side`.
+//!   `back`, `commit`, `abort` and `help`; `run`, which makes any of these calls, given as a value
+//!   of `Call`; and `side`.
 //! - A *hold* of a token is one turn of a call, taken under one hold of the lock. So other callers
 //!   may take steps between any two turns, even while changes are taken back. The words of stripes
 //!   are tried, and rights are given back, outside the lock. Only a map that was made with written
@@ -16,8 +16,8 @@
 //!   `Ok`, the history is legal, and each caller's own entries in the history are the token's
 //!   `seen`. There are no other entries, since a ledger counts the entries. The `Booked` under the
 //!   lock holds the ledger's book, and each token holds a share of the ledger.
-//! - `laws::helped` of `core_tokens`: if core and token are in step, a `help` that succeeds has
-//!   initialised its key's bucket.
+//! - By `laws::helped` of `core_tokens`, a `help` that succeeds has initialised its key's bucket,
+//!   if core and token are in step.
 //!
 //! No clause is about time: no clause says that a call returns, or that two threads ran at once.
 //!

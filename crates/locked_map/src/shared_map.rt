@@ -35,8 +35,8 @@ pub struct SharedMap<L: Ledger> {
 
 /// An observer that is called after each hold of the lock.
 pub trait OnRelease {
-    /// Called after a hold, by the thread that has just freed the lock. The cost is the observer's
-    /// own.
+    /// Called after a hold, by the thread that has just freed the lock. The cost depends on the
+    /// observer.
     fn on_release(&self);
 }
 
@@ -48,9 +48,9 @@ impl OnRelease for Unheard {
 }
 
 impl<L: Ledger> SharedMap<L> {
-    /// A new map, and a pass for each caller's number, in rising order. The callers of all passes
-    /// share the words of the map's stripes, and all these words are free. The blank ledger must be
-    /// named `L` and have one part for each caller.
+    /// Makes a map, and one pass for each caller, in rising order of the callers' numbers. The
+    /// callers of all passes share the words of the map's stripes, and all these words are free.
+    /// The blank ledger must be named `L` and have one part for each caller.
     ///
     /// # Errors
     ///
@@ -74,8 +74,8 @@ impl<L: Ledger> SharedMap<L> {
         SharedMap::with_room(alloc, blank, limits, Room::default())
     }
 
-    /// Makes what `new` makes, and makes this room at once. If memory for the room is refused, no
-    /// room is made, and history, table, logs and seats grow as they are used.
+    /// Makes what `new` makes, and makes the given room at once. If memory for the room is refused,
+    /// no room is made, and history, table, logs and seats grow as they are used.
     ///
     /// If the room is written, the history takes no memory under the lock. Instead, a thread whose
     /// hold finds little room takes memory for twice as many entries outside the lock, writes it,
@@ -89,9 +89,9 @@ impl<L: Ledger> SharedMap<L> {
     ///
     /// # Cost
     ///
-    /// The cost of `new`, and of the room as `Core::with_room` says. If the room is written, each
-    /// later growth of the history takes memory outside the lock, and copies the history under the
-    /// lock.
+    /// The cost of `new`, and the cost that `Core::with_room` states for the room. If the room is
+    /// written, each later growth of the history takes memory outside the lock, and copies the
+    /// history under the lock.
     pub fn with_room(
         alloc: Global,
         blank: Blank,
@@ -122,9 +122,9 @@ impl<L: Ledger> SharedMap<L> {
         self.limits
     }
 
-    /// Takes the contents out of the lock, for those who call `Caller::hold` themselves. The
-    /// contents are a core whose stripes are words and whose history is legal. The map is consumed,
-    /// so it can no longer be closed.
+    /// Takes the contents out of the lock, for code that calls `Caller::hold` itself. The contents
+    /// are a core whose stripes are words and whose history is legal. The map is consumed, so it
+    /// can no longer be closed.
     pub fn into_booked(self) -> Booked<L>
         ensures words { result.core.words ≡ true }
         ensures legal { IsLegal Begun result.core.limits.stripes result.core.history }
@@ -170,8 +170,8 @@ impl<L: Ledger> SharedMap<L> {
         unreachable!()
     }
 
-    /// Makes the call that `call` names, as the method with that name does, and calls `hears` after
-    /// each hold of the lock. Returns the end of the call.
+    /// Makes a call that is given as a value: does the same as the method with the call's name.
+    /// Also calls `hears` after each hold of the lock. Returns the end of the call.
     ///
     /// # Errors
     ///
@@ -197,7 +197,7 @@ impl<L: Ledger> SharedMap<L> {
         end
     }
 
-    /// Makes a call. Returns its end, or the error that the public call returns.
+    /// Makes a call. Returns its end, but returns the ends `Busy` and `Refused` as errors.
     pub(crate) fn call<S: Side, R: Wait>(
         &self,
         rt: &R,

@@ -1,7 +1,7 @@
 //! The reason why a map was not closed. It contains all that was passed in, so that nothing is
-//! lost: the map if it may be closed again, otherwise the map's core. `Unclosed` is a type apart
-//! from `Closed`, since it is an error with a text. The text shows only the reason and none of the
-//! values.
+//! lost. If the map cannot be closed again, it contains the map's core instead of the map.
+//! `Unclosed` and `Closed` are separate types, since an `Unclosed` is an error with a text. The
+//! text shows only the reason and none of the values.
 ghost use Rattle.std.specs.Prelude.{◌≡◌};
 ghost use Rattle.locked_map.specs.Texts.{text_of};
 

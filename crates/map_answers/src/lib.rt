@@ -1,4 +1,4 @@
-//! Result types that the calls of a transaction share on every map: the reason why a call was not
+//! Result types for the calls of a transaction, which all maps share: the reason why a call was not
 //! done (`Stop`), and whether a value was swapped in (`Swapped`).
 //!
 //! A *work* is the code that runs in a transaction. Every map depends on this crate and uses its

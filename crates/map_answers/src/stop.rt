@@ -11,7 +11,7 @@ use std::fmt;
 use txn_words::Refusal;
 
 /// The reason why a call of a transaction was not done. It is an error with a text, so `?` can
-/// return it, also as an `anyhow::Error`.
+/// return it as it is or as an `anyhow::Error`.
 #[derive(Clone, Copy, Debug, PartialEq, Eq)]
 pub enum Stop {
     /// Another caller held the stripe of the key, or one of the stripes that the call takes. This

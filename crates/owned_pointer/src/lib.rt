@@ -1,11 +1,11 @@
-//! A box as an owning pointer, for places that cannot hold a `Box` on the heap, such as a struct
-//! that C code sees.
+//! A pointer that owns its heap block, like a box. It is for places that cannot hold a `Box`, such
+//! as a struct that C code sees.
 //!
 //! The contracts of `Box::into_raw` and `Box::from_raw` state in separation logic what they
 //! transfer: the block of memory with its value, and the right to free the block. Code that calls
 //! these functions needs a proof by hand. An `OwnedPointer` has the address, and owns the block and
-//! the right to free it. So its two functions are plain calls with plain contracts. They needed a
-//! proof by hand only once, for all types.
+//! the right to free it. So its two functions are plain calls with plain contracts. Their proof by
+//! hand is done once, in this crate, for all types.
 //!
 //! ```text
 //!   Box<T>  --from_box-->  OwnedPointer<T>  --into_box-->  Box<T>

@@ -1,7 +1,7 @@
 //! The pointer, and its conversions from a box and to a box, which do not move the value. The
 //! pointer's field is public, so that a crate with its own proof can keep the address elsewhere,
-//! for instance as a pointer whose type is erased. A pointer is not `Drop`, so it can only end by
-//! `into_box` or by such a proof.
+//! for instance as a pointer whose type is erased. A pointer is not `Drop`, so only `into_box` or
+//! such a proof can consume it.
 ghost use Rattle.std.specs.Prelude.{◌≡◌};
 
 use std::alloc::Global;
@@ -32,8 +32,8 @@ impl<T: Drop> OwnedPointer<T> {
         }
     }
 
-    /// Turns the pointer back into a box, which gives access to the value, and frees the block when
-    /// it is dropped.
+    /// Turns the pointer back into a box. The box gives access to the value, and frees the block
+    /// when the box is dropped.
     pub fn into_box(self, alloc: Global) -> Box<T, Global>
         ensures { result.value ≡ self.value }
     {

@@ -1,5 +1,5 @@
-//! Functions that change a map and the number of its changes that can be taken back. They get the
-//! two fields of a `CountedMap` and are not its methods, since the type's invariant does not hold
+//! Functions that change a map, and the number of its changes that can be taken back. They take the
+//! two fields of a `CountedMap`. They are not its methods, since the type's invariant does not hold
 //! in the middle of a change.
 ghost use Rattle.std.specs.Prelude.{◌≡◌, ℕ, ◌+◌, ◌<◌, ◌≤◌, OnErr, IfOk, IfErr};
 ghost use Rattle.txn_words.specs.Map.{after, reply_of, set_at};
@@ -9,7 +9,7 @@ ghost use Rattle.stripe_part.specs.Stored.{part_of};
 use probe_map::ProbeMap;
 use txn_words::{Op, Refusal, Reply};
 
-/// Gives the key this value or, if there is no value, removes the key.
+/// Gives the key this value. If `value` is `None`, removes the key.
 fn set(map: &mut ProbeMap, key: u64, value: Option<u64>)
     requires { 0 < map.old.spare }
     ensures content { map.new.content ≡ set_at map.old.content key value }

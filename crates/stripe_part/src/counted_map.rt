@@ -56,7 +56,7 @@ impl CountedMap {
         })
     }
 
-    /// Does an operation, as `Part::apply` says.
+    /// Does an operation. See `Part::apply`.
     #[inline(always)]
     pub(crate) fn apply(&mut self, op: Op) -> Result<Reply, Refusal>
         ensures ok { IfOk result (Does self.old self.new op) }

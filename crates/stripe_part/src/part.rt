@@ -15,9 +15,8 @@ use txn_words::{Op, Refusal, Reply};
 
 /// The map of one stripe. It can take changes of the open transaction back.
 ///
-/// A contract sees a `PartAt`: the content, a finite map, and how many changes are owed, which
-/// means that they can be taken back without memory. The user of the part keeps the changes
-/// themselves.
+/// A contract sees a `PartAt`. Its `content` is a finite map, and `owed` is the number of changes
+/// that can be taken back without memory. The user of the part keeps the changes themselves.
 ///
 /// # Cost
 ///
@@ -39,7 +38,7 @@ impl Model for Part {
     ghost view = { λ p. unwrap_or (option_map (λ b. b.value) p.inner) nothing };
 }
 
-/// Does an operation that is a change on a new, empty map.
+/// Does an operation on a new, empty map. The operation must be a change.
 #[inline(never)]
 #[tactic(auto, using(crate::proofs::Calls::may_be))]
 fn begin(alloc: Global, op: Op) -> Result<(Box<CountedMap>, Reply), Refusal>

@@ -15,8 +15,8 @@ use txn_words::{Answer, Limits, Refusal, Step};
 
 /// A caller's call in progress: how far the call has come, and its next step.
 ///
-/// Make a drive with `new`. Then get each turn by `turn`, take the steps of the turn, and pass the
-/// answer to each step to `told`, until a turn is `Ended`.
+/// Make a drive with `new`. Then repeat, until `turn` returns `Ended`: get a turn by `turn`, take
+/// the steps of the turn, and pass each answer to `told`.
 #[derive(Clone, Copy, Debug, PartialEq, Eq)]
 pub struct Drive {
     /// The caller's number. The caller's helper has the same number.
@@ -28,7 +28,8 @@ pub struct Drive {
 }
 
 impl Drive {
-    /// A drive for this caller's call on a map with these limits, before its first step.
+    /// Makes the drive for this caller's call on a map with these limits. No step of the call has
+    /// been taken yet.
     ///
     /// If the limits allow only half keys, a call `Help` for a key of 2^63 or more has already
     /// ended with `Refusal::BadKey`, without any step.
@@ -61,7 +62,7 @@ impl Drive {
         self.show()
     }
 
-    /// The end of the call, if it has ended.
+    /// The end of the call, or `None` if the call has not ended.
     #[inline(always)]
     pub fn ended(self) -> Option<End>
         ensures drive { result ≡ end_of self }
@@ -70,7 +71,7 @@ impl Drive {
         self.end()
     }
 
-    /// The end of the call if this phase is final, else none.
+    /// The end of the call if this phase is final, else `None`.
     #[inline(always)]
     fn end(self) -> Option<End>
         ensures { result ≡ end_of self }
@@ -112,8 +113,8 @@ impl Drive {
     /// Passes the drive the answer to the step that its turn named. For a turn of two steps, call
     /// this after each step that is taken.
     ///
-    /// The call ends with `Refusal::OutOfStep` if no rule foresees the answer, or if the call has
-    /// already ended.
+    /// The call ends with `Refusal::OutOfStep` if the rules do not foresee the answer, or if the
+    /// call has already ended.
     ///
     /// # Cost
     ///
@@ -150,7 +151,7 @@ fn end_first(call: Call, answer: Answer) -> End
     }
 }
 
-/// The end of a call whose last step was an act.
+/// The end of a call whose last step was an `Act`.
 fn end_last(call: Call, work: Work, answer: Answer) -> End
     ensures { result ≡ end_last call work answer }
 {

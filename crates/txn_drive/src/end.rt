@@ -1,7 +1,7 @@
 //! How calls end: answered, busy, helped or refused. Callers, workers and the shared map use the
 //! end of a call but none of the call's phases, so an end has a type of its own. If a call does not
-//! end with `OutOfStep`, the call and the end determine which entries the call has added, except
-//! how many changes it has taken back (`IsMade`).
+//! end with `OutOfStep`, the call and the end determine which entries the call has added
+//! (`IsMade`). They do not determine how many changes it has taken back.
 use txn_words::{Answer, Refusal};
 
 /// The end of a call.

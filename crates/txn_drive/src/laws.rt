@@ -1,5 +1,5 @@
-//! The law of a helper's path, stated as the contract of a function that does nothing. So a crate
-//! above can cite the law without naming a lemma of this crate. By this law each bucket on the path
+//! The law of a helper's path, stated as the contract of a function that does nothing. A crate that
+//! uses this one can then cite the law without naming a lemma. By this law each bucket on the path
 //! follows its parent. That is why a drive does not foresee the refusal `ParentMissing`.
 
 ghost use Rattle.std.specs.Prelude.{◌≡◌, ◌≢◌, ℕ, ◌^◌, ◌<◌, ◌≤◌};

@@ -1,5 +1,5 @@
-//! The steps of a caller's calls, one after the other: what is done between the request for a call
-//! and the call's end.
+//! Turns a caller's calls into the steps that are taken from the request for a call to the call's
+//! end.
 //!
 //! A call on a transactional map is a list of steps, taken in turns of one step or two. On a map
 //! that threads share, each turn takes the lock and frees it. A drive says which step is next,

@@ -22,8 +22,8 @@ pub enum Work {
     Leaving(u64),
 }
 
-/// The progress of a call. In a variant with a `Work` or a `Way`, the number counts the answers
-/// `again` in a row, up to 8.
+/// The progress of a call. If a variant has a number next to a `Work` or a `Way`, the number counts
+/// the answers `again` in a row, up to 8.
 #[derive(Clone, Copy, Debug, PartialEq, Eq)]
 pub enum Phase {
     /// No step has been answered yet.
@@ -222,8 +222,8 @@ fn told_store(way: Way, answer: Answer) -> Phase
     }
 }
 
-/// The phase after a helper's step was refused. The rules foresee refusals for lack of memory or of
-/// a stamp, and no others.
+/// The phase after a helper's step was refused for this reason. Only two reasons are foreseen: no
+/// memory, and no more stamps. After any other refusal the help ends with `OutOfStep`.
 fn refused_help(refusal: Refusal) -> Phase
     ensures { result ≡ refused_help refusal }
 {

@@ -1,7 +1,7 @@
 //! History files. This module says which shapes and ranges entries have; `piece_files` has the
-//! loops over tokens. Entries are kept packed. An entry with too large a caller cannot be packed
-//! and is out of range, so a substitute is kept in its place. The substitute can be packed and is
-//! out of range too, so the file has the same fault with it.
+//! loops over tokens. Entries are kept packed. An entry whose caller is too large is out of range,
+//! and cannot be packed. A substitute is kept in its place. The substitute can be packed and is out
+//! of range too, so the fault of the file stays the same.
 ghost use Rattle.std.specs.Prelude.{◌≡◌, map, true, false, IfOk};
 ghost use Rattle.std.specs.List.{list_all};
 ghost use Rattle.piece_files.specs.Plain.{data_of};
@@ -22,14 +22,15 @@ use txn_words::{Entry, Holder, Limits, Op, SmallEntry};
 /// The largest number that a caller may have.
 const MAX_CALLER: u64 = Limits::MAX_CALLERS - 1;
 
-/// The caller of a substitute (`kept`). It is out of range, but small enough to be packed.
+/// The number of the caller in a substitute entry (`kept`). It is out of range, but small enough to
+/// be packed.
 const TOO_LARGE: u64 = 65_535;
 
 /// The most entries that a file may have.
 const MAX_ENTRIES: usize = 1_000_000;
 
-/// The last version of history files in which the caller that a Busy entry names must hold the
-/// stripe.
+/// The last version of history files that has the rule `Holder::Now`: the caller that a Busy entry
+/// names must hold the stripe.
 const LAST_OF_NOW: u64 = 2;
 
 /// The number of elements of the longest entry: `["busy",0,"put_if",1,10,12,2]`.
@@ -134,7 +135,7 @@ fn kept_entry_in(values: &[Plain<'_>]) -> Option<SmallEntry>
     Some(kept(entry_in(values)?))
 }
 
-/// The kind of pieces that are entries of a history file. They are kept packed.
+/// The kind of pieces that are entries of a history file. The entries are kept packed.
 struct EntryKind;
 
 impl PieceKind for EntryKind {
@@ -225,8 +226,8 @@ fn is_history(stripes: u64, entries: &[SmallEntry]) -> bool
     1 <= stripes && stripes <= Limits::MAX_STRIPES && are_in_range(entries)
 }
 
-/// The number of stripes (the only element of `numbers`), the entries and the version. Fails with
-/// `Limit` if the number of stripes or a caller is out of range.
+/// Returns the number of stripes (the only element of `numbers`), the entries and the version.
+/// Fails with `Limit` if the number of stripes or a caller is out of range.
 #[tactic(auto, unfolding(crate::specs::HistoryFile::entries_from))]
 fn entries_in(
     version: u64,
@@ -255,16 +256,16 @@ fn entries_in(
 ///
 /// # Errors
 ///
-/// The first of these, in this order:
+/// The first of these that applies, in this order:
 ///
 /// - `Limit` if there are more than 16,777,216 bytes.
-/// - `NotJson` if the bytes are not JSON that `piece_files::read_file` takes.
+/// - `NotJson` if `piece_files::read_file` does not accept the bytes as JSON.
 /// - `Member` if the value is not an object, or if one of the three members is missing or of the
 ///   wrong kind. The members are tested in the order above.
 /// - `Piece`, with the index of the first wrong piece. A piece is wrong if it is not an entry. In
 ///   version 1 it is also wrong if it has a `put_if`.
-/// - `Limit` if the version is not 1 to 3, the number of stripes is not 1 to 4,096, a caller or the
-///   holder that an entry names is above 63, or there are more than 1,000,000 entries.
+/// - `Limit` if the version is not 1 to 3, or if the number of stripes is not 1 to 4,096. Also if
+///   an entry names a caller or a holder above 63, or if there are more than 1,000,000 entries.
 ///
 /// If memory is refused, the function may return `NoMemory` in place of any of these.
 ///
@@ -295,12 +296,13 @@ fn unpacked(alloc: Global, packed: &[SmallEntry]) -> Result<Vec<Entry>, AllocErr
     Ok(entries)
 }
 
-/// Reads a history file as `read_history` does, and returns its number of stripes, its packed
-/// entries and its version. Packed entries take half of the memory that unpacked entries take.
+/// Reads a history file, and returns its number of stripes, its entries and its version. Unlike
+/// `read_history`, it returns the entries packed. Packed entries take half of the memory that
+/// unpacked entries take.
 ///
 /// # Errors
 ///
-/// Those of `read_history`, in its order.
+/// The errors of `read_history`, in the same order.
 ///
 /// # Cost
 ///
@@ -314,17 +316,17 @@ pub fn read_packed_history(
     kept_history(alloc, bytes)
 }
 
-/// Reads a history file as `read_packed_history` does, and returns its number of stripes, its
-/// packed entries and its version. The function drops the bytes, so their memory is free before the
-/// caller uses the entries.
+/// Reads a history file, and returns its number of stripes, its packed entries and its version.
+/// Unlike `read_packed_history`, it drops the bytes, so their memory is free before the caller uses
+/// the entries.
 ///
 /// # Errors
 ///
-/// Those of `read_history`, in its order.
+/// The errors of `read_history`, in the same order.
 ///
 /// # Cost
 ///
-/// That of `read_packed_history`.
+/// The cost of `read_packed_history`.
 pub fn into_packed_history(
     alloc: Global,
     bytes: Vec<u8>,

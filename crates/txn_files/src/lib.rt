@@ -1,10 +1,10 @@
 //! Step files, script files and history files, in JSON.
 //!
-//! The model is three functions of the bytes: `file_of`, `scripts_of` and `history_of` of `specs/`.
-//! Each gives the content of a file, or its first fault in a fixed order: too long, not JSON, a
-//! member of the wrong shape, a piece of the wrong shape, out of range. `piece_files` says what
-//! bytes are as JSON, and has the loop over the pieces of a file. This crate says what a step, an
-//! entry, an action and a script are, and which members each kind of file has.
+//! The model is three functions of the bytes: `file_of`, `scripts_of` and `history_of`, which
+//! `specs/` defines. Each gives the content of a file, or its first fault in a fixed order: too
+//! long, not JSON, a member of the wrong shape, a piece of the wrong shape, out of range.
+//! `piece_files` parses the bytes as JSON, and has the loop over the pieces of a file. This crate
+//! says what a step, an entry, an action and a script are, and which members each kind of file has.
 //!
 //! Each kind of file has versions 1 and 2. History files also have a version 3, which has the
 //! shapes of version 2. Version 1 has no `put_if`, and the limits of its step and script files
@@ -12,7 +12,7 @@
 //! the shapes of version 2, and is then refused.
 //!
 //! Proved: `read_steps`, `read_scripts`, `read_history` and the packed readers compute these
-//! functions, or say that memory was refused. `history_text` makes the text of a history, as
+//! functions, or report that memory was refused. `history_text` makes the text of a history, as
 //! `text_of_history` defines it. `HistoryPieces` hands out the same text and a line feed, piece by
 //! piece.
 //!

@@ -12,8 +12,8 @@ use crate::line::Line;
 use piece_files::{Plain, leading_optional_in, number_in, word_in};
 use txn_words::Op;
 
-/// Reads the first two elements as the expected value and the new value of a `put_if` of this key.
-/// Returns this `put_if`, and the elements after the first two.
+/// Reads the first two elements as the expected value and the new value of a `put_if` with this
+/// key. Returns this `put_if`, and the elements after the first two.
 #[tactic(auto, unfolding(crate::specs::Operations::put_if_at))]
 fn leading_put_if_in<'v, 'a>(key: u64, values: &'v [Plain<'a>]) -> Option<(Op, &'v [Plain<'a>])>
     ensures { option_map (λ x. (x.0, map data_of x.1.now)) result
@@ -51,7 +51,8 @@ pub fn leading_op_in<'v, 'a>(values: &'v [Plain<'a>]) -> Option<(Op, &'v [Plain<
     }
 }
 
-/// The operation with exactly these elements.
+/// Reads an operation from these elements. Returns `None` if the elements are not exactly one
+/// operation.
 ///
 /// # Cost
 ///
@@ -65,7 +66,7 @@ pub fn op_in(values: &[Plain<'_>]) -> Option<Op>
     if rest.is_empty() { Some(op) } else { None }
 }
 
-/// Whether version 1 has this operation too.
+/// Returns true if version 1 of the files has this operation too.
 ///
 /// # Cost
 ///

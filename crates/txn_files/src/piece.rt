@@ -13,7 +13,7 @@ const SIZE: usize = 65_536;
 /// A piece with at most this number of bytes surely has room for a line of 160 bytes.
 pub(crate) const FULL: usize = 65_376;
 
-/// Bytes of value 0, as many as a piece has room for.
+/// As many zero bytes as a piece has room for.
 fn zeros(alloc: Global) -> Result<Vec<u8>, AllocError>
     ensures { IfOk result (λ zeros. length zeros.items ≡ SIZE) }
 {

@@ -1,6 +1,7 @@
 //! Hands out the line of a history in pieces, so that a long line need not be in memory as a whole.
-//! `text` makes the text as a whole. Both modules write entries by `set_entry`. Invariant: the text
-//! put so far, followed by the rest of the text, is the whole line. This module takes no memory.
+//! The module `text` makes the whole text at once. Both modules write entries by `set_entry`.
+//! Invariant: the text put so far, followed by the rest of the text, is the whole line. This module
+//! takes no memory.
 ghost use Rattle.std.specs.Prelude.{◌≡◌, ◌⊎◌, ◌↔◌, ◌+◌, ◌<◌, ◌≤◌, [], ◌∷◌, ◌++◌, false, IsTrue, length};
 ghost use Rattle.txn_files.specs.HistoryText.{text_of_history};
 ghost use Rattle.txn_files.specs.HistoryLine.{end_text, entries_text, further_text};
@@ -11,7 +12,7 @@ use crate::text::set_entry;
 use std::marker::Model;
 use txn_words::SmallEntry;
 
-/// Puts a comma and an entry, one entry after the other, until all are put or there is no room.
+/// Puts each entry with a comma in front of it, until all entries are put or there is no room.
 /// Returns the entries that were not put.
 fn put_further<'a>(piece: &mut Piece, entries: &'a [SmallEntry]) -> &'a [SmallEntry]
     ensures whole { piece.new ++ further_text result.now ≡ piece.old ++ further_text entries.now }
@@ -96,7 +97,7 @@ impl<'a> Model for HistoryPieces<'a> {
 }
 
 impl<'a> HistoryPieces<'a> {
-    /// A `HistoryPieces` that has the whole line of a history still to hand out.
+    /// A `HistoryPieces` that hands out the whole line of this history.
     ///
     /// # Cost
     ///

@@ -24,7 +24,7 @@ use piece_files::{
 use std::alloc::{AllocError, Global};
 use txn_words::{Action, PackedAction, Script, Scripts};
 
-/// The most times that a script may be tried again.
+/// The largest number of times that a script may be tried again.
 const MAX_TRIES: u64 = 1000;
 
 /// The most scripts that a file may have.
@@ -134,8 +134,8 @@ impl PieceKind for ActionKind {
     }
 }
 
-/// The script that an array holds, given the actions at the start of the array. If an element of
-/// the array is not an action, the function returns `None`.
+/// The script that an array holds. `found` has the actions at the start of the array. If an element
+/// of the array is not an action, the function returns `None`.
 fn script_in(found: Pieces<PackedAction>) -> Option<Script>
     requires { found.count < 2 ^ 64 }
     ensures { (old all : Result (List Action) FileFault)
@@ -229,7 +229,8 @@ fn work_in(version: u64, numbers: [u64; 4], scripts: Vec<Script>) -> Result<Scri
     }
 }
 
-/// Reads a script file, and returns the work that it has for the workers. The file has the form
+/// Reads a script file, and returns its scripts, together with the file's version, its limits and
+/// its number of tries. The file has the form
 /// `{"version":V,"workers":W,"stripes":S,"buckets":B,"tries":T,"scripts":[[..],..]}`. Each script
 /// is an array of actions. Each action is an array, such as `["put",1,10]` or `["save"]`. Version 1
 /// has no `put_if`, and its limits allow only half keys, which are the keys below 2^63.
@@ -239,17 +240,17 @@ fn work_in(version: u64, numbers: [u64; 4], scripts: Vec<Script>) -> Result<Scri
 ///
 /// # Errors
 ///
-/// The first of these, in this order:
+/// The first of these that applies, in this order:
 ///
 /// - `Limit` if there are more than 16,777,216 bytes.
-/// - `NotJson` if the bytes are not JSON that `piece_files::read_file` takes.
+/// - `NotJson` if `piece_files::read_file` does not accept the bytes as JSON.
 /// - `Member` if the value is not an object, or if one of the six members is missing or of the
 ///   wrong kind. The members are tested in the order above.
 /// - `Piece`, with the index of the first wrong piece. A piece is wrong if it is not a script. In
 ///   version 1 it is also wrong if it has a `put_if`.
-/// - `Limit` if the version is not 1 or 2, `Limits::new` refuses the numbers (with the workers as
-///   callers), the tries are above 1,000, there are more than 10,000 scripts, or one of the scripts
-///   has more than 10,000 actions.
+/// - `Limit` if the version is not 1 or 2, or if `Limits::new` refuses the numbers (the workers are
+///   the callers). Also if there are more than 1,000 tries, more than 10,000 scripts, or more than
+///   10,000 actions in one script.
 ///
 /// If memory is refused, the function may return `NoMemory` in place of any of these.
 ///

@@ -92,7 +92,7 @@ fn packed_step_in(values: &[Plain<'_>]) -> Option<PackedStep>
     Some(PackedStep::new(step_in(values)?))
 }
 
-/// The kind of pieces that are steps of a step file. They are kept packed.
+/// The kind of pieces that are steps of a step file. The steps are kept packed.
 struct StepKind;
 
 impl PieceKind for StepKind {
@@ -214,16 +214,16 @@ fn steps_in(
 ///
 /// # Errors
 ///
-/// The first of these, in this order:
+/// The first of these that applies, in this order:
 ///
 /// - `Limit` if there are more than 16,777,216 bytes.
-/// - `NotJson` if the bytes are not JSON that `piece_files::read_file` takes.
+/// - `NotJson` if `piece_files::read_file` does not accept the bytes as JSON.
 /// - `Member` if the value is not an object, or if one of the five members is missing or of the
 ///   wrong kind. The members are tested in the order above.
 /// - `Piece`, with the index of the first wrong piece. A piece is wrong if it is not a step. In
 ///   version 1 it is also wrong if it has a `put_if`.
-/// - `Limit` if the version is not 1 or 2, `Limits::new` refuses the numbers, or there are more
-///   than 1,000,000 steps.
+/// - `Limit` if the version is not 1 or 2, if `Limits::new` refuses the numbers, or if there are
+///   more than 1,000,000 steps.
 ///
 /// If memory is refused, the function may return `NoMemory` in place of any of these.
 ///
@@ -253,12 +253,12 @@ fn unpacked(alloc: Global, packed: &[PackedStep]) -> Result<Vec<Step>, AllocErro
     Ok(steps)
 }
 
-/// Reads a step file as `read_steps` does, and returns its limits and its packed steps. Packed
-/// steps take five sevenths of the memory that unpacked steps take.
+/// Reads a step file, and returns its limits and its steps. Unlike `read_steps`, it returns the
+/// steps packed. Packed steps take five sevenths of the memory that unpacked steps take.
 ///
 /// # Errors
 ///
-/// Those of `read_steps`, in its order.
+/// The errors of `read_steps`, in the same order.
 ///
 /// # Cost
 ///
