@@ -78,7 +78,7 @@ absent_not_had l cursor bucket sought absent =
     let P : SortKey → Type 0 = λ s. AllByRecursion (λ n. n.at ≢ s) l.nodes in
     no_dummy l.nodes bucket (subst P sought absent.others)
 
--- The answer to a link at a cursor that fits.
+-- The answer when a helper links its dummy node and its cursor fits.
 module _ (d : Directory) (l : Listing) (helper bucket : ℕ) (cursor : Cursor) (had : helper_of d helper ≡ Some (Seeking bucket cursor)) (fit : fits l cursor ≡ true) where
   pub answer_present : has_dummy l.nodes bucket ≡ true → link_answer_at d l helper ≡ Ok Present
   answer_present has = rw (had, fit, has) refl

@@ -448,8 +448,8 @@ static BY_HOLDERS_OF_NOW: [Row; 19] = [
 /// Histories with their verdicts. A Busy entry may name any other caller that has begun
 /// (`Holder::Begun`).
 static BY_HOLDERS_THAT_HAVE_BEGUN: [Row; 5] = [
-    // `holder_has_begun`, and Busy entries that name the caller itself or a caller that has not
-    // begun.
+    // The rows of `holder_has_begun`. Further rows have Busy entries that name the caller itself,
+    // or a caller that has not begun.
     (
         &HOLDER_HAS_BEGUN,
         None,

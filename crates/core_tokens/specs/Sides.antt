@@ -18,8 +18,8 @@ MovesSide words (ends.Answered answers.Aborted) a b = IsBackAt words 0 a b
 MovesSide words (ends.Busy holder) a b = IsBackAt words 0 a b
 MovesSide words outcome a b = IsSameSide a b
 
--- The side value can follow an end. If the end makes a level, there is room for it. If the end
--- restores a level, this level exists.
+-- The side value can be changed as an end of a call requires. If the end makes a level, there is
+-- room for it. If the end restores a level, this level exists.
 abbrev pub CanFollow : {S : Type 0} → End → Leveled S → Type 0
 CanFollow (ends.Answered (answers.Saved n)) side = 0 < side.save_room
 CanFollow (ends.Answered (answers.Returned n)) side = n < length side.levels

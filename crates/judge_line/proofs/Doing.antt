@@ -53,7 +53,7 @@ check_not_opened by_commits name files old outcome failure =
     not_opened (λ well. WritesLine (Checks by_commits (files name)) well old old) (LeavesOutput (Checks by_commits (files name)) (FailsToCheck (files name)) old old) outcome failure (keeps_same old) (keeps_same old)
 
 -- If `why` has written the lines of a verdict on the source with this name, `RunsCall` holds for
--- it.
+-- this run.
 pub why_done : (by_commits : Bool) (name : Text) (files : Files) (bytes old new : Option (List ℕ)) (well : Bool) → Holds (files name) bytes → WritesLines (Checks by_commits bytes) well old new
     → RunsCall (asked.Why by_commits name) files old new (Ok well)
 why_done by_commits name files bytes old new well same = writes_lines _ _ well old new (λ v. of_file (files name) bytes _ same)

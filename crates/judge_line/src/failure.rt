@@ -42,7 +42,8 @@ pub enum Failure {
     /// the failure if memory was refused before an engine was called, or if the usage or the
     /// version was not written.
     Fault(Fault),
-    /// There are no outcomes because of a fault of one of the files, of memory or of an output.
+    /// The outcomes are not known. The cause is a fault of one of the files, refused memory, or a
+    /// fault of an output.
     Outcomes(OutcomesFault),
 }
 

@@ -224,8 +224,8 @@ fewer_held holders caller stripe within held =
     let one : cond {A = ℕ} (is_caller caller (get_or holders stripe None)) 1 0 ≡ 1 = ap (λ b. cond {A = ℕ} b 1 0) (some_is_caller caller _ held) in
     omega (arith, one, sum_by-set (λ (holder : Option ℕ). cond {A = ℕ} (is_caller caller holder) 1 0) holders stripe None None within)
 
--- If one of the caller's stripes is freed before the caller's release, the release has the same
--- result.
+-- Suppose that one of the caller's stripes is freed, and then the caller releases all its stripes.
+-- The result is the same as without the first step.
 pub without_caller-set : (holders : Holders) (caller stripe other : ℕ) → get_or holders stripe None ≡ Some caller → without_caller caller (get_or (set holders stripe None) other None) ≡ without_caller caller (get_or holders other None)
 without_caller-set holders caller stripe other held =
     get_or-set_is holders stripe other None (held_below holders stripe caller held) (λ holder. without_caller caller holder ≡ without_caller caller (get_or holders other None))

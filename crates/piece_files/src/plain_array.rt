@@ -1,7 +1,7 @@
 //! Reads arrays of plain values straight from their bytes into an array of fixed size. The bytes
-//! must be in plain form. No memory is taken. The same loop reads a piece within a file and a line
-//! by itself. An array in any other form is left to the reader of JSON, which also decides on
-//! faults.
+//! must be in plain form. No memory is taken. The same loop reads a piece within a file, and a
+//! piece that is a line of its own. An array in any other form is left to the reader of JSON, which
+//! also decides on faults.
 ghost use Rattle.std.specs.Prelude.{◌≡◌, ◌<◌, ◌≤◌, ℕ, true, length, drop, map, Some, IfSome};
 ghost use Rattle.json.specs.Lex.{after_value};
 ghost use Rattle.serde_json.specs.Data.{array};

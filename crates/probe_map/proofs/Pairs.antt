@@ -32,7 +32,7 @@ set_lookups es fs key value sets = same_map (map_of fs) (set_at (map_of es) key 
     get-map_of fs q ∙ sets q ∙ ap (λ b. cond b value (lookup (nat_eq q) es)) (same_eqb key q)
     ∙ ap (cond (q == key) value) (sym (get-map_of es q)) ∙ sym (get-set_at (map_of es) key value q))
 
--- If no pair has a key, the key has no value in the map made of the pairs.
+-- If a key is in none of the pairs, it has no value in the map made of the pairs.
 none_there : (key : ℕ) (pairs : List Pair) → AllByRecursion (λ other. nat_eq key other ≡ false) (keys_of pairs) → get (map_of pairs) key ≡ None
 none_there key [] others = refl
 none_there key (pair ∷ pairs) others = get-insert (map_of pairs) pair.0 pair.1 key ∙ ap (λ b. cond b (Some pair.1) (get (map_of pairs) key)) others.0 ∙ none_there key pairs others.1

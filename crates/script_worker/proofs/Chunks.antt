@@ -42,9 +42,9 @@ from_here script i action is =
 pub chunk_begun : (c : ℕ) (script : List Action) → IsChunk c script first_heard []
 chunk_begun c script = record { before = []; part = []; whole = refl; busy = record { nothing = refl; enough = omega arith }; at = refl }
 
--- The condition on the entries since the script began, after a call. If another call follows, the
--- entries are the chunk of this call's attempt. If the script is over, the entries are the account
--- of the script.
+-- What must be true, after a call, of the entries since the script began. If another call follows,
+-- the entries are the chunk of this call's attempt. If the script is over, the entries are the
+-- account of the script.
 abbrev pub ChunkAfter : ℕ → ℕ → List Action → Heard → List Entry → End → Progress → Type 0
 ChunkAfter c tries script heard chunk end (Next attempt) = IsChunk c script (heard_then heard end attempt) chunk
 ChunkAfter c tries script heard chunk end (Over finish) = IsAccount c tries script (outcome_by finish end heard) chunk

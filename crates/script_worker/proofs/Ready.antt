@@ -19,8 +19,8 @@ pub steps_ended : (o : Option Step) (drive : Drive) → step_of drive ≡ o → 
 steps_ended None drive is some = absurd (cc some)
 steps_ended (Some step) drive is some = goes_on drive step is
 
--- The task's drive is new, and its call is the call of the attempt's stage. After a call, the task
--- has such a drive, or a drive with a step to take (`IsCalledIfAny`).
+-- The task's drive is new. It is the drive of the call that the attempt makes at its stage. After a
+-- call, the task has such a drive, or a drive with a step to take (`IsCalledIfAny`).
 abbrev IsCalled : List (List Action) → Task → Type 0
 IsCalled scripts task = (half : Bool) × (caller : ℕ) × (script : List Action) × (slice_get scripts task.script ≡ Some script)
     × (task.drive ≡ new_drive half caller (call_at script task.attempt.stage))

@@ -42,8 +42,8 @@ replies_then replies (ends.Answered (answers.Began t)) = []
 replies_then replies (ends.Answered (answers.Done reply)) = replies ++ reply ∷ []
 replies_then replies outcome = replies
 
--- What is known after a call that ended in this way. `next` is the same attempt at its next stage,
--- or the next attempt.
+-- The knowledge of a script after its call has ended with this end. `next` is the same attempt at
+-- its next stage, or a new attempt.
 abbrev pub heard_then : Heard → End → Attempt → Heard
 heard_then heard outcome next =
     heard_at next (txn_then heard.txn outcome) (replies_then heard.replies outcome)

@@ -70,7 +70,8 @@ parent_of-below : (bit bucket : ℕ) → bucket < 2 ^ 32 → bucket < 2 ^ suc bi
 unfolding parent_of
 parent_of-below bit bucket small below = highest_cleared-below 32 bit bucket small below
 
--- The ancestor `steps + 1` steps above a bucket is the ancestor `steps` steps above its parent.
+-- Going up `steps + 1` steps from a bucket leads to the same ancestor as going up `steps` steps
+-- from its parent.
 ancestor_of-parent_of : (steps bucket : ℕ) → ancestor_of (suc steps) bucket ≡ ancestor_of steps (parent_of bucket)
 unfolding ancestor_of
 ancestor_of-parent_of zero bucket = refl

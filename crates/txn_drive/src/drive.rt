@@ -186,7 +186,7 @@ fn end_last(call: Call, work: Work, answer: Answer) -> End
     }
 }
 
-/// The end of a help after all buckets on the helper's path are initialised.
+/// How a call for help ends once all buckets on its path are initialised.
 fn end_helped(call: Call) -> End
     ensures { result ≡ end_helped call }
 {

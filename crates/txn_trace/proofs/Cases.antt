@@ -294,7 +294,7 @@ ordered_last : ordered (insert (insert empty (2 ^ 63 - 1) 7) 3 30) â‰¡ (3, 30) â
 unfolding split reversed reversed_low
 ordered_last = refl
 
--- Some histories are legal by the definition, and others are not.
+-- The prover computes that some histories are legal by the definition, and that others are not.
 aborted_take_restores_legal : IsLegal Now 8 aborted_take_restores
 aborted_take_restores_legal = (legal_iff 8 aborted_take_restores).1 refl
 

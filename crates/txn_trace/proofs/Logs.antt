@@ -45,8 +45,8 @@ abbrev pub PhaseLogged : Phase → Log → Type 0
 PhaseLogged (Waiting op) log = log.pending ≡ Some op
 PhaseLogged _ log = Unit {0}
 
--- The log has as many changes as the seat counts. If the seat waits for the reply to an operation,
--- this operation waits in the log too.
+-- The number of changes in the log is the seat's number of standing changes. If the seat waits for
+-- the reply to an operation, this operation waits in the log too.
 pub record SeatLogged (s : Seat) (log : Log) : Type 0 where
   pub count : length log.standing ≡ s.standing
   pub phase : PhaseLogged s.phase log

@@ -1,5 +1,5 @@
--- The levels of a seat. Each level keeps at least as many changes as the levels before it, and each
--- level that a caller may go back to keeps at most as many changes as stand.
+-- The levels of a seat. Each level keeps at least as many changes as the levels before it. A level
+-- that a caller may go back to keeps no more changes than the caller has standing now.
 use Rattle.std.proofs.Common.{◌≡◌, ℕ, ◌+◌, ◌-◌, ◌<◌, ◌≤◌, ◌==◌, ◌&&◌, Bool, true, false, cond, List, [], ◌∷◌, ◌++◌, length, take, get_or, slice_index, refl, sym, subst, Some, None, Option, arith}
 use Rattle.std.specs.Prelude.{nat_lt}
 use Rattle.std.specs.Option.{option_and_then}

@@ -354,8 +354,8 @@ null
         fillings: "",
         fault: Some(FileFault::NotJson),
     },
-    // First wrong forms of `put_if`, which no version allows. Then a good `put_if`, which version 1
-    // does not allow.
+    // The first rows have wrong forms of `put_if`, which no version allows. The last row has a good
+    // `put_if`, which version 1 does not allow.
     Files {
         kind: Kind::Steps,
         frame: STEPS_IN_VERSION,
