@@ -1,5 +1,5 @@
--- A work is given as a relation. If one relation implies another, the failed tries of the first
--- are failed tries of the second.
+-- The failed tries of a transfer. The work that is tried is a relation, and if this relation
+-- implies another one, `Fails` and `FailsBusy` also hold for the other one.
 use Rattle.std.proofs.Common.{◌≡◌, ℕ, ◌≤◌, zero, suc, Bool, subst}
 use Rattle.std.specs.Prelude.{Result, Ok, Err}
 use Rattle.map_answers.specs.declared.stop.Stop.{Stop}

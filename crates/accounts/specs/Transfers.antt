@@ -81,8 +81,8 @@ abbrev pub Works : ℕ → ℕ → ℕ → Caller → Result Bool Stop → Calle
 Works from to sum a (Ok moved) b = HasWorked from to sum moved a b
 Works from to sum a (Err stop) b = Unit {0}
 
--- The transfer was tried, and given up: each try before the last was busy, and the last failed. If
--- the last try was busy too, no further try was allowed.
+-- The transfer was tried and then given up: each try before the last one was busy, and the last try
+-- failed. If the last try was busy too, no further try was allowed.
 pub record GivesUp (from to sum tries : ℕ) (stop : Stop) (a b : Caller) : Type 0 where
   pub busy : ℕ
   pub within : busy ≤ tries

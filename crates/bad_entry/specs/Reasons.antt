@@ -53,9 +53,9 @@ IsReasonByLocks rules.Locks stripes h e reason = Unit {0}
 IsReasonByLocks rules.Shape stripes h e reason = IsShapeReason h (caller_of e) reason
 
 -- `Misread`: the caller's open transaction read a value that the committed map does not have, and
--- `commit` is the last commit that changed the key. `Torn`: either there is no map on which the
--- transaction, run alone, gets all of its replies, or it gets them on the committed map, so that
--- its commit would be right. In both cases `since` is as `IsTornSince` says.
+-- `commit` is the last commit that changed the key. `Torn`: there is no map on which the
+-- transaction, run alone, gets all of its replies, or it gets all of them on the committed map. In
+-- the second case its commit would be right. In both cases `since` is as `IsTornSince` says.
 abbrev pub IsCommitReason : List Entry → ℕ → Reason → Type 0
 IsCommitReason h c (reasons.Misread key read due commit) =
     ((t : ℕ) → txn_in h c ≡ Some t → is_open t h ≡ true

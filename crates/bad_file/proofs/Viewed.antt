@@ -14,8 +14,7 @@ listed (d ∷ ds) = ap (λ (rest : List Data). d ∷ rest) (listed ds)
 pub elements_are : (d : Data) (vs ws : List Value) → vs ≡ ws → Some (items_view ws) ≡ as_array d → Some (map view vs) ≡ elements_of d
 elements_are d vs ws same is = ap (λ xs. Some (map view xs)) same ∙ sym (ap (option_map list_of) (sym is) ∙ ap (λ (ds : List Data). Some ds) (listed (map view ws)))
 
--- An array has as many views as elements. The view at an index is the view of the element at this
--- index.
+-- The list of the views of an array's elements has the same length as the array.
 pub seen_length : (vs : List Value) → length (map view vs) ≡ length vs
 seen_length vs = length-map vs view
 

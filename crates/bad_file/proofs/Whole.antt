@@ -249,9 +249,9 @@ entry_wrong d shape i flaw is =
 
 -- ---- ranges
 
--- The content of a file whose entries were all read, given the results of three tests. `b` is the
--- test of the version and the number of entries, `c` of the number of stripes, and `e` of the
--- callers.
+-- The content of a file whose entries were all read, given the results of three tests. `b`: the
+-- version and the number of entries are in range. `c`: the number of stripes is in range. `e`: all
+-- callers are in range.
 abbrev by_tests : ℕ → ℕ → List TheEntry → (b c e : Bool) → Result (ℕ × List TheEntry × ℕ) FileFault
 by_tests v s ps b c e = if b then (if c && e then Ok (s, ps, v) else Err faults.Limit) else Err faults.Limit
 

@@ -35,11 +35,11 @@ entry_in is_old ranged ds =
 abbrev pub BeginsEntry : Bool → Bool → List Data → Type 0
 BeginsEntry is_old ranged ds = (more : List Data) × IsSome (entry_in is_old ranged (ds ++ more))
 
--- The elements are not an entry, the element at index `i` is the first at fault, and `wanted` is
--- what is allowed there. The elements before index `i` begin some entry. If one more element
--- follows them, they still begin some entry exactly if this element is as wanted. The element at
--- index `i` is not as wanted. If `wanted` is None, no element is allowed there. If an element is
--- missing, `i` is the number of elements.
+-- The elements are not an entry, and the element at index `i` is the first at fault. If an element
+-- is missing, `i` is the number of elements. `wanted` is what is allowed at index `i`, or None if
+-- no element is allowed there. The elements before index `i` begin some entry. Followed by one more
+-- element, they begin some entry exactly if that element is as wanted. The element at index `i` is
+-- not.
 pub record IsFault (is_old ranged : Bool) (ds : List Data) (i : ℕ) (wanted : Option Expected)
     : Type 0 where
   pub refused : entry_in is_old ranged ds ≡ None

@@ -7,8 +7,8 @@ use Rattle.serde_json.specs.Find.{as_str}
 use Rattle.bad_file.specs.declared.expected.Expected.{Expected}
 use Rattle.bad_file.specs.declared.expected.Expected.TheVariants.{EntryName, OpName, OldOpName, Caller, Number, NumberOrNull}
 
--- The name of an operation, as an expected value. If the flag is true, it is a name that version 1
--- has.
+-- An expected value: the name of an operation. If the flag is true, only the names of version 1 are
+-- expected.
 abbrev pub op_name : Bool → Expected
 op_name is_old = if is_old then OldOpName else OpName
 

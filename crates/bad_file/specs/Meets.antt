@@ -13,13 +13,13 @@ use Rattle.bad_file.specs.declared.expected.Expected.TheVariants as expected
 use Rattle.bad_file.specs.declared.found.Found.{Found}
 use Rattle.bad_file.specs.declared.found.Found.TheVariants as found
 
--- The finding for a number.
+-- How a flaw reports that a number was found.
 abbrev pub number_found : Num → Found
 number_found (unsigned n) = found.Number n
 number_found (negative z) = found.OtherNumber
 number_found (float x) = found.OtherNumber
 
--- The finding for a value.
+-- How a flaw reports that this value was found.
 abbrev pub kind_of : Data → Found
 kind_of null = found.Null
 kind_of (boolean b) = found.Bool
@@ -28,7 +28,7 @@ kind_of (string s) = found.Text
 kind_of (array ds) = found.Array (length (list_of ds))
 kind_of (object ms) = found.Object
 
--- The finding at a place that has this value.
+-- How a flaw reports what was found at a place: this value, or nothing.
 abbrev pub found_of : Option Data → Found
 found_of None = found.Nothing
 found_of (Some d) = kind_of d
@@ -49,7 +49,7 @@ abbrev pub is_op_name : List ℕ → Bool
 is_op_name word =
     list_any (bytes_eq word) (codes "put" ∷ codes "take" ∷ codes "get" ∷ codes "put_if" ∷ [])
 
--- Whether there is a word, and it passes the test.
+-- True if there is a word and it passes the test.
 abbrev pub is_named : (List ℕ → Bool) → Option (List ℕ) → Bool
 is_named test None = false
 is_named test (Some word) = test word

@@ -19,7 +19,7 @@ place_text (Entry i) = codes "$.entries[" ++ (decimal i ++ codes "]")
 place_text (Element i j) =
     codes "$.entries[" ++ (decimal i ++ (codes "][" ++ (decimal j ++ codes "]")))
 
--- The finding at a place, in words.
+-- The words that say what was found at a place.
 abbrev pub found_text : Found → List ℕ
 found_text found.Nothing = codes "nothing"
 found_text found.Null = codes "null"
@@ -48,14 +48,14 @@ expected_text expected.Number = codes "a whole number from 0 to 1844674407370955
 expected_text expected.NumberOrNull =
     codes "a whole number from 0 to 18446744073709551615, or null"
 
--- Whether a word is expected, and no other kind of value.
+-- True if only a word is expected, and no other kind of value.
 abbrev pub is_a_word : Expected → Bool
 is_a_word expected.EntryName = true
 is_a_word expected.OpName = true
 is_a_word expected.OldOpName = true
 is_a_word wanted = false
 
--- Whether a word is expected and a text is found.
+-- True if a word is expected and a text is found.
 abbrev pub is_unknown : Found → Expected → Bool
 is_unknown found.Text wanted = is_a_word wanted
 is_unknown other wanted = false

@@ -23,8 +23,8 @@ transferred from to sum less more old new apart had has is =
       others = λ k not_from not_to. get_other (insert old from less) to more k not_to ∙ get_other old from less k not_from;
     })
 
--- If a result that is `Ok` has a value with the property `P`, and `Q` follows from `P`, then `OnOk`
--- holds with `Q`.
+-- If a result that is `Ok` has a value with the property `P`, and `P` implies `Q`, then `OnOk`
+-- holds for the result and `Q`.
 pub on_ok : {T E Q : Type 0} {P : T → Type 0} (result : Result T E) → ((value : T) → P value → Q) → IfOk result P → OnOk result Q
 on_ok (Ok value) follows holds = follows value holds
 on_ok (Err e) follows holds = tt

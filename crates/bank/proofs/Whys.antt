@@ -17,12 +17,12 @@ pub on_err : {T E : Type 0} {P Q : E → Type 0} (result : Result T E) → ((e :
 on_err (Ok value) follows holds = tt
 on_err (Err e) follows holds = follows e holds
 
--- If the begin was stopped, this is the reason why nothing was moved.
+-- If the transaction's begin was stopped, the reason why nothing was moved is this stop.
 pub at_begin : (c from to sum : ℕ) (stop : Stop) (why : NotMoved) (old new : State) → why ≡ Stopped stop → IsStopped old (Begin c) stop new → IsWhy c from to sum why old
 at_begin c from to sum stop why old new is stopped = subst (λ w. IsWhy c from to sum w old) (sym is)
     (record { before = old; beside = same c old old refl; step = Begin c; whose = refl; after = new; is = stopped })
 
--- If the commit was stopped, this is the reason why nothing was moved.
+-- If the transaction's commit was stopped, the reason why nothing was moved is this stop.
 pub at_commit : (c from to sum : ℕ) (stop : Stop) (why : NotMoved) (old done left : State) → why ≡ Stopped stop → OnlyWorked c old done → IsStopped done (Commit c) stop left → IsWhy c from to sum why old
 at_commit c from to sum stop why old done left is beside stopped = subst (λ w. IsWhy c from to sum w old) (sym is)
     (record { before = done; beside = beside; step = Commit c; whose = refl; after = left; is = stopped })

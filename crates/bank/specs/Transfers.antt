@@ -12,7 +12,7 @@ use Rattle.owned_map.specs.Within.{OnlyWorked}
 use Rattle.bank.specs.declared.NotMoved.{NotMoved}
 use Rattle.bank.specs.declared.NotMoved.TheVariants.{TooLittle, TooMuch, Stopped}
 
--- The balance of an account: 0 if its key is not there.
+-- The balance of an account. It is 0 if the map has no value for the account.
 abbrev pub balance : Map → ℕ → ℕ
 balance m account = unwrap_or (get m account) 0
 

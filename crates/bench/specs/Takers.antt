@@ -1,9 +1,9 @@
--- Seats of the words that hold nothing.
+-- Seats that hold nothing.
 use Rattle.std.specs.Prelude.{◌≡◌, []}
 use Rattle.key_words.specs.declared.seat.KeySeat.{KeySeat}
 use Rattle.key_words.specs.declared.words.KeyWords.{KeyWords}
 use Rattle.key_words.specs.Seats.{IsOf, known}
 
--- A seat of these words that holds nothing.
+-- The seat belongs to these words, and it holds nothing.
 abbrev pub IsIdle : KeyWords → KeySeat → Type 0
 IsIdle words seat = IsOf seat words × ((known seat).held ≡ [])

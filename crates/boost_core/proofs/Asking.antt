@@ -1,5 +1,6 @@
--- The outcomes of an ask: the operation waits, another caller holds the stripe, memory or a stamp
--- is refused, or the claim is stale. The outcome of a savepoint that gets no memory is here too.
+-- The outcomes of the step `Ask`: the operation waits, another caller holds the stripe, memory or a
+-- stamp is refused, or the claim is stale. Also the outcome of the step `Save` if memory is
+-- refused.
 use Rattle.std.proofs.Common.{◌≡◌, ℕ, ◌+◌, ◌-◌, ◌^◌, ◌<◌, ◌==◌, ◌||◌, true, false, cond, [], ◌++◌, length, Option, Some, None, refl, sym, ap, subst, ◌∙◌, arith, slice_get, slice_set, map, nat_eq, not, eq-eqb, ne_eqb, append-nil, inl, inr, ◌⊎◌, option_map, Bool}
 use Rattle.boost_core.proofs.Vocabulary.{option_eq, slice_get_within, Op, Refusal, key_of, takes_node, PendingAt, Step, serial, now, Opened, Waiting, LeavingToEnd, RoomySeat, TableAt, cursor_changes, map_of, nodes_of, false≢true, cases_eq, and_from, or_right, Now, stripe_of, is_locked, holder_of, same_is, is_locked-asked, is_locked-busy, Prepares, IsRefused, entries_of, held_by, Session, Owner, Caller, Helper, holder_by, refusal_of, has_stamp_for, MayLack, times_of, times_in, IsCoveredWith, StaysCovered, World, Tells, LastPlacedFits, state_of, session_changes, gap_if, may_stand, Move, Claim, Lock, Goes, Side, side_of, KeepsPlaced, times_kept, Reach, reach, AsksIn, MeetsIn, NoMemory, StampsUsedUp, Ask, Save, log_of, last_of, or_left, StaleWord, Right, Held, Stale, is_taken, nodes_at, gap_by, helper_gaps_of, KeepsNodes}
 use Rattle.boost_core.proofs.Numbers.{no_more}
@@ -74,8 +75,8 @@ module _ (w : World) (tells : Tells w) (c : ℕ) (x : Session) (at : slice_get w
     pub no_cursor_there : x.cursor ≡ None
     no_cursor_there = idle_cursor w tells c x at Opened opened refl
 
-    -- If no test refuses an ask, it may still be refused for lack of memory or of stamps. The
-    -- refusal leaves the caller's side, the table and the locks unchanged.
+    -- If no test refuses the step `Ask`, it may still be refused for lack of memory or of stamps.
+    -- The refusal leaves the caller's side, the table and the locks unchanged.
     pub ask_refused : (claim : Claim) (refusal : Refusal) → (Move (state_of w) (Ask c op) (answers.Refused refusal) (state_of w) → Goes claim (state_of w) (Ask c op) (answers.Refused refusal) (state_of w)) → (y : Session)
         → (refusal ≡ NoMemory) ⊎ IsRefused w.table op refusal → side_of y ≡ side_of x → CalledBy claim w c x (Ask c op) (answers.Refused refusal) y w.table w.locks
     ask_refused claim refusal by y why stays =
@@ -99,8 +100,8 @@ module _ (w : World) (tells : Tells w) (c : ℕ) (x : Session) (at : slice_get w
         (given_for w.table t' (takes_node op) pending.spare prepares.given).covered (λ p s. others p s + times_in x.log.jobs p s)
         (λ p s. omega (arith, rw nothing at (covered p s)))
 
-    -- The outcome of an ask that is granted: the stripe is free or the caller holds it already, and
-    -- the operation waits.
+    -- The outcome of the step `Ask` if the stripe is free or the caller holds it already: the
+    -- operation waits.
     module _ (new : Reach) (asks : AsksIn c stripe op (reach x w.table w.locks) new) (keeps : KeepsPlaced w.table new.table) (within : stripe < w.limits.stripes) where
       abbrev holder : ℕ → Option ℕ
       holder s = cond (stripe == s) (Some c) (holder_of w.limits.stripes s w.history)
@@ -154,9 +155,9 @@ module _ (w : World) (tells : Tells w) (c : ℕ) (x : Session) (at : slice_get w
             holders = asked_holders;
           })
 
-    -- The outcome of an ask for a stripe that another caller holds. The prepared operation is given
-    -- up. If the claim is a lock, the asking caller's phase becomes `LeavingToEnd`. If it is a
-    -- right, the ask is refused with `StaleWord`.
+    -- The outcome of the step `Ask` if another caller holds the stripe. The prepared operation is
+    -- given up. If the claim is a lock, the asking caller's phase becomes `LeavingToEnd`. If it is
+    -- a right, the step is refused with `StaleWord`.
     module _ (holder : ℕ) (new : Reach) (meets : MeetsIn c stripe op holder (reach x w.table w.locks) new) (keeps : KeepsPlaced w.table new.table) (within : stripe < w.limits.stripes) where
       stands : w.words ≡ false → may_stand (state_of w) (entry.Busy c op holder) ≡ true
       stands words =
@@ -205,7 +206,7 @@ module _ (w : World) (tells : Tells w) (c : ℕ) (x : Session) (at : slice_get w
             holders = λ s below. ap (λ ls. held_by ls s) meets.refuses.same ∙ tells.holders s below;
           })
 
-      -- A right to a stripe that another caller holds is stale.
+      -- Another caller holds the operation's stripe, so a right to the stripe is stale.
       taken : is_taken (state_of w) c op ≡ true
       taken =
           let holds = rw (tells.holders stripe within) at meets.refuses.held in
@@ -246,8 +247,8 @@ module _ (w : World) (tells : Tells w) (c : ℕ) (x : Session) (at : slice_get w
             (ap (λ (s : Side). s.cursor) meets.becomes) new.table busy_kept.all busy_kept.buckets.all seat' w.placed tells.fresh;
       }
 
-    -- Let the stripe's word name a caller that may hold the stripe. Then the ask is answered with
-    -- `Busy`, and the asking caller's phase becomes `LeavingToEnd`.
+    -- Suppose that the stripe's word names a caller that may hold the stripe. Then the answer to
+    -- the step `Ask` is `Busy`, and the asking caller's phase becomes `LeavingToEnd`.
     pub held_called : (named : ℕ) → w.words ≡ true → may_stand (state_of w) (entry.Busy c op named) ≡ true → CalledBy (Held named) w c x (Ask c op) (answers.Busy named) x w.table w.locks
     held_called named words stands =
         let is : Called w c x (Ask c op) (answers.Busy named) x w.table w.locks =
@@ -265,7 +266,8 @@ module _ (w : World) (tells : Tells w) (c : ℕ) (x : Session) (at : slice_get w
         (no_more w.counts.began) (no_more w.counts.committed) refl tells.holders) in
         record { comes = is.comes; move = λ seat'. inr (eq-eqb named named refl, is.move seat'); fresh = is.fresh }
 
-    -- If the claim of an ask is `Stale`, the ask is refused with `StaleWord` and changes nothing.
+    -- If the claim of the step `Ask` is `Stale`, the step is refused with `StaleWord` and changes
+    -- nothing.
     pub word_stale_called : CalledBy Stale w c x (Ask c op) (answers.Refused StaleWord) x w.table w.locks
     word_stale_called = lacking_called Stale (Ask c op) StaleWord
         (inl (record { refused = refl; free = none; stale = refl; state = refl }))

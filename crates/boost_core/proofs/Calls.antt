@@ -168,7 +168,8 @@ took_back old between new c first second within leaves job seeks cursor acts =
       fewer = omega (arith, standing, was, rows.1);
     }
 
--- If an ask is answered with `Asked`, the seek and the act that follow it do the operation.
+-- If the answer to the step `Ask` is `Asked`, the steps `Seek` and `Act` that follow do the
+-- operation.
 pub operated : (old asked sought new : State) (c : ℕ) (op : Op) (first second : Answer) → Happens old (Ask c op) Asked asked → Happens asked (Seek c) first sought → (first ≡ Placed → is_some (caller_changes sought.cursors c) ≡ true) → Happens sought (Act c) second new
     → Operates old c op second new
 operated old asked sought new c op first second asks seeks cursor acts =
@@ -183,8 +184,8 @@ operated old asked sought new c op first second asks seeks cursor acts =
     let done = act_does sought new c op second (ap (λ (s : State). nat_le s.limits.callers c) seeks_so.move.state ∙ within) (ap (λ (s : Seat). s.phase) same ∙ waits) (cursor is_placed) (ap (λ (s : State). s.placed) seeks_so.move.state) acts.move in
     rw done.1 (asked, asks, (sought, seeks_so, (new, rw done.1 at acts, refl)))
 
--- If an operation is not granted, or if a return or an abort is refused, the call ends after its
--- first step.
+-- If the first step of a call is `Ask`, `Back` or `Abort`, and its answer is neither `Asked` nor
+-- `Leaving`, the call ends after this step.
 pub stopped : (old new : State) (c : ℕ) (op : Op) (answer : Answer) → (answer ≡ Asked → ⊥) → Happens old (Ask c op) answer new → Operates old c op answer new
 stopped old new c op Asked other event = absurd (other refl)
 stopped old new c op (Done reply) other event = absurd event.move.allowed.1

@@ -27,7 +27,6 @@ parent_less : (bucket : ℕ) → 0 < bucket → bucket < 2 ^ 32 → parent_of bu
 unfolding parent_of
 parent_less bucket some small = cleared_less 32 bucket some small
 
--- On the way from bucket 0 to a bucket above 0, the next bucket is above 0.
 child_some : (rounds bucket : ℕ) → 0 < bucket → 0 < child_within rounds 0 bucket
 unfolding child_within
 child_some zero bucket some = some
@@ -45,7 +44,8 @@ child_root : (bucket : ℕ) → 0 < bucket → 0 < child_towards 0 bucket
 unfolding child_towards
 child_root bucket some = child_some 32 bucket some
 
--- On the way to a bucket, each bucket has a greater number than the one before it.
+-- On the way from an ancestor down to a bucket, each bucket has a greater number than the one
+-- before it.
 pub rises : (last bucket : ℕ) → bucket < 2 ^ 32 → IsAncestor last bucket → last ≢ bucket → last < child_towards last bucket
 rises last bucket small is other =
     let parent = parent_of-child_towards last bucket small is other in
@@ -109,7 +109,7 @@ doubled_nears state new c key answer small some move =
     (weaker new c (3 * (key % new.size - 0) + 1) (3 * 2 ^ 32 + 4) (towards 0 (key % new.size)) (omega arith) (towards_nears new c 0 (key % new.size) rest_small (IsAncestor-root (key % new.size) rest_small)))
     (λ none. record { placed = tt; fewer = omega arith }))
 
--- `Nears` holds after a seek for the position of a bucket's dummy.
+-- `Nears` holds after the step `InitSeek`, which seeks the position of a bucket's dummy.
 sought_nears : (state new : State) (c again : ℕ) (way : Way) (answer : Answer) → way.target < 2 ^ 32 → IsOnWay state way → Move state (steps.InitSeek c way.bucket) answer new → Nears new c (3 * (way.target - way.bucket) + 3) (told_init_seek way again answer)
 sought_nears state new c again way answers.Ready small on move =
     weaker new c (3 * (way.target - way.bucket) + 1) (3 * (way.target - way.bucket) + 3) (towards way.bucket way.target) (omega arith) (towards_nears new c way.bucket way.target small on.ancestor)
@@ -117,14 +117,14 @@ sought_nears state new c again way answers.Placed small on move = record { place
 sought_nears state new c again way (answers.Refused refusal) small on move = at_refused (Nears new c (3 * (way.target - way.bucket) + 3)) refusal (λ r. record { placed = tt; fewer = omega arith })
 sought_nears state new c again way _ small on move = record { placed = tt; fewer = omega arith }
 
--- `Nears` holds after the answer to linking the dummy.
+-- `Nears` holds after the step `InitLink`.
 linked_nears : (state new : State) (c again : ℕ) (way : Way) (answer : Answer) → state.placed ≡ Some (Helper c) → Move state (steps.InitLink c) answer new → Nears new c (3 * (way.target - way.bucket) + 2) (told_link way again answer)
 linked_nears state new c again way answers.Again placed move =
     absurd (false≢true (sym (just_placed state (Helper c) placed) ∙ move.allowed.1))
 linked_nears state new c again way (answers.Refused refusal) placed move = at_refused (Nears new c (3 * (way.target - way.bucket) + 2)) refusal (λ r. record { placed = tt; fewer = omega arith })
 linked_nears state new c again way _ placed move = record { placed = tt; fewer = omega arith }
 
--- `Nears` holds after the answer to storing the dummy.
+-- `Nears` holds after the step `InitStore`.
 stored_nears : (new : State) (c : ℕ) (way : Way) (answer : Answer) → way.target < 2 ^ 32 → IsAncestor way.bucket way.target → Nears new c (3 * (way.target - way.bucket) + 1) (told_store way answer)
 stored_nears new c way answers.Stored small ancestor = towards_nears new c way.bucket way.target small ancestor
 stored_nears new c way (answers.Refused refusal) small ancestor = at_refused (Nears new c (3 * (way.target - way.bucket) + 1)) refusal (λ r. record { placed = tt; fewer = omega arith })
@@ -207,7 +207,7 @@ round state new c key drive step answer whole most within caller call fits is mo
     subst (λ call. Goes new c key (left drive.phase) (told_in call (sized_in state.size drive.phase) answer)) (sym call)
     (goes state new c key drive.phase step answer whole most within fits (sym (step_here c key state.size drive _ caller call refl) ∙ is) move)
 
--- Returns true if the step is an ask. A call for help takes no such step.
+-- Returns true if the step is `Ask`. A call for help never takes this step.
 abbrev asks : Option Step → Bool
 asks None = false
 asks (Some step) = is_ask step

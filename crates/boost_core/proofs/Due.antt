@@ -80,7 +80,7 @@ changes_noted m op spare jobs (Some job) is =
     ap (λ b. cond b ((key_of op, reply_of m op) ∷ changes_of jobs) (changes_of jobs)) is.is_change ∙ ap (λ (change : ℕ × Option ℕ). change ∷ changes_of jobs) (sym is.change)
     ∙ ap (map change_of) (sym (reverse-append jobs (job ∷ [])))
 
--- After an operation, its job is due. Once this job has run, the jobs that were due before the
+-- After an operation, its job is due. After this job has run, the jobs that were due before the
 -- operation are due again.
 pub due_noted : (m : Map) (op : Op) (spare : Option SpareAt) (jobs : List MapJob) (job : Option MapJob) → NotedIf m op spare job → AreDue m (reverse jobs) → AreDue (after m op) (reverse (jobs ++ option_to_list job))
 due_noted m op spare jobs None is due = rw (append-nil jobs, after_unchanged m op (sym (changes-reply m op) ∙ is)) due

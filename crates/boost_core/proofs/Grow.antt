@@ -44,11 +44,11 @@ closed_due : (m : Map) (jobs : List MapJob) → length jobs ≡ 0 → AreDue m j
 closed_due m [] none = tt
 closed_due m (job ∷ jobs) none = absurd (omega arith)
 
--- There are as many changes as jobs.
+-- `changes_of` gives one change for each job.
 changes_long : (jobs : List MapJob) → length (changes_of jobs) ≡ length jobs
 changes_long jobs = length-map (reverse jobs) change_of ∙ length-reverse jobs
 
--- The jobs of a caller stay due if the values of its keys are unchanged.
+-- The jobs of a caller stay due if the values of the jobs' keys are unchanged.
 still_due : {holder : Holder} (stripes : ℕ) (h : List Entry) (d : ℕ) (s : Side) (room : ℕ) (current : Map) → IsLegal holder stripes h → IsSeated h d s room
     → ((k : ℕ) → holder_of stripes (stripe_of stripes k) h ≡ Some d → get current k ≡ get (now h) k) → AreDue current (reverse s.jobs)
 still_due stripes h d s room current legal is same = at s.seat.phase refl

@@ -173,7 +173,7 @@ store_refusal w helper many = at (slice_get (helps_of w.table) helper) refl
         ap (λ b. cond b (Some NoSuchHelper) (cond (not (holds_dummy (help_in (helps_of w.table) helper))) (Some HelperOutOfOrder) None)) (helper_there (helps_of w.table) w.limits.callers helper help many is)
         ∙ ap (λ (o : Option Help). cond (not (holds_dummy (unwrap_or o Nothing))) (Some HelperOutOfOrder) None) is ∙ held help
 
--- If a store lacks memory, no bucket of the helper's segment is stored.
+-- If the step `InitStore` lacks memory, no bucket of the helper's segment is stored.
 store_lacks : (w : World) (helper : ℕ) (o : Option Help) → slice_get (helps_of w.table) helper ≡ o → store_answer o ≡ Ok tt
     → ((bucket : ℕ) → slice_get (helps_of w.table) helper ≡ Some (Dummy bucket) → LacksSegment (stored_of w.table) bucket) → LacksSegment (stored_of w.table) (bucket_at (help_in (helps_of w.table) helper))
 store_lacks w helper (Some (Dummy bucket)) is answer lacks = rw is (lacks bucket is)

@@ -32,7 +32,7 @@ sized m n step (answers.Doubled size) move = absurd move.allowed.1
 sized m n step (answers.Refused r) move = size_stays m n step (ap (λ (s : State). s.size) move.state)
 sized m n step _ move = size_stays m n step (ap (λ (s : State). s.size) move.state)
 
--- Suppose that `P` holds for both phases that may follow once a bucket on the way is initialised.
+-- Suppose that `P` holds for both phases that may follow after a bucket on the way is initialised.
 -- Then `P` holds for the phase that does follow. The next lemmas say the same of the beginning of
 -- the way, of a refusal and of a doubling.
 pub at_towards : (P : Phase → Type 0) (last target : ℕ) → (last ≡ target → P Helped) → (last ≢ target → P (Initialising (record { bucket = child_towards last target; target = target }) 0)) → P (towards last target)
@@ -66,7 +66,7 @@ at_double P m n key _ move on = absurd move.allowed.1
 pub set_there : {A : Type 0} (xs : List A) (i : ℕ) (x other : A) → i < length xs → unwrap_or (slice_get (slice_set xs i x) i) other ≡ x
 set_there xs i x other within = unwrap_or-slice_get (slice_set xs i x) i other ∙ get_or-set_same xs i x other within
 
--- After the answer `Stored`, the bucket of the way is stored.
+-- After the answer `Stored`, the bucket `way.bucket` is stored.
 stored_there : (m n : State) (c : ℕ) (way : Way) → IsWhole m → HelpSuits m c (Storing way) → Move m (steps.InitStore c) answers.Stored n → is_set n.stored way.bucket ≡ true
 stored_there m n c way whole suits move =
     ap (λ (s : State). is_set s.stored way.bucket) move.state ∙ ap (λ b. is_set (with_bucket m.stored b) way.bucket) suits.2
@@ -148,7 +148,7 @@ target_small m way whole on = omega (arith, on.target, whole.most, whole.fits)
 helper_there : (m : State) (c : ℕ) → IsWhole m → nat_le m.limits.callers c ≡ false → c < length m.helpers
 helper_there m c whole within = omega (arith, leb-false m.limits.callers c within, whole.helpers)
 
--- `HelpSuits` holds again after the position of a bucket's dummy is sought.
+-- `HelpSuits` holds again after the step `InitSeek`, which seeks the position of a bucket's dummy.
 pub help_suits_seek : (m n : State) (c : ℕ) (way : Way) (again : ℕ) (a : Answer) → IsWhole m → nat_le m.limits.callers c ≡ false → IsOnWay m way → Move m (steps.InitSeek c way.bucket) a n → HelpSuits n c (told_init_seek way again a)
 help_suits_seek m n c way again a whole within on move = at a move
   where
@@ -177,7 +177,7 @@ store_lacks : (m n : State) (c : ℕ) (r : Refusal) → MayLack m (steps.InitSto
 store_lacks m n c NoMemory lack = tt
 store_lacks m n c r lack = absurd lack
 
--- `HelpSuits` holds again after the answer to a link.
+-- `HelpSuits` holds again after the step `InitLink`.
 pub help_suits_link : (m n : State) (c : ℕ) (way : Way) (again : ℕ) (a : Answer) → IsWhole m → nat_le m.limits.callers c ≡ false → HelpSuits m c (Linking way again) → Move m (steps.InitLink c) a n → HelpSuits n c (told_link way again a)
 help_suits_link m n c way again a whole within suits move = at a move
   where
@@ -196,7 +196,7 @@ help_suits_link m n c way again a whole within suits move = at a move
     at answers.Linked move = holds (ap (λ (s : State). s.size) move.state) (ap (λ (s : State). s.stored) move.state) (ap (λ (s : State). s.helpers) move.state)
     at _ move = absurd move.allowed.1
 
--- `HelpSuits` holds again after the answer to a store.
+-- `HelpSuits` holds again after the step `InitStore`.
 pub help_suits_store : (m n : State) (c : ℕ) (way : Way) (a : Answer) → IsWhole m → nat_le m.limits.callers c ≡ false → HelpSuits m c (Storing way) → Move m (steps.InitStore c) a n → HelpSuits n c (told_store way a)
 help_suits_store m n c way a whole within suits move = at a move
   where

@@ -18,7 +18,8 @@ refusal_by_test (Err StampsUsedUp) = None
 refusal_by_test (Err refusal) = Some refusal
 refusal_by_test (Ok answer) = None
 
--- The answer to a link if the helper has a cursor.
+-- The result of the step `InitLink` if the helper has a cursor. The arguments say whether the
+-- cursor fits, whether the dummy is linked already, and whether the stamps are used up.
 abbrev linking : Bool → Bool → Bool → Result InitLink Refusal
 linking fitting there used = answer_for (cond {A = Result InitLink InitRefusal} (not fitting) (Ok links.Again) (cond there (Ok links.Present) (cond used (Err inits.StampsUsedUp) (Ok links.Linked))))
 
@@ -28,8 +29,7 @@ linking_test true true used = refl
 linking_test true false true = refl
 linking_test true false false = refl
 
--- The facts that follow from an answer: whether the cursor fits, whether the dummy is linked, and
--- whether the stamps are used up.
+-- What a result of the step `InitLink` says about the arguments of `linking`.
 abbrev Says : Result InitLink Refusal → Bool → Bool → Bool → Type 0
 Says (Ok links.Again) fitting there used = fitting ≡ false
 Says (Ok links.Present) fitting there used = there ≡ true
@@ -43,7 +43,7 @@ linking_says true true used = refl
 linking_says true false true = (refl, refl)
 linking_says true false false = (refl, refl)
 
--- The helper has a cursor for a bucket. This holds if no test refuses the helper's link.
+-- The helper has a cursor for a bucket. This holds if no test refuses the helper's step `InitLink`.
 pub record HasSought (t : TableAt) (helper : ℕ) (result : Result InitLink Refusal) : Type 0 where
   pub bucket : ℕ
   pub noted : ℕ
@@ -65,8 +65,8 @@ has_sought t helper result is free = at (slice_get (helps_of t) helper) refl is
     at None had is = absurd (let e : Some NoSuchHelper ≡ None = ap refusal_by_test is ∙ free in cc)
     at _ had is = absurd (let e : Some HelperOutOfOrder ≡ None = ap refusal_by_test is ∙ free in cc)
 
--- If the answer to a link is `Again`, the helper's cursor no longer fits. If the link has another
--- answer and no test refuses it, the cursor fits.
+-- If the answer to the step `InitLink` is `Again`, the helper's cursor no longer fits. If the step
+-- has another answer and no test refuses it, the cursor fits.
 pub stale_where : (t : TableAt) (helper : ℕ) → link_answer_of t helper ≡ Ok links.Again → helper_fits t helper ≡ false
 stale_where t helper is = (has_sought t helper (Ok links.Again) is refl).says
 
@@ -103,8 +103,8 @@ module _ (w : World) (helper : ℕ) (many : length (helps_of w.table) ≡ w.limi
   lacks_when sought there is =
       ap (λ n. not (is_set (linked_of w.table) n)) (bucket_had (Sought sought.bucket sought.noted) sought.had) ∙ ap not (is_set_is (linked_of w.table) sought.bucket ∙ is)
 
-  -- If a link is refused, by a test or for lack of memory or of stamps, the refusal is a move of
-  -- the machine.
+  -- If the step `InitLink` is refused, by a test or for lack of memory or of stamps, the refusal is
+  -- a move of the machine.
   pub link_refused_move : (result : Result InitLink Refusal) → (result ≢ Err NoMemory → result ≡ answer_now) → (result ≡ Err NoMemory → answer_now ≡ Ok links.Linked) → (refusal : Refusal) → result ≡ Err refusal → (t' : TableAt) → t' ≡ w.table
       → Move before (steps.InitLink helper) (answers.Refused refusal) (state_of (served w t' w.placed))
   link_refused_move result says no_memory refusal is t' same = rw same (at refusal is)

@@ -202,8 +202,8 @@ module _ (w : World) (tells : Tells w) (c : ℕ) (x : Session) (at : slice_get w
     not_stale op (inl is) = cc (is)
     not_stale op (inr is) = is
 
-    -- An ask with a stale right has used up a stamp if its operation takes a node. An ask with a
-    -- word uses no stamp.
+    -- If the right of the step `Ask` is stale, the step has used up a stamp exactly if its
+    -- operation takes a node. With a word, the step uses up no stamp.
     asked_with : (op : Op) (stripe : ℕ) (own : Answer) → IsAsked c stripe op (reach x w.table w.locks) own (reach y w'.table locks') → ListsAsk Right (state_of w) (Ask c op) (unless_busy own) (state_of w')
     asked_with op stripe answers.Asked is = let lists = asked op stripe answers.Asked is in record { nodes = lists.nodes; stamp = lists.stamp }
     asked_with op stripe (answers.Busy holder) is = let lists = asked op stripe (answers.Busy holder) is in record { nodes = lists.nodes; stamp = lists.stamp }

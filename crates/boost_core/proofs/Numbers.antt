@@ -1,5 +1,5 @@
 -- Besides its history, the core has counts of transactions and of the entries that are owed. It
--- also notes which callers have begun.
+-- also notes which callers have begun a transaction.
 use Rattle.std.proofs.Common.{◌≡◌, ◌+◌, ◌≤◌, ℕ, Bool, true, false, Result, Ok, Err, List, length, arith, is_err, OnOk, OnErr, suc, [], ◌∷◌, Some, refl, sym, ap, ◌∙◌, slice_get, sum_by, ◌<◌, ◌++◌, replicate, Option, None, option_to_list, lt-ltb, append-nil, length-set, get_or-set_same, get_or-set_other, inl, inr}
 use Rattle.boost_core.proofs.Vocabulary.{length-filter, count_by-le-length, Entry, is_began, is_commit, how_many, World, Tells, range_with_len, sum_by-cons, seat_after, own, owed_by, owed, owed_of, or-false, cases_eq, cases_lt, or_right, length-replicate, get_or-replicate, get_or_past, caller_of, Began, has_begun, has_begun-own, has_begun-other}
 use Rattle.boost_core.specs.Begun.{begun_with, AreNoted}
@@ -46,7 +46,7 @@ owed_is w tells =
     ap (λ n. sum_by (λ c. owed_by (seat_after (own c w.history))) (range_with_len 0 n)) (sym tells.count)
     ∙ sum_of_places (λ c. owed_by (seat_after (own c w.history))) owed_of 0 w.sessions (λ c s at. ap (λ k. owed_by (seat_after (own k w.history))) (from_none c) ∙ ap owed_by (tells.seated c s at).seat)
 
--- An entry other than `Began` leaves the notes of who has begun unchanged.
+-- An entry other than `Began` does not change which callers have begun a transaction.
 stays : (c : ℕ) (h : List Entry) (e : Entry) → is_began e ≡ false → has_begun c (h ++ e ∷ []) ≡ has_begun c h
 stays c h e begins = elim (cases_eq c (caller_of e)) [
   | inl mine ↦ rw (mine, has_begun-own h e, begins) (or-false (has_begun (caller_of e) h))
@@ -56,7 +56,7 @@ stays c h e begins = elim (cases_eq c (caller_of e)) [
 pub noted_same : (callers : ℕ) (h : List Entry) (begun : List Bool) (e : Entry) → is_began e ≡ false → AreNoted callers h begun → AreNoted callers (h ++ e ∷ []) begun
 noted_same callers h begun e begins was = record { many = was.many; each = λ c. was.each c ∙ sym (stays c h e begins) }
 
--- The notes of who has begun still fit the history after one more entry.
+-- If an entry is added, the flags that `begun_with` gives fit the new history (`AreNoted`).
 noted_push : (callers : ℕ) (h : List Entry) (begun : List Bool) (e : Entry) → AreNoted callers h begun → caller_of e < callers → AreNoted callers (h ++ e ∷ []) (begun_with begun (Some e))
 noted_push callers h begun (Began d t) was below =
     let within : d < length begun = omega (arith, was.many) in rw (lt-ltb d (length begun) within) (record {
@@ -68,12 +68,13 @@ noted_push callers h begun (Began d t) was below =
     })
 noted_push callers h begun e was below = noted_same callers h begun e refl was
 
--- If a step adds no entry or one entry, the notes of who has begun still fit the history.
+-- If a step adds at most one entry, the flags that `begun_with` gives fit the new history
+-- (`AreNoted`).
 pub noted_then : (callers : ℕ) (h h' : List Entry) (begun begun' : List Bool) (o : Option Entry) → AreNoted callers h begun → h' ≡ h ++ option_to_list o → begun' ≡ begun_with begun o → ((e : Entry) → o ≡ Some e → caller_of e < callers) → AreNoted callers h' begun'
 noted_then callers h h' begun begun' None was pushed noted below = rw (pushed, append-nil h, noted) was
 noted_then callers h h' begun begun' (Some e) was pushed noted below = rw (pushed, noted) (noted_push callers h begun e was (below e refl))
 
--- Before the first entry, the notes that no caller has begun fit the history.
+-- If no caller's flag is set, the flags fit the empty history (`AreNoted`).
 pub noted_none : (callers : ℕ) (begun : List Bool) → begun ≡ replicate callers false → AreNoted callers [] begun
 noted_none callers begun is = rw is (record {
   many = length-replicate callers false;

@@ -61,7 +61,8 @@ claims_of claim state old step is claims = subst (λ s. IsClaim claim s step) (s
 pub goes_of : (claim : Claim) (state old new : State) (step : Step) (answer : Answer) → state ≡ old → Goes claim state step answer new → Goes claim old step answer new
 goes_of claim state old new step answer is goes = subst (λ s. Goes claim s step answer new) is goes
 
--- Returns true if an Ask may still get this refusal after it has passed all of its tests.
+-- Returns true if the step `Ask` may still be refused in this way after it has passed all its
+-- tests.
 abbrev pub is_late : Refusal → Bool
 is_late NoMemory = true
 is_late StampsUsedUp = true
@@ -84,7 +85,7 @@ first_early (test ∷ tests) early refusal is = next_early test.0 test.1 refusal
 pub ask_early : (state : State) (c : ℕ) (op : Op) (refusal : Refusal) → refusal_of state (steps.Ask c op) ≡ Some refusal → is_late refusal ≡ false
 ask_early state c op refusal is = first_early (tests_of state (owner_of (steps.Ask c op)) (steps.Ask c op)) (refl, (refl, (refl, (refl, (refl, (refl, tt)))))) refusal is
 
--- Every claim allows the refusals that are not late.
+-- Every claim allows the refusals for which `is_late` is false.
 may_refuse : (claim : Claim) (refusal : Refusal) → is_late refusal ≡ false → may_come claim (answers.Refused refusal) ≡ true
 may_refuse Lock refusal early = refl
 may_refuse Right refusal early = refl
@@ -107,8 +108,8 @@ pub reserved_least : (claim : Claim) (step : Step) → reserved_by claim step �
 reserved_least Lock step = omega arith
 reserved_least _ step = omega arith
 
--- If a test refuses a step, either the claim is a lock or the refusal is not late. So the claim
--- allows the refusal.
+-- If a test refuses a step, either the claim is a lock or `is_late` is false for the refusal. In
+-- both cases the claim allows the refusal.
 early_or_lock : (claim : Claim) (state : State) (step : Step) (refusal : Refusal) → IsClaim claim state step → refusal_of state step ≡ Some refusal → (claim ≡ Lock) ⊎ (is_late refusal ≡ false)
 early_or_lock Lock state step refusal claims is = inl refl
 early_or_lock _ state (steps.Ask c op) refusal claims is = inr (ask_early state c op refusal is)
@@ -141,7 +142,7 @@ no_memory state (steps.Save c) none some = lacks state (steps.Save c) NoMemory n
 no_memory state (steps.Back c n) none some = lacks state (steps.Back c n) NoMemory none tt
 no_memory state _ none some = absurd (omega arith)
 
--- For each entry of the list, at most `n` entries are reserved.
+-- Each entry of the list needs at most `n` reserved places.
 abbrev AreWithin : ℕ → List Entry → Type 0
 AreWithin n es = AllByRecursion (λ (e : Entry). reserved_for e ≤ n) es
 
@@ -170,7 +171,7 @@ goes_within claim state new step answer (inl stale) =
     (refused_within (reserved_by claim step) step StaleWord)
 goes_within claim state new step answer (inr goes) = may_within claim step answer goes.0
 
--- A caller owes at least one entry for each change that stands.
+-- A caller owes at least one entry for each of its standing changes.
 standing_owed : (q : Phase) (standing : ℕ) (kept : List ℕ) → IsLevelIn q standing kept → standing ≤ owed_in standing q
 standing_owed Closed standing kept is = let none : standing ≡ 0 = is.0 in omega arith
 standing_owed _ standing kept is = omega arith

@@ -140,7 +140,7 @@ module _ (w : World) (tells : Tells w) (c : ℕ) (x : Session) (at : slice_get w
     none_above : (q : Phase) → x.seat.seat.phase ≡ q → has_job (record { phase = q; standing = length x.log.jobs; kept = 0 ∷ x.log.kept }) ≡ false
     none_above q is = ap (λ p. has_job (record { phase = p; standing = length x.log.jobs; kept = 0 ∷ x.log.kept })) (sym is) ∙ ap has_job (sym seat_is) ∙ no_job
 
-    -- The outcome of an act that ends the return to level `n`.
+    -- The outcome of the step `Act` that ends the return to level `n`.
     pub returned : (n : ℕ) (y : Session) → ReturnsIn n x y → Called w c x (steps.Act c) (answers.Returned n) y w.table w.locks
     returned n y returns =
         let level = level_in w tells c x at (LeavingTo n) returns.phase in
@@ -160,7 +160,7 @@ module _ (w : World) (tells : Tells w) (c : ℕ) (x : Session) (at : slice_get w
         refl (λ is. absurd (false≢true is)) (ap (λ ks. take (n + 1) ks) agrees.kept ∙ ap (λ k. take k (0 ∷ x.log.kept)) (add-one n)) refl (nothing_waits w tells c x at (LeavingTo n) returns.phase refl)
         (idle_cursor w tells c x at (LeavingTo n) returns.phase (no_newest x.log n more)) returns.becomes (no_more w.counts.began) (no_more w.counts.committed) refl tells.holders)
 
-    -- The outcome of an act that ends the abort of the caller's transaction.
+    -- The outcome of the step `Act` that ends the abort of the caller's transaction.
     pub ended : (y : Session) (locks' : List (Option ℕ)) → EndsIn c x w.locks y locks' → Called w c x (steps.Act c) answers.Aborted y w.table locks'
     ended y locks' ends =
         let more : nat_lt 0 (length x.log.jobs) ≡ false = none_above LeavingToEnd ends.phase in

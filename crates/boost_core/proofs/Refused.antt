@@ -72,8 +72,8 @@ begin_closed half s c none =
     let second = first_none (not (is_closed s.phase)) _ _ first.1 in
     closed_is s.phase (not-false (is_closed s.phase) second.0)
 
--- Let three tests refuse a seat that is closed, leaving or waiting. If neither they nor the rest of
--- the tests refuse the seat, its phase is `Opened`.
+-- Suppose that the first three tests refuse a seat whose phase is closed, leaving or waiting. If no
+-- test refuses the seat, its phase is `Opened`, and no later test refuses it.
 pub three_tests : (s : Seat) (a b c : Refusal) (rest : Option Refusal) → cond (is_closed s.phase) (Some a) (cond (is_leaving s.phase) (Some b) (cond (is_waiting s.phase) (Some c) rest)) ≡ None → (s.phase ≡ Opened) × (rest ≡ None)
 three_tests s a b c rest none =
     let first = first_none (is_closed s.phase) a _ none in

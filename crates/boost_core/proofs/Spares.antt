@@ -40,7 +40,7 @@ times_unlike spare place stamp unlike = ap (λ b. cond b 1 0) (and_right (spare.
 times_is : (spare : SpareAt) (place stamp : ℕ) → place ≡ spare.place → stamp ≡ spare.stamp → times_of (Some spare) place stamp ≡ 1
 times_is spare place stamp at is = ap (λ (p : ℕ). times_of (Some spare) p stamp) at ∙ ap (λ (s : ℕ). times_of (Some spare) spare.place s) is ∙ times_here spare
 
--- After a spare is given up, the spares that are out are exactly the other kept spares.
+-- If `IsCovered` holds and a kept spare is given up, `IsCovered` holds for the other kept spares.
 pub spent : (t t' : TableAt) (spare : Option SpareAt) (others : ℕ → ℕ → ℕ) → Spends t t' spare → IsCoveredWith others (times_of spare) t → IsCovered others t'
 spent t t' None others is covered place stamp = omega (arith, times_same t t' place stamp (is place), covered place stamp)
 spent t t' (Some spare) others is covered place stamp = elim (cases_eq place spare.place) [
@@ -54,8 +54,8 @@ spent t t' (Some spare) others is covered place stamp = elim (cases_eq place spa
       ]
 ]
 
--- After a new spare is given, the spares that are out are exactly this spare and the other kept
--- spares.
+-- If `IsCovered` holds and the table gives out a new spare, `IsCovered` holds for the kept spares
+-- together with the new one.
 pub given : (t t' : TableAt) (spare : SpareAt) (others : ℕ → ℕ → ℕ) → GivesSpare t t' spare → IsCovered others t → IsCoveredWith others (times_of (Some spare)) t'
 given t t' spare others gives covered place stamp = elim (cases_eq place spare.place) [
   | inr other ↦ omega (arith, times_same t t' place stamp (gives.others place other), covered place stamp, times_away spare place stamp (λ e. other (sym e)))
@@ -70,7 +70,8 @@ given t t' spare others gives covered place stamp = elim (cases_eq place spare.p
       ]
 ]
 
--- If the same spares are out after a step, they are still exactly the spares that are kept.
+-- If a step changes neither the spares that are given out nor those that are kept, `IsCovered`
+-- still holds.
 pub still_covered : (t t' : TableAt) (kept : ℕ → ℕ → ℕ) → KeepsSpares t t' → IsCovered kept t → IsCovered kept t'
 still_covered t t' kept same covered place stamp = covered place stamp ∙ sym (times_same t t' place stamp (same place))
 
@@ -152,8 +153,8 @@ pub newest_owned : (t : TableAt) (jobs jobs' : List MapJob) (job : MapJob) → j
 newest_owned t jobs jobs' job is others covered =
     owns_if t (spare_of_job job) (λ place stamp. others place stamp + times_in jobs place stamp) (λ place stamp. omega (arith, times_pushed jobs jobs' job place stamp is)) covered
 
--- After the newest job is removed and its spare is given back, the spares that are out are still
--- exactly those that are kept.
+-- If the newest job is removed and its spare is given back, `IsCovered` still holds, whatever
+-- spares the others keep.
 pub popped_covered : (t t' : TableAt) (jobs jobs' : List MapJob) (job : MapJob) → jobs ≡ jobs' ++ job ∷ [] → GivesBack t t' (spare_of_job job)
     → StaysCovered t (times_in jobs) t' (times_in jobs')
 popped_covered t t' jobs jobs' job is back others covered =

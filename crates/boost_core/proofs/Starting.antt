@@ -14,7 +14,7 @@ IsPower n = (exponent : ℕ) × (n ≡ 2 ^ exponent)
 doubled : (n half exponent : ℕ) → n ≡ half * 2 → half ≡ 2 ^ exponent → IsPower n
 doubled n half exponent twice is = (suc exponent, twice ∙ ap (λ (k : ℕ). k * 2) is ∙ sym (pow-suc 2 exponent))
 
--- A number with exactly one digit set is a power of two.
+-- If exactly one bit of a number is 1, the number is a power of two.
 power_below : (d n : ℕ) → n ≤ d → count_ones n ≡ 1 → IsPower n
 power_below zero n most one = absurd (omega (arith, ones_le_self n))
 power_below (suc d) n most one =

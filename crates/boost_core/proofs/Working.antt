@@ -33,7 +33,7 @@ module _ (w : World) (tells : Tells w) (c : ℕ) (x : Session) (at : slice_get w
   here : seat_in w.history c ≡ x.seat.seat
   here = seat_here w tells c x at
 
-  -- The outcome of an act that does the waiting operation.
+  -- The outcome of the step `Act` that does the waiting operation.
   module _ (none : refusal_of (state_of w) (Act c) ≡ None) (reply : Option ℕ) (y : Session) (t' : TableAt) (does : DoesIn x w.table reply y t') (keeps : KeepsPlaced w.table t') where
     waits_was : Waits x.seat.seat.phase (Some does.pending) x.log.room
     waits_was = rw does.had at (tells.seated c x at).agrees.waits
@@ -89,7 +89,7 @@ module _ (w : World) (tells : Tells w) (c : ℕ) (x : Session) (at : slice_get w
           holders = tells.holders;
         })
 
-  -- The outcome of an act that takes the newest change back.
+  -- The outcome of the step `Act` that takes the newest change back.
   module _ (none : refusal_of (state_of w) (Act c) ≡ None) (has : has_job x.seat.seat ≡ true) (y : Session) (t' : TableAt) (back : TakesBackIn x w.table y t') (keeps : KeepsPlaced w.table t') where
     goes : IsGoing x.seat.seat.phase × (nat_lt (kept_at x.log.kept (level_of x.seat.seat.phase)) (length x.log.jobs) ≡ true)
     goes = going x.seat.seat.phase (length x.log.jobs) x.log.kept (ap has_job (λ i. record { phase = x.seat.seat.phase; standing = sym (tells.seated c x at).agrees.standing i; kept = sym (tells.seated c x at).agrees.kept i }) ∙ has)
@@ -156,7 +156,7 @@ module _ (w : World) (tells : Tells w) (c : ℕ) (x : Session) (at : slice_get w
           holders = tells.holders;
         })
 
-  -- The outcome of a caller's seek for the key that it acts on next.
+  -- The outcome of the step `Seek`: the caller has sought the key that it acts on next.
   pub sought_called : refusal_of (state_of w) (Seek c) ≡ None → (y : Session) (t' : TableAt) → SeeksIn x w.table y t' → KeepsPlaced w.table t' → Called w c x (Seek c) answers.Placed y t' w.locks
   sought_called none y t' seeks keeps =
       record {
@@ -185,7 +185,7 @@ module _ (w : World) (tells : Tells w) (c : ℕ) (x : Session) (at : slice_get w
         ];
       }
 
-  -- The outcome of an act whose cursor no longer fits: the cursor is dropped.
+  -- The outcome of the step `Act` if the caller's cursor no longer fits: the cursor is dropped.
   module _ (none : refusal_of (state_of w) (Act c) ≡ None) (target : has_target x.seat.seat ≡ true) (y : Session) (drops : Drops x w.table y) where
     not_fresh : is_just_placed (Caller c) w.placed ≡ false
     not_fresh = at_placed w.placed tells.fresh

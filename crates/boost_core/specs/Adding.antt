@@ -3,16 +3,16 @@ use Rattle.std.specs.Prelude.{◌≡◌, ℕ, ◌+◌, ◌-◌, ◌<◌, ◌≤�
 use Rattle.boost_core.specs.Vocabulary.{owed_in, Entry, Seat, RoomySeat, row, is_saved}
 use Rattle.txn_words.specs.Packed.{is_small}
 
--- The first seat becomes the second one by the entry that a step adds. If the step adds no entry,
--- the two seats are equal.
+-- The entry that a step adds turns the first seat into the second. If the step adds no entry, the
+-- two seats are equal.
 abbrev pub Enters : RoomySeat → List Entry → RoomySeat → Type 0
 Enters s [] s' = s' ≡ s
 Enters s (e ∷ []) s' = row s.seat s.seat.phase e ≡ Some s'.seat
 Enters s (e ∷ f ∷ es) s' = ⊥
 
--- The entry may be added: its caller's phase allows it, its caller numbers are small enough to pack
--- it, and the seat and the history have room for it. `owed` is the number of entries that all
--- callers together owe.
+-- The entry may be added: its caller's phase allows it, the caller numbers in it are small enough
+-- for packing, and the seat and the history have room for it. `owed` is the number of entries that
+-- all callers together owe.
 pub record CanEnter (s : RoomySeat) (len cap owed : ℕ) (e : Entry) : Type 0 where
   pub next : Seat
   pub row_is : row s.seat s.seat.phase e ≡ Some next

@@ -1,5 +1,5 @@
--- The fourth claim, content: the map is the one that the history gives now, and the list is that
--- map in order.
+-- The fourth claim, content: the map has the values that the history leads to (`now`), and the list
+-- has the pairs of this map in order.
 use Rattle.std.specs.Prelude.{◌≡◌, ℕ, List}
 use Rattle.std.specs.Ordering.{nat_cmp}
 use Rattle.std.specs.BTreeMap.{BTreeMap, get as value_at}

@@ -50,8 +50,8 @@ node_at n = record { at = n.at; marked = n.marked }
 abbrev pub nodes_at : TableAt → List Node
 nodes_at t = map node_at (nodes_of t)
 
--- The gap between a node and its successor. There is no gap if there is no first node. At the end
--- of the list there is no successor.
+-- The gap between a node and its successor, or None if there is no node. At the end of the list,
+-- the gap has no successor.
 abbrev pub gap_at : Option NodeAt → Option NodeAt → Option Gap
 gap_at None behind = None
 gap_at (Some n) behind = Some (record { before = n.at; behind = option_map (λ m. m.at) behind })

@@ -28,7 +28,8 @@ pub data Deed : Type 0 where
   -- The caller has taken back all its changes, and its transaction ends.
   Aborted : Deed
   Saved : (level : ℕ) → Deed
-  -- The caller leaves to a level, or, if there is no level, to the end.
+  -- The caller starts to take its changes back: down to the level or, if there is no level, all of
+  -- them.
   Leaving : (level : Option ℕ) → Deed
   Committed : (place : ℕ) → Deed
 

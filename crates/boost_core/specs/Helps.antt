@@ -9,8 +9,8 @@ use Rattle.txn_drive.specs.declared.way.Way.{Way}
 use Rattle.boost_core.specs.State.{State, help_in, is_set, bucket_of}
 use Rattle.boost_core.specs.Refusals.{has_cursor, holds_dummy}
 
--- The way's bucket is its target or one of the target's ancestors. Both are below the size, and the
--- bucket's parent is stored.
+-- `way.bucket` is the target (`way.target`) or one of the target's ancestors. Both are below the
+-- table's size, and the parent of `way.bucket` is stored.
 pub record IsOnWay (m : State) (way : Way) : Type 0 where
   pub ancestor : IsAncestor way.bucket way.target
   pub target : way.target < m.size

@@ -48,8 +48,8 @@ abbrev pub stamp_after : ℕ → Step → Answer → ℕ
 stamp_after stamp step answer =
     unwrap_or (option_map (stamp_with stamp) (event_of step answer)) stamp
 
--- Which cursor must fit before a step with its answer, and which one fits after it. An `InitLink`
--- is refused memory or a stamp only if the helper's cursor fits.
+-- Which cursor must fit before a step with its answer, and which one fits after it. If the step
+-- `InitLink` is refused for lack of memory or of stamps, the helper's cursor fits.
 abbrev pub Fits : State → Step → Answer → State → Type 0
 Fits old (InitLink h) (answers.Refused NoMemory) new = HasFit old (Helper h)
 Fits old (InitLink h) (answers.Refused StampsUsedUp) new = HasFit old (Helper h)
@@ -80,8 +80,8 @@ pub record Cursors (old : State) (step : Step) (answer : Answer) (new : State) :
   pub keeps : KeepsGaps old step answer new
 
 -- Whether a step may have this answer. If a test of the step holds, the only answer is the refusal
--- of the first such test. If no test holds, the step may be refused memory or a stamp (`MayLack`),
--- or have one of its answers (`IsAnswer`).
+-- of the first such test. If no test holds, the step may be refused for lack of memory or of stamps
+-- (`MayLack`), or have one of its answers (`IsAnswer`).
 abbrev pub IsAllowed : State → Step → Answer → Type 0
 IsAllowed state step (answers.Refused refusal) =
     (refusal_of state step ≡ Some refusal)

@@ -9,8 +9,8 @@ use Rattle.boost_core.specs.State.{State, seat_in, is_set}
 use Rattle.boost_core.specs.Answers.{is_at_end}
 use Rattle.boost_core.specs.Machine.{Happens, Moves}
 
--- A caller asks for an operation, seeks its key and does it. If the ask has an answer other than
--- `Asked`, it is the only step.
+-- A caller does an operation by the steps `Ask`, `Seek` and `Act`. If `Ask` has an answer other
+-- than `Asked`, no other step is taken.
 abbrev pub Operates : State → ℕ → Op → Answer → State → Type 0
 Operates old c op Answer.Asked new = ⊥
 Operates old c op (Answer.Done reply) new =
@@ -18,8 +18,8 @@ Operates old c op (Answer.Done reply) new =
     (Answer.Asked ∷ Answer.Placed ∷ Answer.Done reply ∷ []) new
 Operates old c op answer new = Happens old (Ask c op) answer new
 
--- The steps that take back this number of changes, followed by the given steps. Each change needs a
--- seek and an act.
+-- The steps that take back this number of changes, followed by the given steps. Each change needs
+-- the steps `Seek` and `Act`.
 abbrev pub undoing : ℕ → ℕ → List Step → List Step
 undoing zero c steps = steps
 undoing (suc changes) c steps = undoing changes c (Seek c ∷ Act c ∷ steps)
@@ -30,13 +30,14 @@ abbrev pub undone : ℕ → List Answer → List Answer
 undone zero others = others
 undone (suc changes) others = undone changes (Answer.Placed ∷ Answer.Undone ∷ others)
 
--- The caller takes back some number of changes, and then arrives at its level or at the end.
+-- The caller takes back some number of changes. A last step `Act`, with this answer, then ends the
+-- return or the abort.
 abbrev pub Ends : State → ℕ → Answer → State → Type 0
 Ends old c answer new =
     (changes : ℕ) × Moves old (undoing changes c (Act c ∷ [])) (undone changes (answer ∷ [])) new
 
--- A caller goes back to a level: it leaves to the level, and takes back its changes until it
--- arrives there. If the first step has an answer other than `Leaving`, it is the only step.
+-- A caller returns to a level. It takes the step `Back`, and then takes back its changes down to
+-- the level. If `Back` has an answer other than `Leaving`, no other step is taken.
 abbrev pub Returns : State → ℕ → ℕ → Answer → State → Type 0
 Returns old c n Answer.Leaving new = ⊥
 Returns old c n (Answer.Returned m) new =
@@ -44,14 +45,14 @@ Returns old c n (Answer.Returned m) new =
     × Ends left c (Answer.Returned m) new
 Returns old c n answer new = Happens old (Back c n) answer new
 
--- A caller leaves to the end by the step `Abort`. If the Boolean is true, the caller is leaving to
--- the end already, and no step is taken.
+-- A caller starts its abort with the step `Abort`. If the Boolean is true, the caller is aborting
+-- already, and no step is taken.
 abbrev pub Leaves : Bool → State → ℕ → State → Type 0
 Leaves true old c left = left ≡ old
 Leaves false old c left = Happens old (Abort c) Answer.Leaving left
 
--- A caller aborts: it leaves to the end, unless it does so already, and takes back all its changes.
--- If its step `Abort` has an answer other than `Leaving`, this is the only step.
+-- A caller aborts. It takes the step `Abort`, unless it is aborting already, and then takes back
+-- all its changes. If `Abort` has an answer other than `Leaving`, no other step is taken.
 abbrev pub Aborts : State → ℕ → Answer → State → Type 0
 Aborts old c Answer.Leaving new = ⊥
 Aborts old c Answer.Aborted new =

@@ -75,8 +75,8 @@ has_stamp_for state op = not (takes_node op) || has_stamp state
 abbrev pub lacks_dummy : State → ℕ → Bool
 lacks_dummy state h = not (is_set state.linked (bucket_of state h))
 
--- Whether a step may be refused for lack of memory or of stamps. Memory may be refused only to a
--- step that reserves some. These tests follow all others.
+-- Whether a step that no test refuses may be refused for lack of memory or of stamps. Only a step
+-- that reserves memory can lack it.
 abbrev pub MayLack : State → Step → Refusal → Type 0
 MayLack state (Begin c) NoMemory = Unit {0}
 MayLack state (Ask c op) NoMemory = Unit {0}

@@ -1,5 +1,5 @@
--- The third claim, replies: each transaction has the same replies as if it ran alone after the
--- commits before its end.
+-- The third claim, replies: each transaction has the same replies as if it ran alone, after the
+-- transactions that committed before it ended.
 use Rattle.txn_trace.specs.Replies.{RepliesHold}
 use Rattle.boost_core.specs.State.{State}
 

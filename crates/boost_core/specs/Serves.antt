@@ -14,7 +14,7 @@ is_served (InitStore h) = true
 is_served (Double seen) = true
 is_served step = false
 
--- The answer to a sweep, given the outcome of the table's call.
+-- The answer to the step `Sweep`, given the outcome that the table reports.
 abbrev pub swept : SweepOutcome → Answer
 swept SweepOutcome.Swept = Answer.Swept
 swept SweepOutcome.Clean = Answer.Clean

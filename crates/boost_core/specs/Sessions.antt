@@ -29,7 +29,8 @@ side_of s = record {
   kept = s.log.kept;
 }
 
--- The level to which a phase takes changes back; 0 in every phase but `LeavingTo`.
+-- The level down to which the caller takes changes back in this phase. It is 0 in every phase but
+-- `LeavingTo`.
 abbrev pub level_of : Phase → ℕ
 level_of (LeavingTo level) = level
 level_of phase = 0
@@ -42,8 +43,8 @@ abbrev pub IsIdle : Session → Type 0
 IsIdle s =
     side_of s ≡ record { seat = closed_seat; pending = None; cursor = None; jobs = []; kept = [] }
 
--- An operation waits exactly if the phase says so. The log then has room for its job, and the
--- operation has a spare exactly if it takes a node.
+-- An operation waits exactly if the phase is `Waiting` with this operation. The log then has room
+-- for the operation's job, and the operation has a spare exactly if it takes a node.
 abbrev pub Waits : Phase → Option PendingAt → ℕ → Type 0
 Waits (Waiting op) (Some pending) room =
     (pending.op ≡ op) × (0 < room) × (is_some pending.spare ≡ takes_node op)
@@ -88,7 +89,8 @@ change_of job = (key_of_job job, value_before job)
 abbrev pub changes_of : List MapJob → List (ℕ × Option ℕ)
 changes_of jobs = map change_of (reverse jobs)
 
--- The jobs are in order, newest first. Each is due on the map after the newer jobs have run.
+-- The list has the newest job first. If the jobs run on the map in this order, each job is due
+-- (`IsDue`) when it runs.
 abbrev pub AreDue : Map → List MapJob → Type 0
 AreDue m [] = Unit {0}
 AreDue m (job ∷ jobs) = IsDue m job × AreDue (set_at m (key_of_job job) (value_before job)) jobs
@@ -143,8 +145,8 @@ pub record AsksIn (c stripe : ℕ) (op : Op) (old new : Reach) : Type 0 where
   pub becomes : side_of new.session ≡ record (side_of old.session) { pending = Some pending }
   pub room : 0 < new.session.log.room
 
--- Another caller holds the stripe, so the prepared operation is given up. Only the room of the
--- caller's side has changed.
+-- Another caller holds the stripe, so the prepared operation is given up. In the asking caller's
+-- session, only the room may have changed.
 pub record MeetsIn (c stripe : ℕ) (op : Op) (holder : ℕ) (old new : Reach) : Type 0 where
   pub pending : PendingAt
   pub between : TableAt
@@ -265,7 +267,7 @@ Saves s (Answer.Saved n) s' = SavesIn n s s'
 Saves s (Answer.Refused NoMemory) s' = side_of s' ≡ side_of s
 Saves s answer s' = ⊥
 
--- The answer to an ask that locks its stripe, and the effect of the ask.
+-- The answer to the step `Ask` if it locks the operation's stripe, and the effect of the step.
 abbrev pub IsAsked : ℕ → ℕ → Op → Reach → Answer → Reach → Type 0
 IsAsked c stripe op old Answer.Asked new = AsksIn c stripe op old new
 IsAsked c stripe op old (Answer.Busy x) new = MeetsIn c stripe op x old new
@@ -274,14 +276,14 @@ IsAsked c stripe op old (Answer.Refused refusal) new =
     × (side_of new.session ≡ side_of old.session) × (new ≡ record old { session = new.session })
 IsAsked c stripe op old answer new = ⊥
 
--- The answer to an ask with the stripe's right, given the answer to an ask that locks the stripe.
--- `Busy` becomes the refusal `StaleWord`.
+-- The answer to the step `Ask` with the stripe's right, given the answer that the step has if it
+-- locks the stripe. `Busy` becomes the refusal `StaleWord`.
 abbrev pub unless_busy : Answer → Answer
 unless_busy (Answer.Busy x) = Answer.Refused StaleWord
 unless_busy answer = answer
 
--- The answer to an ask with this claim, and the effect of the ask. If the claim is a word, the ask
--- has no effect.
+-- The answer to the step `Ask` with this claim, and the effect of the step. If the claim is a word,
+-- the step has no effect.
 abbrev pub AsksBy : Claim → ℕ → ℕ → Op → Reach → Answer → Reach → Type 0
 AsksBy Lock c stripe op old answer new = IsAsked c stripe op old answer new
 AsksBy Right c stripe op old answer new =
@@ -289,25 +291,25 @@ AsksBy Right c stripe op old answer new =
 AsksBy (Held named) c stripe op old answer new = (answer ≡ Answer.Busy named) × (new ≡ old)
 AsksBy Stale c stripe op old answer new = (answer ≡ Answer.Refused StaleWord) × (new ≡ old)
 
--- The answer to an act for the waiting operation, and the effect of the act.
+-- The answer to the step `Act` for the waiting operation, and the effect of the step.
 abbrev pub Replies : Session → TableAt → Answer → Session → TableAt → Type 0
 Replies s t Answer.Again s' t' = Drops s t s' × (t' ≡ t)
 Replies s t (Answer.Done reply) s' t' = DoesIn s t reply s' t'
 Replies s t answer s' t' = ⊥
 
--- The answer to an act that takes back the newest change, and the effect of the act.
+-- The answer to the step `Act` that takes back the newest change, and the effect of the step.
 abbrev pub Undoes : Session → TableAt → Answer → Session → TableAt → Type 0
 Undoes s t Answer.Again s' t' = Drops s t s' × (t' ≡ t)
 Undoes s t Answer.Undone s' t' = TakesBackIn s t s' t'
 Undoes s t answer s' t' = ⊥
 
--- The answer to the act that ends the undoing, and the effect of the act.
+-- The answer to the step `Act` that ends a return or an abort, and the effect of the step.
 abbrev pub Arrives : ℕ → Session → List (Option ℕ) → Answer → Session → List (Option ℕ) → Type 0
 Arrives c s locks (Answer.Returned n) s' locks' = ReturnsIn n s s' × (locks' ≡ locks)
 Arrives c s locks Answer.Aborted s' locks' = EndsIn c s locks s' locks'
 Arrives c s locks answer s' locks' = ⊥
 
--- The answer to an act, and the effect of the act.
+-- The answer to the step `Act`, and the effect of the step.
 abbrev pub ActsIn : ℕ → Reach → Answer → Reach → Type 0
 ActsIn c old Answer.Again new =
     (has_target old.session.seat.seat ≡ true) × Drops old.session old.table new.session
@@ -338,8 +340,8 @@ pub record MayTakeStep (stripes : ℕ) (counts : Counts) (step : Step) (old : Re
   pub begins : counts.began < 2 ^ 63
   pub commits : counts.committed < 2 ^ 63
 
--- The effect of a caller's step. It depends on the answer and, if the step is an ask, on the claim.
--- In the seat only the room may change: the step's entry is added to the seat afterwards.
+-- The effect of a caller's step. It depends on the answer and, for the step `Ask`, on the claim. Of
+-- the seat, only the room may change: the step's entry is added to the seat afterwards.
 abbrev pub HasEffect : Claim → ℕ → Counts → Step → Reach → Answer → Reach → Type 0
 HasEffect claim stripes counts (Begin c) old (Answer.Began n) new =
     (n ≡ counts.began + 1) × (new ≡ old)

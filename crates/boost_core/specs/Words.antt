@@ -70,9 +70,9 @@ abbrev pub Asks : Claim → State → Step → Answer → State → Type 0
 Asks claim old step answer new =
     IsStale claim old step answer new ⊎ (IsTrue (may_come claim answer) × Move old step answer new)
 
--- The last stamp after an ask with this claim. If the claim is a right, an operation that needs a
--- spare takes one, and so uses up a stamp, even if the claim turns out to be stale. If the claim is
--- a word, no spare is taken.
+-- The last stamp after the step `Ask` with this claim. If the claim is a right, an operation that
+-- needs a spare takes one, and so uses up a stamp, even if the claim turns out to be stale. If the
+-- claim is a word, no spare is taken.
 abbrev pub stamp_by : Claim → ℕ → Step → Answer → ℕ
 stamp_by Lock stamp step answer = stamp_after stamp step answer
 stamp_by Right stamp (Ask c op) (Answer.Refused StaleWord) =
@@ -80,16 +80,16 @@ stamp_by Right stamp (Ask c op) (Answer.Refused StaleWord) =
 stamp_by Right stamp step answer = stamp_after stamp step answer
 stamp_by claim stamp step answer = stamp
 
--- What an ask with this claim does to the list. The nodes and the change number are unchanged, and
--- `stamp_by` gives the last stamp.
+-- What the step `Ask` with this claim does to the list. The nodes and the change number are
+-- unchanged, and `stamp_by` gives the last stamp.
 pub record ListsAsk (claim : Claim) (old : State) (step : Step) (answer : Answer)
     (new : State) : Type 0 where
   pub nodes : Touches old step answer new
   pub stamp : new.stamp ≡ stamp_by claim old.stamp step answer
 
--- The requirement on a claim. An ask has the claim `Lock` exactly if stripes are not words. Any
--- other step always has the claim `Lock`. If the claim names a holder, the rule of locks allows a
--- Busy entry that names this holder.
+-- The requirement on a claim. The step `Ask` has the claim `Lock` exactly if stripes are not words.
+-- Any other step always has the claim `Lock`. If the claim names a holder, the rule of locks allows
+-- a Busy entry that names this holder.
 abbrev pub IsClaim : Claim → State → Step → Type 0
 IsClaim Lock state step = state.words ≡ true → is_ask step ≡ false
 IsClaim Right state (Ask c op) = state.words ≡ true

@@ -31,13 +31,13 @@ verdict_of (Legal commits running) =
 verdict_of (Illegal entry rule) =
     record { is_legal = 0; commits = 0; running = 0; entry = entry; rule = number_of rule }
 
--- The call makes a referee that was fed no entry yet, unless memory is refused.
+-- The call makes a referee that has been fed no entries yet, unless memory is refused.
 abbrev pub BeginsWith : Way → ℕ → ℕ → Option Referee → Type 0
 BeginsWith way stripes status (Some new) = (status ≡ done) × IsFedBy way stripes [] new
 BeginsWith way stripes status None = status ≡ refused NoMemory
 
--- The call makes a referee for this rule, unless memory is refused. If there is no rule, it makes
--- none.
+-- The call makes a referee for this rule, unless memory is refused. If there is no rule, the call
+-- is refused with `Limit`, and makes no referee.
 abbrev pub BeginsFor : Option Way → ℕ → ℕ → Option Referee → Type 0
 BeginsFor None stripes status new = (status ≡ refused Limit) × (new ≡ None)
 BeginsFor (Some way) stripes status new = BeginsWith way stripes status new

@@ -5,11 +5,11 @@ use Rattle.txn_words.specs.declared.answer.Answer.TheVariants.{Began, Busy, Done
 use Rattle.txn_words.specs.declared.refusal.Refusal.{Refusal}
 use Rattle.txn_words.specs.Refusals.{number_of}
 
--- The status of a call that is done.
+-- The status of a call that succeeded.
 abbrev pub done : ℕ
 done = 0
 
--- The status of a call that was done at a key that had no value.
+-- The status of a call that succeeded at a key that had no value.
 abbrev pub absent : ℕ
 absent = 1
 

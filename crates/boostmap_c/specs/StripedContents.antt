@@ -21,8 +21,8 @@ abbrev pub Counts : Caller → Result ℕ Stop → Caller → Type 0
 Counts a (Ok count) b = Looks a b × (count ≡ count_of (now (seen b)))
 Counts a (Err stop) b = IsCut a b stop
 
--- C gets the pairs of the map, by rising keys. If the array is too short, C gets only their number.
--- If the call was not done, the status gives the reason.
+-- C gets the pairs of the map, in the order of their keys. If the array is too short, C gets only
+-- the number of pairs. If the call was not done, the status gives the reason.
 abbrev pub ReadsMap : Option Member → ℕ → List CPair → List CPair → ℕ → ℕ → Option Member → Type 0
 ReadsMap (Some old) status before after was word (Some new) =
     (new.waiting ≡ old.waiting)

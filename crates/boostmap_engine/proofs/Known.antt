@@ -47,8 +47,8 @@ Consumes-then (Some us) None c xs ys p q = absurd p
 Consumes-then (Some us) (Some vs) None xs ys p q = absurd q
 Consumes-then (Some us) (Some vs) (Some ws) xs ys p q = p ∙ ap (λ (s : List ℕ). xs ++ s) q ∙ sym (append_assoc xs ys ws)
 
--- If the input was read to its end and at most `m` bytes were read, these are the input's first `m`
--- bytes.
+-- If the input was read to its end and has at most `m` bytes, the bytes that were read are `take m`
+-- of the input.
 pub read_to_end : (a b c : Option (List ℕ)) (xs : List ℕ) (m : ℕ) → Consumes a b xs → Consumes b c [] → IsAtEnd c → length xs ≤ m → IfSome a (λ all. xs ≡ take m all)
 read_to_end None b c xs m p q end le = tt
 read_to_end (Some us) None c xs m p q end le = absurd p
@@ -57,7 +57,7 @@ read_to_end (Some us) (Some vs) (Some ws) xs m p q end le =
     let e : us ≡ xs = p ∙ ap (λ (s : List ℕ). xs ++ s) (q ∙ end) ∙ append-nil xs in
     rw e (sym (take_all m xs le))
 
--- If exactly `m` bytes of the input were read, these are the input's first `m` bytes.
+-- If exactly `m` bytes of the input were read, they are `take m` of the input.
 pub read_most : (a b : Option (List ℕ)) (xs : List ℕ) (m : ℕ) → Consumes a b xs → length xs ≤ m → m ≤ length xs → IfSome a (λ all. xs ≡ take m all)
 read_most None b xs m p le ge = tt
 read_most (Some us) None xs m p le ge = absurd p

@@ -48,8 +48,8 @@ pub if_err : {A E : Type 0} (r : Result A E) (P Q : E → Type 0) → ((e : E) �
 if_err (Ok x) P Q f h = tt
 if_err (Err e) P Q f h = f e h
 
--- If `LeavesText` holds for a text of the bytes that were read, `LeavesOutput` holds for these
--- bytes.
+-- If `LeavesText` holds for a text that belongs to the bytes that were read, `LeavesOutput` holds
+-- for these bytes.
 pub leaves_of : (IsTextOf : List ℕ → List ℕ → Type 0) (IsRefused : List ℕ → FileFault → Type 0) (remaining old new : Option (List ℕ)) (bytes text : List ℕ) → IsRead remaining bytes → IsTextOf bytes text → (fault : Fault) → LeavesText old new text fault → LeavesOutput IsTextOf IsRefused remaining old new fault
 leaves_of IsTextOf IsRefused remaining old new bytes text read is faults.Write h = (bytes, text, read, is, h)
 leaves_of IsTextOf IsRefused remaining old new bytes text read is faults.NoMemory h = h

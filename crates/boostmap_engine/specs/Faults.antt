@@ -27,8 +27,8 @@ message_of Read = codes "read failed"
 message_of Write = codes "write failed"
 message_of OutOfStep = codes "out of step"
 
--- The program's fault if reading a file gives this fault. It is `NoMemory` if memory was refused,
--- and `Input` otherwise.
+-- The program's fault if a file cannot be read because of this `FileFault`. The result is
+-- `NoMemory` if memory was refused, and `Input` otherwise.
 abbrev pub of_file : FileFault → Fault
 of_file files.NoMemory = NoMemory
 of_file files.NotJson = Input files.NotJson

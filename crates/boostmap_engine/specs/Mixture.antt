@@ -13,10 +13,10 @@ use Rattle.boost_core.specs.State.{State}
 use Rattle.script_mix.specs.Crews.{IsMixed}
 use Rattle.boostmap_engine.specs.Report.{line}
 
--- There is a core on which the workers took turns as this seed draws them. The core's history is
--- legal and has only entries of these workers. Each worker's committed transactions play its
--- scripts, and the numbers of these scripts rise. `text` is the line of the history (its text and a
--- line feed), with the version of the script file.
+-- There is a core on which the workers took turns in the order that this seed gives. The core's
+-- history is legal and has only entries of these workers. Each worker's committed transactions play
+-- its scripts, and the numbers of these scripts rise. `text` is the line of the history (its text
+-- and a line feed), with the version of the script file.
 pub record IsMixture (work : Work) (seed : ℕ) (text : List ℕ) : Type 0 where
   pub core : State
   pub mixed : IsMixed work seed core

@@ -6,8 +6,9 @@ use Rattle.txn_files.specs.Reading.{max_read}
 use Rattle.boostmap_engine.specs.declared.fault.Fault.{Fault}
 use Rattle.boostmap_engine.specs.declared.fault.Fault.TheVariants as faults
 
--- `bytes` are the first `max_read` of the bytes that the reader still had. A file may have at most
--- `max_read` - 1 bytes.
+-- `bytes` are the first `max_read` of the bytes that the reader still had, or all of them if there
+-- are fewer. A file may have at most `max_read` - 1 bytes, so `max_read` bytes are too many for a
+-- file.
 abbrev pub IsRead : Option (List ℕ) → List ℕ → Type 0
 IsRead remaining bytes = IfSome remaining (λ all. bytes ≡ take max_read all)
 

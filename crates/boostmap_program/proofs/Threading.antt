@@ -22,7 +22,7 @@ use Rattle.boostmap_engine.specs.Written.{IsRead, LeavesText}
 use Rattle.boostmap_program.specs.Threaded.{IsThreadedOf, LeavesThreaded}
 
 -- If a run has the limits, workers, tries, stripes and scripts of a file's work, the line of its
--- history is a text of the file (`IsThreadedOf`).
+-- history satisfies `IsThreadedOf` for the file.
 pub threaded_is : (bytes : List ℕ) (work : Work) (limits : Sizes) (workers tries stripes : ℕ) (scripts : List (List Action)) (outcomes : List Outcome) (trace : List Entry) → scripts_of bytes ≡ Ok work
     → limits ≡ work.sizes → workers ≡ limits.callers → tries ≡ work.tries → stripes ≡ limits.stripes → scripts ≡ work.scripts
     → HasRunScripts limits workers tries scripts outcomes trace → IsThreadedOf bytes (line (text_of_history 3 stripes trace))
@@ -75,8 +75,8 @@ few_in (Ok f) work is = few_from f.0 f.1 f.2 work is
 pub few_tries : (bytes : List ℕ) (work : Work) → scripts_of bytes ≡ Ok work → work.tries ≤ 1000
 few_tries bytes work is = few_in (contents script_file bytes) work is
 
--- If the text of a run's history was to be written, and there was a fault, the output is as
--- `LeavesThreaded` says.
+-- If a fault occurs while the text of a run's history is written, the output is as `LeavesThreaded`
+-- says.
 pub leaves_threaded : (remaining old new : Option (List ℕ)) (bytes text : List ℕ) → IsRead remaining bytes → IsThreadedOf bytes text → (fault : Fault) → LeavesText old new text fault → LeavesThreaded remaining old new fault
 leaves_threaded remaining old new bytes text read is faults.Write h = (bytes, text, read, is, h)
 leaves_threaded remaining old new bytes text read is faults.NoMemory h = h

@@ -16,8 +16,8 @@ use Rattle.boostmap_engine.specs.Report.{line}
 use Rattle.boostmap_engine.specs.Written.{HasNone, LeavesOutput, WritesTextOf}
 use Rattle.unthreaded_program.specs.Runs.{Engine}
 
--- A run of the scripts in threads has these outcomes and this history. The text is the line of the
--- history, with version 3.
+-- The scripts were run in threads. The run has the outcomes `outcomes` and the history `trace`. The
+-- text is the line of this history, with version 3.
 pub record IsThreaded (work : Work) (text : List ℕ) : Type 0 where
   pub outcomes : List Outcome
   pub trace : List Entry
@@ -29,9 +29,9 @@ pub record IsThreaded (work : Work) (text : List ℕ) : Type 0 where
 abbrev pub IsThreadedOf : List ℕ → List ℕ → Type 0
 IsThreadedOf bytes text = (work : Work) × (scripts_of bytes ≡ Ok work) × IsThreaded work text
 
--- The reason why there is no text for the bytes as in `IsThreadedOf`. Either a thread was not
--- started, or the history is not what the workers saw, or the reason is one that a mixed run can
--- have too.
+-- The fault with which a run in threads ends if it gives no text for these bytes. Either a thread
+-- was not started, or the history is not what the workers saw, or the fault is one that a mixed run
+-- can have too.
 abbrev pub HasNoneThreaded : List ℕ → Fault → Type 0
 HasNoneThreaded bytes faults.NoThread = Unit {0}
 HasNoneThreaded bytes faults.OutOfStep = Unit {0}

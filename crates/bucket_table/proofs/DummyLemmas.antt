@@ -133,7 +133,8 @@ has_dummy-sought (n ∷ rest) from at bucket plain = elim (eqb_tells n.place fro
   | inr past ↦ rw past.0 (ap (λ b. is_dummy_of bucket n || b) (has_dummy-sought rest from at bucket plain.1))
 ]
 
--- A new dummy is the dummy of its bucket, and of no other bucket.
+-- For a new dummy, `is_dummy_of` is true for the dummy's own bucket and false for every other
+-- bucket.
 pub is_dummy_of-dummy_node : (place bucket stamp other : ℕ) → bucket < 2 ^ 32 → other < 2 ^ 32 → is_dummy_of other (dummy_node place bucket stamp) ≡ (bucket == other)
 is_dummy_of-dummy_node place bucket stamp other fits other_fits = elim (eqb_tells bucket other) [
   | inl same ↦ rw same.0 (is_dummy_true other (dummy_node place bucket stamp) refl (ap dummy_at same.1))
@@ -167,7 +168,7 @@ has_dummy-changed_at (n ∷ rest) place change bucket same = elim (eqb_tells n.p
   | inr past ↦ rw past.0 (ap (λ b. is_dummy_of bucket n || b) (has_dummy-changed_at rest place change bucket same))
 ]
 
--- A sweep unlinks no dummy.
+-- Unlinking the first marked node unlinks no dummy, because no dummy is marked.
 pub has_dummy-without_first_marked : (nodes : List NodeAt) (bucket : ℕ) → AllPlain nodes → has_dummy (without_first_marked nodes) bucket ≡ has_dummy nodes bucket
 unfolding has_dummy without_first_marked
 has_dummy-without_first_marked [] bucket plain = refl

@@ -16,7 +16,8 @@ use Rattle.bucket_table.specs.Dummies.{IsDummyAt}
 use Rattle.bucket_table.specs.Home.{IsHelperHome, IsHome}
 
 module _ (old new : Listing) (follows : Follows old new) where
-  -- A linked dummy stays linked.
+  -- If a bucket's dummy is linked at a place in the old list, it is linked there in the new list
+  -- too.
   pub still_dummy : (place bucket : ℕ) → IsDummyAt old.nodes place bucket → IsDummyAt new.nodes place bucket
   still_dummy place bucket dummy =
       let there = follows.dummies place dummy.node dummy.is dummy.kind in
@@ -32,7 +33,7 @@ module _ (old new : Listing) (follows : Follows old new) where
   still_helper_home (Seeking bucket cursor) home = (still_placed old new cursor home.0 follows, home.1)
   still_helper_home (Holding bucket dummy) home = still_dummy dummy bucket home
 
-  -- If the list changes, `IsHome` still holds.
+  -- If `IsHome` holds for the old list, it holds for the new list.
   pub still_home : (d : Directory) → IsHome d old → IsHome d new
   still_home d home = record {
     stored = λ bucket place is. still_dummy place bucket (home.stored bucket place is);

@@ -24,13 +24,14 @@ use Rattle.bucket_table.specs.Links.{IsUnlinked, LinksAt}
 use Rattle.bucket_table.specs.Refusals.{refusal_of}
 use Rattle.bucket_table.proofs.DummyLemmas.{has_dummy-linked_after, is_dummy_of-dummy_node, dummy_there, dummy_had, no_dummy}
 
--- If the list gave no spare, `IsUnlinked` holds with the refusal of the link.
+-- If the list gives no spare and is unchanged, `IsUnlinked` holds for the refusal that `refusal_of`
+-- gives.
 pub unlinked : (before after : Listing) (fault : SpareFault) → (◌≡◌ {A = Result SpareAt SpareFault} (Err fault) (Err Worn) ↔ (before.last ≡ 2 ^ 64 - 2)) → after ≡ before → IsUnlinked before after (refusal_of fault)
 unlinked before after Worn worn same = (same, worn.0 refl)
 unlinked before after SpareNoMemory worn same = (same, λ last. absurd (cc (worn.1 last)))
 
 module _ (before middle after : Listing) (pred bucket place stamp : ℕ) where
-  -- The spare is linked as the bucket's dummy.
+  -- If the list gives a spare, and the spare is linked as the bucket's dummy, `LinksAt` holds.
   pub links_at : GivesOut before middle place stamp → stamp ≡ before.last + 1 → before.last ≢ 2 ^ 64 - 2 → bucket < 2 ^ 32 → IsLinked middle.nodes pred
       → (x : NodeAt) → x ≡ dummy_node place bucket stamp → Links middle after pred x → LinksAt before after pred bucket place
   links_at given next last fits linked x is links =

@@ -117,7 +117,8 @@ none_in zero at = refl
 none_in (suc count) zero = refl
 none_in (suc count) (suc at) = none_in count at
 
--- A new segment has its one dummy at the given place, and no other dummy.
+-- If one dummy is written in a new segment, the segment has this dummy at the given place, and no
+-- other dummy.
 pub segment_here : (place dummy : ℕ) → place < 64 → slice_index_or (slice_set (replicate 64 None) place (Some dummy)) place None ≡ Some dummy
 segment_here place dummy within = get_or-set_same (replicate 64 None) place (Some dummy) None (omega (arith, within, length-replicate {A = Option ℕ} 64 None))
 
@@ -147,7 +148,7 @@ entries_missing limit count = ext_get_or None _ _ (entries_length limit (replica
 pub segment_read : (row : List (Option (List (Option ℕ)))) (bucket : ℕ) (limit : ℕ) (old : Option (List (Option ℕ))) → bucket < limit → limit ≤ 64 * length row → old ≡ slice_index_or row (bucket / 64) old → old ≡ slice_index_or row (bucket / 64) None
 segment_read row bucket limit old within long is = get_or_read row (bucket / 64) old (segment_within limit bucket (length row) within long) is None
 
--- The effect of a put into a segment of a row.
+-- How a row and its entries change if a dummy is put into a bucket's segment.
 module _ (limit : ℕ) (row : List (Option (List (Option ℕ)))) (bucket dummy : ℕ) (old new : Option (List (Option ℕ))) (is : IsRow limit row) (within : bucket < limit) (was : old ≡ slice_index_or row (bucket / 64) None) where
   others : (puts : Puts old new (bucket % 64) dummy) (place : ℕ) → place ≢ bucket % 64 → slice_index_or puts.segment place None ≡ slice_index_or (held_by (slice_index_or row (bucket / 64) None)) place None
   others puts place apart = puts.elsewhere place apart ∙ ap (λ (o : Option (List (Option ℕ))). slice_index_or (held_by o) place None) was

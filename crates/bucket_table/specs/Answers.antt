@@ -15,7 +15,8 @@ use Rattle.bucket_table.specs.Directory.{Directory, helper_of}
 use Rattle.bucket_table.specs.Dummies.{has_dummy}
 use Rattle.bucket_table.specs.Helpers.{Help, Nothing, Sought, Dummy, cursor_fits, help_at}
 
--- The answer to a seek for a bucket, given the size, the stored buckets and the helper's state.
+-- The answer when a helper seeks a bucket, given the size, the stored buckets and the helper's
+-- state.
 abbrev pub seek_answer : ℕ → (ℕ → Bool) → Option Help → ℕ → Result InitSeek InitRefusal
 seek_answer size stored None bucket = Err NoSuchHelper
 seek_answer size stored (Some help) bucket =
@@ -24,8 +25,9 @@ seek_answer size stored (Some help) bucket =
     else (if stored (parent_of bucket) then Ok Placed
     else Err ParentMissing))
 
--- The answer to a link, unless it is `NoMemory`. The arguments are: whether the helper's cursor
--- fits; for each bucket, whether its dummy is linked; the last stamp; and the helper's state.
+-- The answer when a helper links its dummy, unless it is `NoMemory`. The arguments are: whether the
+-- helper's cursor fits; for each bucket, whether its dummy is linked; the last stamp; and the
+-- helper's state.
 abbrev pub link_answer : Bool → (ℕ → Bool) → ℕ → Option Help → Result InitLink InitRefusal
 link_answer fitting linked last None = Err NoSuchHelper
 link_answer fitting linked last (Some Nothing) = Err HelperOutOfOrder
@@ -36,19 +38,19 @@ link_answer fitting linked last (Some (Sought bucket changes)) =
     else (if last == 2 ^ 64 - 2 then Err StampsUsedUp
     else Ok Linked))
 
--- The answer to a link by the helper with this number, unless it is `NoMemory`.
+-- The answer when the helper with this number links its dummy, unless it is `NoMemory`.
 abbrev pub link_answer_at : Directory → Listing → ℕ → Result InitLink InitRefusal
 link_answer_at d l helper =
     link_answer (cursor_fits l (helper_of d helper)) (has_dummy l.nodes) l.last (help_at d helper)
 
--- The answer to a store, given the helper's state, unless it is `NoMemory`.
+-- The answer when a helper in this state stores its dummy, unless the answer is `NoMemory`.
 abbrev pub store_answer : Option Help → Result Unit InitRefusal
 store_answer None = Err NoSuchHelper
 store_answer (Some Nothing) = Err HelperOutOfOrder
 store_answer (Some (Sought bucket changes)) = Err HelperOutOfOrder
 store_answer (Some (Dummy bucket)) = Ok tt
 
--- The answer to a doubling, given the size, the largest size, the number of keys and the size that
+-- The answer of `double`, given the size, the largest size, the number of keys and the size that
 -- the caller saw.
 abbrev pub double_answer : ℕ → ℕ → ℕ → ℕ → Double
 double_answer size largest count seen =

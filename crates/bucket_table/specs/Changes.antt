@@ -33,7 +33,7 @@ pub record Seeks (old new : Directory) (before after : Listing) (helper bucket :
       ≡ changes_after before.changes (length before.nodes - length after.nodes)
   pub rest : KeepsRest before after
 
--- The changes that a seek for a bucket makes, for each result.
+-- What changes when a helper seeks a bucket, for each result.
 abbrev pub SeekChanges : Directory → Directory → Listing → Listing → ℕ → ℕ
     → Result InitSeek InitRefusal → Type 0
 SeekChanges old new before after helper bucket (Ok Ready) = (new ≡ with_helper old helper Idle)
@@ -61,7 +61,7 @@ pub record LinksDummy (old new : Directory) (before after : Listing) (helper : �
   pub now : new ≡ with_helper old helper (Holding bucket place)
   pub links : LinksAt before after (pred_of cursor) bucket place
 
--- The changes that a link by a helper makes, for each result.
+-- What changes when a helper links its dummy, for each result.
 abbrev pub LinkChanges : Directory → Directory → Listing → Listing → ℕ
     → Result InitLink InitRefusal → Type 0
 LinkChanges old new before after helper (Ok Again) = (new ≡ with_helper old helper Idle)
@@ -79,7 +79,7 @@ pub record Stores (old new : Directory) (helper : ℕ) : Type 0 where
   pub had : helper_of old helper ≡ Some (Holding bucket place)
   pub now : new ≡ with_helper (with_dummy old bucket place) helper Idle
 
--- The changes that a store by a helper makes, for each result.
+-- What changes when a helper stores its dummy, for each result.
 abbrev pub StoreChanges : Directory → Directory → ℕ → Result Unit InitRefusal → Type 0
 StoreChanges old new helper (Ok done) = Stores old new helper
 StoreChanges old new helper (Err refusal) = new ≡ old

@@ -5,7 +5,7 @@ use Rattle.split_key.specs.Split.{parent_of, ancestor_of, IsPowerOfTwo}
 use Rattle.bucket_table.specs.declared.helper.Helper.{Helper}
 use Rattle.bucket_table.specs.declared.helper.Helper.TheVariants.{Idle, Seeking, Holding}
 
--- The size, the place of the dummy of each stored bucket, and each helper's state. The length of
+-- The size, the place of each stored bucket's dummy, and each helper's state. The length of
 -- `entries` is the largest size.
 pub record Directory : Type 0 where
   pub size : ℕ

@@ -32,7 +32,8 @@ pub record IsDummyAt (nodes : List NodeAt) (place bucket : ℕ) : Type 0 where
   pub kind : node.kind ≡ Dummy
   pub at : node.at ≡ dummy_at bucket
 
--- A dummy is linked at this place, and the position of the bucket's dummy is not before it.
+-- A dummy is linked at this place, and its position is not after the position of the bucket's
+-- dummy.
 pub record IsBeforeBucket (nodes : List NodeAt) (place bucket : ℕ) : Type 0 where
   pub node : NodeAt
   pub is : node_of nodes place ≡ Some node

@@ -35,7 +35,7 @@ help_of Idle = Nothing
 help_of (Seeking bucket cursor) = Sought bucket (change_number_of cursor)
 help_of (Holding bucket dummy) = Dummy bucket
 
--- `help_of` for the state of the helper with this number, if there is such a helper.
+-- What `help_of` gives for the helper with this number, if there is such a helper.
 abbrev pub help_at : Directory → ℕ → Option Help
 help_at d helper = option_map help_of (helper_of d helper)
 

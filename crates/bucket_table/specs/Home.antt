@@ -16,7 +16,8 @@ IsHelperHome l (Seeking bucket cursor) = IsPlaced l cursor × (at_of cursor ≡ 
 IsHelperHome l (Holding bucket dummy) = IsDummyAt l.nodes dummy bucket
 
 -- The buckets fit this list: each stored bucket names its linked dummy, and each helper's cursor or
--- dummy belongs to this list (`IsHelperHome`). `IsHome` still holds after a change of the list.
+-- dummy belongs to this list (`IsHelperHome`). If the list changes as `Follows` says, `IsHome`
+-- still holds.
 pub record IsHome (d : Directory) (l : Listing) : Type 0 where
   pub stored : (bucket place : ℕ) → dummy_of d bucket ≡ Some place → IsDummyAt l.nodes place bucket
   pub helpers : All (IsHelperHome l) d.helpers

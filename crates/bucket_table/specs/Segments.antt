@@ -1,4 +1,4 @@
--- A row of segments of 64 entries, and its flat list of entries.
+-- A row of segments with 64 entries each, and the flat list of the entries of all segments.
 use Rattle.std.specs.Prelude.{◌≡◌, ◌≢◌, ℕ, ◌+◌, ◌*◌, ◌/◌, ◌%◌, ◌<◌, ◌≤◌, ◌^◌, Bool, true, false, List, [], Option, Some, None, map, length, is_some, slice_index_or}
 use Rattle.std.specs.List.{range_with_len}
 
@@ -20,7 +20,7 @@ bucket_entries limit row = map (bucket_entry row) (range_with_len 0 limit)
 abbrev pub is_stored_in : List (Option ℕ) → ℕ → Bool
 is_stored_in entries bucket = is_some (slice_index_or entries bucket None)
 
--- No bucket of this bucket's segment is stored.
+-- No bucket in the same segment as this bucket is stored.
 abbrev pub LacksSegment : List (Option ℕ) → ℕ → Type 0
 LacksSegment entries bucket =
     (other : ℕ) → other / 64 ≡ bucket / 64 → is_stored_in entries other ≡ false
@@ -29,7 +29,7 @@ LacksSegment entries bucket =
 pub record IsSegment (entries : List (Option ℕ)) : Type 0 where
   pub width : length entries ≡ 64
 
--- A segment has this dummy at a place, and everywhere else its old entries.
+-- The new segment has this dummy at this place. All its other entries are those of the old segment.
 pub record Puts (old new : Option (List (Option ℕ))) (place dummy : ℕ) : Type 0 where
   pub segment : List (Option ℕ)
   pub there : new ≡ Some segment

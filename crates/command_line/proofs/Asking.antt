@@ -13,7 +13,7 @@ simple_and_free : is_simple_and_free command_line ≡ true
 unfolding clap_on_literals
 simple_and_free = refl
 
--- The call that a command and its arguments make, if a command was found.
+-- If a command was found, the call that `asked_in` makes of it and of its arguments.
 abbrev pub look : Option (Text × List Row) → Option Asked
 look = option_and_then (λ (found : Text × List Row). asked_in found.0 found.1)
 

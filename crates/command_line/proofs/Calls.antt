@@ -1,4 +1,4 @@
--- Lemmas about the call that the values found for the arguments make.
+-- Lemmas about the call that `asked_in` makes of a command and the values found for its arguments.
 use Rattle.std.proofs.Common.{◌≡◌, ℕ, Option, Some, None, codes, sym, ap, ◌∙◌}
 use Rattle.std.specs.Prelude.{option_and_then, option_map}
 use Rattle.clap.specs.declared.parser.matches.Found.{Found}

@@ -1,4 +1,4 @@
--- The call that the words of a command line spell, by the rules of `clap`.
+-- The call that a command line asks for. The rules of `clap` say how its words are read.
 use Rattle.std.specs.Prelude.{ℕ, ◌^◌, ◌&&◌, true, List, [], ◌∷◌, codes}
 use Rattle.std.specs.Prelude.{Option, Some, None, if◌then◌else◌, nat_lt, option_map}
 use Rattle.std.specs.Prelude.{option_and_then}
@@ -64,7 +64,8 @@ seed_of word =
     let seed = digits_value 10 word in
     if is_numeral word && nat_lt seed (2 ^ 64) then Some seed else None
 
--- The call of a command with this name, this seed and this file.
+-- The call of the command with this name, with this file and, for `mix`, with this seed. None if
+-- there is no such command, or if `mix` has no seed.
 abbrev pub asked_for : Text → Option ℕ → Text → Option Asked
 asked_for name seed file =
     if bytes_eq name (codes "mix") then option_map (λ n. (name, Some n, file)) seed
@@ -77,7 +78,7 @@ asked_in name rows = option_and_then (λ file.
     asked_for name (option_and_then seed_of (first_of (codes "seed") rows)) file)
     (first_of (codes "FILE") rows)
 
--- The call that was found, if there was no fault.
+-- The given call, or None if there is a fault.
 abbrev pub unless : Kinds → Option Asked → Option Asked
 unless [] found = found
 unless (kind ∷ kinds) found = None

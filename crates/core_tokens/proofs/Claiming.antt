@@ -41,12 +41,12 @@ plain_claim None m step other = refl
 plain_claim (Some trial) m (Ask c op) other = absurd (other c op refl)
 plain_claim (Some trial) m step other = refl
 
--- If a total is the length of the history, and grows by the number of a step's entries, it is the
--- length of the history after the step.
+-- If a total is the length of the history, adding the number of a step's entries to the total gives
+-- the length of the history after the step.
 pub counted_more : (h more es : List Entry) (total next : ℕ) → total ≡ length h → next ≡ total + length es → more ≡ h ++ es → next ≡ length more
 counted_more h more es total next counts adds is = omega (arith, counts, adds, simp length-append at (ap length is))
 
--- If `HasTriedFor` holds for a call, `HasTriedIf` holds for each step of the call's drive.
+-- If `HasTriedFor` holds for a call, `HasTriedStep` holds for the first step of the call.
 tried_first : (tried : Option Trial) (stripes c : ℕ) (call : Call) → HasTriedFor tried stripes call → HasTriedStep tried stripes (first_step c call)
 tried_first tried stripes c (calls.Op op) has = has
 tried_first tried stripes c call has = tt
@@ -61,8 +61,6 @@ tried_next k d has = tried_in k.claims.tried k.limits.stripes d.caller d.call d.
 pub tried_step : (tried : Option Trial) (stripes : ℕ) (d : Drive) (step : Step) → step_of d ≡ Some step → HasTriedIf tried stripes (step_of d) → HasTriedStep tried stripes step
 tried_step tried stripes d step is = subst (HasTriedIf tried stripes) is
 
--- If `HasTriedIf` holds for the next step of a drive, it still holds for the next step once the
--- drive has noted a size.
 tried_sized_in : (tried : Option Trial) (stripes c size : ℕ) (call : Call) (phase : Phase) → HasTriedIf tried stripes (step_in c call phase) → HasTriedIf tried stripes (step_in c call (sized_in size phase))
 tried_sized_in tried stripes c size call (Doubling seen) has = tt
 tried_sized_in tried stripes c size call phase has = has
@@ -72,8 +70,8 @@ tried_sized_in tried stripes c size call phase has = has
 pub may_next : {S : Type 0} (t k : Token S) (stripes size : ℕ) (d d' : Drive) → t ≡ k → stripes ≡ t.limits.stripes → d' ≡ sized_of size d → HasTriedNext k d → HasTriedIf t.claims.tried stripes (step_of d')
 may_next t k stripes size d d' view as_many sized has = rw (sized, as_many, view) (tried_sized_in k.claims.tried k.limits.stripes d.caller size d.call d.phase has)
 
--- Only a step that asks for an operation is refused with a stale word. Such a step is the first of
--- its call, so a stale word ends the call.
+-- Only a step that asks for an operation can be refused because of a stale word. Such a step is the
+-- first of its call, so the refusal ends the call.
 stale_asks : (claim : Claim) (m : State) (step : Step) → IsTrue (is_stale claim m step) → is_ask step ≡ true
 stale_asks claim m (Ask c op) stale = refl
 stale_asks Lock m step stale = absurd (false≢true stale)

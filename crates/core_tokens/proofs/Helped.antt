@@ -1,5 +1,5 @@
--- The holds of a call for help keep to the bucket of its key, and after the last hold this bucket
--- is stored.
+-- The target of a call for help. From the first hold on, the target is the bucket of the call's
+-- key. When the call has ended with `Helped`, this bucket is stored.
 use Rattle.std.proofs.Common.{ℕ, ◌%◌, ◌∙◌, ◌≡◌, Bool, List, None, Option, Some, ap, false, refl, subst, sym, true}
 use Rattle.core_tokens.proofs.Vocabulary.{Answer, Call, Claim, Doubling, Drive, End, Entry, Goes, HelpSuits, Helped, Initialising, IsWhole}
 use Rattle.core_tokens.proofs.Vocabulary.{Linking, Move, Phase, Refused, Seat, State, Step, Storing, Way, end_of, ended_by, false≢true}
@@ -47,8 +47,8 @@ helping_is d key is = λ i. record { caller = d.caller; call = is i; phase = d.p
 moved : (tried : Option Trial) (m n : State) (step : Step) (a : Answer) → is_ask step ≡ false → Goes (claim_in tried m step) m step a n → Move m step a n
 moved tried m n step a plain goes = subst (λ (claim : Claim). Goes claim m step a n) (plain_claim tried m step (λ x op is. absurd (false≢true (sym plain ∙ ap is_ask is)))) goes
 
--- A call for help with this key keeps to this bucket. If `known` holds, the bucket is stored when
--- the call has ended with `Helped`.
+-- The call is a call for help with this key, and this bucket is its target until it ends. If
+-- `known` holds and the call has ended with `Helped`, the bucket is stored.
 abbrev Told : Type 0 → State → ℕ → ℕ → Drive → Type 0
 Told known n key bucket e = (e.call ≡ calls.Help key) × Reaches known n bucket e.phase
 
@@ -65,7 +65,7 @@ module _ (known : Type 0) (tried : Option Trial) (c key bucket : ℕ) (n : State
   took_second m seen way again a to reaches second =
       subst (Told known n key bucket) (sym second.2) (refl, subst (λ x. Reaches known x bucket (told_init_seek way again a)) (sym second.0) reaches)
 
-  -- In each turn the call keeps to its bucket.
+  -- A turn does not change the target of the call.
   keeps : (m : State) (seen : List Entry) (phase : Phase) → (known → IsWhole m × HelpSuits m c phase) → IsTo bucket phase → Turned tried m seen (helping c key phase) n seen' e → Told known n key bucket e
   keeps m seen (Initialising way again) suits to turned =
       at_paired (λ t. TakesTurn tried m seen (helping c key (Initialising way again)) t n seen' e → Told known n key bucket e) again (steps.InitSeek c way.bucket) (steps.InitLink c)
@@ -81,8 +81,8 @@ begun : (known : Type 0) (tried : Option Trial) (m n : State) (seen seen' : List
 begun known tried m n seen seen' c key (Doubling size) e first doubling turned = took_last known tried c key (key % n.size) n seen' e refl turned.1 (double_reaches known m n key turned.0 (λ k same. first k))
 begun known tried m n seen seen' c key phase e first doubling turned = absurd doubling
 
--- If a call that keeps to its bucket has not ended, the bucket is its target. If the call has ended
--- with `Helped`, the bucket is stored.
+-- If `Reaches` holds for a bucket and the call has not ended, the bucket is the call's target. If
+-- the call has ended with `Helped`, the bucket is stored.
 going : (known : Type 0) (n : State) (c bucket : ℕ) (call : Call) (phase : Phase) → Reaches known n bucket phase → ended_by (turn_in c call phase) ≡ None → IsTo bucket phase
 going known n c bucket call Helped reaches none = absurd (cc none)
 going known n c bucket call (Refused r) reaches none = absurd (cc none)
@@ -97,8 +97,8 @@ at_end n c bucket call Helped reaches well = reaches tt
 at_end n c bucket call (Refused r) reaches well = absurd (cc well)
 at_end n c bucket call phase reaches well = absurd reaches
 
--- The first hold of a call for help gives the call the bucket of its key, and each later hold keeps
--- to this bucket.
+-- The first hold of a call for help makes the bucket of the call's key the target. No later hold
+-- changes the target.
 first_hold : {S : Type 0} (known : Type 0) (key : ℕ) (m n : State) (k l : Token S) (d e : Drive) (outcome : Option End) → IsPlain outcome → (known → is_set n.stored 0 ≡ true) → BeginsHelp key d → Held m k d outcome n l e → Told known n key (key % n.size) e × (end_of e ≡ outcome)
 first_hold {S} known key m n k l d e outcome plain first begins held =
     let turned = took m n k l d e outcome plain held in

@@ -16,7 +16,7 @@ use Rattle.txn_drive.specs.declared.call.Call.TheVariants as calls
 use Rattle.txn_words.specs.declared.seat.Phase.TheVariants as seats
 use Rattle.txn_words.specs.declared.step.Step.TheVariants as steps
 
--- The step for which a turn needs room, which is the last step of the turn.
+-- The last step of a turn. A turn needs room only for this step.
 abbrev pub asked_of : Turn → Option Step
 asked_of (One step) = Some step
 asked_of (Two step next) = Some next
@@ -35,8 +35,8 @@ room_for_none n step adds owes =
       save = λ is. absurd (false≢true (sym none.1 ∙ is));
     }
 
--- An open transaction owes at least one entry. So within it, a step that reserves nothing needs
--- room only for the entries that are owed, even if the step adds an entry.
+-- An open transaction owes at least one entry. So if a step of such a transaction reserves nothing,
+-- the room for the owed entries is enough for the step's entry too.
 open_owes : (standing : ℕ) (q : Standing) → is_closed q ≡ false → 0 < owed_in standing q
 open_owes standing seats.Closed is = absurd (false≢true (sym is))
 open_owes standing q is = omega arith

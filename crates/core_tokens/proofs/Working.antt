@@ -49,8 +49,8 @@ seek_refused m c r within there (inl is) =
     ∙ (λ i. cond (within i) (Some refusals.NoSuchCaller) (or_else (cond (there i) (Some refusals.NotOpen) (cond (not (has_target (seat_in m.history c))) (Some NothingToSeek) None)) None))) ∙ is)
 seek_refused m c r within there (inr lack) = absurd lack.1
 
--- If the phase of a call's work allows the answer to an act, the call may have the end that this
--- answer gives. `passes` and `ReplyIf` say which answers a phase allows.
+-- `passes` and `ReplyIf` say which answers to an act are allowed in the phase of a call's work. If
+-- an answer is allowed, the call may have the end that the answer gives.
 abbrev passes : (Standing → Bool) → Option Standing → Bool
 passes test None = false
 passes test (Some q) = test q

@@ -78,7 +78,7 @@ pub data Found : Type 0 where
   WasHeld : ℕ → Found
 
 -- If the caller has the right already, no word is tried. Otherwise the stripe's word is tried, and
--- the seat gets one more note, of this stripe with the word that was found. If the word was 0, the
+-- the seat gets one more note: this stripe, with the word that was found. If the word was 0, the
 -- caller gets the right. If not, the word names another seat.
 abbrev pub TriesAt : Found → Claimed → ℕ → Claimed → Type 0
 TriesAt InHand k stripe l = Holds k.seat stripe × (l ≡ record k { tried = trial stripe 0 })

@@ -10,7 +10,8 @@ abbrev pub IsDoubling : Phase → Type 0
 IsDoubling (Doubling seen) = Unit {0}
 IsDoubling phase = ⊥
 
--- The drive's call is help with this key, and the drive is in the phase that doubles the table.
+-- The drive's call is a call for help with this key, and the drive is in the phase that doubles the
+-- table.
 abbrev pub BeginsHelp : ℕ → Drive → Type 0
 BeginsHelp key d = (d.call ≡ calls.Help key) × IsDoubling d.phase
 
@@ -20,7 +21,7 @@ IsTo bucket (Linking way again) = way.target ≡ bucket
 IsTo bucket (Storing way) = way.target ≡ bucket
 IsTo bucket phase = ⊥
 
--- The drive's call is help with this key, and its target is the bucket that the key has at this
--- size.
+-- The drive's call is a call for help with this key. Its target is the bucket of this key in a
+-- table of this size.
 abbrev pub Heads : ℕ → ℕ → Drive → Type 0
 Heads key size d = (d.call ≡ calls.Help key) × IsTo (key % size) d.phase

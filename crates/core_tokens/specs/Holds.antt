@@ -55,9 +55,9 @@ abbrev pub out_if : Option End → Bool
 out_if None = false
 out_if (Some outcome) = is_out outcome
 
--- The next step of a drive may be taken. The rule of shape allows each seen entry, and the core has
--- as many stripes as there are words. If the step asks for an operation, the last trial was of the
--- stripe to which the operation's key belongs.
+-- The next step of a drive may be taken if three things hold. The rule of shape allows each seen
+-- entry. The core has as many stripes as there are words. If the step asks for an operation, the
+-- last trial was of the stripe to which the operation's key belongs.
 pub record MayTake (claims : Claimed) (m : State) (seen : List Entry) (d : Drive) : Type 0 where
   pub whole : is_some (seat_after seen) ≡ true
   pub stripes : m.limits.stripes ≡ claims.stripes
@@ -95,7 +95,7 @@ TakesTurn tried m seen d (Ended outcome) n seen' e = (n ≡ m) × (seen' ≡ see
 
 -- The hold took the drive's turn. The core took only the steps of the turn, only their entries were
 -- added to `seen`, and the drive was given their answers. The token breaks if the rule of shape
--- does not allow an entry, or if the call must not end in this way.
+-- does not allow an entry, or if the call has ended in a way that is not allowed for it.
 pub record TurnHeld {S : Type 0} (m : State) (k : Token S) (d : Drive) (outcome : Option End)
     (n : State) (l : Token S) (e : Drive) : Type 0 where
   pub sound : k.broken ≡ false
@@ -159,9 +159,9 @@ abbrev pub MayEnd : Call → End → Type 0
 MayEnd call (ends.Refused OutOfStep) = Unit {0}
 MayEnd call outcome = is_odd call outcome ≡ false
 
--- A call has ended in this way. Before the call, its caller had seen the entries `base`. If the
--- rule of shape allows each seen entry, and the call has ended with `OutOfStep`, it has committed
--- nothing.
+-- A call has ended with `outcome`. Before the call, its caller had seen the entries `base`. If the
+-- call has ended with `OutOfStep` and the rule of shape allows each seen entry, the call has
+-- committed nothing.
 pub record HasRun (base seen : List Entry) (c : ℕ) (call : Call) (outcome : End) : Type 0 where
   pub added : List Entry
   pub entries : seen ≡ base ++ added

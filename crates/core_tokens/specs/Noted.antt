@@ -32,7 +32,8 @@ pub record Noted : Type 0 where
 
 -- If the rule of shape allows each entry, the seat is the one that the entries give. `txn` is the
 -- number of the last transaction that the entries begin. There is room for all entries that the
--- caller owes. The share has one part, and its amount is the number of entries.
+-- caller owes. The caller's share of the ledger has one part, and the share's amount is the number
+-- of entries.
 pub record IsNoted (entries : Vec Entry) (seat : RoomySeat) (whole : Bool) (txn parts amount : ℕ) :
     Type 0 where
   pub fits : whole ≡ is_some (seat_after entries.items)

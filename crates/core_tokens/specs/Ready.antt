@@ -1,4 +1,4 @@
--- The refusal of a call by its token, and a token that was not made ready for a call.
+-- How a token refuses a call, and what happens if a token cannot be made ready for a call.
 use Rattle.std.specs.Prelude.{◌≡◌, ◌≤◌, ◌⊎◌, if◌then◌else◌, Bool, true, false, length, Option}
 use Rattle.std.specs.Prelude.{Some, None}
 use Rattle.std.specs.Option.{option_or}

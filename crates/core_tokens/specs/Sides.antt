@@ -1,4 +1,4 @@
--- What a call does to its caller's side value. `words` gives the words of a side value.
+-- What a call does to its caller's side value. The function `words` turns a side value into words.
 use Rattle.std.specs.Prelude.{ℕ, ◌<◌, List, length}
 use Rattle.txn_words.specs.declared.answer.Answer.TheVariants as answers
 use Rattle.txn_drive.specs.declared.call.Call.{Call}
@@ -25,7 +25,8 @@ CanFollow (ends.Answered (answers.Saved n)) side = 0 < side.save_room
 CanFollow (ends.Answered (answers.Returned n)) side = n < length side.levels
 CanFollow outcome side = Unit {0}
 
--- The side value can follow each end that this call may have.
+-- For each end that this call may have, the side value can be changed as the end requires
+-- (`CanFollow`).
 abbrev pub IsReadyFor : {S : Type 0} → Call → Leveled S → Type 0
 IsReadyFor calls.Save side = 0 < side.save_room
 IsReadyFor (calls.Back n) side = n < length side.levels

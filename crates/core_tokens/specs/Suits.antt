@@ -38,7 +38,7 @@ abbrev pub is_help : Call → Bool
 is_help (calls.Help key) = true
 is_help call = false
 
--- Whether a call that its token has not refused may end with this refusal.
+-- True if a call may end with this refusal although the call's token has not refused the call.
 abbrev pub may_refuse : Call → Refusal → Bool
 may_refuse calls.Begin NoMemory = true
 may_refuse (calls.Op op) NoMemory = true
@@ -88,8 +88,8 @@ Suits m s c call (Last work answer) = is_odd call (end_last call work answer) �
 Suits m s c call (Refused refusal) = is_odd call (ends.Refused refusal) ≡ false
 Suits m s c call phase = (is_help call ≡ true) × HelpSuits m c phase
 
--- The core has these limits, the caller's entries in the core's history are those that were seen,
--- and the caller's seat, cursor and helper fit the drive's phase.
+-- The core has these limits. The seen entries are exactly the caller's entries in the core's
+-- history. The caller's seat, cursor and helper fit the drive's phase.
 pub record IsInStep (m : State) (limits : Sizes) (c : ℕ) (seen : List Entry) (d : Drive) : Type 0
   where
     pub same_limits : m.limits ≡ limits

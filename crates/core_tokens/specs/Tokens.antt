@@ -64,13 +64,13 @@ pub record IsNumbered (number : ℕ) (limits : Sizes) (claims : Claimed) : Type 
   pub number_is : claims.seat.number ≡ number
   pub stripes : claims.stripes ≡ limits.stripes
 
--- The claims of a pass that has not made its caller: they have the pass's number, no word was
--- tried, and no right is held.
+-- The claims of a pass that has not made its caller. The seat has the number of the pass, no word
+-- was tried, and no right is held.
 pub record IsUnused (number : ℕ) (limits : Sizes) (claims : Claimed) : Type 0 where
   pub seat : IsNumbered number limits claims
   pub idle : IsIdle claims
 
--- Whether no transaction is open at a seat. Also true if there is no seat.
+-- True if the seat has no open transaction, or if there is no seat.
 abbrev pub is_over : Option Seat → Bool
 is_over None = true
 is_over (Some s) = is_closed s.phase

@@ -28,8 +28,8 @@ is_blank line = list_all is_space line
 abbrev pub ranged_entry : Entry → Result (Option Entry) FileFault
 ranged_entry entry = if is_in_range entry then Ok (Some entry) else Err Limit
 
--- The entry that was found. The fault is `Member` if there is no entry, and `Limit` if a caller is
--- out of range.
+-- The entry that was found, or a fault. The fault is `Member` if no entry was found, and `Limit` if
+-- a caller is out of range.
 abbrev pub entry_found : Option Entry → Result (Option Entry) FileFault
 entry_found found = or_fault Member found >>= ranged_entry
 

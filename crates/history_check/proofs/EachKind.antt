@@ -37,8 +37,7 @@ breaks_none holder stripes g e is = at (is_shaped g e) (replies_hold (g ++ e ∷
     at true true false h = absurd (cc (h))
     at true true true h = (refl, refl, refl)
 
--- If the three tests of an entry give `a`, `b` and `c`, these determine which rule the entry
--- breaks.
+-- The results `a`, `b` and `c` of an entry's three tests determine which rule the entry breaks.
 pub broken_by : (holder : Holder) (stripes : ℕ) (g : List Entry) (e : Entry) (a b c : Bool) → is_shaped g e ≡ a → replies_hold (g ++ e ∷ []) ≡ b → is_locked holder stripes g e ≡ c
     → broken holder stripes g e ≡ cond {A = Option ℕ} (not a) (Some 3) (cond {A = Option ℕ} (not b) (Some 1) (cond {A = Option ℕ} (not c) (Some 2) None))
 broken_by holder stripes g e a b c shaped right locked = λ i. cond {A = Option ℕ} (not (shaped i)) (Some 3) (cond {A = Option ℕ} (not (right i)) (Some 1) (cond {A = Option ℕ} (not (locked i)) (Some 2) None))

@@ -43,7 +43,7 @@ busy-begun {holder} stripes h legal c op begun x other =
     ∙ ap (λ b. not b && has_begun x h) (ne_eqb x c other)
 
 module _ {holder : Holder} (stripes : ℕ) (h : List Entry) (legal : IsLegal holder stripes h) (live : LiveMap) (t : Shows holder stripes h live) (c : ℕ) where
-  -- If a caller gives its stripes back, they become free, and the other stripes keep their holders.
+  -- If a caller releases its stripes, they become free, and the other stripes keep their holders.
   pub released : (new : List (Option ℕ)) → locks.Releases c live.locks new → (s : ℕ) → s < stripes → locks.holder_of new s ≡ cond (option_eq nat_eq (holder_of stripes s h) (Some c)) None (holder_of stripes s h)
   released new is s below = is.each s ∙ ap (locks.without_caller c) (t.holders s below) ∙ without c (holder_of stripes s h)
 

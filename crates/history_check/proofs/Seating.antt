@@ -26,8 +26,9 @@ use Rattle.history_check.specs.Callers.{seat_of, log_in, Enters, HasRoom, HasRoo
 use Rattle.history_check.specs.Logs.{log_entered, log_replied}
 use Rattle.history_check.proofs.EachKind.{did_waits, undone_some}
 
--- If `P i` holds for the written element, and `P k` held before for every other element, then `P k`
--- holds for every element after the write.
+-- Suppose that `P i` holds for the element written at index `i`. If `P k` held before for the
+-- element at every other index `k`, then `P k` holds after the write for the element at every index
+-- `k`.
 pub each-set : {A : Type 0} (P : ℕ → A → Type 0) (xs : List A) (i : ℕ) (a : A) → P i a → ((k : ℕ) → k ≢ i → IfSome (slice_get xs k) (P k)) → (k : ℕ) → IfSome (slice_get (set xs i a) k) (P k)
 each-set P [] i a here others k = tt
 each-set P (x ∷ xs) zero a here others zero = here

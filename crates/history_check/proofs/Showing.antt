@@ -18,7 +18,8 @@ use Rattle.history_check.proofs.EachKind.{broken_by, next-began, next-busy, next
 use Rattle.history_check.proofs.Seating.{seat_there}
 
 module _ {holder : Holder} (stripes : ℕ) (h : List Entry) (legal : IsLegal holder stripes h) (live : LiveMap) (shows : Shows holder stripes h live) (e : Entry) (shaped : is_shaped h e ≡ true) (answered : replies_hold (h ++ e ∷ []) ≡ true) where
-  -- If the entry keeps the rule of locks, it breaks no rule.
+  -- If an entry with the right shape and the right reply also keeps the rule of locks, it breaks no
+  -- rule.
   pub fine : is_locked holder stripes h e ≡ true → broken holder stripes h e ≡ None
   fine locked = broken_by holder stripes h e true true true shaped answered locked
 

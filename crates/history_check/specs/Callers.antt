@@ -28,8 +28,8 @@ seat_of caller = caller.seat.seat
 abbrev pub log_in : Caller → List (ℕ × Option ℕ)
 log_in caller = reverse caller.changes.items
 
--- `new` has the seat and the changes that `old` has after the entry. `new` has begun a transaction
--- if `old` had, or if the entry begins one.
+-- `new` is the caller `old` after the entry: the seat and the changes of `new` follow from those of
+-- `old`. `new` has begun a transaction if `old` had, or if the entry begins one.
 pub record Enters (e : Entry) (old new : Caller) : Type 0 where
   pub seat : row (seat_of old) (seat_of old).phase e ≡ Some (seat_of new)
   pub log : log_in new ≡ log_entered (seat_of old).phase (log_in old) e
@@ -58,7 +58,7 @@ pub record HaveEntered (h : List Entry) (callers : Callers) : Type 0 where
   pub commits : callers.committed ≡ how_many is_commit h
   pub seats : (c : ℕ) → IfSome (slice_get callers.table.items c) (Sits h c)
 
--- The caller of an entry has room for it.
+-- The caller of an entry has room for what the entry adds.
 abbrev pub HasRoomFor : Entry → Callers → Type 0
 HasRoomFor e callers = IfSome (slice_get callers.table.items (caller_of e)) (HasRoom e)
 

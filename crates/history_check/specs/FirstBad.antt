@@ -1,5 +1,5 @@
 -- The first bad entry of a history, for any rules. The function `broken` says which rule an entry
--- breaks after the entries before it.
+-- breaks, given the entries before it.
 use Rattle.std.specs.Prelude.{◌≡◌, ℕ, ◌+◌, Option, Some, None, List, [], ◌∷◌, ◌++◌, length}
 use Rattle.txn_words.specs.declared.entry.Entry.{Entry}
 use Rattle.txn_words.specs.Kinds.{is_commit}

@@ -17,8 +17,8 @@ Consumes-more (Some us) None c xs ys p q = absurd p
 Consumes-more (Some us) (Some vs) None xs ys p q = absurd q
 Consumes-more (Some us) (Some vs) (Some ws) xs ys p q = p ∙ ap (λ (s : List ℕ). xs ++ s) q ∙ sym (append_assoc xs ys ws)
 
--- If `P` holds for the bytes that were read, whatever bytes follow them, it holds for all bytes
--- that the reader had left.
+-- Assume that `P` holds for the bytes that were read, followed by any further bytes. Then `P` holds
+-- for all bytes that the reader had left.
 pub OfAll-early : (P : List ℕ → Type 0) (a b : Option (List ℕ)) (xs : List ℕ) → Consumes a b xs → ((more : List ℕ) → P (xs ++ more)) → (bytes : List ℕ) × IfSome a (λ all. bytes ≡ all) × P bytes
 OfAll-early P None b xs p h = (xs ++ [], tt, h [])
 OfAll-early P (Some us) None xs p h = absurd p

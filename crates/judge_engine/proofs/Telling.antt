@@ -26,7 +26,7 @@ count_push kind os o =
     one true = refl
     one false = refl
 
--- One more outcome raises the count of a kind by one if it is of this kind. Otherwise the count is
+-- If one more outcome is of a kind, the count of this kind rises by one. Otherwise the count is
 -- unchanged.
 pub count_more : (kind : Kind) (os : List Outcome) (i : ℕ) (d : Outcome) → i < length os → how_many kind (take (i + 1) os) ≡ how_many kind (take i os) + cond (is_kind kind (get_or os i d)) 1 0
 count_more kind os i d within = ap (how_many kind) (take_more os i d within) ∙ count_push kind (take i os) (get_or os i d)
@@ -52,8 +52,8 @@ lines_more workers os i d within =
     ap (outcome_lines workers 0) (take_more os i d within) ∙ lines_push workers 0 (take i os) (get_or os i d)
     ∙ ap (λ k. outcome_lines workers 0 (take i os) ++ outcome_line workers k (get_or os i d)) place
 
--- If a text is `start` and the lines of the first `i` outcomes, and the next outcome's line is
--- added, the text is `start` and the lines of the first `i + 1` outcomes.
+-- If a text is `start` followed by the lines of the first `i` outcomes, adding the next outcome's
+-- line gives `start` followed by the lines of the first `i + 1` outcomes.
 pub grown_lines : (new old start : List ℕ) (workers : ℕ) (os : List Outcome) (i : ℕ) (d : Outcome) → new ≡ old ++ outcome_line workers i (get_or os i d) → old ≡ start ++ outcome_lines workers 0 (take i os) → i < length os
     → new ≡ start ++ outcome_lines workers 0 (take (i + 1) os)
 grown_lines new old start workers os i d line before within =

@@ -13,7 +13,7 @@ use Rattle.judge_engine.specs.declared.basis.Basis.TheVariants.{Locks, Commits}
 use Rattle.judge_engine.specs.declared.judge.Judge.{Judge}
 use Rattle.judge_engine.specs.declared.judge.Judge.TheVariants as judges
 
--- If the rules are those of locks, they have at least one stripe.
+-- If the rules are those of locks, there is at least one stripe.
 abbrev pub HasStripes : Basis → Type 0
 HasStripes (Locks stripes holder) = 0 < stripes
 HasStripes Commits = Unit {0}

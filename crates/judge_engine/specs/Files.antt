@@ -33,8 +33,8 @@ IsUnjudgedFile bytes Read = Unit {0}
 IsUnjudgedFile bytes (Line number fault) = ⊥
 IsUnjudgedFile bytes Write = ⊥
 
--- `P` holds for the bytes that were read. These are all bytes that the reader had left, but at most
--- one more than a file may have.
+-- `P` holds for the bytes that were read. Reading takes all bytes that the reader had left, but at
+-- most one byte more than a file may have.
 abbrev pub OfFile : Option (List ℕ) → (List ℕ → Type 0) → Type 0
 OfFile remaining P = (bytes : List ℕ) × IfSome remaining (λ all. bytes ≡ take max_read all) × P bytes
 

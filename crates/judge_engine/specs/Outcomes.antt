@@ -1,4 +1,4 @@
--- The outcomes of a script file's scripts in a history file.
+-- Which outcome each script of a script file has in the history of a history file.
 use Rattle.std.specs.Prelude.{◌≡◌, ◌↔◌, ℕ, ◌%◌, Bool, true, false, List, [], ◌∷◌, ◌++◌, length, Option, Some, Ok, Err, slice_get, codes, decimal}
 use Prim.Native.Nat.{suc}
 use Rattle.std.specs.List.{filter}
@@ -101,7 +101,7 @@ abbrev pub IsWell : List (List Action) → List Outcome → Type 0
 IsWell scripts os = (n : ℕ) (script : List Action) → slice_get scripts n ≡ Some script
     → slice_get os n ≡ Some outcomes.GivenUp → has_abort script ≡ true
 
--- The text has the outcomes that the scripts of a script file have in the history of a history
+-- The text says which outcome each script of the script file has in the history of the history
 -- file. `well` is true exactly if each script that is given up has an abort.
 pub record IsOutcomesText (scripts history text : List ℕ) (well : Bool) : Type 0 where
   pub work : Work
@@ -125,14 +125,14 @@ abbrev pub HistoryOf : List Entry → List ℕ → Type 0
 HistoryOf entries bytes =
     (stripes : ℕ) × (version : ℕ) × (history_of bytes ≡ Ok (stripes, entries, version))
 
--- Why there are no scripts in the file that a reader gives.
+-- Why no scripts were read: the script file is refused, a read failed, or memory is refused.
 abbrev pub FailsForScripts : Option (List ℕ) → OutcomesFault → Type 0
 FailsForScripts left (Scripts fault) = OfFile left (λ bytes. scripts_of bytes ≡ Err fault)
 FailsForScripts left ScriptsRead = Unit {0}
 FailsForScripts left NoMemory = Unit {0}
 FailsForScripts left fault = ⊥
 
--- Why there is no history in the file that a reader gives.
+-- Why no history was read: the history file is refused, a read failed, or memory is refused.
 abbrev pub FailsForHistory : Option (List ℕ) → OutcomesFault → Type 0
 FailsForHistory left (History fault) = OfFile left (λ bytes. history_of bytes ≡ Err fault)
 FailsForHistory left HistoryRead = Unit {0}

@@ -13,10 +13,10 @@ abbrev pub ahead : List Entry → List Entry × Option (ℕ × FileFault)
     → List Entry × Option (ℕ × FileFault)
 ahead h more = (h ++ more.0, more.1)
 
--- If no line was refused, the lines of the bytes have the entries `h`, and after these lines the
--- bytes have `part`, the beginning of line `number`. If a line was refused, the lines before it
--- have the entries `h`, and `refused` has the line's number and its fault. In either case, this
--- stays true whatever bytes follow.
+-- If no line was refused, the complete lines of the bytes have the entries `h`. After these lines
+-- the bytes end with `part`, the beginning of line `number`. If a line was refused, the lines
+-- before it have the entries `h`, and `refused` has the line's number and its fault. In either
+-- case, this stays true whatever bytes follow.
 abbrev pub HasWatched : List ℕ → List Entry → List ℕ → ℕ → Option (ℕ × FileFault) → Type 0
 HasWatched bytes h part number None =
     IsUnbroken part × ((more : List ℕ) → history_of_lines (bytes ++ more)

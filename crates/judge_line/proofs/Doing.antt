@@ -36,7 +36,7 @@ not_opened IsDone P (Err e) failure memory read (inl is) err = subst (ByFault P)
 not_opened IsDone P (Err e) failure memory read (inr is) err = subst (ByFault P) (sym (err ∙ is)) read
 
 -- If `check` has written the line of a verdict on the source with this name, `RunsCall` holds for
--- it.
+-- this run.
 pub check_done : (by_commits : Bool) (name : Text) (files : Files) (bytes old new : Option (List ℕ)) (well : Bool) → Holds (files name) bytes → WritesLine (Checks by_commits bytes) well old new
     → RunsCall (asked.Check by_commits name) files old new (Ok well)
 check_done by_commits name files bytes old new well same = writes_line _ _ well old new (λ v. of_file (files name) bytes _ same)
@@ -69,7 +69,7 @@ why_not_opened by_commits name files old outcome failure =
     not_opened (λ well. WritesLines (Checks by_commits (files name)) well old old) (FailsToExplain (files name)) outcome failure tt tt
 
 -- If `watch` has written the line of a verdict on the entries of standard input, `RunsCall` holds
--- for it.
+-- for this run.
 pub watch_done : (basis : Basis) (files : Files) (bytes old new : Option (List ℕ)) (well : Bool) → Holds (files (codes "-")) bytes → WritesLine (Watches basis bytes) well old new
     → RunsCall (asked.Watch basis) files old new (Ok well)
 watch_done basis files bytes old new well same = writes_line _ _ well old new (λ v. of_all (files (codes "-")) bytes _ same)
@@ -87,7 +87,7 @@ watch_not_opened basis files old outcome failure =
     let known = files (codes "-") in
     not_opened (λ well. WritesLine (Watches basis known) well old old) (LeavesOutput (Watches basis known) (FailsToWatch basis known) old old) outcome failure (keeps_same old) (keeps_same old)
 
--- If `outcomes` has written a report on the two sources, `RunsCall` holds for it.
+-- If `outcomes` has written a report on the two sources, `RunsCall` holds for this run.
 pub outcomes_done : (scripts history : Text) (files : Files) (left right old new : Option (List ℕ)) (well : Bool) → Holds (files scripts) left → Holds (files history) right → WritesOutcomes left right old new well
     → RunsCall (asked.Outcomes scripts history) files old new (Ok well)
 outcomes_done scripts history files left right old new well one two = writes_outcomes (files scripts) (files history) left right old new well one two

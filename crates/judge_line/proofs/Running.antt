@@ -12,13 +12,11 @@ use Rattle.judge_line.specs.Words.{Asked, Spells}
 use Rattle.judge_line.specs.Runs.{RunsCall, DoesNothing, Files, RunResult, Runs, memory_or}
 use Rattle.judge_line.proofs.Doing.{keeps_same}
 
--- `memory_or` returns `NoMemory` or the other failure.
+-- The result of `memory_or` is either `NoMemory` or the other failure.
 pub memory_or_is : (kind : ErrorKind) (other : Failure) → (memory_or kind other ≡ Fault faults.NoMemory) ⊎ (memory_or kind other ≡ other)
 memory_or_is OutOfMemory other = inl refl
 memory_or_is kind other = inr refl
 
--- Assume that the words of `spoken`, if it has any, are equal to `words`. If `P` holds for `words`,
--- it then holds for the words of `spoken`.
 of_known : (spoken : Option (List Text)) (words : List Text) (P : List Text → Type 0) → IfSome spoken (λ known. words ≡ known) → P words → IfSome spoken P
 of_known None words P same holds = tt
 of_known (Some known) words P same holds = subst P same holds

@@ -19,7 +19,7 @@ use Rattle.judge_line.specs.declared.program.TheConstants.{VERSION}
 use Rattle.judge_line.specs.Failures.{message_of, status_of}
 use Rattle.judge_line.specs.Words.{Asked, Spells, Check, Why, Watch, Outcomes, Help, Version}
 
--- The outcome of a run: whether all is well, or a failure.
+-- The outcome of a run: a Boolean that says whether all is well, or a failure.
 abbrev pub RunResult : Type 0
 RunResult = Result Bool Failure
 
@@ -36,12 +36,13 @@ ByFault P failure = ⊥
 abbrev pub EndsWith : (Bool → Type 0) → (Fault → Type 0) → RunResult → Type 0
 EndsWith IsDone HasFailed outcome = MatchResult outcome IsDone (ByFault HasFailed)
 
--- A text and a line feed are written, and all is well.
+-- A text and a line feed are written, and `well` is true.
 abbrev pub Prints : Text → Option (List ℕ) → Option (List ℕ) → Bool → Type 0
 Prints text old new well = (well ≡ true) × Appends old new (text ++ 10 ∷ [])
 
--- Standard output after `outcomes` has failed. After a fault of the engine, it is as
--- `LeavesOutcomes` says. If memory was refused before the engine was called, it is unchanged.
+-- What standard output has after `outcomes` has failed. After a fault of the engine,
+-- `LeavesOutcomes` says what was written. If memory was refused before the engine was called,
+-- standard output is unchanged.
 abbrev pub LeavesBoth : Option (List ℕ) → Option (List ℕ) → Option (List ℕ) → Option (List ℕ)
     → Failure → Type 0
 LeavesBoth scripts history old new (failures.Outcomes fault) =
@@ -69,8 +70,8 @@ RunsCall Help files old new = EndsWith (Prints USAGE.now old new) (λ fault. fau
 RunsCall Version files old new = EndsWith (Prints VERSION.now old new)
     (λ fault. fault ≡ faults.Write)
 
--- Nothing was done and nothing was written. Either memory was refused, or the words ask for no call
--- (if the words are known).
+-- Nothing was done and nothing was written. The failure is that memory was refused, or it is
+-- `Usage`. If it is `Usage` and the words are known, they ask for no call.
 abbrev pub DoesNothing : Option (List Text) → Option (List ℕ) → Option (List ℕ) → Failure → Type 0
 DoesNothing spoken old new failures.Usage =
     Keeps old new × IfSome spoken (λ words. Spells words None)

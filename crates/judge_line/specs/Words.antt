@@ -21,8 +21,8 @@ use Rattle.judge_line.specs.declared.words.Call.TheVariants as calls
 
 -- A call of the program. `Check` judges the history file with this name, by the order of commits or
 -- by locks. `Why` does so too, and says what leads to the bad entry. `Watch` judges the entries of
--- standard input by these rules. `Outcomes` says what became of each script of a script file in a
--- history file. `Help` and `Version` show the usage and the version.
+-- standard input by these rules. `Outcomes` reads a script file and a history file, and says what
+-- became of each script. `Help` and `Version` show the usage and the version.
 pub data Asked : Type 0 where
   Check : Bool → Text → Asked
   Why : Bool → Text → Asked
@@ -107,7 +107,7 @@ basis_for true (Some word) = None
 basis_for false None = Some (Locks max_stripes Begun)
 basis_for false (Some word) = option_map (λ stripes. Locks stripes Begun) (stripes_in_word word)
 
--- The call for the outcomes of these files, or none if both are standard input.
+-- The call for the outcomes of these files, or None if both files are standard input.
 abbrev pub outcomes_for : Text → Text → Option Asked
 outcomes_for scripts history =
     if bytes_eq scripts (codes "-") && bytes_eq history (codes "-")
@@ -128,20 +128,21 @@ asked_in name rows =
     then option_map (Why by_commits) (first_of (codes "FILE") rows)
     else None
 
--- The call that words ask for, if `clap` returns an error of this kind for them. `clap` also
--- returns an error if the words ask for help or for the version.
+-- The call that a command line asks for if `clap` returns an error of this kind. If the words ask
+-- for help or for the version, `clap` returns an error too, with a kind of its own. For every other
+-- kind, the result is `None`.
 abbrev pub answer_to : ErrorKind → Option Asked
 answer_to DisplayHelp = Some Help
 answer_to DisplayVersion = Some Version
 answer_to kind = None
 
--- The error is not that memory was refused. If `clap` returns an error of this kind for some words,
--- they ask for the call `what`, or for no call if `what` is `None`.
+-- `kind` is not the error that memory was refused. `what` is the call that `answer_to` gives for
+-- errors of this kind, or `None` if the words ask for no call.
 abbrev pub IsCallOf : ErrorKind → Option Asked → Type 0
 IsCallOf kind what = (kind ≡ OutOfMemory → ⊥) × (what ≡ answer_to kind)
 
--- If `clap` can return errors of some kinds for the words, the call is the one that `answer_to`
--- gives for one of these kinds. If there is no such kind, the call is that of the command that was
+-- If `clap` can return errors for the words, `what` is the call that `answer_to` gives for the kind
+-- of one of these errors. If `clap` can return no error, `what` is the call of the command that was
 -- found.
 abbrev pub SpellsBy : Kinds → Option (Text × List Row) → Option Asked → Type 0
 SpellsBy [] found what = what ≡ option_and_then (λ command. asked_in command.0 command.1) found

@@ -1,5 +1,5 @@
--- A lock puts a stripe at the front of its caller's chain, and each step of a release removes the
--- chain's first stripe.
+-- `lock` puts a stripe at the front of its caller's chain, and each step of `release_all` removes
+-- the chain's first stripe.
 use Prim.Native.Nat.{zero, suc}
 use Rattle.std.proofs.Common.{◌≡◌, ◌≢◌, ℕ, ◌<◌, ◌≤◌, List, [], ◌∷◌, length, get_or, set, replicate, Option, None, Some, true, false, cond, ◌||◌, refl, sym, ◌∙◌, ap, subst, arith, inl, inr, eqb, eq-eqb, ne_eqb, length-set, get_or-set_other, get_or-set_same}
 use Rattle.std.proofs.lemmas.Bool.{cases_eq, cases_lt, or_parts, or_left, eqb-true, eqb-false}
@@ -202,8 +202,8 @@ AreChained-freed holders older newest caller stripe are below is =
     ))
     (none_else-freed holders stripe is.within are.none_else)
 
--- Before the first lock, `AreChained` holds: all three lists hold only `None`, and every chain is
--- empty.
+-- Before any stripe is locked, `AreChained` holds: all three lists hold only `None`, and every
+-- chain is empty.
 pub AreChained-new : (stripes : ℕ) (holders older newest : Holders) → holders ≡ replicate stripes None → older ≡ replicate stripes None → newest ≡ replicate 64 None → AreChained holders older newest
 AreChained-new stripes holders older newest holders_is older_is newest_is = record {
   as_many = ap length (older_is ∙ sym holders_is);

@@ -1,4 +1,4 @@
--- The effect of a lock and of a release on the list of the stripes' holders.
+-- The effect of `lock` and of `release_all` on the list of the stripes' holders.
 use Rattle.std.specs.Prelude.{◌≡◌, ◌≢◌, ℕ, ◌⊎◌, List, length, slice_index_or, Option, None, Some, Bool, false, ◌==◌, if◌then◌else◌}
 use Rattle.key_locks.specs.declared.lock_answer.LockAnswer.{LockAnswer}
 use Rattle.key_locks.specs.declared.lock_answer.LockAnswer.TheVariants.{Granted, Busy}
@@ -26,13 +26,13 @@ pub record Refuses (caller stripe holder : ℕ) (old new : List (Option ℕ)) : 
   pub by_another : holder ≢ caller
   pub same : new ≡ old
 
--- The effect of a lock. If the answer is `Granted`, the holders satisfy `Grants`. If it is `Busy`,
+-- The effect of `lock`. If the answer is `Granted`, the holders satisfy `Grants`. If it is `Busy`,
 -- they satisfy `Refuses`.
 abbrev pub Locks : ℕ → ℕ → List (Option ℕ) → LockAnswer → List (Option ℕ) → Type 0
 Locks caller stripe old Granted new = Grants caller stripe old new
 Locks caller stripe old (Busy holder) new = Refuses caller stripe holder old new
 
--- The holder of a stripe after the caller's release.
+-- The holder of a stripe after the caller has released all its stripes.
 abbrev pub without_caller : ℕ → Option ℕ → Option ℕ
 without_caller caller holder = (if is_caller caller holder then None else holder)
 

@@ -98,7 +98,8 @@ front_of hs c x k ks e ne lx lk at = let a : Act (Option ℕ) = chain gives (cha
       l₃ ∙ l₂ ∙ l₁,
     ))
 
--- The effect of an act that moves the slot of the stripe `k` to the front.
+-- The act `a` moves the slot of the stripe `k` to the front of the carried slots, and leaves the
+-- homes unchanged.
 pub record Fronts (hs : Slots) (k : ℕ) (ks : List ℕ) (a : Act (Option ℕ)) : Type 0 where
   pub valid : Valid hs (emptied ks) a
   pub order : carried_after (emptied ks) a ≡ emptied (k ∷ removed k ks)

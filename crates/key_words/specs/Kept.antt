@@ -17,10 +17,10 @@ abbrev pub Gains : Rights → ℕ → Rights → Type 0
 Gains r stripe q = (known q.seat ≡ gained (known r.seat) stripe)
     × (q.rights.items ≡ r.rights.items ++ stripe ∷ [])
 
--- The result of a take by a caller that keeps its rights. `Mine`: the stripe's right is at the
--- position `place`. If the seat held the stripe before, nothing has changed. If not, the stripe was
--- free, and the seat holds it now. `Another`: another seat held the stripe. The seat has noted the
--- word, and the rights are unchanged.
+-- The result when a caller that keeps its rights tries to take a stripe. `Mine`: the stripe's right
+-- is at the position `place`. If the seat held the stripe before, nothing has changed. If not, the
+-- stripe was free, and the seat holds it now. `Another`: another seat held the stripe. The seat has
+-- noted the stripe's word, and the rights are unchanged.
 abbrev pub Tries : Rights → ℕ → Tried → Rights → Type 0
 Tries r stripe (Mine place) q = (slice_get q.rights.items place ≡ Some stripe)
     × (Holds (known r.seat) stripe → IsSame r q)

@@ -1,4 +1,4 @@
--- The rule of the words, which holds between any two atomic steps.
+-- The rule about the stripes' words. It holds between any two atomic steps.
 use Rattle.std.specs.Prelude.{◌≡◌, ◌≢◌, ℕ, ◌+◌, ◌<◌, ◌⊎◌, List, length, slice_index, Contains, Option, Some}
 use mathlib.Core.Option.{some, none}
 use lib.ListN.{get_elem?}

@@ -1,4 +1,4 @@
--- How contracts see the words and a seat.
+-- How contracts describe the words and a seat.
 use Rattle.std.specs.Prelude.{◌≡◌, ◌≢◌, ◌↔◌, ℕ, ◌+◌, ◌<◌, List, [], length}
 use Rattle.std.specs.List.{HoldsAt}
 use Rattle.key_words.specs.declared.view.View.{View}
@@ -21,9 +21,9 @@ IsOf seat words = seat.seat.table_id ≡ words.table.shared.table_id
 abbrev pub stripes_of : KeyWords → ℕ
 stripes_of words = words.table.shared.table_id.words
 
--- A take of a stripe adds a note of the word that it saw. `Granted`: the word was 0, and the seat
--- now has the stripe and its right. `Held`: the word was not 0. It named this seat exactly if the
--- seat held the stripe before.
+-- The result when a seat tries to take a stripe. The seat notes the word that it found. `Granted`:
+-- the word was 0, and the seat now has the stripe and its right. `Held`: the word was not 0. It
+-- named this seat exactly if the seat held the stripe before.
 abbrev pub Takes : ℕ → View → Taken → View → Type 0
 Takes stripe v (Granted right) w = (right ≡ stripe) × (w ≡ gained v stripe)
 Takes stripe v (Held word) w = (word ≢ 0) × (w ≡ with_note v stripe word)

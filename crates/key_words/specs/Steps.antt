@@ -1,4 +1,4 @@
--- How each step at the words changes the seat that takes the step.
+-- How each step on the words changes the seat that takes the step.
 use Rattle.std.specs.Prelude.{◌≡◌, ◌≢◌, ◌↔◌, ℕ, ◌+◌, List, [], ◌∷◌, ◌++◌, Option, Some, None}
 use Rattle.atomic_table.specs.Table.{Me, Step, rest}
 use Rattle.txn_words.specs.Held.{removed}

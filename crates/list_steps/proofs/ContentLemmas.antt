@@ -76,7 +76,7 @@ module _ (nodes : List NodeAt) (place : ℕ) (n : NodeAt) (is : node_of nodes pl
   at : IsAt nodes place n
   at = found_at nodes place n is
 
-  -- If a node is linked, its pair, if it has one, is added to the content.
+  -- Linking a node adds the node's pair to the content, if the node has one.
   pub pairs_linked : (x : NodeAt) → Replaces (pairs nodes) (pairs (linked_after nodes place x)) [] (pair_of x)
   pairs_linked x = replaces_same _ _ _ _ _ _ _ _
       (ap pairs (append_assoc at.front (n ∷ []) at.rest ∙ sym at.is))

@@ -195,8 +195,8 @@ module _ (l : Listing) (c : Cursor) (found : IsFound l c) where
       cur_node : (cur : Noted) → c.cur ≡ Some cur → (k : NodeAt) × (node_of l.nodes cur.place ≡ Some k) × (k.stamp ≡ cur.stamp) × IsNotBelow k (at_of c)
       cur_node cur cur_is = go (behind l c) cur refl (found.cur_noted ∙ cur_is) found.beyond
 
--- If `next` is the place of the node after `place`, the note of the node at `next` is also the note
--- of the node after `place`.
+-- If the node after `place` has the place `next`, then `next_of` at `place` and `node_of` at `next`
+-- give nodes with the same note.
 pub noted_next : (nodes : List NodeAt) (place next : ℕ) (k : Noted) → IsSpread nodes → place_of (next_of nodes place) ≡ Some next → noted (node_of nodes next) ≡ Some k → noted (next_of nodes place) ≡ Some k
 noted_next nodes place next k spread is note =
     let found = linked_found nodes next (next_linked nodes place next spread is) in

@@ -133,7 +133,7 @@ some_place : (o : Option NodeAt) (place : ℕ) → place_of o ≡ Some place →
 some_place None place is = absurd (some-none (sym is))
 some_place (Some m) place is = (m, refl, some-injective is)
 
--- An optional node without a place is `None`.
+-- If `place_of` returns `None` for an optional node, there is no node.
 pub no_place : (o : Option NodeAt) → place_of o ≡ None → o ≡ None
 no_place None is = refl
 no_place (Some n) is = absurd (some-none is)

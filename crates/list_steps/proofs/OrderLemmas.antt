@@ -22,8 +22,8 @@ rising_rest (k ∷ front) n rest rising = rising_rest front n rest rising.1
 abbrev pub NoneHas : SortKey → List NodeAt → Type 0
 NoneHas sort nodes = AllByRecursion (λ n. n.at ≢ sort) nodes
 
--- If a node is below the sort key, and no node after it has the sort key, no node of the list has
--- it.
+-- If a node is below the sort key, and no later node has the sort key, no node of the list has this
+-- sort key.
 none_before : (front : List NodeAt) (n : NodeAt) (rest : List NodeAt) (sort : SortKey) → IsRising (front ++ n ∷ rest) → IsBelow n sort → NoneHas sort rest → NoneHas sort (front ++ n ∷ rest)
 unfolding IsRising
 none_before [] n rest sort rising below others = (before_apart n.at sort below, others)

@@ -110,8 +110,8 @@ module _ (nodes : List NodeAt) (place : ℕ) (sort : SortKey) (pred : IsPred nod
         (ap (cleaned sort) rest_is ∙ cleaned_stopped m (without_first pred_at.rest) sort unmarked above ∙ sym rest_is)
         ∙ sym pred_at.is
 
-    -- If the next node is unmarked and below the sort key, a seek that begins at the next node has
-    -- the same result.
+    -- If the next node is unmarked and below the sort key, seeks that begin at this node and at the
+    -- next node have the same result.
     pub sought_passed : IsSpread nodes → m.marked ≡ false → IsBelow m sort → sought nodes m.place sort ≡ sought nodes place sort
     sought_passed spread unmarked below =
         sought_at nodes m.place m next sort
@@ -125,7 +125,7 @@ module _ (nodes : List NodeAt) (place : ℕ) (sort : SortKey) (pred : IsPred nod
         next : IsAt nodes m.place m
         next = at_next nodes place pred.node pred_at m spread (first_rest (Some m) is)
 
-    -- If the next node is marked, a seek has the same result after the next node is unlinked.
+    -- If the next node is marked, unlinking it first does not change the result of a seek.
     pub sought_unlinked : m.marked ≡ true → sought (unlinked_after nodes place) place sort ≡ sought nodes place sort
     sought_unlinked marked =
         sought_at (unlinked_after nodes place) place pred.node (at_unlinked nodes place pred.node pred_at) sort
@@ -142,7 +142,7 @@ module _ (nodes : List NodeAt) (place : ℕ) (sort : SortKey) (pred : IsPred nod
     below = pred.below;
   }
 
--- Any linked node, and the next one.
+-- `n` is any linked node, and `m` is the next node.
 module _ (nodes : List NodeAt) (place : ℕ) (n m : NodeAt) (is : node_of nodes place ≡ Some n) (next_is : next_of nodes place ≡ Some m) where
   behind_first : nodes_behind nodes place ≡ m ∷ without_first (found_at nodes place n is).rest
   behind_first =

@@ -63,7 +63,7 @@ module _ (l : Listing) (c : Cursor) (sound : IsSound l) (placed : IsPlaced l c) 
   finds None none = absent (no_place (node_there l c) (sym none))
   finds (Some place) is = there_at place is
 
--- If a regular node must have the sort key (`IsKeyThere`), the node that `look` finds is regular.
+-- If `IsKeyThere` holds, the node that `look` finds is regular.
 pub regular_there : (l : Listing) (c : Cursor) → fits l c ≡ true → (place : ℕ) → IsThere l c place → IsKeyThere l c → IsRegularAt l.nodes place
 regular_there l c fitting place here key_there =
     let P : Option NodeAt → Type 0 = λ o. IsSomeAnd o (λ m. IsTrue (is_regular m.kind)) in
@@ -74,8 +74,8 @@ regular_there l c fitting place here key_there =
     go Dummy is = cc
     go Regular is = refl
 
--- If a statement holds for the place that `look` finds, it holds for the place of the node that has
--- the sort key.
+-- If the node sought is at a place (`IsThere`) and `P` holds for the place, then `node_there` gives
+-- a node, and `P` holds for this node's place.
 pub at_node : (l : Listing) (c : Cursor) (place : ℕ) → IsThere l c place → (P : ℕ → Type 0) → P place → IsSomeAnd (node_there l c) (λ n. P n.place)
 at_node l c place here P holds =
     let Q : Option NodeAt → Type 0 = λ o. IsSomeAnd o (λ n. P n.place) in

@@ -28,8 +28,8 @@ follows_on words (ends.Answered (answers.Began t)) a b c same on = record { valu
 follows_on words outcome a b c same on = record { value = cc; levels = cc; changes = cc; kept = cc }
 
 -- Lemmas about a call that its token `k` does not refuse. `r` is the token when it is ready for the
--- call's holds, `h` is the token after these holds, and `l` is the token after it has followed the
--- call's end.
+-- call's holds, and `h` is the token after these holds. `l` is the token after the call's end has
+-- changed its side value and its claims.
 module _ {S : Type 0} (words : S → List ℕ) (k r h l : Token S) (call : Call) (free : refused_by k call ≡ None) (same : IsSameSeen k r) (side : IsSameSide k.side r.side) (readied : Readies k.claims call r.claims) (held_side : h.side ≡ r.side)
     (caller : IsSameCaller r h) (kept : h.claims ≡ r.claims) (followed : IsSameSeen h l) where
   whose : IsSameCaller k l

@@ -143,7 +143,7 @@ WasRefused k call refusal l =
     ((refused_by k call ≡ Some refusal) × (l ≡ k))
     ⊎ ((refused_by k call ≡ None) × Failed k call refusal l)
 
--- The caller after a call that ended in this way.
+-- The caller after a call with this end.
 abbrev pub Ended : {S : Type 0} → (S → List ℕ) → Token S → Call → End → Token S → Type 0
 Ended words k call (ends.Refused refusal) l = WasRefused k call refusal l
 Ended words k call outcome l = Ran words k call outcome l
@@ -159,9 +159,9 @@ abbrev pub Stopped : {S : Type 0} → (S → List ℕ) → Token S → Call → 
 Stopped words k call (stops.Busy holder) l = Ran words k call (ends.Busy holder) l
 Stopped words k call (stops.Refused refusal) l = WasRefused k call refusal l
 
--- The call did what it was asked to do. Its token did not refuse it, and its last hold ended it as
--- answered or as helped (`IsDone`). The clauses of each call state its entries and its effect on
--- the side value.
+-- The call did what it was asked to do. Its token did not refuse it, and its last hold ended it
+-- with an answer or with `Helped` (`IsDone`). The contract of each call states the entries that the
+-- call adds and its effect on the side value.
 pub record Passed {S : Type 0} (k : Token S) (call : Call) (l : Token S) : Type 0 where
   pub free : refused_by k call ≡ None
   pub whose : IsSameCaller k l

@@ -34,11 +34,11 @@ stored_at entries bucket = lists.get_or-map is_some entries bucket None
 pub lacks_segment : (entries : List (Option ℕ)) (bucket : ℕ) → segments.LacksSegment entries bucket → LacksSegment (map is_some entries) bucket
 lacks_segment entries bucket lacks other same = stored_at entries other ∙ lacks other same
 
--- A table answers a seek as its buckets do.
+-- The table's `seek_answer` equals the answer of its buckets, converted by `answer_for`.
 pub seek_answers : (d : Directory) (helper bucket : ℕ) → answer_for (buckets.seek_answer d.size (directories.is_stored d) (help_at d helper) bucket) ≡ seek_answer d.size (map is_some d.entries) (slice_get (map help_of d.helpers) helper) bucket
 seek_answers d helper bucket = λ i. answer_for (buckets.seek_answer d.size (λ b. sym (stored_at d.entries b) i) (sym (slice_get-map help_of d.helpers helper) i) bucket)
 
--- A table answers a store as its buckets do.
+-- Reading a helper's state from the buckets or from the table gives the same `store_answer`.
 pub store_answers : (d : Directory) (helper : ℕ) → store_answer (help_at d helper) ≡ store_answer (slice_get (map help_of d.helpers) helper)
 store_answers d helper = ap store_answer (sym (slice_get-map help_of d.helpers helper))
 
@@ -48,7 +48,7 @@ linked_at nodes limit bucket within = get_or-map-range_with_len (has_dummy nodes
 pub within_limit : (d : Directory) (helper bucket : ℕ) (had : Helper) → directories.IsSound d → helper_of d helper ≡ Some had → (IsReadyHelper d had → bucket < d.size) → bucket < limit_of d
 within_limit d helper bucket had sound is below = let order = helper_found (IsReadyHelper d) d.helpers helper had sound.helpers is in let small : bucket < d.size = below order in omega (arith, small, sound.most)
 
--- A table answers a link as its buckets do.
+-- The table's `link_answer` equals the answer of its buckets, converted by `answer_for`.
 pub link_answers : (l : Listing) (d : Directory) (helper : ℕ) → directories.IsSound d → answer_for (buckets.link_answer_at d l helper) ≡ link_answer (helper_fits (table_of l d) helper) (linked_of (table_of l d)) l.last (slice_get (map help_of d.helpers) helper)
 link_answers l d helper sound =
     go (helper_of d helper) refl ∙ ap (link_answer (helper_fits (table_of l d) helper) (linked_of (table_of l d)) l.last) (sym (slice_get-map help_of d.helpers helper))
@@ -81,7 +81,7 @@ not_again true used is = cc
 not_again false true is = cc
 not_again false false is = cc
 
--- If the helper's cursor fits, the answer to a link is not `Again`.
+-- If the helper has a cursor and this cursor fits, `link_answer` is not `Again`.
 pub fits_not_again : (fitting : Bool) (linked : List Bool) (last bucket changes : ℕ) (help : Option Help) → help ≡ Some (Sought bucket changes) → fitting ≡ true → link_answer fitting linked last help ≡ Ok Again → ⊥
 fits_not_again fitting linked last bucket changes help is fit again =
     not_again (slice_index_or linked bucket false) (last == 2 ^ 64 - 2)

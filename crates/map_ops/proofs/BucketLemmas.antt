@@ -28,7 +28,7 @@ use Rattle.map_ops.proofs.BelongLemmas.{linked_same}
 use Rattle.map_ops.proofs.BucketAnswers.{linked_at, within_limit}
 
 -- If a seek changes the buckets and the list as `parts.SeekChanges` says, the table changes as
--- `SeekChanges` says. The same holds for a link and for a store.
+-- `SeekChanges` says. The same holds for `LinkChanges` and for `StoreChanges`.
 pub seek_changes : (before after : Listing) (old new : Directory) (helper bucket : ℕ) (result : Result InitSeek InitRefusal)
     → parts.SeekChanges old new before after helper bucket result
     → SeekChanges (table_of before old) (table_of after new) helper bucket (answer_for result)
@@ -93,7 +93,7 @@ linked_with old new helper sound links =
     ap (λ (d : Directory). map (has_dummy new.list.nodes) (range_with_len 0 (limit_of d))) links.now
     ∙ linked_more old.list.nodes new.list.nodes (limit_of old.buckets) links.bucket within (omega (arith, sound.fits)) links.links.dummies
 
--- After a seek or a link, the split key of each dummy is still even.
+-- After a helper seeks a bucket or links its dummy, the split key of each dummy is still even.
 pub seek_even : (before after : Listing) (old new : Directory) (helper bucket : ℕ) (result : Result InitSeek InitRefusal) → parts.SeekChanges old new before after helper bucket result → AllEven before.nodes → AllEven after.nodes
 seek_even before after old new helper bucket (Ok Ready) changes even = subst (λ (l : Listing). AllEven l.nodes) (sym changes.1) even
 seek_even before after old new helper bucket (Ok Placed) seeks even = subst AllEven (sym seeks.nodes) (each_sought IsEvenDummy before.nodes seeks.from (dummy_at bucket) even)

@@ -36,7 +36,7 @@ module _ (old new : Listing) (key : ℕ) (sound : IsSound old) (after : IsSound 
   pub had : (place value : ℕ) (n : NodeAt) → HasNode old key place → node_of old.nodes place ≡ Some n → n.value ≡ value → get (map_of (pairs old.nodes)) key ≡ Some value
   had place value n has is value_is = has.value ∙ ap Some (ap (λ (m : NodeAt). m.value) (sym (own_node place n has is)) ∙ value_is)
 
-  -- If a step marks the node at the place of the key's node, `MarksNode` holds.
+  -- If a step marks the key's node, `MarksNode` holds.
   pub marks_node : (place value : ℕ) → HasNode old key place → Marks old new place value → MarksNode old new key
   marks_node place value has marks = record {
     node = has.node;
@@ -44,7 +44,7 @@ module _ (old new : Listing) (key : ℕ) (sound : IsSound old) (after : IsSound 
     writes = record { nodes = marks.becomes.nodes ∙ ap (marked_at old.nodes) has.place_is; changes = marks.becomes.changes };
   }
 
-  -- If a step writes the node at the place of the key's node, `WritesNode` holds.
+  -- If a step writes a value to the key's node, `WritesNode` holds.
   pub swaps_node : (place was now : ℕ) → HasNode old key place → Swaps old new place was now → WritesNode old new key now
   swaps_node place was now has swaps = record {
     node = has.node;

@@ -35,12 +35,11 @@ sets_then_back old mid new buckets k value spare sets gives = record {
   last = gives.last ∙ sets.last;
 }
 
--- If a spare is given back after a write, it is no longer out, and all other spares are unchanged.
+-- If a write changes no spares, and then a spare is given back, `Spends` holds for this spare.
 pub keeps_then_back : (old mid new : Listing) (buckets : Directory) (spare : SpareAt) → KeepsSpares (table_of old buckets) (table_of mid buckets) → GivesBack (table_of mid buckets) (table_of new buckets) (Some spare)
     → Spends (table_of old buckets) (table_of new buckets) (Some spare)
 keeps_then_back old mid new buckets spare keeps gives = (gives.spares.0, λ other apart. gives.spares.1 other apart ∙ keeps other)
 
--- The job of this put owns no spare: the put has used up its spare.
 put_spends : (old new : TableAt) (k : ℕ) (before : Option ℕ) (spare : Option SpareAt) (job : Option MapJob) → job ≡ unput k before → Spends old new spare → SpendsFor old new spare job
 put_spends old new k None spare job is spends = subst (SpendsFor old new spare) (sym is) spends
 put_spends old new k (Some value) spare job is spends = subst (SpendsFor old new spare) (sym is) spends

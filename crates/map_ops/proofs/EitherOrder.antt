@@ -1,4 +1,4 @@
--- Jobs of different keys, taken back in either order.
+-- The changes of two jobs with different keys can be taken back in either order.
 use Rattle.std.proofs.Common.{◌≡◌, ◌≢◌, ℕ, inl, inr, Bool, true, false, cond, Option, Some, None, refl, sym, ap, ◌∙◌}
 use Rattle.std.specs.Prelude.{◌==◌, is_some}
 use Rattle.std.proofs.lemmas.Bool.{cases_eq, eq-eqb, ne_eqb}
@@ -36,7 +36,7 @@ set_at-swap m j k x y apart = same_map (set_at (set_at m j x) k y) (set_at (set_
           ap (λ b. cond b y (cond (q == j) x (get m q))) not ∙ sym (ap (λ b. cond (q == j) x (cond b y (get m q))) not)
     ]
 
--- If two jobs of different keys are taken back, both orders give the same content.
+-- If the changes of two jobs with different keys are taken back, both orders give the same content.
 pub either-content : (old one other : TableAt) (first second : MapJob) → key_of_job first ≢ key_of_job second → TakesBackTwo old one first second → TakesBackTwo old other second first → content one ≡ content other
 either-content old one other first second apart a b =
     a.two.content_is
@@ -62,7 +62,7 @@ either_none true false out = refl
 either_none false true out = refl
 either_none false false out = refl
 
--- If two jobs are taken back, the same spares are out after both orders.
+-- If the changes of two jobs are taken back, both orders leave the same spares given out.
 pub either-spares : (old one other : TableAt) (first second : MapJob) → TakesBackTwo old one first second → TakesBackTwo old other second first → KeepsSpares other one
 either-spares old one other first second a b place =
     let j = is_at (spare_of_job first) place in
@@ -77,8 +77,8 @@ spent_owned : (old new : TableAt) (spent : Option SpareAt) (spare : SpareAt) →
 spent_owned old new None spare apart spends owned = still_owned old new spare spends owned
 spent_owned old new (Some gone) spare apart spends owned = other_owned old new spare gone.place spends.1 (λ same. apart (sym same)) owned
 
--- If `ShowsAfter` holds for a job, it still holds after another job is taken back. The two jobs
--- must have different keys, and their spares must have different places.
+-- If `ShowsAfter` holds for a job, it still holds after the change of another job is taken back.
+-- The two jobs must have different keys, and their spares must have different places.
 pub either_due : (old new : TableAt) (first second : MapJob) → key_of_job first ≢ key_of_job second → AreApart (spare_of_job first) (spare_of_job second) → ShowsAfter second old → TakesBack old new first → ShowsAfter second new
 either_due old new first second apart spares shows back = go second apart spares shows
   where

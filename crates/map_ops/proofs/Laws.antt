@@ -25,7 +25,7 @@ still_owned old new spare keeps owned = keeps spare.place ∙ owned
 pub other_owned : (old new : TableAt) (spare : SpareAt) (place : ℕ) → KeepsOthers old new place → spare.place ≢ place → Owns old spare → Owns new spare
 other_owned old new spare place keeps other owned = keeps spare.place other ∙ owned
 
--- A new spare is at a place at which no spare was out before.
+-- The place of a new spare differs from the place of every spare that belonged to the table before.
 pub fresh_apart : (old new : TableAt) (spare other : SpareAt) → GivesSpare old new spare → Owns old other → other.place ≢ spare.place
 fresh_apart old new spare other gives owned same = let gone : out_at old.list other.place ≡ None = ap (out_at old.list) same ∙ gives.fresh in let both : Some other.stamp ≡ None = sym owned ∙ gone in cc
 
@@ -148,7 +148,7 @@ pub still_owned_if : (old new : TableAt) (spare : Option SpareAt) → KeepsSpare
 still_owned_if old new None keeps owned = tt
 still_owned_if old new (Some spare) keeps owned = still_owned old new spare keeps owned
 
--- If `apply` does a put, the spares that are out are unchanged.
+-- If `apply` does a put, the spares that are given out are unchanged.
 pub put_keeps : (old new : TableAt) (k v : ℕ) (reply : Option ℕ) (job : Option MapJob) → Applies old new (Put k v) reply job → KeepsSpares old new
 put_keeps old new k v reply job applies = go (get (content old) k) (subst (JobSpare old new) applies.job_is applies.spares)
   where
@@ -156,7 +156,7 @@ put_keeps old new k v reply job applies = go (get (content old) k) (subst (JobSp
     go None keeps = keeps
     go (Some before) keeps = keeps
 
--- If `apply` does a get, the spares that are out are unchanged.
+-- If `apply` does a get, the spares that are given out are unchanged.
 pub get_keeps : (old new : TableAt) (k : ℕ) (reply : Option ℕ) (job : Option MapJob) → Applies old new (Get k) reply job → KeepsSpares old new
 get_keeps old new k reply job applies = subst (JobSpare old new) applies.job_is applies.spares
 

@@ -1,4 +1,4 @@
--- The parts of a table that a sweep keeps.
+-- The parts of a table that a call of `sweep` leaves unchanged.
 use Rattle.std.proofs.Common.{◌≡◌, List, refl, sym, ◌∙◌, ap, subst}
 use Rattle.node_list.specs.Nodes.{NodeAt, Listing}
 use Rattle.node_list.specs.Sound.{IsSound}
@@ -13,7 +13,7 @@ use Rattle.map_ops.specs.TableAt.{table_of, KeepsTable}
 use Rattle.map_ops.proofs.BelongLemmas.{belong_swept, has_dummy-swept, linked_same}
 use Rattle.map_ops.proofs.KeepLemmas.{same_buckets}
 
--- A sweep keeps the pairs, the buckets, the linked dummies and the last stamp.
+-- A call of `sweep` leaves the pairs, the buckets, the linked dummies and the last stamp unchanged.
 pub sweep_keeps : (old new : Listing) (d : Directory) (outcome : SweepOutcome) → IsSound old → steps.Sweeps old new outcome → pairs new.nodes ≡ pairs old.nodes → KeepsTable (table_of old d) (table_of new d)
 sweep_keeps old new d Swept sound becomes same = record {
   regular = same;

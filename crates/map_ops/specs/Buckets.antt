@@ -39,13 +39,14 @@ abbrev pub answer_for : {A : Type 0} → Result A InitRefusal → Result A Refus
 answer_for (Ok done) = Ok done
 answer_for (Err refusal) = Err (refusal_for refusal)
 
--- The answer to a seek for a bucket, given the size, the stored buckets and the helper's state.
+-- The answer when a helper seeks a bucket, given the size, the stored buckets and the helper's
+-- state.
 abbrev pub seek_answer : ℕ → List Bool → Option Help → ℕ → Result InitSeek Refusal
 seek_answer size stored help bucket =
     answer_for (buckets.seek_answer size (is_stored stored) help bucket)
 
--- The answer to a link if no memory is refused. It depends on whether the helper's cursor fits, on
--- which dummies are linked, on the last stamp and on the helper's state.
+-- The answer when a helper links its dummy and no memory is refused. It depends on whether the
+-- helper's cursor fits, on which dummies are linked, on the last stamp and on the helper's state.
 abbrev pub link_answer : Bool → List Bool → ℕ → Option Help → Result InitLink Refusal
 link_answer fitting linked last help =
     answer_for (buckets.link_answer fitting (is_stored linked) last help)
@@ -56,12 +57,12 @@ abbrev pub link_answer_of : TableAt → ℕ → Result InitLink Refusal
 link_answer_of t helper =
     link_answer (helper_fits t helper) (linked_of t) (last_of t) (slice_get (helps_of t) helper)
 
--- The answer to a store if no memory is refused, given the helper's state.
+-- The answer when a helper in this state stores its dummy and no memory is refused.
 abbrev pub store_answer : Option Help → Result Unit Refusal
 store_answer help = answer_for (buckets.store_answer help)
 
--- What a seek for a bucket changes in the table's buckets and list. Here and in the definitions
--- below, a refusal leaves the table unchanged.
+-- What changes in the table's buckets and list when a helper seeks a bucket. Here and in the
+-- definitions below, a refusal leaves the table unchanged.
 abbrev pub SeekChanges : TableAt → TableAt → ℕ → ℕ → Result InitSeek Refusal → Type 0
 SeekChanges old new helper bucket (Ok done) =
     parts.SeekChanges old.buckets new.buckets old.list new.list helper bucket (Ok done)
@@ -78,6 +79,6 @@ abbrev pub StoreChanges : TableAt → TableAt → ℕ → Result Unit Refusal �
 StoreChanges old new helper (Ok done) = parts.Stores old.buckets new.buckets helper
 StoreChanges old new helper (Err refusal) = new ≡ old
 
--- What a doubling changes. The list is unchanged.
+-- What changes when `double` gives this answer. The list is unchanged.
 abbrev pub Doubles : TableAt → TableAt → Double → Type 0
 Doubles old new answer = new.buckets ≡ parts.after_double old.buckets answer

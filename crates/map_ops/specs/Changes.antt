@@ -19,12 +19,12 @@ abbrev pub OwnsIf : TableAt → Option SpareAt → Type 0
 OwnsIf t None = Unit {0}
 OwnsIf t (Some spare) = Owns t spare
 
--- The spare, if there is one, is no longer out. All other spares are unchanged.
+-- The spare, if there is one, is no longer given out. All other spares are unchanged.
 abbrev pub Spends : TableAt → TableAt → Option SpareAt → Type 0
 Spends old new None = KeepsSpares old new
 Spends old new (Some spare) = (spare_out new spare.place ≡ None) × KeepsOthers old new spare.place
 
--- A new spare is out. It has the next stamp, and no spare was out at its place before.
+-- A new spare is given out. It has the next stamp, and no spare was given out at its place before.
 pub record GivesSpare (old new : TableAt) (spare : SpareAt) : Type 0 where
   pub room : last_of old < 2 ^ 64 - 2
   pub stamp : spare.stamp ≡ last_of old + 1
@@ -47,8 +47,9 @@ pub record Prepares (old new : TableAt) (op : Op) (pending : PendingAt) : Type 0
   pub given : GivesFor old new (takes_node op) pending.spare
   pub nodes : KeepsNodes old new
 
--- The reason why an operation that takes a node is not prepared. The stamps are used up exactly if
--- the last stamp given is 2^64 - 2. Otherwise memory was refused, or the list has no place left.
+-- The reason why an operation that takes a node is not prepared. The reason is `StampsUsedUp`
+-- exactly if the last stamp given is 2^64 - 2. Otherwise it is `NoMemory`: memory was refused, or
+-- the list has no place left.
 abbrev pub IsRefused : TableAt → Op → Refusal → Type 0
 IsRefused t op refusals.StampsUsedUp = (takes_node op ≡ true) × (last_of t ≡ 2 ^ 64 - 2)
 IsRefused t op refusals.NoMemory = (takes_node op ≡ true) × (last_of t < 2 ^ 64 - 2)
@@ -71,7 +72,7 @@ pub record SeeksNear (old new : TableAt) (key : ℕ) : Type 0 where
   pub nodes : nodes_of new ≡ nodes_sought old start key
   pub changes : IsUnlinking old.list new.list
 
--- If a job owns the operation's spare, the spare stays out. If not, the spare is no longer out.
+-- If a job owns the operation's spare, the spare remains given out. If not, it is spent (`Spends`).
 abbrev pub SpendsFor : TableAt → TableAt → Option SpareAt → Option MapJob → Type 0
 SpendsFor old new spare (Some (Relink k before kept)) = KeepsSpares old new
 SpendsFor old new spare (Some (Unput k)) = Spends old new spare
@@ -124,7 +125,7 @@ abbrev pub UndoWrites : TableAt → TableAt → MapJob → Undo → Type 0
 UndoWrites old new job Undone = JobWrites old.list new.list job
 UndoWrites old new job (UndoAgain back) = WritesNothing old.list new.list
 
--- The job's key is sought, and a write there takes the job's change back.
+-- The job's key is sought, and a write at the key's position takes the job's change back.
 pub record SeeksAndUndoes (old new : TableAt) (job : MapJob) : Type 0 where
   pub sought : TableAt
   pub near : SeeksNear old sought (key_of_job job)
@@ -136,8 +137,8 @@ pub record GivesBack (old new : TableAt) (spare : Option SpareAt) : Type 0 where
   pub last : last_of new ≡ last_of old
   pub spares : Spends old new spare
 
--- The spares after `apply` has done an operation. If the operation's job owns a spare, this new
--- spare is out. All other spares are unchanged.
+-- The spares after `apply` has done an operation. If the operation's job owns a spare, this spare
+-- is newly given out (`GivesSpare`). All other spares are unchanged.
 abbrev pub JobSpare : TableAt → TableAt → Option MapJob → Type 0
 JobSpare old new (Some (Relink k before spare)) = GivesSpare old new spare
 JobSpare old new (Some (Unput k)) = KeepsSpares old new
@@ -146,7 +147,7 @@ JobSpare old new None = KeepsSpares old new
 
 -- `apply` has done an operation. The reply and the effect are those of the operation on the map,
 -- and there is a job exactly if the operation is a change. The operation's key is sought, and the
--- write is made there.
+-- write is made at the key's position.
 pub record Applies (old new : TableAt) (op : Op) (reply : Option ℕ)
     (job : Option MapJob) : Type 0 where
   pub spare : Option SpareAt
@@ -162,8 +163,8 @@ pub record Applies (old new : TableAt) (op : Op) (reply : Option ℕ)
   pub near : SeeksNear old sought (key_of op)
   pub writes : OpWrites sought.list new.list op spare (get (content old) (key_of op))
 
--- A sweep. Either the first marked node is unlinked and nothing else has changed, or no node is
--- marked and nothing has changed.
+-- What a call of `sweep` changes. Either the first marked node is unlinked and nothing else has
+-- changed, or no node is marked and nothing has changed.
 abbrev pub Sweeps : TableAt → TableAt → SweepOutcome → Type 0
 Sweeps old new outcome = SweepsNodes old new outcome × KeepsBuckets old new
 
@@ -176,8 +177,8 @@ ShowsAfter job t = IsDue (content t) job × OwnsIf t (spare_of_job job)
 abbrev pub ShowsBefore : MapJob → TableAt → Type 0
 ShowsBefore job t = get (content t) (key_of_job job) ≡ value_before job
 
--- What the run of a job changes. The job's key is sought, and the job's change is taken back there.
--- The new table follows the old one (`Follows`).
+-- What running a job changes. The job's key is sought, and the job's change is taken back at the
+-- key's position. The new table follows the old one (`Follows`).
 pub record RunsJob (old new : TableAt) (job : MapJob) : Type 0 where
   pub back : TakesBack old new job
   pub writes : SeeksAndUndoes old new job

@@ -37,7 +37,7 @@ pub record WritesOnce (old new : Listing) (now : List NodeAt) : Type 0 where
   pub nodes : new.nodes ≡ now
   pub changes : new.changes ≡ one_more old.changes
 
--- The change number is higher by the number of nodes that are gone, up to 2^64 - 1.
+-- The change number has grown by the number of nodes that were unlinked, but not above 2^64 - 1.
 abbrev pub IsUnlinking : Listing → Listing → Type 0
 IsUnlinking old new = new.changes ≡ changes_after old.changes (length old.nodes - length new.nodes)
 

@@ -23,8 +23,9 @@ pub record HasGap (l : Listing) (key pred : ℕ) : Type 0 where
   pub vacant : IsVacant l.nodes pred (regular_at key)
   pub none : get (map_of (pairs l.nodes)) key ≡ None
 
--- If there is a second place, the key's node is linked at it. If not, a node for the key belongs
--- right after the node at the first place.
+-- The arguments are a list, a key, a place, and a second place or `None`. If there is a second
+-- place, the key's node is linked at that place. If not, a node for the key belongs right after the
+-- node at the first place.
 abbrev pub Stands : Listing → ℕ → ℕ → Option ℕ → Type 0
 Stands l key pred None = HasGap l key pred
 Stands l key pred (Some place) = HasNode l key place

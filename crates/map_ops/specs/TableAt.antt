@@ -85,7 +85,8 @@ pub record KeepsBuckets (old new : TableAt) : Type 0 where
   pub stored : stored_of new ≡ stored_of old
   pub helps : helps_of new ≡ helps_of old
 
--- The list is unchanged: its nodes, the spares that are out, the change number and the last stamp.
+-- The list is unchanged: its nodes, the spares that are given out, the change number and the last
+-- stamp.
 abbrev pub KeepsList : TableAt → TableAt → Type 0
 KeepsList old new = new.list ≡ old.list
 
@@ -116,7 +117,8 @@ cursors_of t = map cursor_in t.buckets.helpers
 abbrev pub helper_cursor : TableAt → ℕ → Option Cursor
 helper_cursor t helper = slice_index_or (cursors_of t) helper None
 
--- The stamp of the spare that is out at this place, if there is one.
+-- The stamp of the spare that is given out at this place, if there is one. A spare counts as given
+-- out until it is used or given back.
 abbrev pub spare_out : TableAt → ℕ → Option ℕ
 spare_out t place = out_at t.list place
 
@@ -124,11 +126,11 @@ spare_out t place = out_at t.list place
 abbrev pub Owns : TableAt → SpareAt → Type 0
 Owns t spare = spare_out t spare.place ≡ Some spare.stamp
 
--- The spares that are out have not changed, except at this place.
+-- The spares that are given out at all places but this one are unchanged.
 abbrev pub KeepsOthers : TableAt → TableAt → ℕ → Type 0
 KeepsOthers old new place = (other : ℕ) → other ≢ place → spare_out new other ≡ spare_out old other
 
--- The spares that are out have not changed.
+-- The spares that are given out are unchanged.
 abbrev pub KeepsSpares : TableAt → TableAt → Type 0
 KeepsSpares old new = (place : ℕ) → spare_out new place ≡ spare_out old place
 
@@ -167,7 +169,8 @@ IsClean t = AllByRecursion (λ n. n.marked ≡ false) (nodes_of t)
 abbrev pub SweepsNodes : TableAt → TableAt → SweepOutcome → Type 0
 SweepsNodes old new outcome = steps.Sweeps old.list new.list outcome
 
--- The linked nodes rise strictly by split key and, where split keys are equal, by key.
+-- The linked nodes are in strictly rising order: by split key and, where split keys are equal, by
+-- key.
 abbrev pub IsSplitOrdered : TableAt → Type 0
 IsSplitOrdered t = IsRising (nodes_of t)
 
@@ -185,15 +188,16 @@ NamesDummies t = IsHome t.buckets t.list
 abbrev pub HasParents : TableAt → Type 0
 HasParents t = directories.IsSound t.buckets
 
--- A table at two times. The new list follows the old one, and every cursor that was placed on the
--- old table is still placed on the new one.
+-- The same table at two times. The new list follows the old one, as `Follows` of `node_list` says,
+-- and the last stamp has not fallen. Every cursor that was placed on the old table is still placed
+-- on the new one.
 pub record Follows (old new : TableAt) : Type 0 where
   pub list : nodes.Follows old.list new.list
   pub last : last_of old ≤ last_of new
   pub placed : (cursor : Cursor) (key : ℕ) → IsPlaced old cursor key → IsPlaced new cursor key
 
 -- An empty table that has two buckets, and helpers that are all idle. Only bucket 0 is stored, only
--- its dummy is linked, and no spare is out.
+-- its dummy is linked, and no spare is given out.
 pub record IsNew (t : TableAt) (largest helpers : ℕ) : Type 0 where
   pub nodes_are : nodes_of t ≡ first_dummy t.list.head 0 ∷ []
   pub regular_is : regular t ≡ []

@@ -1,4 +1,4 @@
--- Which nodes are linked, and which are found, after a link, a change or an unlink.
+-- Which nodes are linked, and which are found, after a node is linked, changed or unlinked.
 use Rattle.std.proofs.Common.{◌≡◌, ◌≢◌, ℕ, ◌⊎◌, inl, inr, List, [], ◌∷◌, Some, true, refl, sym, ◌∙◌, ap}
 use Rattle.std.proofs.lemmas.Bool.Decides.{eqb_tells}
 use Rattle.node_list.specs.Nodes.{NodeAt, node_of, next_of, first, place_of, IsLinked, linked_after, unlinked_after, changed_at, marked_at, written_at}
@@ -7,7 +7,8 @@ use Rattle.node_list.specs.Follow.{IsSameNode}
 use Rattle.node_list.proofs.OrderLemmas.{some-injective, some-none}
 use Rattle.node_list.proofs.NodesLemmas.{same_node, absent_linked, linked_more, next_linked, found_linked, linked_found, first_found, next_found}
 
--- After a link, each place that was linked is still linked, and so is the place of the new node.
+-- If a new node is linked, each place that was linked is still linked, and so is the place of the
+-- new node.
 pub still_linked : (nodes : List NodeAt) (pred place : ℕ) (x : NodeAt) → IsLinked nodes place → IsLinked (linked_after nodes pred x) place
 unfolding linked_after IsLinked
 still_linked [] pred place x is = is
@@ -75,7 +76,7 @@ others_linked (n ∷ (m ∷ rest)) pred gone place next differs is = elim (eqb_t
   ])
 ]
 
--- After an unlink, no node is at the place of the unlinked node.
+-- If a node is unlinked, no node is at its place afterwards.
 pub absent_unlinked : (nodes : List NodeAt) (pred place : ℕ) → IsSpread nodes → place_of (next_of nodes pred) ≡ Some place → AbsentFrom place (unlinked_after nodes pred)
 unfolding IsSpread unlinked_after next_of
 absent_unlinked [] pred place apart is = tt
@@ -93,7 +94,8 @@ absent_unlinked (n ∷ (m ∷ rest)) pred place apart is = elim (eqb_tells n.pla
       rw later.0 (absent_linked (m ∷ rest) n.place place apart.0 (linked_more (m ∷ rest) place there.1), absent_unlinked (m ∷ rest) pred place apart.1 is_later)
 ]
 
--- Each node that `node_of` finds after a link was found before it, or is the node that was linked.
+-- If `node_of` finds a node after a new node is linked, it found this node before, or this node is
+-- the new one.
 pub found_linked_after : (nodes : List NodeAt) (pred place : ℕ) (x n : NodeAt) → node_of (linked_after nodes pred x) place ≡ Some n → (node_of nodes place ≡ Some n) ⊎ ((x ≡ n) × (x.place ≡ place))
 unfolding node_of linked_after
 found_linked_after [] pred place x n is = inl is

@@ -181,8 +181,8 @@ module _ (old : Slab SlotAt) (head changes last count marked : ℕ) (is : IsKept
       let place_is = next_is (get old) (nodes_in old head) pred before is.laid_out.chain linked is_before ∙ next in
       linked_node (get old) (nodes_in old head) place is.laid_out.chain (linked_more _ _ (next_linked (nodes_in old head) pred place place_is).1)
 
-  -- `place` is the place that follows `pred` in the list, and the node there is marked. Its sort
-  -- key is the one that its slot has.
+  -- If the node at `place` comes right after `pred` and is marked, its sort key in the list is the
+  -- one in its slot.
   pub behind_at : (pred place : ℕ) (before node : Node) (behind : IsBeforeMarked (nodes_in old head) pred) → get old pred ≡ Some (Linked before) → before.next ≡ Some place → get old place ≡ Some (Linked node) → behind.node.at ≡ node.at
   behind_at pred place before node behind is_before next is_node =
       let nodes = nodes_in old head in
@@ -226,14 +226,14 @@ module _ (old : Slab SlotAt) (head changes last count marked : ℕ) (is : IsKept
         λ fits. unlinks_follow _ _ pred fits (spread (get old) nodes is.laid_out.chain is.laid_out.rising) is.laid_out.plain is_behind_marked now_sound becomes,
       )
 
-  -- Lemmas on the link of a spare's node.
+  -- Lemmas on linking the node of a spare.
   module _ (mid new : Slab SlotAt) (pred : ℕ) (before : Node) (s : SpareAt) (next : Option ℕ)
       (is_before : get old pred ≡ Some (Linked before))
       (is_out : IsOut (listing_of old head changes last) s)
       (next_was : next ≡ before.next)
       (mid_is : mid ≡ with_value old pred (Linked (record before { next = Some s.place }))) where
-    -- If the node that will be before the new one gets another next place, the spare's slot still
-    -- has the spare's stamp.
+    -- If only the next place of the node at `pred` is changed, the spare's slot still has the
+    -- spare's stamp.
     pub filling_slot : get mid s.place ≡ Some (Out s.stamp)
     filling_slot = mid_spare old mid (with_value mid s.place (Linked (stored_node (filled s) before.next))) head last pred (nodes_in old head) (filled s) before is.laid_out is.stamps is_before is_out mid_is refl
 

@@ -1,4 +1,4 @@
--- The effect of a link, a change and an unlink on the chain of nodes and on its first node.
+-- The effect of linking, changing or unlinking a node on the chain of nodes and on its first node.
 use Rattle.std.proofs.Common.{◌≡◌, ◌≢◌, ℕ, inl, inr, List, [], ◌∷◌, Option, Some, None, refl, sym, ◌∙◌, ap, ap₂, subst}
 use Rattle.std.proofs.lemmas.Bool.Decides.{eqb_tells}
 use Rattle.std.specs.List.{AllByRecursion}

@@ -37,7 +37,7 @@ count-unlinked test (n ∷ (k ∷ rest)) pred m is = elim (eqb_tells n.place pre
       rw apart.0 (omega (arith, later))
 ]
 
--- An unlink makes the list one node shorter.
+-- If a node is unlinked, the list has one node less.
 pub length-unlinked : (nodes : List NodeAt) (pred : ℕ) (m : NodeAt) → next_of nodes pred ≡ Some m → length (unlinked_after nodes pred) + 1 ≡ length nodes
 unfolding next_of unlinked_after
 length-unlinked [] pred m is = absurd (some-none (sym is))

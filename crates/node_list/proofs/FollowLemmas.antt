@@ -1,4 +1,4 @@
--- The invariants hold of every list, and after each change the new list follows the old one.
+-- Every list is sound (`IsSound`), and `Follows` holds for a list before and after each change.
 use Rattle.std.proofs.Common.{◌≡◌, ◌≢◌, ℕ, ◌+◌, ◌-◌, ◌^◌, ◌<◌, inl, inr, Some, false, refl, sym, ◌∙◌, ap, arith}
 use Rattle.std.proofs.lemmas.Bool.{cases_eq}
 use Rattle.slab.specs.Slab.{Slab, get}
@@ -62,7 +62,7 @@ follows_twice a b c first second = record {
       (in_c.0, in_c.1, same_after _ _ _ in_b.2 in_c.2);
 }
 
--- If a list gives out a spare, the new list follows the old one (`Follows`).
+-- If a list gives out a spare, `Follows` holds for the old list and the new one.
 pub gives_out_follows : (old new : Listing) (place stamp : ℕ) → stamp ≡ old.last + 1 → IsSound new → GivesOut old new place stamp → Follows old new
 gives_out_follows old new place stamp above now_sound given = record {
   sound = λ was. now_sound;

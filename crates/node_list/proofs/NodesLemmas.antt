@@ -9,7 +9,7 @@ use Rattle.node_list.specs.Order.{AbsentFrom, IsSpread, IsVacant}
 use Rattle.node_list.specs.Follow.{IsSameNode}
 use Rattle.node_list.proofs.OrderLemmas.{some-injective, some-none}
 
--- If a spare, once filled, is the dummy of bucket 0, it is equal to `unfilled` of its place and
+-- If the node of a spare is the dummy of bucket 0, the spare equals `unfilled` of its place and
 -- stamp.
 pub unfilled_is : (s : SpareAt) → filled s ≡ first_dummy s.place s.stamp → unfilled s.place s.stamp ≡ s
 unfilled_is s is =

@@ -1,4 +1,4 @@
--- How a link, a change and an unlink in a slab change the list that the slab holds.
+-- How linking, changing or unlinking a node in a slab changes the list that the slab holds.
 use Rattle.std.proofs.Common.{◌≡◌, ◌≢◌, ℕ, inl, inr, List, Option, Some, None, false, map, refl, sym, ◌∙◌, ap, get_or}
 use Rattle.std.proofs.lemmas.Bool.{cases_eq}
 use Rattle.slab.specs.Slab.{Slab, get, Updates, with_value}
@@ -21,7 +21,7 @@ use Rattle.node_list.proofs.SpareSteps.{out_in, slot_out}
 write_updates : (old new : Slab SlotAt) (place : ℕ) (was slot : SlotAt) → get old place ≡ Some was → new ≡ with_value old place slot → Updates old new place (Some slot)
 write_updates old new place was slot is written = rw written (Updates-with_value old place slot (rw is refl))
 
--- Lemmas on the link of a node.
+-- Lemmas on linking a node.
 module _ (old mid new : Slab SlotAt) (head last pred : ℕ) (nodes : List NodeAt) (x : NodeAt) (before : Node)
     (laid : IsLaidOut old head nodes) (stamps : HasStamps old last)
     (is_before : get old pred ≡ Some (Linked before))
@@ -116,7 +116,7 @@ module _ (old new : Slab SlotAt) (head last place : ℕ) (nodes : List NodeAt) (
     | inr more ↦ ap out_stamp (changed_in.others other more) ∙ sym (out_in old other)
   ]
 
--- Lemmas on the unlink of a node.
+-- Lemmas on unlinking a node.
 module _ (old mid new : Slab SlotAt) (head last pred place : ℕ) (nodes : List NodeAt) (before behind : Node)
     (laid : IsLaidOut old head nodes) (stamps : HasStamps old last)
     (linked : IsLinked nodes pred)

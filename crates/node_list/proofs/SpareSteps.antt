@@ -11,7 +11,7 @@ use Rattle.node_list.proofs.OrderLemmas.{some-injective, some-none}
 use Rattle.node_list.proofs.ChainLemmas.{out-not-linked, chain_absent, absent_free}
 use Rattle.node_list.proofs.StampLemmas.{stamps_set, stamps_freed}
 
--- The stamp that is out at a place is `out_stamp` of the slab's slot there.
+-- For each place, a list's `out` has what `out_stamp` gives for the slab's slot there.
 pub out_in : (slab : Slab SlotAt) (place : ℕ) → get_or (map out_stamp slab.slots) place None ≡ out_stamp (get slab place)
 out_in slab place = get_or-map out_stamp slab.slots place None
 

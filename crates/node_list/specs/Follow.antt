@@ -14,7 +14,7 @@ pub record IsSameNode (n m : NodeAt) : Type 0 where
 -- One of these three holds:
 --
 -- - The node was linked at this place before.
--- - A spare with the node's stamp was out at this place.
+-- - The place was kept for a spare with the node's stamp.
 -- - The node's stamp is above all earlier stamps.
 abbrev pub WasThere : Listing → ℕ → NodeAt → Type 0
 WasThere old place n =
@@ -25,9 +25,9 @@ WasThere old place n =
 abbrev pub IsStillThere : Listing → ℕ → NodeAt → Type 0
 IsStillThere new place n = (m : NodeAt) × (node_of new.nodes place ≡ Some m) × IsSameNode n m
 
--- A list at two times. The invariants of lists still hold, no stamp is used again, a linked dummy
--- stays linked, and the change number does not fall. If the change number is unchanged and below
--- 2^64 - 1, the nodes are unchanged too.
+-- `new` is the list `old` at a later time. If `old` is sound, so is `new`. No stamp is used again,
+-- a linked dummy stays linked, and the change number does not fall. If the change number is
+-- unchanged and below 2^64 - 1, the nodes are unchanged too.
 pub record Follows (old new : Listing) : Type 0 where
   pub sound : IsSound old → IsSound new
   pub last : old.last ≤ new.last

@@ -31,7 +31,7 @@ step place None rest = []
 step place (Some (Out stamp)) rest = []
 step place (Some (Linked n)) rest = node_seen place n ∷ rest n.next
 
--- The linked nodes from a place on. The first argument is the greatest number of nodes to be taken.
+-- The linked nodes from a place on, in order. The first argument limits the number of nodes.
 unfoldable pub walk : ℕ → (ℕ → Option SlotAt) → Option ℕ → List NodeAt
 walk zero at from = []
 walk (suc fuel) at None = []
@@ -53,7 +53,7 @@ abbrev pub slot_stamp : SlotAt → ℕ
 slot_stamp (Linked n) = n.stamp
 slot_stamp (Out stamp) = stamp
 
--- If a slot is kept for a spare, the stamp of this spare.
+-- The stamp of the spare that the slot is kept for. None if the slot is kept for no spare.
 abbrev pub out_stamp : Option SlotAt → Option ℕ
 out_stamp None = None
 out_stamp (Some (Linked n)) = None

@@ -15,8 +15,9 @@ pub record NodeAt : Type 0 where
   pub stamp : ℕ
   pub marked : Bool
 
--- The linked nodes in order, the place of the first node, the stamp of the spare that is out at
--- each place, the change number, and the last stamp that was given.
+-- The contents of a list: the linked nodes in order, the place of the first node, the stamps of the
+-- spares, the change number, and the last stamp that was given. `out` has a spare's stamp at the
+-- place that is kept for this spare, and None at all other places.
 pub record Listing : Type 0 where
   pub nodes : List NodeAt
   pub head : ℕ
@@ -68,11 +69,11 @@ unfilled place stamp =
       value = 0;
     }
 
--- The stamp of the spare that is out at a place, if there is one.
+-- The stamp of the spare that this place is kept for, if there is one.
 abbrev pub out_at : Listing → ℕ → Option ℕ
 out_at l place = slice_index_or l.out place None
 
--- The spare is out: the list keeps the spare's place for it, with the spare's stamp.
+-- The list still keeps this spare's place, with the spare's stamp.
 abbrev pub IsOut : Listing → SpareAt → Type 0
 IsOut l spare = out_at l spare.place ≡ Some spare.stamp
 
@@ -86,7 +87,7 @@ abbrev pub without_first : List NodeAt → List NodeAt
 without_first [] = []
 without_first (n ∷ rest) = rest
 
--- The place of a node, if there is one.
+-- The place of a node, or None if there is no node.
 abbrev pub place_of : Option NodeAt → Option ℕ
 place_of None = None
 place_of (Some n) = Some n.place
@@ -175,12 +176,12 @@ written_at nodes place value = changed_at nodes place (λ n. record n { value = 
 abbrev pub one_more : ℕ → ℕ
 one_more changes = min (changes + 1) (2 ^ 64 - 1)
 
--- The change number after this number of changes.
+-- What the change number `changes` becomes after the given number of further changes.
 unfoldable pub changes_after : ℕ → ℕ → ℕ
 changes_after changes zero = changes
 changes_after changes (suc more) = one_more (changes_after changes more)
 
--- One change was made: the nodes are now `after`, and the same spares are out.
+-- One change was made: the nodes are now `after`. The list keeps the same places for spares.
 pub record Becomes (old new : Listing) (after : List NodeAt) : Type 0 where
   pub nodes : new.nodes ≡ after
   pub head : new.head ≡ old.head
@@ -188,7 +189,7 @@ pub record Becomes (old new : Listing) (after : List NodeAt) : Type 0 where
   pub last : new.last ≡ old.last
   pub out : (place : ℕ) → out_at new place ≡ out_at old place
 
--- One change was made: the nodes are now `after`, and the spare at the place is no longer out.
+-- One change was made: the nodes are now `after`, and the place is no longer kept for a spare.
 pub record UsesSpare (old new : Listing) (after : List NodeAt) (place : ℕ) : Type 0 where
   pub nodes : new.nodes ≡ after
   pub head : new.head ≡ old.head
@@ -197,7 +198,7 @@ pub record UsesSpare (old new : Listing) (after : List NodeAt) (place : ℕ) : T
   pub gone : out_at new place ≡ None
   pub others : (other : ℕ) → other ≢ place → out_at new other ≡ out_at old other
 
--- A spare with the stamp `stamp` is now out at the place, and `stamp` is the last stamp. All else
+-- The place is now kept for a spare with the stamp `stamp`, and `stamp` is the last stamp. All else
 -- is unchanged.
 pub record GivesOut (old new : Listing) (place stamp : ℕ) : Type 0 where
   pub nodes : new.nodes ≡ old.nodes
@@ -208,7 +209,7 @@ pub record GivesOut (old new : Listing) (place stamp : ℕ) : Type 0 where
   pub is_out : out_at new place ≡ Some stamp
   pub others : (other : ℕ) → other ≢ place → out_at new other ≡ out_at old other
 
--- The spare at the place is no longer out, and all else is unchanged.
+-- The place is no longer kept for a spare. All else is unchanged.
 pub record ReturnsSpare (old new : Listing) (place : ℕ) : Type 0 where
   pub nodes : new.nodes ≡ old.nodes
   pub head : new.head ≡ old.head

@@ -31,7 +31,7 @@ pub record IsSummed (total : ℕ) (groups regions : List ℕ) : Type 0 where
       → slice_index_or groups group 0 ≡ run_sum regions (group * 64) 64
   pub in_all : total ≡ run_sum groups 0 64
 
--- The place has the first count other than 0 in the run of 64 counts that begins at `from`.
+-- Among the 64 counts from `from` on, the first that is not 0 is at this place.
 pub record IsFirstOfRun (counts : List ℕ) (from place : ℕ) : Type 0 where
   pub not_before : from ≤ place
   pub within : place < from + 64

@@ -1,4 +1,5 @@
--- What holds of a transaction across its calls, by the contracts of the calls.
+-- Facts that remain true of a transaction across its calls. They follow from the contracts of the
+-- calls.
 use Rattle.std.proofs.Common.{◌≡◌, ℕ, Bool, ◌++◌, ◌∷◌, [], refl, sym, ap, subst, ◌∙◌, Option}
 use Rattle.std.specs.Prelude.{Result, Ok, Err, OnErr}
 use mathlib.Core.Logic.{inl, inr}
@@ -59,7 +60,7 @@ keeps_on old between new first second = record {
 pub keeps_by : (old new : Transaction) → new.map.ghost_name ≡ old.map.ghost_name → new.caller ≡ old.caller → GoesOn old.caller old.map.now.core new.map.now.core → Keeps old new
 keeps_by old new same_map same_caller goes_on = record { same_map = same_map; same_caller = same_caller; goes_on = goes_on }
 
--- If a transaction continues from `old` to `between`, and is taken back from there to `new`,
+-- If `GoesOn` holds from `old` to `between`, and `IsTakenBack` holds from `between` to `new`, then
 -- `IsTakenBack` holds from `old` to `new`.
 pub back_on : (c : ℕ) (old between new : State) → GoesOn c old between → IsTakenBack c between new → IsTakenBack c old new
 back_on c old between new goes_on back = record {

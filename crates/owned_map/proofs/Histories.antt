@@ -1,5 +1,5 @@
--- The effect of each entry on a transaction that no other caller interrupts, by the laws of
--- histories.
+-- The effect of each entry on a transaction that no other caller interrupts. It follows from the
+-- laws of histories.
 use Rattle.std.proofs.Common.{◌≡◌, ℕ, ◌+◌, ◌<◌, Bool, true, false, cond, List, [], ◌∷◌, ◌++◌, length, Option, Some, None, is_some, refl, sym, ap, subst, ◌∙◌, arith}
 use Rattle.std.specs.Prelude.{nat_le}
 use Rattle.std.proofs.lemmas.Bool.{false≢true, and_parts, cases_eq, ne_eqb}
@@ -25,7 +25,8 @@ use Rattle.txn_trace.proofs.Entries as laws
 use Rattle.boost_core.proofs.Due.{set_at-after}
 use Rattle.owned_map.specs.Within.{taken_back, IsBasedOn}
 
--- If every entry has the right shape, every caller has a seat.
+-- If a caller has a seat after a history, and entries of the right shape follow, the caller has a
+-- seat after these entries too.
 seated_on : (c : ℕ) (g rest : List Entry) → is_some (seat_after (own c g)) ≡ true → IsShaped (g ++ rest)
     → is_some (seat_after (own c (g ++ rest))) ≡ true
 seated_on c g [] there shaped = subst (λ h. is_some (seat_after (own c h)) ≡ true) (sym (append-nil g)) there
@@ -59,8 +60,8 @@ noted op x jobs m right = subst (λ y. taken_back (cond (changes op y) ((key_of 
         ∙ ap (taken_back jobs) (after_unchanged m op (sym (changes-reply m op) ∙ is))
 
 module _ {rule : Holder} (limits : Sizes) (c : ℕ) (base : Map) (h : List Entry) where
-  -- If the changes that stand after one more entry of the caller lead back to `base`, `IsBasedOn`
-  -- holds after this entry.
+  -- Suppose that the caller adds one more entry. If taking back the changes in its log then gives
+  -- `base`, `IsBasedOn` holds after this entry.
   pub stands_after : (e : Entry) → caller_of e ≡ c → nat_le limits.callers c ≡ false → (seat : Seat) (log : List (ℕ × Option ℕ)) (committed current : Map) (holder : ℕ → Option ℕ)
       → Next rule limits.stripes h e seat log committed current holder → taken_back log current ≡ base → IsBasedOn rule limits c base seat.phase (h ++ e ∷ [])
   stands_after e mine within seat log committed current holder next back = record {

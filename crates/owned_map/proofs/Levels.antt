@@ -1,4 +1,5 @@
--- Savepoints: what a save and a return do to a transaction that no other caller interrupts.
+-- Savepoints: how setting one and returning to one change a transaction that no other caller
+-- interrupts.
 use Rattle.std.proofs.Common.{◌≡◌, ℕ, ◌<◌, ◌==◌, zero, suc, Bool, true, false, cond, List, [], ◌∷◌, ◌++◌, length, Option, Some, None, is_some, slice_index, refl, sym, ap, subst, ◌∙◌, arith}
 use Rattle.std.specs.Prelude.{nat_le, nat_lt, ◌&&◌}
 use Rattle.std.specs.Option.{option_and_then}
@@ -60,7 +61,7 @@ module _ {rule : Holder} (limits : Sizes) (c : ℕ) (base : Map) (h : List Entry
   returned_now n stands reached =
       stands_after limits c base h (entry.Returned c n) refl stands.within _ _ _ _ _ (laws.returned limits.stripes h stands.legal c n stands.seat stands.seat_is stands.phase_is reached) stands.back
 
--- A save leaves the transaction open and the map unchanged.
+-- If a savepoint is set, the transaction stays open and the map is unchanged.
 saves : (old new : State) (c : ℕ) (base : Map) (n : ℕ) → IsAt c base Opened old → Move old (Save c) (answers.Saved n) new → IsAt c base Opened new × (now new.history ≡ now old.history)
 saves old new c base n stands move =
     let saved = saved_now old.limits c base old.history stands in
@@ -97,8 +98,8 @@ backwards old new c base n (suc changes) steps others stands moves =
     let (between, there, (s1, seek, (s2, act, rest))) = backwards old new c base n changes (Seek c ∷ Act c ∷ steps) (answers.Placed ∷ answers.Undone ∷ others) stands moves in
     (s2, one_back between s1 s2 c base n there seek.move act.move, rest)
 
--- If a Returned has the right shape, it names the level that the caller goes back to. All changes
--- since this level was set are then taken back.
+-- If a Returned entry has the right shape, it names the level that the caller goes back to, and the
+-- caller has taken back all changes since this level was set.
 pub reached_at : (c n m : ℕ) (h : List Entry) (seat : Seat) → seat_after (own c h) ≡ Some seat → seat.phase ≡ LeavingTo n → IsShaped (h ++ entry.Returned c m ∷ []) → (n ≡ m) × (slice_index seat.kept n ≡ seat.standing)
 reached_at c n m h seat seat_is leaving shaped =
     let e : Entry = entry.Returned c m in

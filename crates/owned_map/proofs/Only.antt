@@ -141,7 +141,7 @@ returned c n old new (answers.Returned m) (reached, between, event, ends) =
 returned c n old new answers.Leaving none = absurd none
 returned c n old new answer event = moved c old new (Back c n) answer (record { whose = refl; quiet = refl }) event.move
 
--- A step of a helper or of the table adds no entry.
+-- A helper's step, or the step that doubles the table, adds no entry.
 pub grown : (old new : State) (step : Step) (answer : Answer) → is_grown step ≡ true → Move old step answer new → new.words ≡ old.words → IsGrown old new
 grown old new step answer is move words = record { history = added step answer is move; limits = kept answer move; words = words }
   where

@@ -1,5 +1,5 @@
--- The maps at the levels of a transaction. Operations and saves leave these maps unchanged, and a
--- return to a level restores the map of this level.
+-- The maps at the levels of a transaction. Operations and new savepoints leave these maps
+-- unchanged, and a return to a level restores the map of this level.
 use Rattle.std.proofs.Common.{◌≡◌, ℕ, ◌+◌, ◌-◌, ◌<◌, ◌≤◌, zero, suc, Bool, true, false, cond, List, [], ◌∷◌, ◌++◌, length, take, get_or, slice_index, Option, Some, None, refl, sym, ap, subst, ◌∙◌, arith}
 use Rattle.std.specs.Prelude.{nat_le, nat_lt, ◌||◌, unwrap_or}
 use Rattle.std.proofs.lemmas.Bool.{and_parts, ltb-true, leb-false}
@@ -61,7 +61,7 @@ module _ {rule : Holder} {limits : Sizes} {c : ℕ} {base : Map} {q : Phase} (h 
   leveled : Leveled stands.seat
   leveled = seat_leveled (own c h) stands.seat stands.seat_is
 
--- The caller's seat, log and levels after one more entry, by the law of this entry.
+-- The caller's seat, log and levels after one more entry. The law of this entry determines them.
 module _ {rule : Holder} {stripes c : ℕ} (h : List Entry) (e : Entry) (mine : caller_of e ≡ c) {seat : Seat} {log : List (ℕ × Option ℕ)} {committed current : Map} {holder : ℕ → Option ℕ} (next : Next rule stripes h e seat log committed current holder) where
   seat_next : seat_in (h ++ e ∷ []) c ≡ seat
   seat_next = ap (λ (o : Option Seat). unwrap_or o closed_seat) (subst (λ d. seat_after (own d (h ++ e ∷ [])) ≡ Some seat) mine next.seat_is)
@@ -237,7 +237,7 @@ keeps_operated old new c op (answers.Busy x) legal event =
 keeps_operated old new c op answers.Asked legal none = absurd none
 keeps_operated old new c op _ legal event = absurd event.move.allowed.1
 
--- A save sets a savepoint at the present map, above all levels that the caller had.
+-- If a savepoint is set, it has the present map and is above all levels that the caller had.
 pub is_saved : (old new : State) (c n : ℕ) → IsLegal (holder_by old.words) old.limits.stripes old.history → Move old (Save c) (answers.Saved n) new → IsSaved c n old new
 is_saved old new c n legal move =
     let stands = ready old c _ legal move.allowed.0 in

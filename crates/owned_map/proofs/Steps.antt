@@ -55,7 +55,8 @@ not_not false is = absurd (false≢true (sym is))
 idle_after : (c : ℕ) (s t : State) → t ≡ s → seat_after (own c s.history) ≡ Some closed_seat → IsIdle c t
 idle_after c s t is closed = subst (IsIdle c) (sym is) (ap (λ (o : Option Seat). is_closed (unwrap_or o closed_seat).phase) closed)
 
--- After a begin, the caller has an open transaction on the present map, and the map is unchanged.
+-- After the step `Begin`, the caller has an open transaction on the present map, and the map is
+-- unchanged.
 pub begins : (old new : State) (c t : ℕ) → IsLegal (holder_by old.words) old.limits.stripes old.history → Move old (Begin c) (answers.Began t) new
     → IsAt c (now old.history) Opened new × (now new.history ≡ now old.history)
 begins old new c t legal move =

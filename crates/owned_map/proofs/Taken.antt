@@ -40,7 +40,7 @@ both half (e ∷ g) h first second =
     let parts = and_parts (is_well half e) (asks_well half g) first in
     and_from (is_well half e) (asks_well half (g ++ h)) parts.0 (both half g h parts.1 second)
 
--- An allowed step asks for no refused key.
+-- If the step `Ask` of an operation is allowed, the operation's key is not refused.
 asked : (old : State) (c : ℕ) (op : Op) → IsAllowed old (Ask c op) answers.Asked → is_bad_key old.limits.half (key_of op) ≡ false
 asked old c op allowed = (first_none (is_bad_key old.limits.half (key_of op)) refusals.BadKey None (past old c (cond (is_bad_key old.limits.half (key_of op)) (Some refusals.BadKey) None) allowed.0)).0
 
@@ -71,7 +71,8 @@ all_moved old new (step ∷ steps) (answer ∷ given) (between, event, rest) wel
 all_moved old new [] (answer ∷ given) none well = absurd none
 all_moved old new (step ∷ steps) [] none well = absurd none
 
--- If no entry asks for a refused key before a plain call, none does after it.
+-- If no entry of the history asks for a refused key before a plain call, no entry does so after the
+-- call.
 pub operated : (old new : State) (c : ℕ) (op : Op) (answer : Answer) → Operates old c op answer new → asks_well old.limits.half old.history ≡ true → asks_well new.limits.half new.history ≡ true
 operated old new c op (answers.Done reply) moves well = all_moved old new (Ask c op ∷ Seek c ∷ Act c ∷ []) (answers.Asked ∷ answers.Placed ∷ answers.Done reply ∷ []) moves well
 operated old new c op answers.Asked none well = absurd none

@@ -60,11 +60,11 @@ put_once old new k v x legal (s1, ask, (s2, seek, (s3, did, last))) fresh =
       ap (λ (s : State). s.limits) last ∙ ap (λ (s : State). s.limits) did.move.state ∙ ap (λ (s : State). s.limits) seek.move.state ∙ ap (λ (s : State). s.limits) ask.move.state,
     )
 
--- The commit adds one Committed entry, with the next commit number.
+-- A commit adds one Committed entry, with the next commit number.
 pub committed_first : (old new : State) (p : ℕ) → Move old (Commit 0) (answers.Committed p) new → new.history ≡ old.history ++ Committed 0 (how_many is_commit old.history + 1) ∷ []
 committed_first old new p move = ap history_of move.state ∙ ap (λ n. old.history ++ Committed 0 n ∷ []) move.allowed.1
 
--- No entry before the commit is a Committed.
+-- The entries that put pairs include no Committed entry.
 none_committed : (pairs : List (ℕ × ℕ)) → how_many is_commit (flat_map put_new pairs) ≡ 0
 none_committed [] = refl
 none_committed (pair ∷ pairs) = none_committed pairs
@@ -154,7 +154,7 @@ put_all pairs h i all put = subst (λ es. HasPut es h) (take_all i pairs all) pu
 pub same_listed : (pairs : List (ℕ × ℕ)) (h : List Entry) → HasPut pairs h → (m : Map) → pairs ≡ ordered m → now h ≡ m
 same_listed pairs h put m is = same_map (now h) m (λ q. put.values q ∙ ap (value_at q) is ∙ value_at-ordered m q)
 
--- If a caller owes no entry in its phase, it has no transaction.
+-- If `owed_in` is 0 for a phase, a caller in this phase has no transaction.
 closed_in : (n : ℕ) (q : Phase) → owed_in n q ≡ 0 → is_closed q ≡ true
 closed_in n Closed is = refl
 closed_in n Opened is = absurd (omega (arith, is))

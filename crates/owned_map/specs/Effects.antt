@@ -13,7 +13,7 @@ use Rattle.boost_core.specs.Machine.{Happens}
 use Rattle.boost_core.specs.Plain.{Operates, Aborts}
 use Rattle.owned_map.specs.Within.{OnlyWorked, IsGrown}
 
--- If the core gives this answer, the call returns the given stop.
+-- The core's answer that makes a call return this stop.
 abbrev pub answer_of : Stop → Answer
 answer_of (stops.Busy holder) = answers.Busy holder
 answer_of (stops.Refused refusal) = answers.Refused refusal
@@ -39,7 +39,8 @@ pub record HasBegun (c : ℕ) (old new : State) : Type 0 where
 abbrev pub HasAborted : ℕ → State → State → Type 0
 HasAborted c old new = (answer : Answer) × Aborts old c answer new
 
--- A caller's commit was stopped, and then the core was asked to abort the transaction.
+-- The core answered a caller's commit with this stop. Then the core was asked to abort the
+-- transaction.
 abbrev pub IsNotCommitted : ℕ → State → Stop → State → Type 0
 IsNotCommitted c old stop new =
     (left : State) × IsStopped old (Commit c) stop left × HasAborted c left new

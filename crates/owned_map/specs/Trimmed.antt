@@ -1,4 +1,4 @@
--- A history that was cut off, and the beginning of the new history.
+-- Trimming a history: it is replaced by one transaction, which puts the pairs of the map.
 use Rattle.std.specs.Prelude.{ℕ, ◌≡◌, ◌≢◌, ◌<◌, false, List, [], ◌∷◌, ◌++◌, None}
 use Rattle.std.specs.List.{flat_map}
 use Rattle.txn_words.specs.declared.op.Op.TheVariants.{Put}
@@ -34,15 +34,15 @@ pub record IsFilling (state : State) : Type 0 where
 abbrev pub IsAtRest : State → Type 0
 IsAtRest state = (c : ℕ) → c < state.limits.callers → IsIdle c state
 
--- The history was cut off when no caller had a transaction. The new history is one transaction,
--- which puts the pairs of the map, and the map is unchanged.
+-- The history was trimmed when no caller had a transaction. The new history is one transaction,
+-- which puts the pairs of the map. The map is unchanged.
 pub record IsTrimmed (old new : State) : Type 0 where
   pub rest : IsAtRest old
   pub history : new.history ≡ filling (ordered (now old.history))
   pub same : now new.history ≡ now old.history
   pub limits : new.limits ≡ old.limits
 
--- The reason why a history is not cut off: a caller has a transaction, memory is refused, or no
+-- The reason why a history is not trimmed: a caller has a transaction, memory is refused, or no
 -- stamps are left.
 abbrev pub IsNotTrimmed : State → Refusal → Type 0
 IsNotTrimmed state AlreadyOpen =

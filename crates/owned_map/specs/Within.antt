@@ -129,8 +129,8 @@ pub record IsSameMap (c : ℕ) (old new : State) : Type 0 where
   pub same : now new.history ≡ now old.history
   pub beside : OnlyWorked c old new
 
--- In the state `old`, a caller began a transaction, and the state became `begun`. The work led from
--- there to the state `done`. Then the transaction was committed. There is one more Committed entry,
+-- In the state `old`, a caller began a transaction, which led to the state `begun`. The work led
+-- from `begun` to `done`. Then the transaction was committed. There is one more Committed entry,
 -- which is the caller's, and the map is the one that the work made.
 pub record IsRun (c : ℕ) (old begun done new : State) : Type 0 where
   pub began : now begun.history ≡ now old.history
@@ -138,7 +138,8 @@ pub record IsRun (c : ℕ) (old begun done new : State) : Type 0 where
   pub place : ℕ
   pub commits : commit_entries new.history ≡ commit_entries old.history ++ Committed c place ∷ []
 
--- True if the step is one of a helper or of the table.
+-- True if the step is a helper's step (`InitSeek`, `InitLink` or `InitStore`), or the step that
+-- doubles the table (`Double`).
 abbrev pub is_grown : Step → Bool
 is_grown (InitSeek h b) = true
 is_grown (InitLink h) = true

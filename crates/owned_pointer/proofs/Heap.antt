@@ -1,4 +1,5 @@
--- The heap as a box's allocator, in the form that a call of a `Box` method takes. Assumes nothing.
+-- The heap as a box's allocator, in the form that calls of `Box` methods take. This file makes no
+-- assumptions.
 use mathlib.Core.Path.{refl}
 use mathlib.Core.List.{[], ◌∷◌}
 use mir.Raw.{raw}

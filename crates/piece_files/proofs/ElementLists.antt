@@ -1,4 +1,4 @@
--- Elements that are read one after the other. The plain ones are kept.
+-- Lemmas about elements that are read one after the other, and kept if they are plain.
 use Rattle.std.proofs.Common.{◌≡◌, ℕ, zero, suc, ◌≤◌, List, [], ◌∷◌, ◌++◌, length, Bool, true, false, ◌&&◌, Option, Some, None, refl, ap, arith}
 use Rattle.std.proofs.lemmas.List.{map-append, length-map}
 use Rattle.json.specs.Token.{Token}

@@ -12,7 +12,8 @@ use Rattle.std.specs.Bool.{then_some}
 use Rattle.piece_files.specs.Pieces.{piece_at, pieces_from, old_of}
 use Rattle.piece_files.specs.Tokens.{outcome, FindsOld}
 
--- Adds one more piece at the end. If either result is a fault, the first fault is the result.
+-- Adds the piece `last` after the pieces `read`. If `read` is a fault, the result is this fault.
+-- Otherwise, if `last` is a fault, the result is that fault.
 abbrev with_last : {P : Type 0} → Result (List P) FileFault → Result P FileFault → Result (List P) FileFault
 with_last read last = read >>= λ ps. (last >>= λ p. Ok (ps ++ p ∷ []))
 
@@ -124,7 +125,8 @@ pub nothing_old : {P : Type 0} (of : List Data → Option P) (is_old : P → Boo
 unfolding pieces_from
 nothing_old of is_old part = refl
 
--- After a piece that is wrong in version 1, no further element changes the result of version 1.
+-- If an element is no piece in version 1, the result of version 1 is a fault. No further element
+-- changes this fault.
 old_later : {P : Type 0} (of : List Data → Option P) (is_old : P → Bool) (part : Part) (i : ℕ) (ds : List Data) (d : Data) → OldRead of is_old part (Some i) ds → OldRead of is_old part (Some i) (ds ++ d ∷ [])
 old_later of is_old part i ds d h =
     let last = piece_at (old_of is_old of) part (length ds) d in

@@ -1,4 +1,4 @@
--- The functions of `Elements.antt`, such as `number_at`, accept only plain elements. So they reject
+-- The functions of `Elements.antt`, such as `number_at`, accept only plain elements. They reject
 -- each list that has too many elements, or an element that is not plain.
 use Rattle.std.proofs.Common.{◌≡◌, ℕ, zero, suc, List, [], ◌∷◌, length, Bool, true, false, ◌==◌, ◌&&◌, Option, Some, None, option_map, if◌then◌else◌, refl, ap, arith}
 use Rattle.std.specs.Prelude.{⊤}

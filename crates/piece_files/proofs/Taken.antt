@@ -1,4 +1,4 @@
--- How the findings in an object's members (`AreFound`) change with one more member.
+-- What was found in an object's members (`AreFound`), and how it changes if a member is added.
 use Rattle.std.proofs.Common.{◌≡◌, ℕ, zero, suc, ◌+◌, ◌<◌, ◌≤◌, nat_lt, cond, List, [], ◌∷◌, length, map, replicate, get_or, Bool, true, false, ◌&&◌, not, bytes_eq, true≢false, Option, Some, None, option_and_then, refl, sym, ap, subst, ◌∙◌, arith}
 use Rattle.std.proofs.Math.ListN.{set}
 use Rattle.std.specs.List.{list_all, position, prefix_len}
@@ -122,7 +122,7 @@ stands_nowhere key names e =
 
 -- ---- what was found, after one more member
 
--- The members of a kind have different names.
+-- In files of this kind, the version, the pieces and the numbers have different names.
 pub record Apart {P : Type 0} (kind : FileKind P) : Type 0 where
   pub first : bytes_eq version kind.pieces ≡ false
   pub from_version : is_none version kind.numbers ≡ true

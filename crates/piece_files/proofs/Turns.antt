@@ -1,5 +1,5 @@
--- The loops over the elements of an array and the members of an object, a turn at a time, with the
--- values converted to `Data`.
+-- Lemmas about one turn of the loops that read the elements of an array and the members of an
+-- object. The values are converted to `Data`.
 use Rattle.std.proofs.Common.{◌≡◌, ℕ, zero, suc, ◌-◌, ◌<◌, ◌≤◌, List, length, Option, Some, None, option_map, refl, ap, ◌∙◌, arith}
 use Rattle.json.specs.Token.{Token}
 use Rattle.json.specs.Json as json

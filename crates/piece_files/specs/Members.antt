@@ -25,7 +25,8 @@ members_within (object ms) = ms
 abbrev pub last_number : Members → List ℕ → Option ℕ
 last_number ms name = option_and_then whole_number (get_member name ms)
 
--- If the value is an array, the option has its pieces. If not, the option is `None`.
+-- If the value is an array, the option has the result of reading its pieces. If not, the option is
+-- `None`.
 abbrev pub ArePiecesOf : {P : Type 0} → (List Data → Option P) → (P → Bool) → Part → ℕ
     → Option (Pieces P) → Data → Type 0
 ArePiecesOf of is_old part most None d = elements_of d ≡ None
@@ -33,8 +34,8 @@ ArePiecesOf of is_old part most (Some p) d =
     (ds : List Data) × (elements_of d ≡ Some ds)
     × FindsBoth part most p (pieces_from (old_of is_old of) part 0 ds) (pieces_from of part 0 ds)
 
--- If the member is an array, the option has its pieces. If the member is missing or no array, the
--- option is `None`.
+-- If the member is an array, the option has the result of reading its pieces. If the member is
+-- missing or no array, the option is `None`.
 abbrev pub ArePiecesIn : {P : Type 0} → (List Data → Option P) → (P → Bool) → Part → ℕ
     → Option (Pieces P) → Option Data → Type 0
 ArePiecesIn of is_old part most found None = found ≡ None

@@ -62,8 +62,8 @@ IsValue depth bytes d rest =
     → (value_at depth (tokens_at place bytes) ≡ Some (d, tokens_at after_value rest))
     × (after_end_array (tokens_at place bytes) ≡ None)
 
--- The bytes are the key `name`, followed by the bytes `rest`. The definition holds only for bytes
--- at which a key may begin, and a value may begin at `rest`.
+-- The bytes are the key `name`, followed by the bytes `rest`. This is claimed only if a key may
+-- begin at these bytes. A value may begin at `rest`.
 abbrev pub IsKey : List ℕ → List ℕ → List ℕ → Type 0
 IsKey bytes name rest =
     (place : Place) → may_begin place ≡ true

@@ -45,8 +45,8 @@ found_under Empty slots later key same = same
 found_under (Removed k) slots later key same = same
 found_under (Full k v) slots later key same = ap (cond (nat_eq key k) (Some v)) same
 
--- Writing to a slot does not change the value of a key, if the slot has this key neither before nor
--- after.
+-- Writing to a slot does not change the value of a key that the slot has neither before nor after
+-- the write.
 pub found_set : (slots : List Slot) (key i : ℕ) (slot : Slot) → key_at slots i ≢ Some key → key_in slot ≢ Some key → found (set slots i slot) key ≡ found slots key
 found_set [] key i slot was now = refl
 found_set (first ∷ slots) key zero slot was now = found_behind slot slots key now ∙ sym (found_behind first slots key was)
@@ -92,8 +92,8 @@ pub pairs_of-replicate : (n : ℕ) → pairs_of (replicate n Empty) ≡ []
 pairs_of-replicate zero = refl
 pairs_of-replicate (suc n) = pairs_of-replicate n
 
--- If the slot before `left` has a value, the slots from `left` on have at least one pair fewer than
--- all slots.
+-- If the slot just before `left` has a value, the slots from `left` on hold fewer pairs than all
+-- the slots together.
 pub pairs_more : (slots : List Slot) (i left : ℕ) (d : Slot) (k v : ℕ) → i + 1 ≡ left → left ≤ length slots → get_or slots i d ≡ Full k v
     → length (pairs_of (drop left slots)) + 1 ≤ length (pairs_of slots)
 pairs_more slots i left d k v next within is =

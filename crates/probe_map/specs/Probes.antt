@@ -2,8 +2,8 @@
 -- at the places are given by a function, so nothing here depends on how they are stored.
 use Rattle.std.specs.Prelude.{◌≡◌, ℕ, ◌==◌, ◌<◌, ◌≤◌, ◌⊎◌, Bool, true, false, Option, Some, None}
 
--- Whether a probe for `key` stops at a place. The option is the key that the place has. The probe
--- stops if the place is empty, which means that it has no key, or if its key is `key`.
+-- True if a probe for `key` stops at a place: the place is empty, or its key is `key`. The option
+-- is the place's key, or None if the place is empty.
 abbrev pub stops : Option ℕ → ℕ → Bool
 stops None key = true
 stops (Some other) key = other == key

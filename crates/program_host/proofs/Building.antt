@@ -6,8 +6,8 @@ use Rattle.clap.specs.declared.builder.command.Command.{Command}
 use Rattle.clap.specs.Words.{App, AddsArg, AddsSubcommand, Rule, rule_of, with_rule, with_subcommand}
 use Rattle.program_host.specs.Words.{IsApp}
 
--- If a command equals an application's definition and a subcommand is added to it, the new command
--- equals the definition with this subcommand.
+-- Suppose that a command equals an application's definition. If a subcommand is added to the
+-- command, the new command equals the definition with this subcommand.
 pub added : (old sub new : Command) (a b : App) → IsApp old a → IsApp sub b → AddsSubcommand old sub new
     → IsApp new (with_subcommand a b.top)
 added old sub new a b had has adds = (
@@ -15,8 +15,8 @@ added old sub new a b had has adds = (
   adds.globals ∙ or_from _ _ had.1 has.1,
 )
 
--- If a command equals an application's definition and an argument that is not global is added to
--- it, the new command equals the definition with this argument.
+-- Suppose that a command equals an application's definition. If an argument that is not global is
+-- added to the command, the new command equals the definition with this argument.
 pub with_word : (old : Command) (arg : Arg) (new : Command) (app : App) (rule : Rule) → IsApp old app → rule_of arg ≡ rule → arg.global ≡ false → AddsArg old arg new → IsApp new (with_rule app rule)
 with_word old arg new app rule had is local adds = (
   adds.shape local ∙ ap₂ with_rule had.0 is,

@@ -100,8 +100,8 @@ all_done (w ∷ ws) ready none = elim (cases_Bool (lives w)) [
       (all_done ws (λ i d within. ready (suc i) d (omega (arith, within))) (rw idle at none))
 ]
 
--- The loop over the workers keeps this: the numbers listed so far, followed by those of the live
--- workers that are not looked at yet, are the numbers of all live workers.
+-- An invariant of the loop over the workers: the numbers listed so far, followed by the numbers of
+-- the live workers that come later, are the numbers of all live workers.
 pub next_number : (n : ℕ) (ws : List Worker) (numbers more : List ℕ) (w : Worker) (b : Bool) → n < length ws → w ≡ get_or ws n w
     → lives w ≡ b
     → more ≡ cond b (numbers ++ n ∷ []) numbers → numbers ++ live_from n (drop n ws) ≡ live_from 0 ws

@@ -105,7 +105,7 @@ member_keeps scripts tries count w h crew worker within at is =
     let member : IsMember scripts tries count h w worker = rw at (is.each w worker within) in
     subst (λ n. KeepsScripts scripts tries worker (own n h)) (sym member.number) member.keeps
 
--- If each worker is a member and one more member is added, each worker is still a member.
+-- If a member is appended to a list of members, each worker of the new list is a member.
 pub crew_more : (scripts : List (List Action)) (tries count : ℕ) (crew : List Worker) (worker : Worker) → IsMember scripts tries count [] (length crew) worker
     → ((w : ℕ) (other : Worker) → w < length crew → IsMember scripts tries count [] w (get_or crew w other))
     → (w : ℕ) (other : Worker) → w < length (crew ++ worker ∷ []) → IsMember scripts tries count [] w (get_or (crew ++ worker ∷ []) w other)

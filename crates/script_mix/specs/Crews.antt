@@ -40,9 +40,8 @@ pub record MovesOn (scripts : List (List Action)) (tries : ℕ) (old new : State
 -- The core has the limits asked for, and it locks its stripes itself. Workers were drawn and took
 -- turns on it, until no worker had a step or a script left, or 2^64 - 1 turns were taken. In the
 -- core's history, each worker's committed transactions play its scripts, and the numbers of these
--- scripts rise. For each worker there is a list of its scripts' outcomes, from the first script on,
--- which agrees with the history (`AreTrue`). A script that did not begin has no outcome in the
--- list.
+-- scripts rise. Each worker has a list of its scripts' outcomes, from the first script on. The list
+-- agrees with the history (`AreTrue`). A script that did not begin has no outcome in the list.
 pub record IsMixed (work : Work) (seed : ℕ) (state : State) : Type 0 where
   pub limits : state.limits ≡ work.sizes
   pub words : state.words ≡ false

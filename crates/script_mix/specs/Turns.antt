@@ -45,7 +45,7 @@ pub record Mixing : Type 0 where
   pub crew : List Worker
   pub generator : Lcg
 
--- The first workers, as many as the last argument says. None of them has taken a step.
+-- The workers whose numbers are below the last argument. None of them has taken a step.
 abbrev pub first_crew : List (List Action) → Sizes → ℕ → List Worker
 first_crew scripts limits zero = []
 first_crew scripts limits (suc w) = first_crew scripts limits w ++ new_worker scripts w limits ∷ []

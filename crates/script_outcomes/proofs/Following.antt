@@ -1,4 +1,4 @@
--- What holds of the outcomes and of a worker's `Way` after the first entries of a history.
+-- Facts about the outcomes and about a worker's `Way` after the first entries of a history.
 use Rattle.std.proofs.Common.{◌≡◌, ◌≢◌, ℕ, Option, zero, suc, ◌+◌, ◌%◌, ◌<◌, ◌≤◌, ◌⊎◌, ◌==◌, ◌&&◌, Bool, true, false, cond, List, [], ◌∷◌, ◌++◌, length, take, drop, get_or, set, Some, None, refl, sym, ap, subst, ◌∙◌, inl, inr, arith}
 use Rattle.std.specs.Prelude.{slice_get}
 use Rattle.std.specs.List.{fold}
@@ -330,7 +330,8 @@ own_follows w scripts h c fed (entries.Aborted d) os os' old new at mine sized g
 own_follows w scripts h c fed e os os' old new at mine sized goes f =
     quiet_follows w scripts h c fed e at os os' old new mine sized f goes.part goes.on refl goes.counts.0 goes.counts.1
 
--- The facts about each worker after the first entries.
+-- There is a `Way` for each worker and an outcome for each script, and `Follows` holds for each
+-- worker after the first `fed` entries.
 pub record AllFollow (w : ℕ) (scripts : List (List Action)) (h : List Entry) (fed : ℕ) (os : List Outcome) (ways : List Way) : Type 0 where
   pub size : length ways ≡ w
   pub one_each : length os ≡ length scripts

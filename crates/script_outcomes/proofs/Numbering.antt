@@ -1,5 +1,5 @@
--- If a script has the outcome `Committed`, a transaction plays the script and commits. In a history
--- of the right shape, this transaction has a number.
+-- If a script has the outcome `Committed`, a transaction plays the script and commits. If the
+-- history has the right shape (`IsShaped`), this transaction has a number.
 use Rattle.std.proofs.Common.{◌≡◌, ℕ, ◌+◌, true, List, [], ◌∷◌, ◌++◌, take, drop, Some, refl, sym, ap, subst, ◌∙◌, not, append-nil}
 use Rattle.std.specs.Prelude.{slice_get}
 use Rattle.std.specs.List.{fold}

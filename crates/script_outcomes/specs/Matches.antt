@@ -6,8 +6,8 @@ use Rattle.txn_words.specs.declared.action.Action.TheVariants as actions
 use Rattle.txn_words.specs.declared.entry.Entry.{Entry}
 use Rattle.txn_words.specs.declared.entry.Entry.TheVariants.{Began, Asked, Did, Saved, Leave, Returned, Aborted}
 
--- The entries begin with those of the action, and the others are `rest`. There is no rest after an
--- abort, since an abort ends its transaction.
+-- The entries begin with those of the action, and the remaining entries are `rest`. If the action
+-- is an abort, this never holds, since an abort ends its transaction.
 abbrev pub PlaysAction : Action → List Entry → List Entry → Type 0
 PlaysAction (actions.Op op) (Asked c asked ∷ Did d reply ∷ es) rest = (asked ≡ op) × (es ≡ rest)
 PlaysAction actions.Save (Saved c ∷ es) rest = es ≡ rest

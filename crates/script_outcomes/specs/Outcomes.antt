@@ -21,8 +21,8 @@ grown part e = if is_began e then e ∷ [] else if is_undone e then part else pa
 abbrev pub latest_entries : ℕ → List Entry → List Entry
 latest_entries c h = fold grown [] (own c h)
 
--- The entry with this index is a Committed of the caller with this commit number (`place`), and the
--- entry's transaction plays the script.
+-- The entry with this index is a `Committed` entry of the caller, with the commit number `place`.
+-- The transaction that this entry commits plays the script.
 pub record CommitsScript (c : ℕ) (script : List Action) (place entry : ℕ) (h : List Entry) :
     Type 0 where
   pub at : slice_get h entry ≡ Some (entries.Committed c place)
@@ -80,8 +80,8 @@ CommitsCounted callers c fed h outcomes =
 
 -- The outcomes of a caller's scripts in a history. `HasCome` holds for each outcome. Commits are in
 -- the order of the scripts, and so are aborts. So each transaction is counted for at most one
--- script. If the committed transactions of the caller play its scripts in order, each of them is
--- counted.
+-- script. If the caller's committed transactions play its scripts in order, each of these
+-- transactions is counted.
 pub record AreOutcomesOf (callers : ℕ) (scripts : List (List Action)) (h : List Entry)
     (outcomes : List Outcome) (c : ℕ) : Type 0 where
   pub each : (n : ℕ) (script : List Action) (outcome : Outcome)

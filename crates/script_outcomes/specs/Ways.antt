@@ -55,8 +55,8 @@ pub record IsFirstLeft (workers : ℕ) (scripts : List (List Action)) (part : Li
   pub reaches : (script : List Action) → reached ≡ true → slice_get scripts number ≡ Some script
       → AbortsItself script part
 
--- There are workers, and an outcome for each script. The positions `next` and `turn` have the same
--- remainder modulo `workers`, and `next` is not after `turn`.
+-- There is at least one worker, and an outcome for each script. The positions `next` and `turn`
+-- have the same remainder modulo `workers`, and `next` is not after `turn`.
 pub record MayCount (workers : ℕ) (scripts : List (List Action)) (way : Way)
     (outcomes : List Outcome) : Type 0 where
   pub some : 0 < workers

@@ -31,7 +31,8 @@ account_more c tries (first ∷ scripts) (o ∷ outcomes) script outcome es chun
     let others = account_more c tries scripts outcomes script outcome later chunk is rest account in
     (here, later ++ chunk, rw (es_is, append_assoc), account_here, others)
 
--- The committed transactions of a caller play its scripts. The numbers of these scripts rise.
+-- Each committed transaction of a caller plays one of the caller's scripts. Later transactions play
+-- scripts with greater numbers.
 module _ (callers c : ℕ) (below : c < callers) (scripts : List (List Action)) (h : List Entry) where
   abbrev number : ℕ → ℕ
   number k = c + k * callers

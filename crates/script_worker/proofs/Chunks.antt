@@ -1,5 +1,5 @@
--- The chunk of the entries that a caller has added since its script began. Each call adds to the
--- chunk. When the script is over, the chunk is the account of the script.
+-- The chunk: the entries that a caller has added since its script began. Each call adds entries to
+-- the chunk. When the script is over, the chunk is the account of the script.
 use Rattle.std.proofs.Common.{◌≡◌, ℕ, zero, suc, Bool, false, List, ◌∷◌, ◌++◌, filter, refl, ap, ◌∙◌, ◌+◌, [], not, length, length-append}
 use Rattle.std.proofs.Common.{append_assoc, append-nil, Option, arith, nat_lt, true, if◌then◌else◌, drop, drop-cons, slice_get, Some, None}
 use Rattle.std.proofs.Common.{sym, add-one, ltb-false}
@@ -15,8 +15,6 @@ use Rattle.script_worker.proofs.Every.{get_none}
 pub how_many-append : (test : Entry → Bool) (xs ys : List Entry) → how_many test (xs ++ ys) ≡ how_many test xs + how_many test ys
 how_many-append test xs ys = ap length (filter-append test xs ys) ∙ length-append (filter test xs) (filter test ys)
 
--- If `AreBusy` holds for `n` attempts and one more attempt found a stripe held, it holds for `n +
--- 1` attempts.
 busy_more : (n : ℕ) (es fs : List Entry) → AreBusy n es → AreBusy 1 fs → AreBusy (n + 1) (es ++ fs)
 busy_more n es fs busy one = record {
   nothing = append_quiet es fs busy.nothing one.nothing;
@@ -76,7 +74,7 @@ module _ (c tries : ℕ) (script : List Action) (heard : Heard) (before part : L
       at true is = record { before = _; part = []; whole = sym (append-nil _); busy = more; at = refl }
       at false is = record { nothing = more.nothing; enough = omega (arith, more.enough, ltb-false again tries is) }
 
-  -- If an action is done, `ChunkAfter` holds for the same attempt at its next action.
+  -- After an action that succeeded, `ChunkAfter` holds for the same attempt at its next action.
   goes : (i : ℕ) (action : Action) (end : End) (es added : List Entry) → slice_get script i ≡ Some action → added ≡ es
       → txn_then heard.txn end ≡ heard.txn → replies_then heard.replies end ≡ heard.replies ++ replies_in es → CommitNothing es
       → ((rest : List Entry) → ArePlayed (drop (i + 1) script) rest → ArePlayed (action ∷ drop (i + 1) script) (without_undone es ++ rest))
@@ -100,8 +98,6 @@ module _ (c tries : ℕ) (script : List Action) (heard : Heard) (before part : L
   aborted added made quiet =
       all_quiet added quiet (ap (filter is_commit) made.1 ∙ filter_undone is_commit c made.0 (Entry.Aborted c ∷ []) refl)
 
-  -- If a call is done, `ChunkAfter` holds. The proof goes through the stages, the actions and the
-  -- answers.
   done_told : (stage : Stage) (a : Answer) (added : List Entry) → IsMade c (call_at script stage) (End.Answered a) added → IsAtStage c script heard part stage → After added (End.Answered a) (done_at script again stage)
   done_told Beginning (Answer.Began t) added made none =
       let front : IsFront c script script t [] added =
@@ -136,7 +132,6 @@ module _ (c tries : ℕ) (script : List Action) (heard : Heard) (before part : L
   done_told (Leaving refusal) Answer.Aborted added made quiet = aborted added made quiet
   done_told stage a added made at = absurd made
 
-  -- If a call for help is done, `ChunkAfter` holds.
   helped_told : (stage : Stage) (added : List Entry) → IsMade c (call_at script stage) End.Helped added → IsAtStage c script heard part stage → After added End.Helped (done_at script again stage)
   helped_told (Acting i) added made front = by (slice_get script i) refl made
     where
@@ -181,7 +176,8 @@ after_call c tries script heard chunk added end p made silent so_far is =
     rw (so_far.whole, append_assoc, ← is)
     (told_at c tries script heard so_far.before so_far.part so_far.busy heard.attempt.stage end added made silent so_far.at)
 
--- If another call follows, the call did not end with `OutOfStep`, so `IsQuiet` holds.
+-- If a script makes another call after a call has ended with `end`, then `end` is not `OutOfStep`,
+-- so `IsQuiet` holds.
 pub goes_quiet : (script : List Action) (tries : ℕ) (attempt next : Attempt) (end : End) (added : List Entry)
     → progress_of script tries attempt end ≡ Next next → IsQuiet end added
 goes_quiet script tries attempt next (End.Refused OutOfStep) added is = absurd (cc is)

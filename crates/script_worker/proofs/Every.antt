@@ -44,8 +44,8 @@ every-hit n some (y ∷ xs) x zero zero at = absurd (omega (arith, at))
 every-hit n some (y ∷ xs) x zero (suc k) at = ap (λ ys. y ∷ ys) (every-hit n some xs x (n - 1) k (omega (arith, at)))
 every-hit n some (y ∷ xs) x (suc after) k at = every-hit n some xs x after k (omega (arith, at))
 
--- If the position of an appended element is `after + k * n` for no `k`, the list of every n-th
--- element is unchanged.
+-- If an appended element is not at a position `after + k * n` for any `k`, appending it does not
+-- change the list of every n-th element.
 pub every-miss : {X : Type 0} (n : ℕ) → 0 < n → (xs : List X) (x : X) (after : ℕ) → ((k : ℕ) → length xs ≡ after + k * n → ⊥) → every n after (xs ++ x ∷ []) ≡ every n after xs
 every-miss n some [] x zero never = absurd (never 0 (omega arith))
 every-miss n some [] x (suc after) never = refl

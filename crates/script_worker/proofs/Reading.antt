@@ -58,8 +58,8 @@ seat_front es fs some = at (seat_after es) (ap is_some (sym (fold-append seat_st
     at None some = absurd (false≢true (sym (ap is_some (none_stays fs)) ∙ some))
     at (Some s) some = refl
 
--- The transaction of the last Began entry, after one more entry. `ended_txns` lists this
--- transaction for each Committed entry.
+-- The number of the transaction that began last, updated for one more entry. `ended_txns` lists
+-- this number for each Committed entry.
 abbrev pub next_txn : Option ℕ → Entry → Option ℕ
 next_txn o (Began c t) = Some t
 next_txn o _ = o

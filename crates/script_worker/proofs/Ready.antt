@@ -19,8 +19,8 @@ pub steps_ended : (o : Option Step) (drive : Drive) → step_of drive ≡ o → 
 steps_ended None drive is some = absurd (cc some)
 steps_ended (Some step) drive is some = goes_on drive step is
 
--- The task's drive is new. It is the drive of the call that the attempt makes at its stage. After a
--- call, the task has such a drive, or a drive with a step to take (`IsCalledIfAny`).
+-- The task's drive is new, and makes the call of the attempt's present stage. `IsCalledIfAny`: if
+-- there is a task, its drive has a step to take, or `IsCalled` holds.
 abbrev IsCalled : List (List Action) → Task → Type 0
 IsCalled scripts task = (half : Bool) × (caller : ℕ) × (script : List Action) × (slice_get scripts task.script ≡ Some script)
     × (task.drive ≡ new_drive half caller (call_at script task.attempt.stage))
@@ -34,7 +34,7 @@ called_started half scripts w n =
     elim (nat_lt n (length scripts)) as (λ b. IsCalledIfAny scripts (if b then Some (record { script = n; attempt = first_attempt; drive = new_drive half w Call.Begin }) else None)) [ true ↦ inl refl | false ↦ tt ]
 
 module _ (scripts : List (List Action)) (tries w : ℕ) (limits : Sizes) where
-  -- When a task has been settled once, its drive has a step to take, or is new.
+  -- The task that follows an ended call has a drive that is new or has a step to take.
   called_followed : (task : Task) (script : List Action) (progress : Progress) → slice_get scripts task.script ≡ Some script → IsCalledIfAny scripts (followed scripts w limits task script progress)
   called_followed task script (Next attempt) there = inr (limits.half, w, script, there, refl)
   called_followed task script (Over outcome) there = called_started limits.half scripts w (task.script + limits.callers)
@@ -45,8 +45,8 @@ module _ (scripts : List (List Action)) (tries w : ℕ) (limits : Sizes) where
   called_in task (Some outcome) None ended there = rw there tt
   called_in task (Some outcome) (Some script) ended there = rw there (called_followed task script _ there)
 
-  -- The task that follows has a step to take. Only a call for help with a bad key ends before its
-  -- first step. In that case an abort follows, which has a step to take.
+  -- The task that follows an ended call has a step to take. Only a call for help with a bad key
+  -- ends before its first step, and the abort that follows it has a step to take.
   abbrev FollowsReady : Task → List Action → Progress → Type 0
   FollowsReady task script progress = IsReadyTask (followed scripts w limits task script progress)
 

@@ -10,8 +10,8 @@ taken_in : {X : Type 0} (takes : X → Step → Answer → X → Type 0) (script
 taken_in takes scripts tries w x (Ended outcome) y is taken = absurd is
 taken_in takes scripts tries w x turn y is taken = taken
 
--- If the turn that `turn_by` gives is taken on a state, the worker has taken its next turn. `p`
--- gives the worker's part of the state. Each step of the turn is the worker's step on this part.
+-- If the turn that `turn_by` gives is taken on a state `x`, the worker in `p x` has taken its next
+-- turn. It is assumed that each step on `x` is a step of the worker in `p x`.
 pub turn_next : {X F : Type 0} (takes : X → Step → Answer → X → Type 0) (R : F → Step → Answer → F → Type 0) (I : F → F → Type 0)
     (p : F → Working X) (size : ℕ) (scripts : List (List Action)) (tries : ℕ) (before w : Standing) (o : Option Turn) (turn : Turn)
     (x y : F) → w ≡ sized_by size before → o ≡ turn_by w → IsTurnBy w o → o ≡ Some turn → w ≡ (p x).worker → (p x).finish ≡ None
@@ -54,8 +54,8 @@ next_maps takes R I p scripts tries size x before finish y after i taken each =
     (turn_by (sized_by size before)) (record { taker = y; worker = after; finish = finish }) i taken.steps in
     (record { steps = mapped.0 }, mapped.1)
 
--- If `TakesNext` holds, it still holds after the finish of the script, the later state or the later
--- worker is replaced by an equal value.
+-- `TakesNext` still holds if the later state, the later worker or the finish is replaced by an
+-- equal value.
 pub next_at : {X : Type 0} (takes : X → Step → Answer → X → Type 0) (size : ℕ) (scripts : List (List Action)) (tries : ℕ) (old : X) (before : Standing) (o p : Option Finish) (y z : X) (v w : Standing)
     → TakesNext takes size scripts tries old before o y v → o ≡ p → y ≡ z → v ≡ w → TakesNext takes size scripts tries old before p z w
 next_at takes size scripts tries old before o p y z v w taken o_is y_is v_is = rw (o_is, y_is, v_is) at taken

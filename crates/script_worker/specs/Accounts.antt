@@ -26,7 +26,7 @@ pub record Told : Type 0 where
   pub script : List Action
   pub outcome : Outcome
 
--- Whether an entry is a Busy: it records that a stripe was held.
+-- True if an entry is a Busy entry, which records that a stripe was held.
 abbrev pub is_busy : Entry → Bool
 is_busy (entries.Busy c op x) = true
 is_busy _ = false
@@ -46,8 +46,8 @@ pub record AreBusy (attempts : ℕ) (es : List Entry) : Type 0 where
   pub nothing : CommitNothing es
   pub enough : attempts ≤ how_many is_busy es
 
--- The entries are those of a transaction of the caller, from its Began to its Committed. The
--- transaction plays the script and has these replies.
+-- The entries are those of one transaction of the caller, from its Began to its Committed. The
+-- transaction plays the script and gets these replies.
 pub record IsPlayedBy (c : ℕ) (script : List Action) (txn place : ℕ) (replies : List (Option ℕ))
     (es : List Entry) : Type 0 where
   pub inner : List Entry
@@ -118,7 +118,7 @@ pub record AreTrue (c tries : ℕ) (h : List Entry) (tolds : List Told) : Type 0
   pub busy : length (filter (λ told. is_busy_outcome told.outcome) tolds) * (tries + 1)
       ≤ how_many is_busy (own c h)
 
--- Every `n`-th element of a list, beginning after the first `after` elements.
+-- Every `n`-th element of a list. The first of them is element `after`, counted from 0.
 abbrev pub every : {X : Type 0} → ℕ → ℕ → List X → List X
 every n after [] = []
 every n zero (x ∷ xs) = x ∷ every n (n - 1) xs

@@ -15,7 +15,7 @@ use Rattle.script_worker.specs.declared.attempt.Finish.TheVariants as finishes
 use Rattle.script_worker.specs.declared.attempt.Progress.{Progress}
 use Rattle.script_worker.specs.declared.attempt.Progress.TheVariants.{Next, Over}
 
--- The attempt at this stage, after `again` earlier attempts.
+-- The attempt that has reached this stage. `again` attempts were made before it.
 abbrev pub attempt_at : ℕ → Stage → Attempt
 attempt_at again stage = record { again = again; stage = stage }
 
@@ -41,14 +41,14 @@ call_at script Beginning = calls.Begin
 call_at script (Acting i) = call_of (slice_get script i)
 call_at script (Leaving refusal) = calls.Abort
 
--- The progress after an action that was done, or after the commit if there is no action. After an
--- abort or the commit, the script is over. After any other action, the next action follows.
+-- The progress after an action that was done. `None` stands for the commit. After an abort or the
+-- commit, the script is over. After any other action, the script goes to its next action.
 abbrev pub done_with : ℕ → ℕ → Option Action → Progress
 done_with again i None = Over finishes.Committed
 done_with again i (Some actions.Abort) = Over finishes.Aborted
 done_with again i (Some action) = Next (attempt_at again (Acting (i + 1)))
 
--- The progress after a call that is done.
+-- The progress of the script after the call of this stage has succeeded.
 abbrev pub done_at : List Action → ℕ → Stage → Progress
 done_at script again Beginning = Next (attempt_at again (Acting 0))
 done_at script again (Acting i) = done_with again i (slice_get script i)
@@ -60,8 +60,8 @@ abbrev pub busy_at : ℕ → ℕ → Progress
 busy_at tries again =
     if nat_lt again tries then Next (attempt_at (again + 1) Beginning) else Over finishes.Busy
 
--- The progress after a refused action, or after a refused commit if there is no action. A refused
--- abort or commit ends the script. After any other refused action, the transaction is aborted.
+-- The progress after a refused action. `None` stands for the commit. If an abort or the commit is
+-- refused, the script is over. If any other action is refused, the transaction is aborted.
 abbrev pub refused_with : ℕ → Option Action → Refusal → Progress
 refused_with again None refusal = Over (finishes.Refused refusal)
 refused_with again (Some actions.Abort) refusal = Over (finishes.Refused refusal)
@@ -76,7 +76,7 @@ abbrev pub progress_refused : List Action → ℕ → Stage → Refusal → Prog
 progress_refused script again stage OutOfStep = Over (finishes.Refused OutOfStep)
 progress_refused script again stage refusal = refused_in script again stage refusal
 
--- The progress after the call of this stage has ended in this way.
+-- The progress of the script after the call of this stage has ended with the given end.
 abbrev pub progress_at : List Action → ℕ → ℕ → Stage → End → Progress
 progress_at script tries again stage (ends.Answered answer) = done_at script again stage
 progress_at script tries again stage ends.Helped = done_at script again stage

@@ -31,8 +31,9 @@ heard_at attempt txn replies = record { attempt = attempt; txn = txn; replies = 
 abbrev pub first_heard : Heard
 first_heard = heard_at first_attempt 0 []
 
--- The number of the transaction after a call that ended in this way. `replies_then` gives the
--- replies after such a call.
+-- The number of a script's transaction after one of its calls has ended. A call that begins a
+-- transaction gives a new number. After any other call the number stays `txn`. `replies_then` gives
+-- the replies after the call.
 abbrev pub txn_then : ℕ → End → ℕ
 txn_then txn (ends.Answered (answers.Began t)) = t
 txn_then txn outcome = txn
@@ -42,8 +43,8 @@ replies_then replies (ends.Answered (answers.Began t)) = []
 replies_then replies (ends.Answered (answers.Done reply)) = replies ++ reply ∷ []
 replies_then replies outcome = replies
 
--- The knowledge of a script after its call has ended with this end. `next` is the same attempt at
--- its next stage, or a new attempt.
+-- What is known about a script (`Heard`) after a call of it has ended with `outcome`. `next` is the
+-- same attempt at its next stage, or a new attempt.
 abbrev pub heard_then : Heard → End → Attempt → Heard
 heard_then heard outcome next =
     heard_at next (txn_then heard.txn outcome) (replies_then heard.replies outcome)
@@ -68,7 +69,7 @@ pub record IsFront (c : ℕ) (script left : List Action) (txn : ℕ) (replies : 
   pub replied : replies_in es ≡ replies
   pub goes : (rest : List Entry) → ArePlayed left rest → IsPlayed script (without_undone es ++ rest)
 
--- The entries of the present attempt, if it is at this stage.
+-- The condition that the entries of the present attempt meet while the attempt is at this stage.
 abbrev pub IsAtStage : ℕ → List Action → Heard → List Entry → Stage → Type 0
 IsAtStage c script heard part Beginning = part ≡ []
 IsAtStage c script heard part (Acting i) =

@@ -29,8 +29,8 @@ pub record KeepsTask (tries workers : ℕ) (scripts : List (List Action)) (w : �
   pub replies : List (Option ℕ)
   pub so_far : IsChunk w script (heard_at task.attempt txn replies) chunk
 
--- The condition on the worker's entries if the worker has this task. If it has no task, no script
--- is left, and the entries are the accounts of all its scripts that have an outcome.
+-- If the worker has a task, `KeepsTask` holds for its entries. If it has no task, its entries are
+-- the accounts of its finished scripts.
 abbrev pub KeepsAt : ℕ → ℕ → List (List Action) → ℕ → Option Task → List Entry → Type 0
 KeepsAt tries workers scripts w None seen =
     (outcomes : List Outcome)

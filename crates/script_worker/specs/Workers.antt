@@ -58,7 +58,8 @@ progressed scripts tries w limits task outcome =
     option_and_then (λ script. followed scripts w limits task script
     (progress_of script tries task.attempt outcome)) (slice_get scripts task.script)
 
--- The task after its call has ended in this way. If the call has not ended, the task is unchanged.
+-- If the task's call has ended, gives the worker's next task (`progressed`). If the call has not
+-- ended, the task stays the same.
 abbrev pub settled_in : List (List Action) → ℕ → ℕ → Sizes → Task → Option End → Option Task
 settled_in scripts tries w limits task None = Some task
 settled_in scripts tries w limits task (Some outcome) =
@@ -88,7 +89,7 @@ finish_by scripts tries None = None
 finish_by scripts tries (Some task) =
     option_and_then (finish_at scripts tries task) (end_of task.drive)
 
--- The task after this function has changed its drive.
+-- The task, with the function `f` applied to its drive.
 abbrev pub with_drive : (Drive → Drive) → Option Task → Option Task
 with_drive f None = None
 with_drive f (Some task) = Some (record task { drive = f task.drive })
@@ -171,7 +172,7 @@ pub record TakesStep {X : Type 0} (takes : X → Step → Answer → X → Type 
   pub told : new.worker ≡ told_by scripts tries old.worker answer
   pub ended : new.finish ≡ option_or (finish_told scripts tries old.worker answer) old.finish
 
--- A turn of a worker is taken. It has at least one step.
+-- The worker takes this turn, which has at least one step.
 abbrev pub TakesTurnBy : {X : Type 0} → (X → Step → Answer → X → Type 0) → List (List Action) → ℕ
     → Working X → Option Turn → Working X → Type 0
 TakesTurnBy takes scripts tries old None new = ⊥

@@ -49,7 +49,7 @@ pub record JudgesAt (h : List Entry) (e : Entry) (right : Bool) (new : Commits) 
   pub keeps : right ≡ true → ShowsSerial (h ++ e ∷ []) new
 
 -- For each history `h` that meets these three conditions, the entry is judged as `JudgesAt` says:
--- - The table `callers` has entered the entries `h` (`HaveEntered`).
+-- - The entries `h` have been entered into the table `callers` (`HaveEntered`).
 -- - `old` shows `h` (`ShowsSerial`).
 -- - The entry has the right shape after `h`.
 abbrev pub Judges : Entry → Callers → Commits → Bool → Commits → Type 0

@@ -19,8 +19,8 @@ pub record Tells (h : List Entry) (state : State) : Type 0 where
 abbrev pub Stays : State → State → Type 0
 Stays old new = (h : List Entry) → Tells h old → Tells h new
 
--- If a rule is named, the entry breaks this rule after the history. If none is named, `Tells` holds
--- for the new state and the history with the entry added.
+-- If a rule is named, adding the entry to the history breaks this rule. If no rule is named,
+-- `Tells` holds for the new state and the history with the entry added.
 abbrev pub Judged : List Entry → Entry → Option Rule → State → Type 0
 Judged h e None new = Tells (h ++ e ∷ []) new
 Judged h e (Some rule) new = broken h e ≡ Some (number_of rule)

@@ -1,4 +1,4 @@
--- Savepoints: the token after a save and after a return to a level.
+-- The token after a savepoint is set, and after a return to a level.
 use Rattle.std.proofs.Common.{◌≡◌, ℕ, true, List, [], ◌∷◌, ◌++◌, append_assoc, Some, refl, sym, ap, ◌∙◌}
 use Rattle.std.specs.Prelude.{Result, Ok, Err, OnOk}
 use Rattle.std.specs.Borrow.{MutBor}

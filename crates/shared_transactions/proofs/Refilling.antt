@@ -1,4 +1,4 @@
--- The entries of a caller that puts the pairs of a core. A refill is never refused with
+-- The entries of a caller that puts the pairs of a core. Putting these pairs is never refused with
 -- `CallersMissing`.
 use Rattle.std.proofs.Common.{◌≡◌, ℕ, ◌+◌, ◌<◌, ◌≤◌, suc, if◌then◌else◌, Bool, true, false, List, [], ◌∷◌, ◌++◌, length, take, slice_index_or, append_assoc, Option, Some, None, refl, sym, ap, subst, ◌∙◌, inl, inr, arith}
 use Rattle.std.specs.Prelude.{not}
@@ -145,7 +145,7 @@ module _ {S : Type 0} (k : Token S) where
   not_refused call l allowed may (inl (is, same)) = allowed is
   not_refused call l allowed may (inr (free, found)) = false≢true (sym may ∙ found.may)
 
--- A refill is never refused with `CallersMissing`.
+-- Putting the pairs of a core is never refused with `CallersMissing`.
 module _ {S : Type 0} (words : S → List ℕ) (pairs : List (ℕ × ℕ)) (k l : Token S) where
   not_within : StopsWithin words pairs k (Refused CallersMissing) l → ⊥
   not_within within = elim within.why [

@@ -13,8 +13,8 @@ use Rattle.locked_map.specs.Calls.{Ran, WasRefused}
 use Rattle.core_tokens.specs.Tokens.{Token}
 use Rattle.shared_transactions.specs.Stops.{StoppedGrowing}
 
--- If an operation was done at a key that was absent, and the help was then refused as `OutOfStep`,
--- `StoppedGrowing` holds.
+-- If an operation was done at a key that was absent, and then the call `Help` for this key was
+-- refused as `OutOfStep`, `StoppedGrowing` holds.
 pub out_growing : {S : Type 0} (words : S → List ℕ) (k : Token S) (op : Op) (reply : Option ℕ) (key : ℕ) (between l : Token S) (stop : Stop) → Ran words k (calls.Op op) (ends.Answered (answers.Done reply)) between → is_some reply ≡ false → key ≡ key_of op
     → (stop ≡ stops.Refused OutOfStep) × WasRefused between (calls.Help key) OutOfStep l → StoppedGrowing words k op stop l
 out_growing words k op None key between l stop done none is (out, fell) = inr (out, record { between = between; done = done; out = subst (λ n. WasRefused between (calls.Help n) OutOfStep l) is fell })

@@ -22,7 +22,6 @@ run_after did run tries over base (Ok value) tried (t, u, worked, is_over, ran) 
 run_after did run tries over base (Err stop) tried ran = ran
 
 module _ {S X T : Type 0} (work : X → Result T Stop → X → Type 0) (me : X → Token S) where
-  -- If one more try ends busy, the number of busy tries grows by one.
   busy_more : (n : ℕ) (old between new : Token S) (stop : Stop) → is_busy_stop stop ≡ true → BusyTries work me n old between → Fails work me stop between new → BusyTries work me (n + 1) old new
   busy_more n old between new (Busy holder) busy tries (inl failed) =
       let next : suc n ≡ n + 1 = omega arith in subst (λ k. BusyTries work me k old new) next (between, holder, tries, failed)

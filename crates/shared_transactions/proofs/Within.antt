@@ -464,7 +464,6 @@ op_open k op free = at k.broken (seat_after k.seen) free
     at false None is = refl
     at false (Some s) is = seated s s.phase is
 
--- If a call is refused, and getting ready for it changes no claims, the claims are unchanged.
 same_claims : {S : Type 0} (k : Token S) (call : Call) (r : Refusal) (l : Token S) → ((c d : Claimed) → Readies c call d → d ≡ c) → TriedNothing k r l ⊎ WentOn k call (ends.Refused r) l → l.claims ≡ k.claims
 same_claims k call r l readied (inl (memory, same)) = same
 same_claims k call r l readied (inr went) = went.claims ∙ readied k.claims went.ready.claims went.readied

@@ -135,9 +135,9 @@ get_right (x ∷ xs) ys i =
     let next : suc (length xs) + i ≡ suc (length xs + i) = omega arith in
     ap (slice_get (x ∷ xs ++ ys)) next ∙ get_right xs ys i
 
--- Suppose that each work was done by the caller that it was joined with, and that the map was then
--- closed with these callers, followed by the callers `others`. Then `AreDone` holds for the closed
--- map.
+-- Suppose that each work's promise holds for the work's outcome and for its caller's token. Suppose
+-- also that the map was closed with the callers of these works, followed by the callers `others`.
+-- Then `AreDone` holds for the closed map.
 pub are_done : {S J D W T : Type 0} (work_of : J → W) (me_of : D → Token S) (outcome_of : D → T) (promises : W → T → Token S → Type 0) (limits : Sizes) (works : List W) (seated : List J) (done : List D) (others : List (Token S)) (core : State) (callers : ℕ)
     → length works + length others ≡ callers → callers ≤ limits.callers → map work_of seated ≡ works → length done ≡ length seated
     → ((i : ℕ) (s : J) (d : D) → slice_get seated i ≡ Some s → slice_get done i ≡ Some d → promises (work_of s) (outcome_of d) (me_of d))

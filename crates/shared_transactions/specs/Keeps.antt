@@ -5,7 +5,7 @@ use Rattle.std.specs.Borrow.{MutBor}
 use Rattle.core_tokens.specs.Tokens.{Token}
 use Rattle.shared_transactions.specs.Within.{GoesOn}
 
--- The new token has the same name as the old one, and continues it (`GoesOn`).
+-- Both borrows have the same ghost name, and the token has changed only as `GoesOn` allows.
 pub record Keeps {S : Type 0} (old new : MutBor (Token S)) : Type 0 where
   pub same_token : new.ghost_name ≡ old.ghost_name
   pub goes_on : GoesOn old.now new.now

@@ -1,5 +1,5 @@
--- The reasons why a call of a transaction fails, and the token after the call. The reasons are
--- those of the map's call.
+-- The reasons why a call of a transaction fails, and the token after the call. Such a call fails
+-- for the same reasons as the map's own call.
 use Rattle.std.specs.Prelude.{ℕ, ◌≡◌, ◌⊎◌, List, None}
 use Rattle.map_answers.specs.declared.stop.Stop.{Stop}
 use Rattle.map_answers.specs.declared.stop.Stop.TheVariants as stops
@@ -25,7 +25,7 @@ pub record IsNotCommitted {S : Type 0} (stop : Stop) (k l : Token S) : Type 0 wh
   pub refused : IsRefusalOf k calls.Commit stop left
   pub back : IsTakenBack left l
 
--- An operation was done at a key that was absent. Then the help for the key was refused as
+-- An operation was done at a key that was absent. Then the call `Help` for this key was refused as
 -- `OutOfStep`.
 pub record IsOutGrowing {S : Type 0} (words : S → List ℕ) (k : Token S) (op : Op) (l : Token S) :
     Type 0 where

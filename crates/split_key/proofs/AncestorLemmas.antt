@@ -127,8 +127,8 @@ whole_not_above a b unit rest part below =
       | inr within ↦ within
     ]
 
--- If the reversal of a number with at most `exponent` bits is at most the reversed word, it is also
--- at most the reversal of the word's lowest `exponent` bits.
+-- Take a number with at most `exponent` bits. If its reversal is at most the reversed word, its
+-- reversal is also at most the reversal of the word's lowest `exponent` bits.
 pub lowest_is_last : (other word exponent : ℕ) → exponent ≤ 64 → other < 2 ^ exponent → reversed other ≤ reversed word → reversed other ≤ reversed (word % 2 ^ exponent)
 unfolding reversed
 lowest_is_last other word exponent small short below =

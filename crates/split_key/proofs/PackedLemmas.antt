@@ -44,7 +44,6 @@ packed word is_upper fits odd = record {
 }
 
 -- ---- the sort keys that are made
--- The split key of a key, together with the half that the key is in, gives the key back.
 key_told : (key : ℕ) (is_upper : Bool) → key < 2 ^ 64 → is_upper ≡ nat_le (2 ^ 63) key → reversed (split key) ≡ key % 2 ^ 63 + 2 ^ 63 → key_of_split (split key) is_upper ≡ key
 key_told key true fits is again = elim (leb_tells (2 ^ 63) key) [
   | inl over ↦ omega (arith, key_in_regular (split key) true (split_odd key), again, over.1, fits)

@@ -1,4 +1,4 @@
--- The order of the nodes in the list, which is that of their sort keys.
+-- The order of the nodes in the list. It is the order of their sort keys.
 use Rattle.std.specs.Prelude.{ℕ, ◌≡◌, Bool, true, false, ◌==◌, ◌&&◌, nat_lt, if◌then◌else◌}
 use Rattle.split_key.specs.declared.sort.SortKey.{SortKey}
 use Rattle.split_key.specs.Split.{reversed, split}

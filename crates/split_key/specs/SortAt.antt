@@ -47,7 +47,7 @@ unfolding key_of_split
 key_in_dummy split is_upper even = rw (eq-eqb (split % 2) 0 even) refl
 
 -- For a regular node's split key, `key_of_split` is the lowest 63 bits of the reversed split key,
--- plus 2^63 if `is_upper`.
+-- plus 2^63 if `is_upper` is true.
 pub key_in_regular : (split : ℕ) (is_upper : Bool) → split % 2 ≡ 1
     → key_of_split split is_upper ≡ reversed split % 2 ^ 63 + (if is_upper then 2 ^ 63 else 0)
 unfolding key_of_split

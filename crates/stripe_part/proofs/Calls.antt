@@ -18,15 +18,15 @@ looked m owed (Put key v) reply looks is = absurd (false≢true (sym looks))
 looked m owed (Take key) reply looks is = absurd (false≢true (sym looks))
 looked m owed (PutIf key expected v) reply looks is = absurd (false≢true (sym looks))
 
--- If an operation changes an absent key, `may_change` is true for it.
+-- If an operation with the reply None is a change, `may_change` is true for the operation.
 pub may_be : (op : Op) → changes op None ≡ true → may_change op ≡ true
 may_be (Get key) is = is
 may_be (Put key v) is = refl
 may_be (Take key) is = refl
 may_be (PutIf key expected v) is = refl
 
--- If an operation does not change an absent key, it leaves an empty part empty, and its reply is
--- None.
+-- On an empty part, every operation replies None. If an operation with this reply is no change, the
+-- part remains empty.
 pub nothing_done : (op : Op) → changes op None ≡ false → Does nothing nothing op None
 nothing_done op stays = record {
   reply_is = refl;

@@ -15,7 +15,7 @@ pub record Does (old new : PartAt) (op : Op) (reply : Option ℕ) : Type 0 where
   pub content_is : new.content ≡ after old.content op
   pub owed_is : new.owed ≡ cond (changes op reply) (old.owed + 1) old.owed
 
--- An operation is refused: it is one that may be a change, and memory for it was refused.
+-- An operation is refused. It may be a change (`may_change`), and memory for it was refused.
 abbrev pub IsRefused : Op → Refusal → Type 0
 IsRefused op refusal = (refusal ≡ NoMemory) × (may_change op ≡ true)
 

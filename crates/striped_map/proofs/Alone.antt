@@ -1,5 +1,5 @@
--- A transaction that commits has the same replies as if it ran alone on the map that the earlier
--- commits leave.
+-- A transaction that commits has the same replies as if it ran alone on the map that results from
+-- the earlier commits.
 use Rattle.std.proofs.Common.{◌≡◌, ℕ, true, false, cond, List, [], ◌∷◌, ◌++◌, Option, Some, None, refl, sym, ap, subst, ◌∙◌, inl, inr, append_assoc, append-nil, eq-eqb}
 use Rattle.std.specs.List.{filter}
 use Rattle.std.specs.Option.{option_and_then}
@@ -69,7 +69,7 @@ open_cut c g shape = by_entries (λ h. is_running (seat_after (own c h)) ≡ tru
     ]
 
 -- If a caller commits its transaction, the transaction has the same replies as if it ran alone on
--- the map that the earlier commits leave.
+-- the map that results from the earlier commits.
 pub commits_alone : (n c place : ℕ) (seen log : List Entry) (seat : Seat) → IsLegal Begun n seen → seat_after (own c seen) ≡ Some seat → seat.phase ≡ Opened → Extends n c seen (Committed c place ∷ []) log → RunsAlone c place log
 commits_alone n c place seen log seat legal seat_is opened x =
     let cut = open_cut c seen legal.shape (ap is_running seat_is ∙ ap runs opened) in

@@ -33,8 +33,8 @@ moved_idle map a b w es left x is = record {
   goes = subst (Extends (stripes_of map) (known a.seat).number (known a.seat).seen es) (sym (ap (λ (v : View). v.seen) is)) x.goes;
 }
 
--- A step that adds no entry, followed by a step that adds the entries `es`, is together one step
--- that adds `es`.
+-- A step that adds no entry and a next step that adds the entries `es` are together one step that
+-- adds `es`.
 pub moved_then : (map : StripedMap) (a b c : Hand) (es : ℕ → List Entry) → MovesHand map a [] b → MovesHand map b (es (known b.seat).number) c → MovesHand map a (es (known a.seat).number) c
 moved_then map a b c es x y = record {
   number_is = y.number_is ∙ x.number_is;

@@ -79,7 +79,7 @@ stripes_set [] j h new at same = refl
 stripes_set (x ∷ held) zero h new at same = ap (λ (k : ℕ). k ∷ stripes_in held) (same ∙ ap (λ (y : HeldPart). y.stripe) (sym (same_Some x h at)))
 stripes_set (x ∷ held) (suc j) h new at same = ap (λ (l : List ℕ). x.stripe ∷ l) (stripes_set held j h new at same)
 
--- If each stripe of a list is paired with its part, the stripes of the pairs are the list again.
+-- If each stripe of a list is paired with its part, the stripes of the pairs form the same list.
 pub stripes_with : (f : ℕ → PartAt) (ks : List ℕ) → stripes_in (map (with_part f) ks) ≡ ks
 stripes_with f [] = refl
 stripes_with f (k ∷ ks) = ap (λ (l : List ℕ). k ∷ l) (stripes_with f ks)
@@ -140,7 +140,8 @@ parts_taken n k v w held part s none t = let new : HeldPart = record { stripe = 
           (λ (x : (i ≡ length held) × (new ≡ h)). subst (λ (y : HeldPart). IsPartOf n y.stripe y.part (now w.seen)) x.1 t.part_is.fits) (push_at held new h i at);
     }
 
--- The part at each place of `held_parts` has the stripe at the same place of the list of stripes.
+-- The part at a place of `held_parts` belongs to the stripe at the same place in the list of
+-- stripes.
 pub stripe_in : (seat : MapSeat) (ks : List ℕ) (i k : ℕ) → slice_get ks i ≡ Some k → slice_get (stripes_in (held_parts seat ks)) i ≡ Some k
 stripe_in seat ks i k at = ap (λ (l : List ℕ). slice_get l i) (stripes_with (part_in seat) ks) ∙ at
 
@@ -185,8 +186,8 @@ nil_cons a xs e = cc (e)
 spot_same : (a b : Option ℕ) (x y : Job) → a ≡ b → x ≡ y → ◌≡◌ {A = Spot} (a, x) (b, y)
 spot_same a b x y e f i = (e i, f i)
 
--- The newest change of `jobs`, and the same change as the hand keeps it, with the place of its part
--- and its sub-key.
+-- `change` is the newest change of `jobs`, in the form that a hand keeps: with the place of its
+-- part, and with its sub-key.
 pub record Newest (n : ℕ) (change : Change) (ks : List ℕ) (changes : List Change) (jobs : List Job) : Type 0 where
   pub job : Job
   pub older : List Job
@@ -283,7 +284,8 @@ after_here c m (Take k) s same = get-remove-here c s ∙ sym (get-remove-here m 
 after_here c m (Get k) s same = same
 after_here c m (PutIf k expected value) s same = put_if_same c m s k value _ _ (ap (λ (o : Option ℕ). option_eq nat_eq o expected) same) same
 
--- An operation does to a part what it does to the map, at each key of the part's stripe.
+-- If a part and the map have the same values at the keys of the part's stripe, they still have
+-- after an operation on both.
 sub_after : (n : ℕ) (c m : Map) (op : Op) (q : ℕ) → stripe_of n q ≡ stripe_of n (key_of op) → get c (q / n) ≡ get m q → get c (key_of op / n) ≡ get m (key_of op)
     → get (after c (under op (key_of op / n))) (q / n) ≡ get (after m op) q
 sub_after n c m op q same at_q at_key = let s : ℕ = key_of op / n in dite (ℕ_discrete q (key_of op))
@@ -376,8 +378,8 @@ parts_none n v m is = record { kept = is; apart = λ i j k a b. absurd (none-som
 pub logged_none : (n : ℕ) (held : List HeldPart) → ((i : ℕ) (h : HeldPart) → slice_get held i ≡ Some h → ⊥) → AreLogged n held [] []
 logged_none n held none = record { owed = λ i h at. absurd (none i h at); ordered = refl }
 
--- If a history grows by the entries `es`, all of them the caller's, the caller's own entries grow
--- by `es`.
+-- If the history `log` extends `seen` by the entries `es` (`Extends`), and all of these entries are
+-- the caller's, its own entries in `log` are its own entries in `seen`, followed by `es`.
 pub own_extends : (n c : ℕ) (seen es log : List Entry) → Extends n c seen es log → own c es ≡ es → own c log ≡ own c seen ++ es
 own_extends n c seen es log x whole =
     ap (own c) x.goes ∙ own-append c (seen ++ x.between) es ∙ ap (λ (l : List Entry). l ++ own c es) (own-append c seen x.between ∙ ap (λ (l : List Entry). own c seen ++ l) x.others ∙ append-nil (own c seen))

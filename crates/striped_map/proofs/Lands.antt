@@ -237,8 +237,8 @@ module _ (n : ℕ) (v : View) (acting : v.acts ≡ true) (seat : Seat) (seat_is 
       let next = saved n log on.legal v.number seat (seat_on log on) opened in
       lands_as n v.number (Holds v) 0 log _ _ _ _ _ (lands_one n (Holds v) log (Saved v.number) _ _ _ _ _ next (λ k d h. inl h) (λ q no. refl)) refl (log_on log on) on.seen.still
 
-  -- The caller may add an entry `first` with which it begins to leave its transaction, and then the
-  -- entries that take all its changes back.
+  -- If an entry `first` makes the caller begin an abort (phase `LeavingToEnd`), the caller may add
+  -- `first` and then the entries that take all its changes back.
   leaves : 0 < n → (first : Entry) → caller_of first ≡ v.number → is_commit first ≡ false
       → ((log : List Entry) → GoesOnFrom n v log → Next Begun n log first (record seat { phase = LeavingToEnd }) (log_of v.number log) (serial log) (now log) (λ s. holder_of n s log))
       → MayAdd n v (first ∷ undoing v.number (log_of v.number v.seen) (Aborted v.number)) (at_end (rolled_back (now v.seen) (log_of v.number v.seen)))

@@ -1,4 +1,4 @@
--- If a seat meets what another seat has seen, the rule still holds.
+-- The rule still holds if a seat's `met` is set to the history that another seat has seen.
 use Rattle.std.proofs.Common.{◌≡◌, ◌≢◌, ℕ, ◌⊎◌, List, [], ◌∷◌, ◌++◌, length, set, Some, slice_get, sym, refl, ◌∙◌, ap, subst, inl, inr, ⊎_elim, arith, true}
 use mathlib.Core.List.{IsPrefix}
 use mathlib.Core.Logic.{dite}

@@ -9,8 +9,8 @@ use Rattle.striped_map.specs.Attempts.{Fails, FailsBusy, IsWhy}
 use Rattle.striped_map.specs.Callers.{number, IsSince, IsStep, IsTakenBack, IsWithin}
 use Rattle.striped_map.proofs.Within.{by_cases, since_began, since_then, within_taken_back}
 
--- An attempt that was busy leaves no transaction open. So if a caller is in a transaction after `n`
--- attempts that were busy, `n` is 0, and the caller is unchanged.
+-- After a busy attempt, the caller is in no transaction. So if a caller is in a transaction after
+-- `n` busy attempts, `n` is 0, and the caller is unchanged.
 pub still : {T : Type 0} (work : Caller → Result T Stop → Caller → Type 0) (n : ℕ) (a b : Caller)
     → FailsBusy work n a b → b.is_open ≡ true → b ≡ a
 still work zero a b same is = same
@@ -27,7 +27,6 @@ pub fails_as : {T : Type 0} {work : Caller → Result T Stop → Caller → Type
     → stop ≡ other → Fails work a b stop → Fails work a b other
 fails_as {T} {work} a b stop other same fails = subst (Fails work a b) same fails
 
--- If one more attempt is busy after `n` busy attempts, there are `n + 1` busy attempts in a row.
 pub one_more : {T : Type 0} {work : Caller → Result T Stop → Caller → Type 0} (n m : ℕ) (me a b : Caller) (holder : ℕ)
     → suc n ≡ m → FailsBusy work n me a → Fails work a b (Busy holder) → FailsBusy work m me b
 one_more {T} {work} n m me a b holder once before fails = subst (λ (k : ℕ). FailsBusy work k me b) once (a, holder, before, fails)

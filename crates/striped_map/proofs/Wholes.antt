@@ -89,7 +89,8 @@ find_sub n k key in_k (row ∷ rows) =
     (λ out. ap (λ b. find nat_cmp (key / n) (map (sub n) (cond b (row ∷ F) F))) (ne_eqb (stripe_of n row.0) k out)
     ∙ more ∙ sym (ap (λ b. cond b (Some row.1) (find nat_cmp key rows)) (unsigned_tied key row.0 ∙ ne_eqb key row.0 ne))))
 
--- If a part fits the map, its rows are the rows of its stripe (`sub_rows`).
+-- If a part fits the map, its rows are the map's rows in its stripe, with sub-keys in place of keys
+-- (`sub_rows`).
 pub part_rows : (n k : ℕ) → k < n → (c m : Map) → ((key : ℕ) → stripe_of n key ≡ k → get c (key / n) ≡ get m key) → c.rows ≡ sub_rows n k m.rows
 part_rows n k lt c m fits = same_entries nat_cmp nat_cmp_total nat_cmp-IsAntisymmetric c.rows (sub_rows n k m.rows) c.rising (sorted_sub n k m.rows m.rising) (λ q.
     let key : ℕ = q * n + k in
@@ -140,7 +141,7 @@ all_stripes n ks once some [] = subst (IsPermutation []) (sym (no_rows n ks)) (I
 all_stripes n ks once some (row ∷ rows) = IsPermutation-trans _ _ _ (IsPermutation-cons row _ _ (all_stripes n ks once some rows))
     (one_more n row rows ks (once (stripe_of n row.0) (mod-lt row.0 some)))
 
--- If parts fit the map, their pairs are the map's rows in their stripes.
+-- If a part fits the map, its pairs are the map's rows in its stripe.
 part_pairs : (n : ℕ) (h : HeldPart) (m : Map) → h.stripe < n → IsPartOf n h.stripe h.part m
     → pairs_at n h ≡ filter (is_in n h.stripe) m.rows
 part_pairs n h m lt fits = ap (map (whole n h.stripe)) (part_rows n h.stripe lt h.part.content m fits) ∙ whole_sub n h.stripe m.rows

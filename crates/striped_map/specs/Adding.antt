@@ -36,9 +36,9 @@ pub record GoesOnFrom (stripes : ℕ) (v : View) (log : List Entry) : Type 0 whe
   pub mine : (stripe : ℕ) → stripe < stripes → holder_of stripes stripe log ≡ Some v.number
       → Holds v stripe
 
--- The history `log` grows by the entries `es` as `Grows` says. Afterwards caller `c` has the seat
--- and the changes of `left`. Each key of a stripe in `P` has the value that it has in the map of
--- `left`.
+-- The history `log` grows by the entries `es` as `Grows` says. After these entries, the seat and
+-- the changes of caller `c` are those of `left`. Each key of a stripe in `P` then has the value
+-- that it has in the map of `left`.
 pub record Lands (stripes c : ℕ) (P : ℕ → Type 0) (commits_more : ℕ) (log es : List Entry)
     (left : StateAfter) : Type 0 where
   pub grows : Grows stripes c P commits_more log es

@@ -63,13 +63,13 @@ IsStopped a op b (Refused NotOpen) = (a.is_open ≡ false) × (b ≡ a)
 IsStopped a op b (Refused refusal) = (refusal ≡ NoMemory) × (a.is_open ≡ true)
     × (b.is_open ≡ true) × IsStep a [] b
 
--- A call that takes every stripe has failed. The outcome is one that a failed get of some key may
--- have (`IsStopped`).
+-- A call that takes every stripe has failed. It has the outcome of a failed `Get` of some key
+-- (`IsStopped`).
 abbrev pub IsCut : Caller → Caller → Stop → Type 0
 IsCut a b stop = (key : ℕ) × IsStopped a (Get key) b stop
 
--- Caller `b` is caller `a` later: it may have seen more of the history, and it has committed
--- nothing in between.
+-- Caller `b` is the same caller as `a`, at a later time. In between, it may have seen more of the
+-- history, but it has committed nothing.
 pub record IsSince (a b : Caller) : Type 0 where
   pub map_is : b.map ≡ a.map
   pub number_is : number b ≡ number a
@@ -77,15 +77,15 @@ pub record IsSince (a b : Caller) : Type 0 where
   pub commits : how_many is_commit (own (number a) (seen b))
       ≡ how_many is_commit (own (number a) (seen a))
 
--- Caller `b` is caller `a` later. In between, it may have seen more of the history, but it has
--- begun no transaction and committed nothing.
+-- Caller `b` is the same caller as `a`, at a later time. In between, it may have seen more of the
+-- history, but it has begun no transaction and committed nothing.
 pub record IsWithin (a b : Caller) : Type 0 where
   pub since : IsSince a b
   pub begins : how_many is_began (own (number a) (seen b))
       ≡ how_many is_began (own (number a) (seen a))
 
--- A transaction was taken back: the caller is in no transaction and holds no stripe. If a busy call
--- had ended the transaction before, nothing changes.
+-- A transaction was taken back. Afterwards the caller is in no transaction and holds no stripe. If
+-- a busy stripe had ended the transaction before, the caller is unchanged.
 pub record IsTakenBack (a b : Caller) : Type 0 where
   pub closed : b.is_open ≡ false
   pub given : stripes_held b ≡ []

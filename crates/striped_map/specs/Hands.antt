@@ -35,16 +35,16 @@ IsStopped map a op b (Busy holder) = IsAt Closed (known b.seat) × ((known b.sea
 IsStopped map a op b (Refused refusal) =
     (refusal ≡ NoMemory) × IsAt Opened (known b.seat) × MovesHand map a [] b
 
--- A call that takes every stripe has failed. The outcome is one that a failed get of some key may
--- have (`IsStopped`).
+-- A call that takes every stripe has failed. It has the outcome of a failed `Get` of some key
+-- (`IsStopped`).
 abbrev pub IsCut : StripedMap → Hand → Hand → Stop → Type 0
 IsCut map a b stop = (key : ℕ) × IsStopped map a (Get key) b stop
 
--- The hand `a` began a transaction to read the pairs, and is the hand `c` afterwards. `left` is the
--- hand after the entry Began and before the hand's next entry. The hand `left` has seen a legal
--- history. In this history each merged caller has exactly the entries that its calls added, and
--- only seats that were made have entries. The pairs are those of this history's map. The history
--- that `c` has seen begins with this history.
+-- A hand began a transaction and read the pairs in it. It is `a` before, `left` between its Began
+-- entry and its next entry, and `c` afterwards. The pairs are those of the map of the history that
+-- `left` has seen. This history is legal. In it, each merged caller has exactly the entries that
+-- its calls added, and only seats that were made have entries. The history that `c` has seen begins
+-- with this history.
 pub record ReadsPairs (map : StripedMap) (a c : Hand) (pairs : List (ℕ × ℕ)) : Type 0 where
   pub txn : ℕ
   pub during : Hand

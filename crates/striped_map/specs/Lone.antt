@@ -11,7 +11,7 @@ use Rattle.txn_words.specs.Shape.{how_many}
 
 -- A transaction of caller `c` commits in the history with the commit number `place`. This number is
 -- one more than the number of earlier commits. The transaction has the same replies as if it ran
--- alone on the map that the earlier commits leave.
+-- alone on the map that results from the earlier commits.
 pub record RunsAlone (c place : ℕ) (log : List Entry) : Type 0 where
   pub txn : ℕ
   pub inner : List Entry

@@ -24,20 +24,21 @@ abbrev pub MayLeave : Bool → List Action → Stage → Type 0
 MayLeave half script (Leaving refusal) = MayBeRefused half script refusal
 MayLeave half script stage = Unit {0}
 
--- The ends of an attempt that the script allows.
+-- The ends that the script allows for its attempt.
 abbrev pub MayBeOver : Bool → List Action → Finish → Type 0
 MayBeOver half script Finish.Aborted = IsTrue (list_any is_abort script)
 MayBeOver half script (Finish.Refused refusal) = MayBeRefused half script refusal
 MayBeOver half script over = Unit {0}
 
--- The condition after a call with this progress. The caller is in the phase that the progress needs
--- (`IsIn`). If the progress has a refusal or an end, the script allows it.
+-- The condition after a call that leads to this progress. The caller is in the phase that the
+-- progress needs, or its token is broken (`IsIn`). If the progress names a refusal or an end, the
+-- script allows it.
 abbrev pub Stands : Bool → List Action → Bool → List Entry → Progress → Type 0
 Stands half script broken seen (Next attempt) = IsIn (phase_at attempt.stage) broken seen × MayLeave half script attempt.stage
 Stands half script broken seen (Over over) = IsIn Closed broken seen × MayBeOver half script over
 
--- The script may have this refusal at this action. An abort has no refusal. The action `None`
--- stands for the commit, which has no refusal either.
+-- The script may have this refusal at this action. If the action is an abort, or is None (which
+-- stands for the commit), no refusal is allowed.
 abbrev pub IsGood : Bool → List Action → Refusal → Option Action → Type 0
 IsGood half script refusal None = ⊥
 IsGood half script refusal (Some Action.Abort) = ⊥
@@ -124,7 +125,8 @@ want_good half script (Acting i) refusal may = by (slice_get script i) refl refu
     by o at r may = absurd (false≢true may)
 want_good half script stage refusal may = absurd (false≢true may)
 
--- If a token does not refuse a call, the token is not broken, so the caller's seat has this phase.
+-- If `IsIn` holds for a phase and the token does not refuse a call, the caller's seat has this
+-- phase.
 sound_in : (half b : Bool) (seen : List Entry) (call : Call) (phase : Phase) → refused_token half b (seat_after seen) call ≡ None → IsIn phase b seen → HasPhase phase (seat_after seen)
 sound_in half b seen call phase free (inr at) = at
 sound_in half b seen call phase free (inl broken) = absurd (cc (ap (λ (x : Bool). refused_token half x (seat_after seen) call) broken, free))

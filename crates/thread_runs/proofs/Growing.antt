@@ -1,5 +1,5 @@
--- The loop over the calls of a script. A call for help may come between two of these calls. It adds
--- no entry unless it ends with `OutOfStep`.
+-- The loop over the calls of a script. A call for help may come between two of these calls. The
+-- call for help adds no entry unless it ends with `OutOfStep`.
 use Rattle.std.proofs.Common.{◌≡◌, ℕ, List, ◌++◌, append_assoc, ap, ◌∙◌, Bool, true, false, not, [], Option, Some, None, is_some, refl, sym}
 use Rattle.std.proofs.Common.{inl, inr, append-nil}
 use Rattle.thread_runs.proofs.Vocabulary.{Adds, after_call, chunk_begun, Ended, Finish, goes_quiet, IsAfterHelp, HasEnded, HasRunTo, is_out, IsIn}
@@ -32,7 +32,7 @@ run_call c tries script heard base seen seen' end (Over finish) adds is (chunk, 
     (chunk ++ adds.added, grown, λ whole. account (adds.quiet whole) so_far is)
 
 -- If a call for help does not end with `OutOfStep`, the entries that the token has seen are
--- unchanged, and the token is broken exactly if it was before.
+-- unchanged. The token is broken exactly if it was broken before the call.
 pub grown_by : {S : Type 0} (words : S → List ℕ) (k : Token S) (last : End) (key : ℕ) (outcome : End) (l : Token S)
     → last ≡ End.Answered (Answer.Done None) → Ended words k (Call.Help key) outcome l → IsAfterHelp k last (not (is_out outcome)) l
 grown_by words k last key (End.Refused OutOfStep) l done ended = (done, key, words, ended)

@@ -11,7 +11,7 @@ each_push P [] y each here (suc i) x is = absurd (cc is)
 each_push P (z ∷ xs) y each here zero x is = each zero x is
 each_push P (z ∷ xs) y each here (suc i) x is = each_push (λ j. P (suc j)) xs y (λ j. each (suc j)) here i x is
 
--- An element of a mapped list is the image of the element at the same position.
+-- The element of `map f rs` at a position is `f` of the element of `rs` at the same position.
 pub get_map : {R X : Type 0} (f : R → X) (rs : List R) (k : ℕ) (x : X) → slice_get (map f rs) k ≡ Some x → (r : R) × (slice_get rs k ≡ Some r) × (f r ≡ x)
 get_map f [] k x is = absurd (cc (get_empty k, is))
 get_map f (r ∷ rs) zero x is = (r, refl, cc is)

@@ -1,5 +1,5 @@
--- Rows are merged into one list, which takes one element from each row in turn. Each row is in
--- reverse: its last element comes first.
+-- Merges rows into one list by taking one element from each row in turn. Each row is in reverse:
+-- its last element comes first.
 use Rattle.std.proofs.Common.{◌≡◌, ℕ, ◌+◌, ◌*◌, ◌/◌, ◌%◌, ◌<◌, List, [], ◌∷◌, ◌++◌, append_assoc, length, length-append, reverse, set, Some, refl, sym, ap, ◌∙◌, inl, inr, arith, slice_get, slice_index_or, append-nil, length-set}
 use Rattle.thread_runs.proofs.Vocabulary.{Each, every-fewer, every-hit, every-length, every-miss, get_within, number_at, one_remainder}
 use Rattle.script_worker.proofs.Vocabulary.{cases_eq, every, length-reverse, nil_from_length, reverse-append, slice_get_read}
@@ -7,8 +7,8 @@ use Rattle.script_worker.proofs.Vocabulary.{slice_get_within}
 use Rattle.boost_core.proofs.Refused.{set_here}
 use Rattle.thread_runs.proofs.Lists.{get_set_other}
 
--- The rest of a row. An element of the row is *out* once it is in the merged list `out`. The rest
--- of the row has the elements that are not out.
+-- The merged list `out` has taken some elements of row `i`. The elements that remain are those of
+-- row `i` of `left`.
 abbrev pub HasLeft : {R X : Type 0} → (R → List X) → ℕ → List R → List X → ℕ → R → Type 0
 HasLeft {R} items n left out i was = (row : R) × (slice_get left i ≡ Some row) ×
     (reverse (items was) ≡ every n i out ++ reverse (items row))
@@ -47,7 +47,7 @@ left_more items n rows left out c row row' x some as_many turn is popped so_far 
           )
         ]
 
--- If `out` is shorter than `ys`, the next row has an element that is not out.
+-- If `out` is shorter than `ys`, the next row has an element that is not yet in `out`.
 left_some : {R X Y : Type 0} (items : R → List X) (n : ℕ) (rows left : List R) (out : List X) (ys : List Y) (c : ℕ) (row : R) → 0 < n
     → length rows ≡ n → c ≡ length out % n → length out < length ys → AreWholeRows items n rows ys
     → slice_get left c ≡ Some row → IsLeft items n rows left out → 0 < length (items row)
@@ -59,8 +59,8 @@ left_some items n rows left out ys c row some as_many turn fewer whole is so_far
     let less : length (every n c out) < length (every n c ys) = rw turn (every-fewer n some out ys fewer) in
     omega (arith, parts, less, whole c was in_rows)
 
--- Row `k`, which the code reads next, has an element that is not out. Its number `k` is the length
--- of `out` modulo the number of rows.
+-- Row `k`, from which the code takes the next element, has an element that is not yet in `out`. Its
+-- number `k` is the length of `out` modulo the number of rows.
 pub row_at : {R X Y : Type 0} (items : R → List X) (rows left : List R) (out : List X) (ys : List Y) (number workers k : ℕ) (row : R)
     → k ≡ number % workers → 0 < length rows → workers ≡ length rows → length out ≡ number → number < length ys
     → AreWholeRows items (length rows) rows ys → IsLeft items (length rows) rows left out → row ≡ slice_index_or left k row
@@ -70,7 +70,7 @@ row_at items rows left out ys number workers k row turn some as_many at fewer wh
     let there = slice_get_read left (length left) k row refl (omega (arith, turn, some, as_many, so_far.as_many)) is in
     (next, there, left_some items (length rows) rows left out ys k row some refl next (rw at fewer) whole there so_far)
 
--- If `out` is as long as `ys`, all elements of each row are out.
+-- If `out` is as long as `ys`, it has all elements of each row.
 pub left_all : {R X Y : Type 0} (items : R → List X) (n : ℕ) (rows left : List R) (out : List X) (ys : List Y) → length out ≡ length ys → AreWholeRows items n rows ys → IsLeft items n rows left out
     → Each (λ c row. every n c out ≡ reverse (items row)) rows
 left_all items n rows left out ys same whole so_far c was is =

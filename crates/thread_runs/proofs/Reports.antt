@@ -74,8 +74,10 @@ module _ {L W : Type 0} (items : W → List codes.Outcome) (half : Bool) (worker
         (get-every workers some (map outcome_told outcomes) c k ∙ ap (slice_get (map outcome_told outcomes)) (sym at) ∙ js)
         (rw (own_outcomes c r here) (each c r here).ran.may)
 
--- The outcomes and the history of a run are as `HasRunScripts` says. This follows from the reports,
--- from the callers and the rows into which the reports are divided, and from the map's history.
+-- If `HasReported` holds for each worker's report, `HasRunScripts` holds for the outcomes and the
+-- history of the run. The callers, the rows and the outcomes must be those of the reports. The
+-- map's history must be legal and have only entries of the map's callers, and each caller must have
+-- seen exactly its own entries.
 pub run_true : {L W : Type 0} (items : W → List codes.Outcome) (limits sizes : Sizes) (workers tries : ℕ) (scripts : List (List Action)) (reports : List (WorkerReport L)) (callers : List _) (rows : List W) (outcomes : List codes.Outcome) (trace h : List Entry)
     → 0 < workers → length reports ≡ workers → Each (HasReported limits.half workers tries scripts) reports → callers ≡ map (λ r. r.caller) reports → map items rows ≡ map (λ r. reverse r.outcomes.items) reports → length outcomes ≡ length scripts
     → Each (λ c row. every (length rows) c outcomes ≡ reverse (items row)) rows → trace ≡ h → sizes ≡ limits → workers ≡ limits.callers → IsLegal Begun sizes.stripes h → All (λ e. caller_of e < sizes.callers) h → All (λ k. IsOwn h k) callers

@@ -1,4 +1,4 @@
--- A statement about each element of a list, with its position.
+-- A statement that is true for each element of a list and its position.
 use Rattle.std.specs.Prelude.{◌≡◌, ℕ, List, Some, slice_get}
 
 abbrev pub Each : {X : Type 0} → (ℕ → X → Type 0) → List X → Type 0

@@ -47,7 +47,8 @@ HasPhase phase seat = (s : Seat) × (seat ≡ Some s) × (s.phase ≡ phase)
 abbrev pub IsIn : Phase → Bool → List Entry → Type 0
 IsIn phase broken seen = (broken ≡ true) ⊎ HasPhase phase (seat_after seen)
 
--- Either the call ended in this way, or it was not made, because memory for its reply was refused.
+-- Either the call ended with `outcome`, or memory for its reply was refused and the call was not
+-- made. In the second case `outcome` is the refusal `NoMemory`, and the token is unchanged.
 abbrev pub HasEnded : {S : Type 0} → Token S → Call → End → Token S → Type 0
 HasEnded {S} k call outcome l =
     ((words : S → List ℕ) × Ended words k call outcome l)
@@ -61,10 +62,10 @@ pub record Adds (c : ℕ) (call : Call) (outcome : End) (seen seen' : List Entry
   pub made : IsMade c call outcome added
   pub quiet : is_some (seat_after seen') ≡ true → IsQuiet outcome added
 
--- The caller after a call that ended in this way, and after the call for help that may have
--- followed. If the flag is true, the caller's entries are unchanged, and its token is broken
--- exactly if it was before. If the flag is false, the call's reply was None, and the call for help
--- ended with `OutOfStep`.
+-- `k` is a caller's token after a call that ended with `outcome`, and `l` is the token after the
+-- call for help that may follow. If the flag is true, `l` has seen the same entries as `k`, and is
+-- broken exactly if `k` is broken. If the flag is false, the call's reply was None, and the call
+-- for help ended with `OutOfStep`.
 abbrev pub IsAfterHelp : {S : Type 0} → Token S → End → Bool → Token S → Type 0
 IsAfterHelp k outcome true l = (l.seen ≡ k.seen) × (l.broken ≡ k.broken)
 IsAfterHelp {S} k outcome false l =

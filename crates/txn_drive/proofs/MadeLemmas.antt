@@ -1,5 +1,5 @@
--- The entries of a drive grow by the entries of each step. Once the drive has ended, they are the
--- entries that belong to its end.
+-- Each step appends its entries to the entries that its drive has added. After the drive has ended,
+-- its entries are those that belong to its end.
 use Rattle.std.proofs.Common.{◌≡◌, ℕ, ◌+◌, ◌-◌, ◌^◌, ◌%◌, ◌==◌, nat_lt, ◌&&◌, Bool, true, false, if◌then◌else◌, List, [], ◌∷◌, ◌++◌, Option, Some, None, refl, sym, ap, ◌∙◌, subst, append_assoc}
 use Rattle.std.proofs.lemmas.Bool.{eqb-true}
 use Rattle.std.proofs.lemmas.List.{append-nil, replicate_more}

@@ -1,4 +1,4 @@
--- A drive commits nothing, unless its call ends with the answer to a commit.
+-- A drive adds a Committed entry only if its call ends with the answer `Committed`.
 use Rattle.std.proofs.Common.{◌≡◌, ℕ, zero, suc, ◌⊎◌, List, [], ◌++◌, Option, Some, None, refl, ◌∙◌, inl, inr}
 use Rattle.std.specs.List.{filter}
 use Rattle.std.proofs.lemmas.List.Elements.{filter-append}

@@ -80,7 +80,7 @@ abbrev pub end_returned : ℕ → ℕ → End
 end_returned level reached =
     if reached == level then ends.Answered (answers.Returned reached) else ends.Refused OutOfStep
 
--- How a call ends if its last step was an act, given the call's work and the answer to that act.
+-- How a call ends if its last step was `Act`, given the call's work and the answer to this step.
 abbrev pub end_last : Call → Work → Answer → End
 end_last (calls.Op op) Operation (answers.Done reply) = ends.Answered (answers.Done reply)
 end_last (calls.Op op) (Busy holder undone) answers.Aborted = ends.Busy holder
@@ -88,13 +88,13 @@ end_last (calls.Back level) (Leaving undone) (answers.Returned reached) = end_re
 end_last calls.Abort (Leaving undone) answers.Aborted = ends.Answered answers.Aborted
 end_last call work answer = ends.Refused OutOfStep
 
--- How a help ends after all buckets on the helper's path are initialised.
+-- How a call for help ends after all buckets on the helper's path are initialised.
 abbrev pub end_helped : Call → End
 end_helped (calls.Help key) = ends.Helped
 end_helped call = ends.Refused OutOfStep
 
--- The turn that seeks a position and may then act at it. After eight answers `again` in a row, the
--- turn has both steps. Otherwise it has only the seek.
+-- A turn that seeks a position. After eight answers `Again` in a row, the turn has a second step,
+-- which acts at the position. Before that, it only seeks the position.
 abbrev pub paired : ℕ → Step → Step → Turn
 paired again seeking acting = if nat_lt again 8 then One seeking else Two seeking acting
 
@@ -130,9 +130,9 @@ told_first (calls.Back level) answers.Leaving = Seeking (Leaving 0) 0
 told_first calls.Abort answers.Leaving = Seeking (Leaving 0) 0
 told_first call answer = First answer
 
--- The phase after a seek. If the position was found, or no change remains to be taken back, the
--- next step is an act. If no change remains, this act ends the call. Any other answer ends the call
--- at once.
+-- The phase after the step `Seek`. If the position was found, or if no change remains to be taken
+-- back, the next step is `Act`. If no change remains, this `Act` ends the call. Any other answer to
+-- `Seek` ends the call at once.
 abbrev pub told_seek : Work → ℕ → Answer → Phase
 told_seek work again answers.Placed = Acting work again
 told_seek (Busy holder undone) again (answers.Refused NothingToSeek) =
@@ -153,28 +153,28 @@ undone_more Operation = Last Operation answers.Undone
 undone_more (Busy holder undone) = counted undone (Busy holder (undone + 1)) (Busy holder undone)
 undone_more (Leaving undone) = counted undone (Leaving (undone + 1)) (Leaving undone)
 
--- The phase after an act. After `Again`, the position is sought again. After `Undone`, one more
--- change has been taken back. Any other answer ends the call.
+-- The phase after the step `Act`. After the answer `Again`, the position is sought again. After
+-- `Undone`, one more change has been taken back. Any other answer ends the call.
 abbrev pub told_act : Work → ℕ → Answer → Phase
 told_act work again answers.Again = Seeking work (one_more_again again)
 told_act work again answers.Undone = undone_more work
 told_act work again answer = Last work answer
 
 -- The phase after the bucket `last` is initialised. `last` is on the path to `bucket`. If `last` is
--- `bucket`, the help ends. Otherwise the next bucket on the path is initialised.
+-- `bucket`, the call for help ends. Otherwise the next bucket on the path is initialised.
 abbrev pub towards : ℕ → ℕ → Phase
 towards last bucket =
     if last == bucket then Helped
     else Initialising (record { bucket = child_towards last bucket; target = bucket }) 0
 
 -- The phase in which a helper starts on its path to a key's bucket, in a table of this size. A
--- table's size is above 0 and below 2 ^ 32, so any other size ends the help.
+-- table's size is above 0 and below 2 ^ 32. Any other size ends the call for help with `OutOfStep`.
 abbrev pub heading : ℕ → ℕ → Phase
 heading key size =
     if nat_lt 0 size && nat_lt size (2 ^ 32) then towards 0 (key % size) else Refused OutOfStep
 
--- The phase after a helper's step was refused. If memory or stamps were used up, the help ends with
--- this refusal. Otherwise it ends with `OutOfStep`.
+-- The phase after a helper's step was refused. If memory or stamps were used up, the call for help
+-- ends with this refusal. Otherwise it ends with `OutOfStep`.
 abbrev pub refused_help : Refusal → Phase
 refused_help NoMemory = Refused NoMemory
 refused_help StampsUsedUp = Refused StampsUsedUp

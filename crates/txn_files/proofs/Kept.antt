@@ -26,8 +26,8 @@ use Rattle.txn_files.proofs.PlainPieces.{no_entry}
 
 -- ---- one entry
 
--- An entry that is not small is replaced by one of these two: the first if `b` is true, else the
--- second. Both are out of range, and version 1 has only the first.
+-- An entry that is not small is replaced by `Saved 65535` if version 1 has it, else by an Asked
+-- entry of caller 65535. Both replacements are out of range, and version 1 has only the first.
 replaced : (b : Bool) → is_in_range (cond b (entries.Saved 65535) (entries.Asked 65535 (ops.PutIf 0 None 0))) ≡ false
 replaced true = refl
 replaced false = refl

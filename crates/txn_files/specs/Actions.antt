@@ -26,11 +26,11 @@ action_of ds = do
 unfoldable pub script_of : List Data → Option (List Action)
 script_of ds = result_ok (pieces_from action_of parts.Script 0 ds)
 
--- Whether version 1 of the files has this action too.
+-- Whether this action already exists in version 1 of the file format.
 abbrev pub is_old_action : Action → Bool
 is_old_action (Op op) = is_old_op op
 is_old_action _ = true
 
--- Whether version 1 of the files has every action of this script too.
+-- Whether all actions of this script already exist in version 1 of the file format.
 abbrev pub is_old_script : List Action → Bool
 is_old_script script = list_all is_old_action script

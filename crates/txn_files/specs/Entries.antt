@@ -43,7 +43,7 @@ entry_of ds = do
   c ← number_at name.1
   entry_named name.0 c.0 c.1
 
--- Whether version 1 of the files has this entry too.
+-- Whether this entry already exists in version 1 of the file format.
 abbrev pub is_old_entry : Entry → Bool
 is_old_entry (Asked c op) = is_old_op op
 is_old_entry (Busy c op x) = is_old_op op

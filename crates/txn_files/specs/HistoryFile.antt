@@ -73,7 +73,7 @@ kept e =
     else if is_old_entry e then Saved 65535
     else Asked 65535 (PutIf 0 None 0)
 
--- The entry that is kept for an array in JSON.
+-- Reads the elements of an array as an entry, and applies `kept` to the entry.
 unfoldable pub kept_of : List Data → Option Entry
 kept_of ds = option_map kept (entry_of ds)
 

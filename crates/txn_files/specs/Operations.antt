@@ -15,8 +15,11 @@ put_if_at k ds = do
   Some (PutIf k expected.0 v.0, v.1)
 
 -- Reads the operation at the start of the elements. The result is the operation, and the elements
--- after it. An operation is "put", a key and a value; "take" or "get", and a key; or "put_if", a
--- key, the expected value (null or a number) and a value.
+-- after it. The elements of an operation are one of these:
+--
+-- - "put", a key and a value
+-- - "take" or "get", and a key
+-- - "put_if", a key, the expected value (null or a number) and the new value
 unfoldable pub op_at : List Data → Option (Op × List Data)
 op_at ds = do
   name ← leading_text ds
@@ -33,7 +36,7 @@ op_of ds = do
   op ← op_at ds
   if length op.1 == 0 then Some op.0 else None
 
--- Whether version 1 of the files has this operation too.
+-- Whether this operation already exists in version 1 of the file format.
 abbrev pub is_old_op : Op → Bool
 is_old_op (PutIf k expected v) = false
 is_old_op _ = true

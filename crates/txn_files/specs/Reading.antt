@@ -1,4 +1,4 @@
--- How much is read of a file.
+-- How many bytes of a file are read.
 use Rattle.std.specs.Prelude.{ℕ}
 
 -- The greatest number of bytes that are read from a file. This is one byte more than a file may

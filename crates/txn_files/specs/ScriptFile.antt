@@ -11,7 +11,7 @@ use Rattle.txn_files.specs.StepFile.{sizes_at}
 use Rattle.txn_files.specs.Actions.{is_old_script, script_of}
 use Rattle.txn_words.specs.Work.{Work}
 
--- The most times that a script may be tried again.
+-- The greatest number of times that a script may be tried again.
 abbrev pub max_tries : ℕ
 max_tries = 1000
 

@@ -39,7 +39,7 @@ step_of ds = do
       else if bytes_eq name.0 (codes "sweep") then (if length name.1 == 0 then Some Sweep else None)
       else (one_of name.1 >>= λ n. numbered_of name.0 n)
 
--- Whether version 1 of the files has this step too.
+-- Whether this step already exists in version 1 of the file format.
 abbrev pub is_old_step : Step → Bool
 is_old_step (Ask c op) = is_old_op op
 is_old_step _ = true

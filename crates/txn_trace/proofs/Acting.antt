@@ -1,5 +1,5 @@
--- Lemmas on Did. After a legal history, a reply is right exactly if it is the one that the map
--- `now` gives. The Did then applies the operation to the map `now`.
+-- Lemmas on `Did` entries. After a legal history, the reply of a `Did` is right exactly if it is
+-- the one that the map `now` gives. The entry then applies the operation to the map `now`.
 use Rattle.std.proofs.Common.{◌≡◌, ℕ, true, false, cond, List, [], ◌∷◌, ◌++◌, refl, ap, sym, subst, ◌∙◌, Some, None, Option, is_some}
 use Rattle.std.specs.Option.{option_and_then}
 use Rattle.std.proofs.lemmas.Bool.{false≢true}

@@ -36,14 +36,14 @@ use Rattle.txn_trace.proofs.Running.{has_seat}
 use Rattle.txn_trace.proofs.Next.{txn, going, at_txn, run, run_is, run_fits, run_logs, last_is}
 use Rattle.txn_trace.proofs.Entries.{began, did}
 
--- If `row` allows an entry that is not a Began, the caller's phase is not `Closed`.
+-- If `row` allows an entry that is not a `Began`, the caller's phase is not `Closed`.
 pub row_active : (s : Seat) (q : Phase) (e : Entry) → is_began e ≡ false → is_some (row s q e) ≡ true → runs q ≡ true
 row_active s Closed (Began c t) b h = absurd (false≢true (sym b))
 row_active s Closed _ b h = absurd (false≢true h)
 row_active s _ e b h = refl
 
--- Whether an entry has the right reply. The reply of a Did must be the one that the map `now` gives
--- to the waiting operation. An entry of another kind always has the right reply.
+-- Whether an entry has the right reply. The reply of a `Did` must be the one that the map `now`
+-- gives to the waiting operation. An entry of another kind always has the right reply.
 abbrev pub is_right_in : List Entry → Phase → Option ℕ → Bool
 is_right_in g (Waiting op) x = option_eq nat_eq x (reply_of (now g) op)
 is_right_in g _ x = true
@@ -52,8 +52,8 @@ abbrev pub is_right : List Entry → Entry → Bool
 is_right g (Did c x) = elim (seat_after (own c g)) [ None ↦ true | Some s ↦ is_right_in g s.phase x ]
 is_right g _ = true
 
--- What is known of an entry of the right shape: the caller's seats before and after the entry, and
--- that the entry's number is right.
+-- The seats of the caller before and after an entry of the right shape. The entry's number is
+-- right.
 record Shaped (g : List Entry) (e : Entry) : Type 0 where
   before : Seat
   is : seat_after (own (caller_of e) g) ≡ Some before
@@ -195,8 +195,8 @@ did_holds {holder} stripes g legal c x shaped op waits = elim (cases_Bool (optio
         ∙ run_after stripes g legal e shaped refl None (acts_none wrong) in
         false≢true (sym (ap is_some none) ∙ runs_on)
 
--- If an entry of the right shape follows a legal history, it breaks the rule of replies exactly if
--- it is a Did with a wrong reply.
+-- If an entry of the right shape follows a legal history, the entry breaks the rule of replies
+-- exactly if it is a `Did` with a wrong reply.
 pub replies_hold-push : {holder : Holder} (stripes : ℕ) (g : List Entry) → IsLegal holder stripes g → (e : Entry) → is_shaped g e ≡ true → replies_hold (g ++ e ∷ []) ≡ is_right g e
 replies_hold-push stripes g legal (Did c x) shaped =
     let p = shaped_by g (Did c x) legal.shape shaped in

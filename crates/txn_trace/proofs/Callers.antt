@@ -1,5 +1,5 @@
--- Callers in a history of the right shape. Each caller is in at most one transaction, and it runs
--- exactly while this transaction is open.
+-- Callers in a history of the right shape. No two callers are in the same transaction. A caller
+-- runs exactly while its transaction is open.
 use Rattle.std.proofs.Common.{[], ◌≡◌, ℕ, ◌-◌, take, slice_index, ◌+◌, ◌≤◌, Bool, true, false, cond, not, ◌&&◌, ◌||◌, ◌==◌, List, ◌∷◌, ◌++◌, length, refl, ap, sym, subst, ◌∙◌, Some, None, Option, is_some, arith}
 use Rattle.std.specs.Option.{option_and_then}
 use Rattle.std.specs.Prelude.{nat_lt}
@@ -52,8 +52,9 @@ callers_none = record {
   owned = tt;
 }
 
--- `t` is the transaction of an entry that follows `g`. If the entry is a Began, `t` is the
--- transaction that it begins. Otherwise `t` is the one that its caller is in after `g`.
+-- `t` is the transaction of an entry that follows `g`. If the entry is a `Began`, `t` is the
+-- transaction that it begins. Otherwise `t` is the transaction that the entry's caller is in after
+-- `g`.
 abbrev pub IsIn : List Entry → Entry → ℕ → Type 0
 IsIn g (Began c u) t = u ≡ t
 IsIn g e t = txn_in g (caller_of e) ≡ Some t
@@ -77,7 +78,7 @@ after_is g e x t is = elim (cases_eq x (caller_of e)) [
     from (Began c u) other got = subst (λ b. cond b (Some u) (txn_in g x) ≡ Some t) (ne_eqb c x (λ k. other (sym k))) got
     from _ other got = got
 
--- The only entry that a closed caller may add is a Began.
+-- The only entry that a closed caller may add is a `Began`.
 pub closed_begins : (e : Entry) → is_some (row closed_seat closed_seat.phase e) ≡ true → is_began e ≡ true
 closed_begins (Began c t) h = refl
 closed_begins _ h = absurd (false≢true h)
@@ -137,7 +138,7 @@ pub end_not_began : (e : Entry) → is_end e ≡ true → is_began e ≡ false
 end_not_began (Began c t) h = absurd (false≢true h)
 end_not_began _ h = refl
 
--- A Committed or an Aborted closes its caller. No other entry does.
+-- The entries `Committed` and `Aborted` close their caller. No other entry closes a caller.
 pub end_closes : (e : Entry) (o : Option Seat) → is_end e ≡ true → is_some (option_and_then (λ s. row s s.phase e) o) ≡ true → option_and_then (λ s. row s s.phase e) o ≡ Some closed_seat
 end_closes e None c h = absurd (false≢true h)
 end_closes e (Some s) c h = at e s.phase c h

@@ -227,8 +227,8 @@ fed_entry_by_entry_13 = refl
 fed_entry_by_entry_14 : verdict Now 8 (take 14 checker_replies) ≡ Illegal 12 1
 fed_entry_by_entry_14 = refl
 
--- Entries that break the rule of locks: an Asked for a key whose stripe another caller holds, a
--- Busy that names a caller without stripes, and a Busy that names its own caller.
+-- Entries that break the rule of locks: an `Asked` for a key whose stripe another caller holds, a
+-- `Busy` that names a caller without stripes, and a `Busy` that names its own caller.
 checker_locks_asked : verdict Now 8 (Began 0 1 ∷ Asked 0 (Put 1 10) ∷ Did 0 None ∷ Began 1 2 ∷ Asked 1 (Get 9) ∷ []) ≡ Illegal 4 2
 checker_locks_asked = refl
 

@@ -1,4 +1,4 @@
--- A committed transaction is found in its caller's own entries, whatever the other callers do.
+-- The entries of a committed transaction can be found in its caller's own entries alone.
 use Rattle.std.proofs.Common.{◌≡◌, ℕ, ◌+◌, ◌==◌, Bool, true, false, cond, List, [], ◌∷◌, ◌++◌, append_assoc, Some, None, Option, is_some, IsSome, refl, sym, ap, subst, ◌∙◌, inl, inr}
 use Rattle.std.specs.List.{filter}
 use Rattle.std.specs.Option.{option_and_then}
@@ -87,13 +87,13 @@ own_goes c t g (e ∷ rest) callers shape in_it quiet =
           (ap (of t) (sym assoc) ∙ of_is ∙ ap (λ es. es ++ own c rest) out ∙ ap (λ es. of t g ++ es) (sym own_is), ap (λ h. txn_in h c) (sym assoc) ∙ in_is)
     ]
 
--- If a run is not None before a Committed, it is not None after it.
+-- If a run is not None, the run after the entry `Committed` is not None either.
 pub commits_so : (c p : ℕ) (o : Option AloneRun) → is_some o ≡ true → is_some (option_and_then (λ r. act r (Committed c p)) o) ≡ true
 commits_so c p None some = some
 commits_so c p (Some r) some = refl
 
--- If a part of a caller's own entries starts with a Began, ends with a Committed and has no other
--- Began, it has exactly the entries of a committed transaction.
+-- Take a part of a caller's own entries that starts with a `Began`, ends with a `Committed` and has
+-- no other `Began`. This part has exactly the entries of a committed transaction.
 pub has_committed : (c txn place : ℕ) (h front inner later : List Entry) → IsShaped h → RepliesHold h
     → own c h ≡ front ++ ((Began c txn ∷ inner ++ Committed c place ∷ []) ++ later) → filter is_began inner ≡ [] → HasCommitted c txn place (Began c txn ∷ inner ++ Committed c place ∷ []) h
 has_committed c txn place h front inner later shape replies own_is quiet =

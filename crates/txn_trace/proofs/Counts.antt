@@ -1,5 +1,6 @@
--- The counts of a verdict. In a history of the right shape there are as many commits as Committed
--- entries, and as many open transactions as callers that are not closed.
+-- The counts of a verdict. In a history of the right shape, the number of commits is the number of
+-- `Committed` entries, and the number of open transactions is the number of callers that are not
+-- closed.
 use Rattle.std.proofs.Common.{◌≡◌, ◌≢◌, ℕ, zero, suc, ◌+◌, ◌<◌, ◌≤◌, ◌==◌, Bool, true, false, cond, not, List, [], ◌∷◌, ◌++◌, length, max, refl, ap, sym, subst, ◌∙◌, Some, None, Option, is_some, arith, length-append}
 use Rattle.std.specs.Option.{option_and_then}
 use Rattle.std.specs.List.{cons_option, list_any, sum_by, range_with_len}
@@ -22,7 +23,7 @@ use Rattle.txn_trace.proofs.Sums.{sum_same, sum_at, length-filter}
 use Rattle.txn_trace.proofs.Holders.{ended-push}
 use Rattle.txn_trace.proofs.Breaking.{row_active}
 
--- There are as many committed transactions as Committed entries.
+-- The number of committed transactions is the number of `Committed` entries.
 pub length-commits : (h : List Entry) → IsShaped h → length (commits h) ≡ how_many is_commit h
 length-commits h shape = ap length (commits_are h shape) ∙ by_entries (λ g. length (txns_of is_commit g) ≡ how_many is_commit g) step refl h shape
   where
@@ -174,8 +175,8 @@ counted n h shape = by_entries (λ g. callers_in g ≤ n → opens g ≡ in_txns
         let bound : max (callers_in g) (caller_of e + 1) ≤ n = subst (λ k. k ≤ n) (callers_in-push g e) within in
         count_push n g e shape callers shaped (omega arith) (was (omega arith))
 
--- If all callers of the history are below n, there are as many open transactions as callers below n
--- that are not closed.
+-- If all callers of the history are below `n`, the number of open transactions is the number of
+-- callers below `n` that are not closed.
 pub length-open_txns : (n : ℕ) (h : List Entry) → IsShaped h → callers_in h ≤ n → length (open_txns h) ≡ length (running n h)
 length-open_txns n h shape within =
     length-filter (λ t. is_open t h) (txns_of is_began h) ∙ ap (sum_by (λ t. one_if (is_open t h))) (began_txns h shape) ∙ counted n h shape within
@@ -186,8 +187,8 @@ length-open_txns n h shape within =
 pub length-running : (n : ℕ) (h : List Entry) → IsShaped h → callers_in h ≤ n → length (running n h) ≡ length (running (callers_in h) h)
 length-running n h shape within = let same : callers_in h ≤ callers_in h = omega arith in sym (length-open_txns n h shape within) ∙ length-open_txns (callers_in h) h shape same
 
--- A Began adds one to the number of callers that are not closed, an end takes one away, and every
--- other entry leaves it unchanged.
+-- A `Began` adds one to the number of callers that are not closed. The end of a transaction
+-- subtracts one. Every other entry leaves the number unchanged.
 pub length-running-push : (g : List Entry) (e : Entry) → IsShaped g → is_shaped g e ≡ true
     → length (running (callers_in (g ++ e ∷ [])) (g ++ e ∷ [])) + one_if (is_end e) ≡ length (running (callers_in g) g) + one_if (is_began e)
 length-running-push g e shape shaped = elim (began_or_not e) [

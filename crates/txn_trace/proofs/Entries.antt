@@ -221,9 +221,9 @@ undone_by {holder} stripes g legal c seat seat_is active goes job jobs log_is =
       holder_is = λ s. holder_of-other holder stripes g e (callers_of g legal.shape) shaped legal.shape legal.locks s refl refl;
     }
 
--- The entry `Undone` is allowed if the caller is returning to a level and has more standing changes
--- than the level. It takes the newest change back: the change's key gets the value from before the
--- change, and every other key is unchanged.
+-- The entry `Undone` is allowed if the caller is returning to a level and has standing changes
+-- above this level. It takes the newest change back: the change's key gets the value from before
+-- the change, and every other key is unchanged.
 pub undone_to : {holder : Holder} (stripes : ℕ) (g : List Entry) → IsLegal holder stripes g → (c n : ℕ) (seat : Seat) → seat_after (own c g) ≡ Some seat → seat.phase ≡ LeavingTo n → slice_index seat.kept n < seat.standing
     → (job : ℕ × Option ℕ) (jobs : List (ℕ × Option ℕ)) → log_of c g ≡ job ∷ jobs
     → Next holder stripes g (Undone c) (record seat { standing = seat.standing - 1 }) jobs (serial g) (set_at (now g) job.0 job.1) (λ s. holder_of stripes s g)

@@ -16,8 +16,8 @@ use Rattle.txn_words.proofs.Effects.{changes-reply}
 use Rattle.txn_trace.proofs.Callers.{is_end}
 use Rattle.txn_trace.proofs.Now.{same_is}
 
--- The condition on the seat and the run that depends on the phase. If an operation waits in the
--- seat, it waits in the run. If the caller returns to a level, the seat has this level.
+-- What must hold for the seat and the run in this phase. If an operation waits in the seat, it
+-- waits in the run. If the caller returns to a level, the seat has this level.
 abbrev pub PhaseFits : Phase → Seat → AloneRun → Type 0
 PhaseFits (Waiting op) s r = r.pending ≡ Some op
 PhaseFits (LeavingTo n) s r = n < length s.kept
@@ -33,7 +33,7 @@ FitsAfter None r = Unit {0}
 FitsAfter (Some s) None = ⊥
 FitsAfter (Some s) (Some r) = Fits s r
 
--- If the entry is a Did, its reply is the one that the run's last map gives.
+-- If the entry is a `Did`, its reply is the one that the run's last map gives.
 abbrev pub IsReply : AloneRun → Entry → Type 0
 IsReply r (Did c x) = (op : Op) → r.pending ≡ Some op → x ≡ reply_of r.last op
 IsReply r _ = Unit {0}

@@ -95,7 +95,6 @@ module _ (stripes : ℕ) (g : List Entry) (e : Entry) (callers : Callers g) (sha
     in_t : txn_in g (caller_of e) ≡ Some t
     in_t = not_began_is g e t (end_not_began e ends) (at_is g e t at)
 
-    -- An open transaction stays open, unless it is the one that ends.
     stays_if : (line : Line) → IsOwned g line → (o : Option ℕ) → line.txn ≡ o → is_in_open g line ≡ true → is_in_open (g ++ e ∷ []) line ≡ not (caller_on line == caller_of e)
     stays_if line owned None is opened = absurd (false≢true (ap (λ o. is_in_open g (record { txn = o; entry = line.entry })) (sym is) ∙ opened))
     stays_if line owned (Some u) is opened =
@@ -214,7 +213,7 @@ all_from_same c xs same there [] within = refl
 all_from_same c xs same there (y ∷ ys) within =
     and_from (y == c) _ (eq-eqb y c (same y c (within y (or_left _ _ (eq-eqb y y refl))) there)) (all_from_same c xs same there ys (λ z is. within z (or_right (y == z) _ is)))
 
--- The rule of locks allows an Asked exactly if its own caller holds the stripe or no caller holds
+-- The rule of locks allows an `Asked` exactly if its own caller holds the stripe or no caller holds
 -- it.
 pub is_locked-asked : (holder : Holder) (stripes : ℕ) (g : List Entry) (c : ℕ) (op : Op) → IsShaped g → LocksHold holder stripes g
     → is_locked holder stripes g (Asked c op) ≡ elim (holder_of stripes (stripe_of stripes (key_of op)) g) [ None ↦ true | Some d ↦ d == c ]
@@ -227,9 +226,9 @@ is_locked-asked holder stripes g c op shape locks = at (holders stripes (stripe_
       | inr other ↦ ap (λ b. b && list_all (λ x. x == c) xs) (ne_eqb x c other) ∙ sym (ne_eqb x c other)
     ]
 
--- The rule of locks allows a Busy exactly if it names another caller, and this caller meets a
--- condition. By the rule `Now`, it must hold the stripe. By the rule `Begun`, it must have begun a
--- transaction.
+-- The rule of locks allows a `Busy` exactly if it names a caller other than its own, and the named
+-- caller meets a condition. By the rule `Now`, the named caller must hold the stripe. By the rule
+-- `Begun`, the named caller must have begun a transaction.
 pub is_locked-busy : (holder : Holder) (stripes : ℕ) (g : List Entry) (c : ℕ) (op : Op) (x : ℕ) → IsShaped g → LocksHold holder stripes g
     → is_locked holder stripes g (Busy c op x) ≡ (not (x == c) && elim holder [ Now ↦ option_eq nat_eq (holder_of stripes (stripe_of stripes (key_of op)) g) (Some x) | Begun ↦ has_begun x g ])
 is_locked-busy Begun stripes g c op x shape locks = refl
@@ -272,8 +271,8 @@ module _ (holder : Holder) (stripes : ℕ) (g : List Entry) (e : Entry) (callers
             ∙ sym (ap (λ b. cond {A = Option ℕ} b None (Some x)) (ne_eqb x c other))
       ]
 
--- An Asked gives the stripe of its key to its caller, and leaves the holders of the other stripes
--- unchanged.
+-- After the entry `Asked`, its caller holds the stripe of its key. The holders of the other stripes
+-- are unchanged.
 pub holder_of-asked : (holder : Holder) (stripes : ℕ) (g : List Entry) (c t : ℕ) (op : Op) → Callers g → is_shaped g (Asked c op) ≡ true → is_locked holder stripes g (Asked c op) ≡ true → txn_at g (Asked c op) ≡ Some t
     → (s : ℕ) → holder_of stripes s (g ++ Asked c op ∷ []) ≡ cond (stripe_of stripes (key_of op) == s) (Some c) (holder_of stripes s g)
 holder_of-asked holder stripes g c t op callers shaped locked at s = elim (cases_Bool (stripe_of stripes (key_of op) == s)) [

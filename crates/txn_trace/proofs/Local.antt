@@ -1,5 +1,5 @@
--- A transaction that runs alone reads and writes only the keys that it asks for, so it runs alike
--- on all maps that agree at these keys.
+-- A transaction that runs alone reads and writes only the keys that it asks for. So it runs in the
+-- same way on all maps that agree at these keys.
 use Rattle.std.proofs.Common.{◌≡◌, ◌==◌, ℕ, suc, ◌+◌, Bool, true, false, cond, List, [], ◌∷◌, ◌++◌, length, take, refl, ap, sym, subst, ◌∙◌, Some, None, Option, is_some, slice_get}
 use Rattle.std.specs.Prelude.{nat_eq}
 use Rattle.std.specs.Option.{option_eq, option_and_then}
@@ -55,7 +55,8 @@ AllAskFor keys (e ∷ es) = AsksFor keys e × AllAskFor keys es
 apart_from : (keys : ℕ → Bool) (k q : ℕ) → keys k ≡ true → keys q ≡ false → (q == k) ≡ false
 apart_from keys k q in_keys out = ne_eqb q k (λ same. false≢true (sym out ∙ ap keys same ∙ in_keys))
 
--- A change at a key that passes the test keeps the maps alike.
+-- If two maps are `Alike`, they are still `Alike` after the same change at a key that passes the
+-- test.
 module _ (keys : ℕ → Bool) (m n a b : Map) (alike : Alike keys m n a b) (k : ℕ) (in_keys : keys k ≡ true) where
   insert_alike : (v : ℕ) → Alike keys m n (insert a k v) (insert b k v)
   insert_alike v = record {

@@ -29,7 +29,7 @@ use Rattle.txn_trace.proofs.Seated.{none_before, AreSeated, seated_push, alone_b
 use Rattle.txn_trace.proofs.Undoing.{IsLogged, logged_add}
 use Rattle.txn_trace.proofs.Inductions.{by_entries}
 
--- An entry changes the log of its caller by `log_step`, and leaves the logs of all other callers
+-- `log_step` gives the log of an entry's caller after the entry. The logs of all other callers are
 -- unchanged.
 pub log_after-push : (es : List Entry) (e : Entry) → log_after (es ++ e ∷ []) ≡ log_step (log_after es) e
 log_after-push es e = fold-append log_step no_log es (e ∷ [])
@@ -122,7 +122,7 @@ wider_jobs keys wide to (job ∷ jobs) last [] is = is
 wider : (keys wide : ℕ → Bool) → ((k : ℕ) → keys k ≡ true → wide k ≡ true) → (log : Log) (r : AloneRun) → Logs keys log r → Logs wide log r
 wider keys wide to log r is = record { pending = is.pending; waits = wider_waits keys wide to r.pending is.waits; standing = wider_jobs keys wide to log.standing r.last r.earlier is.standing }
 
--- If the run allows one more entry of the transaction, the log and the run still agree after it.
+-- If the run allows a `Did` entry, the log and the run still agree after it.
 did_logs : (keys : ℕ → Bool) (log : Log) (r r' : AloneRun) (x : Option ℕ) (p : Option Op) → log.pending ≡ p → WaitsFor keys p → IsLogged keys log.standing r.last r.earlier → act_did r p x ≡ Some r' → Logs keys (log_did log p x) r'
 did_logs keys log r r' x None at waits is goes = absurd (cc (goes))
 did_logs keys log r r' x (Some op) at waits is goes =

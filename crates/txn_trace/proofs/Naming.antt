@@ -1,4 +1,4 @@
--- The callers that a Busy may name: the two rules compared.
+-- The callers that a `Busy` may name: the two rules compared.
 use Rattle.std.proofs.Common.{◌≡◌, ◌≢◌, ℕ, ◌==◌, ◌&&◌, ◌||◌, Bool, true, false, cond, not, List, [], ◌∷◌, ◌++◌, refl, ap, sym, ◌∙◌, Some, is_some, append_assoc}
 use Rattle.std.specs.Option.{option_eq}
 use Rattle.std.specs.Prelude.{nat_eq}
@@ -35,8 +35,8 @@ and_false false = refl
 has_begun-push : (c : ℕ) (g : List Entry) (e : Entry) → has_begun c (g ++ e ∷ []) ≡ (has_begun c g || (is_began e && caller_of e == c))
 has_begun-push c g e = list_any-append (λ f. is_began f && caller_of f == c) g (e ∷ []) ∙ ap (λ b. has_begun c g || b) (or_false (is_began e && caller_of e == c))
 
--- After an entry, its caller has begun a transaction exactly if it had before, or if the entry is a
--- Began. For every other caller the entry changes nothing.
+-- After an entry, the entry's caller has begun a transaction exactly if it had begun one before or
+-- the entry is a `Began`. For every other caller the entry changes nothing.
 pub has_begun-own : (g : List Entry) (e : Entry) → has_begun (caller_of e) (g ++ e ∷ []) ≡ (has_begun (caller_of e) g || is_began e)
 has_begun-own g e = has_begun-push (caller_of e) g e ∙ ap (λ b. has_begun (caller_of e) g || b) (ap (λ b. is_began e && b) (eq-eqb (caller_of e) (caller_of e) refl) ∙ and_true (is_began e))
   where

@@ -191,7 +191,7 @@ module _ (holder : Holder) (stripes : ℕ) (g : List Entry) (e : Entry) (t : ℕ
   same_there u goes other k held =
       sym (ap (λ m. get m k) serial-commit ∙ untouched stripes (of t g) (serial g) (serial g) k (false_from_ne_true _ (λ is. other (apart u t (stripe_of stripes k) goes going held is))))
 
-  -- After the commit, the replies of the open transactions still hold.
+  -- After the commit, the replies of the open transactions are still right (`RepliesHoldAt`).
   pub replies-push_commit : RepliesHoldAt g → RepliesHoldAt (g ++ e ∷ [])
   replies-push_commit hold u is_open_after =
       let goes_after = going_open u (g ++ e ∷ []) is_open_after in

@@ -79,7 +79,8 @@ module _ (holder : Holder) (stripes : ℕ) (g : List Entry) (e : Entry) (t : ℕ
       ∙ ap (λ m. get (map_after m (of t (g ++ e ∷ []))) k) same_committed
       ∙ ap (λ es. get (map_after (serial g) es) k) (of-push_in t g e at)
 
-  -- The map `now` changes exactly as the last map of the entry's transaction does.
+  -- At each key, either the value in the map `now` is unchanged, or it comes from the last map of
+  -- the entry's transaction, both before and after the entry.
   pub now_at-push : (k : ℕ) → is_end e ≡ false → IsRunning g t
       → ((now_at (g ++ e ∷ []) k ≡ now_at g k) × (keys_in stripes (of t g) k ≡ false))
       ⊎ ((now_at (g ++ e ∷ []) k ≡ get (map_after (serial g) (of t g ++ e ∷ [])) k) × (now_at g k ≡ get (map_after (serial g) (of t g)) k))

@@ -12,11 +12,11 @@ use Rattle.txn_trace.proofs.Shaped.{step, same as one_caller}
 use Rattle.txn_trace.proofs.Inductions.{by_entries}
 use Rattle.txn_trace.proofs.Seated.{none_before, are_seated}
 
--- One more entry changes the parts of a caller's entries by `part_after`.
+-- If one more entry is added to a caller's entries, `part_after` gives the new parts.
 pub parts_of-push : (es : List Entry) (e : Entry) → parts_of (es ++ e ∷ []) ≡ part_after (parts_of es) e
 parts_of-push es e = fold-append part_after [] es (e ∷ [])
 
--- A Began begins a part, and any other entry is added to the newest part.
+-- A `Began` begins a new part. Any other entry is added to the newest part.
 pub part-began : (parts : List (List Entry)) (e : Entry) → is_began e ≡ true → part_after parts e ≡ (e ∷ []) ∷ parts
 part-began [] e is = ap (λ b. cond b ((e ∷ []) ∷ []) []) is
 part-began (part ∷ parts) e is = ap (λ b. cond b ((e ∷ []) ∷ part ∷ parts) ((part ++ e ∷ []) ∷ parts)) is

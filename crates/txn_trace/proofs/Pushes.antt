@@ -1,4 +1,5 @@
--- The parts of a history with one more entry.
+-- How one more entry changes what is computed from a history: its lines, its transactions, its runs
+-- and its seats.
 use Rattle.std.proofs.Common.{◌≡◌, ℕ, ◌+◌, Bool, true, false, cond, ◌==◌, List, [], ◌∷◌, ◌++◌, map, length, refl, ap, ◌∙◌, Some, None, Option, length-append}
 use Rattle.std.specs.Option.{option_eq, option_and_then}
 use Rattle.std.specs.List.{filter, fold}

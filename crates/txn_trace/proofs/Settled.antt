@@ -1,4 +1,4 @@
--- A map that takes the values of another map at the keys of a log.
+-- A map whose values at the keys of a log come from another map.
 use Rattle.std.proofs.Common.{[], ◌≡◌, ℕ, ◌==◌, Bool, true, false, cond, List, ◌∷◌, refl, ap, sym, ◌∙◌, Option}
 use Rattle.std.specs.List.{fold, list_any}
 use Rattle.std.proofs.lemmas.Bool.{or_parts, or_cases, cases_Bool, eqb-true, false≢true, eq-eqb}
@@ -8,7 +8,8 @@ use Rattle.txn_words.proofs.Maps.{get-set_at}
 use Rattle.txn_trace.proofs.Undoing.{IsLogged}
 use Rattle.txn_trace.proofs.Bounds.{first_map}
 
--- The map `base`, with the values of the map `current` at the keys of the log.
+-- The map that has the values of `current` at the keys of the log, and the values of `base` at all
+-- other keys.
 abbrev pub settled : Map → Map → List (ℕ × Option ℕ) → Map
 settled base current jobs = fold (λ m job. set_at m job.0 (get current job.0)) base jobs
 

@@ -1,5 +1,5 @@
--- Each entry of the right shape keeps the properties of callers. A transaction that has ended gets
--- no more entries.
+-- The properties of callers (`Callers`) still hold after each entry of the right shape. A
+-- transaction that has ended gets no more entries.
 use Rattle.std.proofs.Common.{[], ◌≡◌, ℕ, true, false, List, ◌∷◌, ◌++◌, refl, ap, sym, subst, ◌∙◌, Some, arith, append_assoc}
 use Rattle.std.specs.Option.{option_and_then}
 use Rattle.std.specs.List.{AllByRecursion}

@@ -1,5 +1,5 @@
--- Open transactions have asked for keys of different stripes, and each changes only keys of its
--- stripes.
+-- No two open transactions have asked for keys of the same stripe. Each transaction changes only
+-- keys of the stripes that it has asked for.
 use Rattle.std.proofs.Common.{◌≡◌, ℕ, ◌==◌, Bool, true, false, cond, not, ◌&&◌, List, [], ◌∷◌, ◌++◌, map, refl, ap, sym, subst, ◌∙◌, Some, None, Option, IsSome, append_assoc}
 use Rattle.std.specs.List.{filter, list_any, list_all, AllByRecursion}
 use Rattle.std.proofs.lemmas.Bool.{false≢true, eq-eqb, eqb-true, or_left, or_right, and_parts, or_cases}
@@ -151,8 +151,9 @@ module _ (stripes : ℕ) (es : List Entry) (m n : Map) where
   pub untouched : (k : ℕ) → keys_in stripes es k ≡ false → get (map_after m es) k ≡ get m k
   untouched k out = left_of (keys_in stripes es) m m (alone m es) (alone m es) (alone_alike (keys_in stripes es) m m es (asks_own stripes es) (λ q is. refl)) k out
 
-  -- If two maps agree at the keys of the stripes that the entries hold, they agree at these keys
-  -- after the entries. If the entries run on one of two such maps, they run on the other.
+  -- Let two maps agree at each key whose stripe the entries hold. Then the maps after the entries
+  -- agree at these keys too. If the run of the entries on one map is not None, the run on the other
+  -- map is not None.
   pub touched : ((k : ℕ) → keys_in stripes es k ≡ true → get m k ≡ get n k) → (k : ℕ) → keys_in stripes es k ≡ true → get (map_after m es) k ≡ get (map_after n es) k
   touched same k is = inside_of (keys_in stripes es) m n (alone m es) (alone n es) (alone_alike (keys_in stripes es) m n es (asks_own stripes es) same) k (same k is) is
 

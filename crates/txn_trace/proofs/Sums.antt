@@ -13,7 +13,7 @@ sum_same f g a (suc n) same =
     let rest : sum_by f (range_with_len (a + 1) n) ≡ sum_by g (range_with_len (a + 1) n) = sum_same f g (a + 1) n (λ x low high. same x (omega arith) (omega arith)) in
     sum_by-cons f a (range_with_len (a + 1) n) ∙ ap (λ x. x + sum_by f (range_with_len (a + 1) n)) head ∙ ap (λ x. g a + x) rest ∙ sym (sum_by-cons g a (range_with_len (a + 1) n))
 
--- If one summand changes, the sum changes by as much.
+-- If one summand changes, the sum changes by the same amount.
 pub sum_at : (f g : ℕ → ℕ) (c a n : ℕ) → a ≤ c → c < a + n → ((x : ℕ) → x ≢ c → f x ≡ g x) → sum_by g (range_with_len a n) + f c ≡ sum_by f (range_with_len a n) + g c
 sum_at f g c a zero low high same = absurd (omega arith)
 sum_at f g c a (suc n) low high same =

@@ -1,5 +1,5 @@
--- A log of changes, newest first, compared with the maps of a run; and the map `now` after the
--- newest change is taken back.
+-- Compares a log of changes, newest first, with the maps of a run. Also says what the map `now` is
+-- after the newest change is taken back.
 use Rattle.std.proofs.Common.{◌≡◌, ℕ, ◌≢◌, Bool, true, false, ◌||◌, List, [], ◌∷◌, ◌++◌, refl, ap, sym, ◌∙◌, Some, Option, is_some}
 use Rattle.std.specs.Option.{option_and_then}
 use Rattle.std.specs.List.{list_any}
@@ -26,8 +26,9 @@ use Rattle.txn_trace.proofs.Judging.{legal_push, shape_push, locks_push}
 use Rattle.txn_trace.proofs.Others.{replies-push_other, now_at-push}
 use Rattle.txn_words.proofs.Effects.{get-after_other}
 
--- Each job belongs to a change of the run, newest first. It names the change's key, which passes
--- the test, and the key's value before the change. The change left every other key unchanged.
+-- There is one job for each change of the run, newest first. A job has the key of its change, which
+-- passes the test, and the key's value before the change. The change left every other key
+-- unchanged.
 abbrev pub IsLogged : (ℕ → Bool) → List (ℕ × Option ℕ) → Map → List Map → Type 0
 IsLogged keys [] last [] = Unit {0}
 IsLogged keys (job ∷ jobs) last (m ∷ ms) = (keys job.0 ≡ true) × (get m job.0 ≡ job.1) × ((q : ℕ) → q ≢ job.0 → get m q ≡ get last q) × IsLogged keys jobs m ms
@@ -65,14 +66,15 @@ module _ {holder : Holder} (stripes : ℕ) (g : List Entry) (legal : IsLegal hol
       ⊎ ((now_at (g ++ Undone c ∷ []) q ≡ get (map_after (serial g) (of t g ++ Undone c ∷ [])) q) × (now_at g q ≡ get (map_after (serial g) (of t g)) q))
   each q = now_at-push holder stripes g (Undone c) t legal.shape legal.locks (shape_push g (Undone c) legal.shape shaped) (locks_push holder stripes g (Undone c) legal.locks refl) shaped refl in_t q refl (running_of g c t in_t going)
 
-  -- After the Undone, the key of the newest job has the value from before the change.
+  -- After the entry `Undone`, the key of the newest job has the value that it had before the
+  -- change.
   pub get-now_undone : get (now (g ++ Undone c ∷ [])) job.0 ≡ job.1
   get-now_undone = get-now (g ++ Undone c ∷ []) job.0 ∙ elim (each job.0) [
     | inl w ↦ absurd (false≢true (sym w.1 ∙ logged.0))
     | inr w ↦ w.0 ∙ ap (λ n. get n job.0) afterwards ∙ logged.1
   ]
 
-  -- The Undone leaves every key except that of the newest job unchanged.
+  -- The entry `Undone` changes no key except that of the newest job.
   pub get-now_undone_other : (q : ℕ) → q ≢ job.0 → get (now (g ++ Undone c ∷ [])) q ≡ get (now g) q
   get-now_undone_other q other = get-now (g ++ Undone c ∷ []) q ∙ elim (each q) [
     | inl w ↦ w.0

@@ -32,8 +32,8 @@ with_op run op =
     then record run { last = after run.last op; earlier = run.last ∷ run.earlier }
     else run
 
--- The run after a Did. An operation must be waiting, and the reply must be the one that the last
--- map gives to this operation.
+-- The run after a `Did` entry. An operation must be waiting, and the reply must be the one that the
+-- last map gives to this operation.
 abbrev pub act_did : AloneRun → Option Op → Option ℕ → Option AloneRun
 act_did run None r = None
 act_did run (Some op) r =
@@ -41,14 +41,14 @@ act_did run (Some op) r =
     then Some (record (with_op run op) { pending = None })
     else None
 
--- The run after an Undone, which drops the last map. A run that has only its first map allows no
--- Undone.
+-- The run after an `Undone` entry, which drops the last map. If the run has only its first map, the
+-- entry is not allowed.
 abbrev pub act_undone : AloneRun → List Map → Option AloneRun
 act_undone run [] = None
 act_undone run (m ∷ ms) = Some (record run { last = m; earlier = ms })
 
--- The run after a Returned to level `n`. The run must have as many maps as the note of level `n`
--- says. The notes of later levels are dropped.
+-- The run after the entry `Returned` with the level `n`. The run must have as many maps as the note
+-- of level `n` says. The notes of later levels are dropped.
 abbrev pub act_returned : AloneRun → ℕ → Option AloneRun
 act_returned run n =
     if option_eq nat_eq (slice_get run.notes n) (Some (number_of_maps run))

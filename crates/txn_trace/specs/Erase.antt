@@ -4,7 +4,7 @@ use Rattle.std.specs.List.{filter}
 use Rattle.txn_words.specs.declared.entry.Entry.{Entry}
 use Rattle.txn_trace.specs.History.{Line, lines_of, is_aborted}
 
--- Whether an entry belongs to no aborted transaction.
+-- True if the entry's transaction is not aborted, or if the entry has no transaction.
 abbrev pub is_lasting : List Entry → Line → Bool
 is_lasting h line = elim line.txn [ None ↦ true | Some t ↦ not (is_aborted t h) ]
 

@@ -12,8 +12,8 @@ pub record Line : Type 0 where
   pub txn : Option ℕ
   pub entry : Entry
 
--- The transaction of caller `x` after an entry. If the entry is a Began of `x`, it is the
--- transaction that begins. Otherwise it is the one in `before`.
+-- The transaction of caller `x` after an entry. If the entry is a `Began` of `x`, it is the
+-- transaction that begins. Otherwise it is what `before` gives for `x`.
 abbrev pub txn_after : (ℕ → Option ℕ) → Entry → ℕ → Option ℕ
 txn_after before (Began c t) x = if c == x then Some t else before x
 txn_after before _ x = before x

@@ -1,5 +1,6 @@
--- The rule of locks: a stripe of keys belongs to at most one open transaction at a time, and a Busy
--- names another caller. One of two rules says which callers a Busy may name.
+-- The rule of locks: a stripe of keys belongs to at most one open transaction at a time, and a
+-- `Busy` entry names a caller other than its own. Which callers it may name depends on the rule
+-- that is chosen, `Now` or `Begun`.
 use Rattle.std.specs.Prelude.{ℕ, ◌%◌, ◌==◌, Bool, true, false, not, ◌&&◌, Option, Some, None, slice_get, IsTrue, List, [], ◌∷◌, ◌++◌, map}
 use Rattle.std.specs.List.{filter, list_any, list_all}
 use mathlib.Core.List.{IsPrefix}
@@ -15,7 +16,7 @@ use Rattle.txn_words.specs.Kinds.{caller_of, is_began}
 abbrev pub stripe_of : ℕ → ℕ → ℕ
 stripe_of stripes k = k % stripes
 
--- Whether an entry is an Asked for a key of the stripe.
+-- Whether an entry is an `Asked` for a key of the stripe.
 abbrev pub asks_in : ℕ → ℕ → Entry → Bool
 asks_in stripes s (Asked c op) = stripe_of stripes (key_of op) == s
 asks_in stripes s _ = false
@@ -38,15 +39,15 @@ holder_of stripes s h = slice_get (holders stripes s h) 0
 abbrev pub has_begun : ℕ → List Entry → Bool
 has_begun c g = list_any (λ e. is_began e && caller_of e == c) g
 
--- Whether a Busy for a key of the stripe `s` may name the caller `x` after the history `g`. By the
--- rule `Now`, `x` must hold the stripe. By the rule `Begun`, `x` must have begun a transaction.
+-- Whether a `Busy` for a key of the stripe `s` may name the caller `x` after the history `g`. By
+-- the rule `Now`, `x` must hold the stripe. By the rule `Begun`, `x` must have begun a transaction.
 abbrev pub may_name : Holder → ℕ → ℕ → List Entry → ℕ → Bool
 may_name Now stripes s g x = list_any (λ y. y == x) (holders stripes s g)
 may_name Begun stripes s g x = has_begun x g
 
--- Whether the rule of locks allows an entry after the history `g`. An Asked is allowed if no other
--- caller holds the stripe of its key. A Busy is allowed if the caller that it names is another one
--- and `may_name` allows that caller. An entry of another kind is always allowed.
+-- Whether the rule of locks allows an entry after the history `g`. An `Asked` is allowed if no
+-- other caller holds the stripe of its key. A `Busy` is allowed if it names a caller other than its
+-- own and `may_name` allows the named caller. An entry of another kind is always allowed.
 abbrev pub is_locked : Holder → ℕ → List Entry → Entry → Bool
 is_locked holder stripes g (Asked c op) =
     list_all (λ x. x == c) (holders stripes (stripe_of stripes (key_of op)) g)

@@ -1,5 +1,5 @@
--- The log of a caller: the changes of its transaction that are not taken back. An abort takes them
--- back.
+-- The log of a caller: those changes of its transaction that have not been taken back yet. An abort
+-- takes all of them back.
 use Rattle.std.specs.Prelude.{ℕ, Option, Some, None, List, [], ◌∷◌, drop, if◌then◌else◌}
 use Rattle.std.specs.List.{fold}
 use Rattle.txn_words.specs.declared.op.Op.{Op}
@@ -18,8 +18,8 @@ pub record Log : Type 0 where
 abbrev pub no_log : Log
 no_log = record { pending = None; standing = [] }
 
--- The log after a Did. If the operation made a change, the log gets its key and its reply, which is
--- the value before the change.
+-- The log after a `Did` entry. If the operation made a change, the log gets the operation's key and
+-- its reply, which is the value before the change.
 abbrev pub log_did : Log → Option Op → Option ℕ → Log
 log_did log None r = log
 log_did log (Some op) r = record {
@@ -27,8 +27,8 @@ log_did log (Some op) r = record {
   standing = if changes op r then (key_of op, r) ∷ log.standing else log.standing;
 }
 
--- The log after an entry. An Undone removes the newest change. The beginning and the end of a
--- transaction empty the log.
+-- The log after an entry. An `Undone` entry removes the newest change. When a transaction begins or
+-- ends, the log becomes empty.
 abbrev pub log_step : Log → Entry → Log
 log_step log (Asked c op) = record log { pending = Some op }
 log_step log (Did c r) = log_did log log.pending r

@@ -9,7 +9,7 @@ use Rattle.txn_words.specs.declared.entry.Entry.TheVariants.{Began, Asked, Did, 
 use Rattle.txn_trace.specs.History.{of, txns_of}
 use Rattle.txn_words.specs.Kinds.{caller_of, is_began, is_commit}
 
--- Whether an entry is an Undone, which records that a change was taken back.
+-- Whether an entry is an `Undone`, which records that a change was taken back.
 abbrev pub is_undone : Entry → Bool
 is_undone (Undone c) = true
 is_undone _ = false
@@ -18,9 +18,9 @@ is_undone _ = false
 abbrev pub without_undone : List Entry → List Entry
 without_undone es = filter (λ e. not (is_undone e)) es
 
--- The entries are those of the actions, in order, followed by a Committed. An operation has an
--- Asked and a Did, a savepoint has a Saved, and a return to a level has a Leave and a Returned.
--- Help has no entries. A script with an abort is never played.
+-- The entries are those of the actions, in order, followed by a `Committed`. An operation has the
+-- entries `Asked` and `Did`, a savepoint has `Saved`, and a return to a level has `Leave` and
+-- `Returned`. A call for help has no entry. A script with an abort is never played.
 abbrev pub ArePlayed : List Action → List Entry → Type 0
 ArePlayed [] (Committed c p ∷ []) = Unit {0}
 ArePlayed (actions.Op op ∷ script) (Asked c asked ∷ Did d reply ∷ es) =
@@ -31,17 +31,17 @@ ArePlayed (actions.Back n ∷ script) (Leave c (Some level) ∷ Returned d reach
 ArePlayed (actions.Help k ∷ script) es = ArePlayed script es
 ArePlayed _ _ = ⊥
 
--- The entries are a Began, then those of the script's actions, and then a Committed.
+-- The entries are a `Began`, then those of the script's actions, and then a `Committed`.
 abbrev pub IsPlayed : List Action → List Entry → Type 0
 IsPlayed script (Began c t ∷ es) = ArePlayed script es
 IsPlayed script _ = ⊥
 
--- A transaction plays a script if its entries are a Began, those of each action in order, and a
--- Committed. Undone entries are ignored.
+-- A transaction plays a script if its entries are a `Began`, those of each action in order, and a
+-- `Committed`. `Undone` entries are ignored.
 abbrev pub Plays : ℕ → List Action → List Entry → Type 0
 Plays t script h = IsPlayed script (without_undone (of t h))
 
--- Whether an entry is a Committed of this caller.
+-- Whether an entry is a `Committed` of this caller.
 abbrev pub is_commit_of : ℕ → Entry → Bool
 is_commit_of c e = is_commit e && (caller_of e == c)
 
@@ -71,9 +71,9 @@ abbrev pub PlayScripts : ℕ → List (List Action) → List Entry → Type 0
 PlayScripts callers scripts h =
     (c : ℕ) → c < callers → PlayRising callers scripts c h 0 (length scripts) (commits_of c h)
 
--- One caller's entries in parts, after one more entry. Each part has the entries of one
--- transaction, and the newest part is the first of the list. A Began begins a new part. Any other
--- entry is added to the newest part, or dropped if there is no part.
+-- Adds one more entry to one caller's entries, which are split into parts. Each part has the
+-- entries of one transaction, and the newest part is the first of the list. A `Began` begins a new
+-- part. Any other entry is added to the newest part, or dropped if there is no part.
 abbrev pub part_after : List (List Entry) → Entry → List (List Entry)
 part_after [] e = if is_began e then (e ∷ []) ∷ [] else []
 part_after (part ∷ parts) e =

@@ -47,7 +47,7 @@ get-after_same m n (PutIf k expected v) q same at =
       | false ↦ same
     ])
 
--- If an operation gets its right reply, `changes` is true exactly if `is_change` is true.
+-- If an operation gets the reply that the map gives, `changes` and `is_change` agree.
 pub changes-reply : (m : Map) (op : Op) → changes op (reply_of m op) ≡ is_change m op
 changes-reply m (Put k v) = refl
 changes-reply m (Take k) = refl

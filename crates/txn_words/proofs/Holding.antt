@@ -75,8 +75,8 @@ pub times_removed_le : (k j : ℕ) (ks : List ℕ) → times j (removed k ks) �
 times_removed_le k j ks = dite (ℕ_discrete j k)
     (λ (e : j ≡ k). subst (λ (i : ℕ). times i (removed k ks) ≤ times i ks) (sym e) (omega (arith, times_removed_same k ks))) (λ ne. omega (arith, times_removed_other k j ks ne))
 
--- f and g are the words of the stripes before and after a step that changes at most the word of
--- stripe i.
+-- `f` gives the word of each stripe before a step, and `g` after the step. The step changes at most
+-- the word of stripe `i`.
 module _ (f g : ℕ → ℕ) (i : ℕ) (other : (k : ℕ) → k ≢ i → g k ≡ f k) where
   -- If the word of stripe i names seat a neither before nor after the step, the step does not
   -- change which words name seat a.
@@ -85,16 +85,16 @@ module _ (f g : ℕ → ℕ) (i : ℕ) (other : (k : ℕ) → k ≢ i → g k �
       (λ (y : k ≡ i). subst (λ (j : ℕ). once_for a (g j) ≡ once_for a (f j)) (sym y) (once_no a (g i) is ∙ sym (once_no a (f i) was)))
       (λ no. ap (once_for a) (other k no))
 
-  -- If seat `n` held exactly the stripes whose words name it, the same is true after it takes
-  -- stripe `i`.
+  -- If seat `n` holds exactly the stripes whose words name it, this remains true when the seat
+  -- takes stripe `i`.
   pub times_taken : (n : ℕ) (ks : List ℕ) → f i ≡ 0 → g i ≡ n + 1 → (k : ℕ) → times k ks ≡ once_for n (f k) → times k (i ∷ ks) ≡ once_for n (g k)
   times_taken n ks free mine k old = dite (ℕ_discrete k i)
       (λ (y : k ≡ i). subst (λ (j : ℕ). times j ks ≡ once_for n (f j) → times j (i ∷ ks) ≡ once_for n (g j)) (sym y)
       (λ at. omega (arith, at, times_same i ks, once_no n (f i) (λ q. omega arith), once_yes n (g i) mine)) old)
       (λ ne. times_other k i ks (λ y. ne (sym y)) ∙ old ∙ ap (once_for n) (sym (other k ne)))
 
-  -- If seat `n` held exactly the stripes whose words name it, the same is true after it gives
-  -- stripe `i` back.
+  -- If seat `n` holds exactly the stripes whose words name it, this remains true when the seat
+  -- gives stripe `i` back.
   pub times_given : (n : ℕ) (ks : List ℕ) → f i ≡ n + 1 → g i ≡ 0 → (k : ℕ) → times k ks ≡ once_for n (f k) → times k (removed i ks) ≡ once_for n (g k)
   times_given n ks mine free k old = dite (ℕ_discrete k i)
       (λ (y : k ≡ i). subst (λ (j : ℕ). times j ks ≡ once_for n (f j) → times j (removed i ks) ≡ once_for n (g j)) (sym y)

@@ -1,5 +1,6 @@
--- The levels of a seat. Each level keeps at least as many changes as the levels before it. A level
--- that a caller may go back to keeps no more changes than the caller has standing now.
+-- The levels of a seat. Each level keeps at least as many changes as the levels before it. If a
+-- caller may return to a level, the number of changes that the level keeps is at most the number of
+-- the caller's standing changes.
 use Rattle.std.proofs.Common.{◌≡◌, ℕ, ◌+◌, ◌-◌, ◌<◌, ◌≤◌, ◌==◌, ◌&&◌, Bool, true, false, cond, List, [], ◌∷◌, ◌++◌, length, take, get_or, slice_index, refl, sym, subst, Some, None, Option, arith}
 use Rattle.std.specs.Prelude.{nat_lt}
 use Rattle.std.specs.Option.{option_and_then}
@@ -21,7 +22,7 @@ IsRisingList kept = (i j : ℕ) → i ≤ j → j < length kept → get_or kept 
 abbrev pub AreWithin : ℕ → List ℕ → Type 0
 AreWithin standing kept = (i : ℕ) → i < length kept → get_or kept i 0 ≤ standing
 
--- The condition on the standing changes and on the levels in each phase.
+-- In each phase, the numbers of changes that the levels keep fit the number of standing changes.
 abbrev pub IsLevelIn : Phase → ℕ → List ℕ → Type 0
 IsLevelIn Closed standing kept = (standing ≡ 0) × (kept ≡ 0 ∷ [])
 IsLevelIn Opened standing kept = AreWithin standing kept

@@ -17,8 +17,8 @@ use Rattle.split_key.proofs.SortLemmas.{lower_from, before_by_split, before_by_k
 use Rattle.txn_words.specs.Map.{Map, get, count_of}
 use Rattle.txn_words.specs.Ordered.{split_cmp, ordered}
 
--- Comparing keys by their split keys is a total order. So is `split_cmp`, and two keys that are
--- equal by `split_cmp` are the same key.
+-- Comparing keys by their split keys gives a total order, and so does `split_cmp`. If `split_cmp`
+-- finds two keys equal, they are the same key.
 by_split_total : IsTotalOrder (λ a b. nat_cmp (split a) (split b))
 by_split_total = record {
   antisymm = λ a b. nat_cmp_total.antisymm (split a) (split b);

@@ -70,8 +70,8 @@ value_at-without k v (pair ∷ front) back sorted =
     ap (λ b. cond b (Some pair.1) (value_at k (front ++ back))) (split_cmp_tied k pair.0 ∙ ne_eqb k pair.0 (λ is. less_apart pair.0 k (below_middle pair.0 k v front back parts.0) (sym is)))
     ∙ value_at-without k v front back parts.1
 
--- If a pair is linked into the list `ordered m` and the list still rises, the result is the ordered
--- list of the map `m` after an insert of this pair.
+-- If a pair is added to the list `ordered m` and the longer list still rises, the longer list
+-- equals `ordered (insert m k v)`.
 pub ordered-linked : (m : Map) (k v : ℕ) (front back : List (ℕ × ℕ)) → front ++ back ≡ ordered m → IsSortedBySplit (front ++ (k, v) ∷ back) → front ++ (k, v) ∷ back ≡ ordered (insert m k v)
 ordered-linked m k v front back is sorted = ordered_is (insert m k v) (front ++ (k, v) ∷ back) sorted (λ q.
     value_at-middle q k v front back sorted ∙ ap (λ es. cond (q == k) (Some v) (value_at q es)) is ∙ ap (cond (q == k) (Some v)) (value_at-ordered m q) ∙ sym (get-insert m k v q))
@@ -79,8 +79,8 @@ ordered-linked m k v front back is sorted = ordered_is (insert m k v) (front ++ 
 value_in : (m : Map) (k v : ℕ) (front back : List (ℕ × ℕ)) → front ++ (k, v) ∷ back ≡ ordered m → (q : ℕ) → get m q ≡ cond (q == k) (Some v) (value_at q (front ++ back))
 value_in m k v front back is q = sym (value_at-ordered m q) ∙ ap (value_at q) (sym is) ∙ value_at-middle q k v front back (subst IsSortedBySplit (sym is) (sorted-ordered m))
 
--- If a pair in the list `ordered m` gets another value, the result is the ordered list of the map
--- `m` after an insert of this value at the pair's key.
+-- If the pair with key `k` in the list `ordered m` gets the new value `w`, the result equals
+-- `ordered (insert m k w)`.
 pub ordered-written : (m : Map) (k v w : ℕ) (front back : List (ℕ × ℕ)) → front ++ (k, v) ∷ back ≡ ordered m → front ++ (k, w) ∷ back ≡ ordered (insert m k w)
 ordered-written m k v w front back is =
     let sorted : IsSortedBySplit (front ++ (k, w) ∷ back) = subst T (sorted_written k v w front back) (subst IsSortedBySplit (sym is) (sorted-ordered m)) in
@@ -91,8 +91,8 @@ ordered-written m k v w front back is =
     twice true rest = refl
     twice false rest = refl
 
--- If a pair is removed from the list `ordered m`, the result is the ordered list of the map `m`
--- after the pair's key is removed.
+-- If the pair with key `k` is removed from the list `ordered m`, the result equals `ordered (remove
+-- m k)`.
 pub ordered-unlinked : (m : Map) (k v : ℕ) (front back : List (ℕ × ℕ)) → front ++ (k, v) ∷ back ≡ ordered m → front ++ back ≡ ordered (remove m k)
 ordered-unlinked m k v front back is =
     let sorted : IsSortedBySplit (front ++ (k, v) ∷ back) = subst IsSortedBySplit (sym is) (sorted-ordered m) in

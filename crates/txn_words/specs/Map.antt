@@ -35,7 +35,7 @@ remove m k = record {
   rising = is_sorted-where_key nat_cmp _ m.rows m.rising;
 }
 
--- The map after the key is set to this value or, if there is no value, removed.
+-- The map after the key is set to this value. If the value is None, the key is removed.
 abbrev pub set_at : Map → ℕ → Option ℕ → Map
 set_at m k None = remove m k
 set_at m k (Some v) = insert m k v

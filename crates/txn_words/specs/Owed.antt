@@ -45,9 +45,9 @@ owed_by (Some s) = owed_in s.standing s.phase
 abbrev pub owed : ℕ → List Entry → ℕ
 owed callers h = sum_by (λ c. owed_by (seat_after (own c h))) (range_with_len 0 callers)
 
--- The number of entries for which a step reserves room in the history before it does anything else:
--- its own entry, and the further entries that its caller may append because of the step. A step
--- that reserves no room adds only entries for which room is reserved already.
+-- Before a step does anything else, it reserves room in the history for this number of entries: its
+-- own entry, and the further entries that its caller may append because of the step. A step that
+-- reserves no room adds only entries for which room is reserved already.
 abbrev pub reserved : Step → ℕ
 reserved (Begin c) = 3
 reserved (Ask c op) = 1 + owed_for op

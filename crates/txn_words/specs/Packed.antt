@@ -1,5 +1,5 @@
--- The operation, the action, the entry and the step that packed fields stand for, and the entries
--- that are small enough for 32 bytes.
+-- Packed fields: the operation, action, entry or step that they stand for. Also, which entries are
+-- small enough for 32 bytes.
 use Rattle.std.specs.Prelude.{ℕ, Bool, ◌&&◌, Option, Some, None, nat_lt, if◌then◌else◌}
 use Rattle.txn_words.specs.declared.action.Action.{Action}
 use Rattle.txn_words.specs.declared.action.Action.TheVariants as actions

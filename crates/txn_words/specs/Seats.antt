@@ -44,8 +44,8 @@ unready_tests phase =
     (is_closed phase, NotOpen) ∷ (is_leaving phase, Leaving)
     ∷ (is_waiting phase, OperationUnfinished) ∷ []
 
--- The tests by which a caller's seat may refuse a step, in order, each with the refusal that is
--- answered if the test holds. The first argument says whether only half keys are allowed.
+-- The tests of this step, in order, each with a refusal. The seat refuses the step with the refusal
+-- of the first test that holds. The first argument says whether only half keys are allowed.
 abbrev pub tests_in : Bool → Seat → Step → List (Bool × Refusal)
 tests_in half seat (Begin c) =
     (is_leaving seat.phase, Leaving) ∷ (not (is_closed seat.phase), AlreadyOpen) ∷ []
@@ -73,7 +73,7 @@ first_of (test ∷ tests) = if test.0 then Some test.1 else first_of tests
 abbrev pub refusal_in : Bool → Seat → Step → Option Refusal
 refusal_in half seat step = first_of (tests_in half seat step)
 
--- Whether an entry is a Saved, which takes memory in the seat.
+-- Whether an entry is a Saved. Such an entry takes memory in the seat.
 abbrev pub is_saved : Entry → Bool
 is_saved (Saved c) = true
 is_saved _ = false

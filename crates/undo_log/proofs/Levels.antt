@@ -43,8 +43,6 @@ module _ {J : Type 0} (before after : J → List ℕ) where
   words_at_end now (job ∷ jobs) zero past = absurd (omega (arith, past))
   words_at_end now (job ∷ jobs) (suc k) past = words_at_end now jobs k (omega (arith, past))
 
-  -- Suppose the newest job is removed, and the words before it become the current words. Then
-  -- `words_at` does not change, for any number of remaining jobs.
   words_at-push : (now : List ℕ) (jobs : List J) (job : J) (k : ℕ) → k ≤ length jobs → words_at before now (jobs ++ job ∷ []) k ≡ words_at before (before job) jobs k
   words_at-push now [] job zero within = refl
   words_at-push now [] job (suc k) within = absurd (omega (arith, within))

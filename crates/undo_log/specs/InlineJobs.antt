@@ -2,7 +2,7 @@
 use Rattle.std.specs.Prelude.{ℕ, ◌≤◌, List, [], ◌∷◌, Option, None, Some}
 use Rattle.smallvec.specs.SmallVec.{SmallVec, small_vec_len}
 
--- The jobs, oldest first, and how many more can be added before memory is taken.
+-- The jobs, oldest first, and how many more can be added before more memory is needed.
 pub record Stored (J : Type 0) : Type 0 where
   pub jobs : List J
   pub room : ℕ

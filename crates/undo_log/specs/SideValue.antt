@@ -1,11 +1,11 @@
--- The words of a side value at each level. Its jobs determine them.
+-- The words of a side value at each level, as the jobs of its undo log determine them.
 use Rattle.std.specs.Prelude.{ℕ, zero, suc, ◌≡◌, ◌≤◌, List, [], ◌∷◌, map, length}
 use Rattle.undo_log.specs.UndoLog.{LogAt}
 
 -- A side value as contracts see it. `levels` has the value's words at each level, level 0 first.
 -- `changes` is the number of changes that can be taken back, and `kept` says how many of them each
 -- level keeps, level 0 first. `room` and `save_room` are the numbers of changes and of savepoints
--- that can be made before memory is taken.
+-- that can be made before more memory is needed.
 pub record Leveled (S : Type 0) : Type 0 where
   pub value : S
   pub levels : List (List ℕ)

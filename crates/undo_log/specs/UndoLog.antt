@@ -3,7 +3,7 @@ use Rattle.std.specs.Prelude.{ℕ, ◌∷◌, ◌-◌, nat_lt, List, length, sli
 
 -- An undo log as contracts see it. `jobs` has the jobs, oldest first. `kept` says how many jobs
 -- there were at each savepoint, savepoint 1 first. `room` and `save_room` are the numbers of jobs
--- and of savepoints that can be added before memory is taken.
+-- and of savepoints that can be added before more memory is needed.
 pub record LogAt (J : Type 0) : Type 0 where
   pub jobs : List J
   pub kept : List ℕ

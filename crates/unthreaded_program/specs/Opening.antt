@@ -18,8 +18,8 @@ pub record SpellsCommand (spoken : Option (List (List ℕ))) (bytes_of : List �
   pub spells : IfSome spoken (λ words. asked words ≡ Some (asked_of call))
   pub reads : IfSome (bytes_of call.file.now) (λ known. bytes ≡ Some known)
 
--- The fault of a call that ran no command: its words are no call, their file was not opened, or
--- memory was refused.
+-- The fault of a call that ran no command: the words do not form a call, the file was not opened,
+-- or memory was refused.
 abbrev pub IsUnopened : Option (List (List ℕ)) → Fault → Type 0
 IsUnopened spoken faults.Usage = IfSome spoken (λ words. asked words ≡ None)
 IsUnopened spoken faults.Read = IfSome spoken (λ words. is_some (asked words) ≡ true)

@@ -13,7 +13,7 @@ use Rattle.command_line.specs.declared.words.Command.TheVariants.{Replay, Run, M
 use Rattle.unthreaded_program.specs.Opening.{SpellsCommand, IsUnopened}
 use Rattle.unthreaded_program.specs.declared.ending.Ending.{Ending}
 
--- The outcome of a run: whether all is well, or a fault.
+-- The outcome of a run: a fault, or a boolean that says whether all is well.
 abbrev pub RunResult : Type 0
 RunResult = Result Bool Fault
 
@@ -75,8 +75,8 @@ abbrev pub TellsError : Option (List ℕ) → Option (List ℕ) → Bool → Run
 TellsError old new is_told (Ok well) = Keeps old new × (is_told ≡ true)
 TellsError old new is_told (Err fault) = is_told ≡ true → Appends old new (line (message_of fault))
 
--- The end of a run. The run had an outcome for which `HasRun` holds, the status is that of this
--- outcome, and `HasTold` holds for the outcome and standard error.
+-- The end of a run. There is an outcome for which `HasRun` holds. The status is that of this
+-- outcome. `HasTold` holds for the outcome too: it says what was written to standard error.
 abbrev pub HasExited : (RunResult → Type 0) → (Bool → RunResult → Type 0) → Ending → Type 0
 HasExited HasRun HasTold ending = (outcome : RunResult) × HasRun outcome
     × (ending.status ≡ status_after outcome) × HasTold ending.is_told outcome

@@ -31,7 +31,7 @@ use Rattle.locked_map.specs.Closes.{IsOwn}
 use Rattle.visits.specs.declared.visit.Visit.{Visit}
 use Rattle.visits.specs.Visits.{visiting, HasDone, HasVisited, IsAnswered, AreAnswered}
 
--- If a run reaches its commit, its reply was right.
+-- If a run reaches its commit, the operation before it had the right reply.
 tested : (c place : ℕ) (b : Bool) (run : AloneRun) → IsSome (option_and_then (λ r. act r (Committed c place)) (cond b (Some run) None)) → b ≡ true
 tested c place true run there = refl
 tested c place false run there = absurd (false≢true there)

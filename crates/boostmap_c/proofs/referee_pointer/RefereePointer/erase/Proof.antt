@@ -44,7 +44,7 @@ erase_spec 𝓤 𝓛 𝓜 𝓡 wired =
     sets ! (of_opd ! (get_in ! (fld ! refl (stop !)) (sub ! 0 refl (whole !)))) refl (tt, tt) $ sets ! (of_opd ! (get ! refl)) refl (tt, tt) $
     sets ! (agg ! (and_then ! (get ! refl) (no_more !))) refl (tt, (tt, tt)) $
     fpack ! Global (λ (a : Global). box_owns (ghosts.dealloc_token a) referee.the_row p v.value) heap $ makes_referee ! p (Some v.value) $
-    -- The end of the function needs the pointer and the fact that is ensured. No resource of the
-    -- parameter remains.
+    -- The end of the function needs the pointer and the fact that the contract ensures. No resource
+    -- of the parameter remains.
     use0 𝓛 (raw (fact 𝓤 (Some v.value ≡ Some v.value))) (fact_i 𝓤 (Some v.value ≡ Some v.value) (emp 𝓤) refl) $ nothing ! $ nothing ! $ fjoin ! $ nothing ! $
     returns ! (look_at ! 0 refl) $ free_all ! refl $ keep ! (0 ∷ 1 ∷ 3 ∷ 2 ∷ []) $ by ! (leaves 𝓛 ended hs c z (word p) (record { at = p; referee = Some v.value }) (tt, tt) (tt, tt)))))

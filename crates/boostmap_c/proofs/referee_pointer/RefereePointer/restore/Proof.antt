@@ -49,7 +49,7 @@ restore_spec 𝓤 𝓛 𝓜 𝓡 wired =
     enter ! 𝓣.C 𝓣.Λ fn ws Post $ alloc_all ! (λ l. pass_all ! refl ((tt, (tt, tt)), tt) $
     sets ! (of_opd ! (get_in ! (fld ! refl (stop !)) (sub ! 0 refl (whole !)))) refl (tt, tt) $ sets ! (of_opd ! (get ! refl)) refl (tt, tt) $
     sets ! (agg ! (and_then ! (get ! refl) (no_more !))) refl (tt, (tt, tt)) $ makes_pointer referee.the_row ! heap b o x $
-    -- The end of the function needs the pointer and the fact that is ensured. No resource of the
-    -- parameter remains.
+    -- The end of the function needs the pointer and the fact that the contract ensures. No resource
+    -- of the parameter remains.
     use0 𝓛 (raw (fact 𝓤 (v.referee ≡ Some x))) (fact_i 𝓤 (v.referee ≡ Some x) (emp 𝓤) there) $ nothing ! $ nothing ! $ fjoin ! $ nothing ! $
     returns ! (look_at ! 0 refl) $ free_all ! refl $ keep ! (0 ∷ 1 ∷ 3 ∷ 2 ∷ []) $ by ! (leaves 𝓛 ended hs c z (word p) (record { at = p; value = x }) (tt, tt) (tt, tt))))))))

@@ -4,8 +4,8 @@ use Rattle.std.specs.Option.{option_or}
 use Rattle.core_tokens.specs.Ready.{refused_at, refusal_of_help}
 use Rattle.core_tokens.proofs.caller.Caller.refusal.Goals as goal
 
--- If the caller's seat refuses a call, the call has the refusal of the seat. Otherwise a call is
--- refused only if it is help with a bad key.
+-- If the caller's seat refuses a call, the call is refused with the seat's refusal. Otherwise the
+-- call is refused only if it is a call for help with a bad key.
 refuses : (half b : Bool) (o : Option Seat) (call : Call) (seat help r : Option Refusal) → b ≡ false → is_some o ≡ true
     → ((s : Seat) → o ≡ Some s → seat ≡ refusal_in half s (first_step 0 call)) → help ≡ refusal_of_help half call → r ≡ option_or seat help → r ≡ refused_at half b o call
 refuses half b None call seat help r sound whole seat_is help_is is = absurd (cc whole)

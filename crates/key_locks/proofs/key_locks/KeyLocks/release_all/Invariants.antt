@@ -4,8 +4,8 @@ use Rattle.key_locks.specs.Locks.{is_caller, without_caller}
 use Rattle.key_locks.specs.Chains.{AreChained}
 use Rattle.key_locks.proofs.key_locks.KeyLocks.release_all.Given as goal
 
--- After each round, a release by the caller (`without_caller`) would leave the same holders as
--- before the loop.
+-- After each round, freeing all stripes of the caller (`without_caller`) gives the same holders as
+-- freeing them before the loop.
 abbrev pub invariant-loop-stripe : goal.invariant-loop-stripe
 invariant-loop-stripe l = record {
   are_chained : AreChained l.self-inside.holders.items l.self-inside.older.items l.self-inside.newest.items;
