@@ -80,7 +80,7 @@ pub enum Reason {
     Nothing,
 }
 
-/// The operation that a caller waits for after a history.
+/// The operation whose reply a caller waits for at the end of a history.
 fn waiting_in(alloc: Global, entries: &[SmallEntry], caller: u64) -> Result<Option<Op>, AllocError>
     requires caller { caller < 64 }
     requires callers { All (λ entry. caller_of entry < 64) entries.now }

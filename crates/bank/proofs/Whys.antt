@@ -27,7 +27,8 @@ pub at_commit : (c from to sum : ℕ) (stop : Stop) (why : NotMoved) (old done l
 at_commit c from to sum stop why old done left is beside stopped = subst (λ w. IsWhy c from to sum w old) (sym is)
     (record { before = done; beside = beside; step = Commit c; whose = refl; after = left; is = stopped })
 
--- If a reason why nothing was moved holds after the begin, it also holds before the begin.
+-- If there is a reason, after the begin, why nothing was moved, the same reason also holds before
+-- the begin.
 pub in_work : (c from to sum : ℕ) (why : NotMoved) (old begun : State) → HasBegun c old begun → IsWhy c from to sum why begun → IsWhy c from to sum why old
 in_work c from to sum TooLittle old begun has why = subst (λ m. balance m from < sum) has.same why
 in_work c from to sum TooMuch old begun has why = subst (λ m. 2 ^ 64 ≤ balance m to + sum) has.same why

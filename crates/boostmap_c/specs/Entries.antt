@@ -1,4 +1,4 @@
--- The entry of a history that the numbers given by C stand for.
+-- The numbers given by C stand for this entry of a history.
 use Rattle.std.specs.Prelude.{ℕ, nat_eq, nat_le, Option, Some, None, if◌then◌else◌}
 use Rattle.txn_words.specs.declared.op.Op.{Op}
 use Rattle.txn_words.specs.declared.op.Op.TheVariants.{Put, PutIf, Take, Get}

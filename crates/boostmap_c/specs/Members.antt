@@ -90,8 +90,8 @@ JoinsOf old status before after new None =
     IsSame old new × (after ≡ before)
     × (status ≡ refused (if nat_le 1 (length old.waiting.items) then NoMemory else NoSuchCaller))
 
--- A waiting caller of the first handle's member joins: it gets the second handle, which must be
--- empty.
+-- A caller that waits in the first handle's member leaves it, and gets the second handle, which
+-- must be empty.
 abbrev pub Joins : Option Member → Option Member → ℕ → ℕ → ℕ → Option Member → Option Member
     → Type 0
 Joins (Some old) None status before after (Some new) made = JoinsOf old status before after new made

@@ -1,4 +1,4 @@
--- The texts that say why the words of a command line are no call.
+-- The texts that say why a command line is wrong.
 use Rattle.std.specs.Prelude.{ℕ, List, codes}
 use Rattle.command_line.specs.declared.no_call.NoCall.{NoCall}
 use Rattle.command_line.specs.declared.no_call.NoCall.TheVariants.{Usage, NoMemory}

@@ -307,7 +307,7 @@ const PAST_READY: &[Turns] = &[
 ];
 
 /// The helper doubles the table, and another caller then doubles it once more. The helper still
-/// initialises the bucket that its key has after the helper's own doubling.
+/// initialises the bucket that its key had after the first of these doublings.
 const BY_ITS_SIZE: &[Turns] = &[
     Turns::At(2, Step::Double(2), Answer::Doubled(4)),
     Turns::At(8, Step::InitSeek(2, 1), Answer::Ready),

@@ -102,8 +102,8 @@ impl Claims {
         }
     }
 
-    /// Asks for an operation with the right that the last trial found. If the trial found a word
-    /// instead, asks with this word.
+    /// Asks for an operation. If the last trial took the stripe's right, asks with this right. If
+    /// the trial found a word instead, asks with the word.
     fn ask(&self, core: &mut Core, caller: u64, op: Op) -> Answer
         requires words { core.old.words ≡ true }
         requires stripes { core.old.limits.stripes ≡ self.now.stripes }

@@ -173,8 +173,8 @@ module _ {holder : Holder} (stripes : ℕ) (g : List Entry) (legal : IsLegal hol
       let from = aborted_from seat seat.phase c (in_row (Aborted c) refl (breaks_none holder stripes g (Aborted c) fine).0).0 in
       entries.aborted stripes g legal c seat seat_is from.0 from.1
 
-  -- If the caller waits for an operation and a Did entry has the right shape, its reply is right
-  -- exactly if the map as it is now gives this reply.
+  -- Suppose that the caller waits for an operation, and that a Did entry has the right shape. The
+  -- entry's reply is right exactly if the map as it is now gives this reply to the operation.
   pub did_right : (op : Op) (x : Option ℕ) → seat.phase ≡ Waiting op → is_shaped g (Did c x) ≡ true → replies_hold (g ++ Did c x ∷ []) ≡ option_eq nat_eq x (reply_of (now g) op)
   did_right op x waits shaped =
       replies_hold-push stripes g legal (Did c x) shaped

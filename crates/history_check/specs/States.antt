@@ -22,8 +22,8 @@ Stays old new =
     (holder : Holder) (stripes : ℕ) (h : List Entry)
     → Tells holder stripes h old → Tells holder stripes h new
 
--- If a rule is given, the entry breaks this rule after the history. If no rule is given, the new
--- state is right (`Tells`) for the history with the entry added.
+-- If a rule is given, the entry breaks this rule when it is added to the history. If no rule is
+-- given, the new state is right (`Tells`) for the history with the entry added.
 abbrev pub Judged : Holder → ℕ → List Entry → Entry → Option Rule → State → Type 0
 Judged holder stripes h e None new = Tells holder stripes (h ++ e ∷ []) new
 Judged holder stripes h e (Some rule) new = broken holder stripes h e ≡ Some (number_of rule)

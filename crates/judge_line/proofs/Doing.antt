@@ -28,7 +28,8 @@ failed : (IsDone : Bool → Type 0) (P : EngineFault → Type 0) (outcome : RunR
 failed IsDone P (Ok well) fault holds err = absurd err
 failed IsDone P (Err e) fault holds err = subst (ByFault P) (sym err) holds
 
--- If a source was not opened, and `P` holds for the faults `NoMemory` and `Read`, `EndsWith` holds.
+-- Suppose that a source was not opened. If `P` holds for the faults `NoMemory` and `Read`, then
+-- `EndsWith` holds.
 not_opened : (IsDone : Bool → Type 0) (P : EngineFault → Type 0) (outcome : RunResult) (failure : Failure) → P faults.NoMemory → P faults.Read → (failure ≡ Fault faults.NoMemory) ⊎ (failure ≡ Fault faults.Read)
     → IsErrAnd outcome (λ e. e ≡ failure) → EndsWith IsDone P outcome
 not_opened IsDone P (Ok well) failure memory read which err = absurd err

@@ -95,8 +95,8 @@ pub record Ran {S : Type 0} (words : S → List ℕ) (k : Token S) (call : Call)
   pub side : MovesSide words outcome k.side l.side
   pub went : WentOn k call outcome l
 
--- The call did not take the lock, because memory was refused for one more right or one more level.
--- No word was tried.
+-- The call did not take the lock. It needed memory for one more right or for one more level, and
+-- this memory was refused. No word was tried.
 abbrev pub TriedNothing : {S : Type 0} → Token S → Refusal → Token S → Type 0
 TriedNothing k refusal l = (refusal ≡ NoMemory) × (l.claims ≡ k.claims)
 

@@ -81,7 +81,8 @@ pub struct Narrow {
     /// The number of calls so far.
     pub calls: usize,
     fails_at: usize,
-    /// The error of the call `fails_at`. If it is `None`, this call succeeds but takes nothing.
+    /// The error that the call number `fails_at` returns. If it is `None`, this call succeeds but
+    /// takes nothing.
     failure: Option<ErrorKind>,
 }
 

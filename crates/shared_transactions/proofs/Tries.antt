@@ -14,8 +14,8 @@ pub if_busy : {R P : Type 0} (result : Result R Stop) → is_busy result ≡ tru
 if_busy (Ok value) busy held = absurd (false≢true busy)
 if_busy (Err stop) busy held = held
 
--- If the result is `Ok`, the successful run began with the token `base`, which is the token after
--- the tries that found a stripe held.
+-- If the result is `Ok`, the last try was successful. It began with the token `base`, which the
+-- busy tries before it have left.
 pub run_after : {V X S : Type 0} (did : V → X → X → Type 0) (run : V → Token S → X → X → Type 0) (tries over : Token S → Type 0) (base : Token S) (result : Result V Stop) → tries base
     → IfOk result (λ r. (t : X) × (u : X) × did r t u × over base × run r base t u) → IfOk result (λ r. (b : Token S) × (t : X) × (u : X) × did r t u × tries b × over b × run r b t u)
 run_after did run tries over base (Ok value) tried (t, u, worked, is_over, ran) = (base, t, u, worked, tried, is_over, ran)

@@ -38,8 +38,8 @@ abbrev pub AreIn : {S : Type 0} → List Entry → ℕ → List (Token S) → Ty
 AreIn {S} h place ks =
     (i : ℕ) (k : Token S) → slice_get ks i ≡ Some k → (k.number ≡ place + i) × IsOwn h k
 
--- The caller with the number `place` did the work, with this outcome. The work's promise holds for
--- this outcome, and for a token that has exactly the entries of this caller in the history.
+-- The caller with the number `place` did the work, with this outcome. The promise of the work holds
+-- for this outcome and for a token whose entries are exactly this caller's entries in the history.
 pub record IsDoneIn {S W T : Type 0} (promises : W → T → Token S → Type 0) (h : List Entry)
     (place : ℕ) (work : W) (outcome : T) : Type 0 where
   pub me : Token S

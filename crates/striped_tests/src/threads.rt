@@ -21,8 +21,8 @@ pub(crate) enum Work<'a> {
     TakesPart,
 }
 
-/// Makes the request of each row to this caller, in order. The places in the rows are ignored. Each
-/// answer must be the row's answer.
+/// Lets this caller make the requests of the rows, in order. The places in the rows are ignored.
+/// Each answer must be the answer of its row.
 fn ask_all<R: Abort>(rt: &R, caller: &mut Caller, rows: &[Row]) {
     for (row, &(_, what, wanted)) in rows.iter().enumerate() {
         ask_row(rt, caller, row, what, wanted);

@@ -114,7 +114,7 @@ fn own(
 }
 
 /// Returns true if the gate got exactly the calls `wanted`, in this order. Each row has a call, and
-/// how many times the gate must get it in a row.
+/// the number of times that the gate must get it, one after the other.
 fn is_heard(heard: &[Heard], wanted: &[(Heard, usize)]) -> bool {
     let mut rest = heard;
     for &(call, times) in wanted {

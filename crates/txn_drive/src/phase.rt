@@ -187,7 +187,7 @@ fn towards(last: u32, target: u32) -> Phase
     }
 }
 
-/// The phase after the position of a bucket's dummy was sought.
+/// The phase that follows when the position of a bucket's dummy has been sought.
 fn told_init_seek(way: Way, again: u8, answer: Answer) -> Phase
     ensures { result ≡ told_init_seek way again answer }
 {

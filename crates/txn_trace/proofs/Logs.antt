@@ -96,7 +96,7 @@ fold_logged [] o log is = is
 fold_logged (e ∷ es) None log is = fold_logged es None (log_step log e) tt
 fold_logged (e ∷ es) (Some s) log is = fold_logged es (row s s.phase e) (log_step log e) (row_logged s log e s.phase refl is)
 
--- The seat after a caller's own entries agrees with the log after them.
+-- A caller's own entries give it a seat and a log. The two agree.
 pub seat_logged : (es : List Entry) (s : Seat) → seat_after es ≡ Some s → SeatLogged s (log_after es)
 seat_logged es s is = subst (λ o. LoggedAfter o (log_after es)) is (fold_logged es (Some closed_seat) no_log (record { count = refl; phase = tt }))
 

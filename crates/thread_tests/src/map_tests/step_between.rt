@@ -42,7 +42,8 @@ fn put_four<L: Ledger, R: Wait + Abort>(rt: &R, shared: &Shared<L>, me: &mut Cal
     }
 }
 
-/// Caller 0 begins, and puts 20 at key 2. The put notifies `between` of each release of the lock.
+/// Caller 0 begins, and puts 20 at key 2. At each release of the lock the put notifies the observer
+/// `between`.
 fn begin_and_put<L: Ledger, R: Wait + Abort>(
     rt: &R,
     shared: &Shared<L>,
