@@ -1,7 +1,7 @@
 #!/usr/bin/env bash
-# Runs a command and prints, after its output, for each crate the processor seconds of its proofs, of
-# its tests' proofs and of its wrong bodies, and how long all took. The status is the command's. Nothing
-# else on the machine may run `rt` meanwhile. The script looks at the processes once a second, so it
+# Runs a command and prints, after its output, for each crate the processor seconds of its proofs and of
+# its tests' proofs, and how long all took. The status is the command's. Nothing else on the machine may
+# run `rt` meanwhile. The script looks at the processes once a second, so it
 # misses the last second of each; the last line has the system's count of all.
 # Usage: docs/tests/gate_times.sh [COMMAND..]; without a command it runs rt ci
 set -uo pipefail
@@ -15,8 +15,7 @@ look() {
   local process seconds words kind
   while read -r process seconds words; do
     [[ $words =~ rattle\ (check|build).*\ --crate-name\ ([a-z_0-9]+) ]] || continue
-    case "$(readlink "/proc/$process/cwd" 2>&1) $words" in
-      */rt-edit-*) kind=bodies ;;
+    case " $words " in
       *' --test '*) kind=tests ;;
       *) kind=proofs ;;
     esac
@@ -33,7 +32,7 @@ while kill -0 $command 2>/dev/null; do
 done
 wait $command
 status=$?
-printf 'processor seconds\n%-16s %8s %8s %8s %8s\n' crate proofs tests bodies all
+printf 'processor seconds\n%-20s %8s %8s %8s\n' crate proofs tests all
 awk '
   # A process number with another crate or kind than before, or with fewer seconds, was used again.
   { key = $1 " " $3 " " $4
@@ -43,9 +42,9 @@ awk '
   END {
     for (key in last) { split(key, part, " "); sum[part[2], part[3]] += last[key] }
     for (crate in crates) {
-      all = sum[crate, "proofs"] + sum[crate, "tests"] + sum[crate, "bodies"]
-      printf "%-16s %8d %8d %8d %8d\n", crate, sum[crate, "proofs"], sum[crate, "tests"], sum[crate, "bodies"], all
+      all = sum[crate, "proofs"] + sum[crate, "tests"]
+      printf "%-20s %8d %8d %8d\n", crate, sum[crate, "proofs"], sum[crate, "tests"], all
     }
-  }' "$work/seen" | sort -k5,5nr
+  }' "$work/seen" | sort -k4,4nr
 awk '{ printf "%d minutes by the clock, %d processor minutes\n", $1 / 60, ($2 + $3) / 60 }' "$work/time"
 exit $status
