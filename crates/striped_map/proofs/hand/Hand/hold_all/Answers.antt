@@ -27,4 +27,5 @@ loop-stripe-preserved c = let map = c.args.map.now in let n = map.table.shared.t
       held = λ other lt. dite (ℕ_discrete other stripe)
           (λ (e : other ≡ stripe). subst (Holds v) (sym e) (holds_in n v me.seat me.held.items (now v.seen) parts c.in-Ok.field-0 stripe c.in-Ok.ensures.held))
           (λ ne. c.hold.ensures.keeps other (inv.held other (omega arith)));
+      keeps = λ other before. c.hold.ensures.keeps other (inv.keeps other before);
     }
