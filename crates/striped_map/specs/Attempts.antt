@@ -21,8 +21,8 @@ abbrev pub IsWhy : {T : Type 0} → Result T Stop → Caller → Stop → Type 0
 IsWhy (Err found) left stop = stop ≡ found
 IsWhy (Ok value) left stop = (stop ≡ Refused NotOpen) × (left.is_open ≡ false)
 
--- One attempt failed: a transaction was begun, and the work ran in it. Nothing is committed, and no
--- transaction is open.
+-- One attempt failed: a transaction was begun, the work ran in it, and the transaction was taken back
+-- (`IsTakenBack`). Nothing is committed, and no transaction is open.
 pub record Fails {T : Type 0} (work : Caller → Result T Stop → Caller → Type 0) (a b : Caller)
     (stop : Stop) : Type 0 where
   pub txn : ℕ

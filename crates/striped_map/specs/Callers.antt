@@ -60,11 +60,11 @@ TakesAtMost key a b = b.is_open ≡ true
     → GainsAtMost (stripe_of (stripes_in a) key) (stripes_held a) (stripes_held b)
 
 -- From `a` to `b`, the caller added exactly the entries `es` to the history. Other callers may have
--- added entries before them.
+-- added entries before them, but asked for no operation on a key of a stripe that `a` holds.
 pub record IsStep (a : Caller) (es : List Entry) (b : Caller) : Type 0 where
   pub map_is : b.map ≡ a.map
   pub number_is : number b ≡ number a
-  pub goes : Extends (stripes_in a) (number a) (seen a) es (seen b)
+  pub goes : Extends (stripes_in a) (number a) (stripes_held a) (seen a) es (seen b)
 
 -- The caller did not do the operation, for one of these reasons.
 -- - `Busy`: another caller, which has begun a transaction before, held the stripe. The transaction

@@ -9,6 +9,7 @@ use Rattle.txn_trace.specs.Now.{now}
 use Rattle.txn_words.specs.declared.seat.Phase.TheVariants.{Closed, Opened}
 use Rattle.striped_map.specs.declared.hand.Hand.{Hand}
 use Rattle.striped_map.specs.declared.map.StripedMap.{StripedMap}
+use Rattle.striped_map.specs.Handling.{KeepsHeld}
 use Rattle.striped_map.specs.Seats.{known, stripes_of}
 use Rattle.striped_map.specs.Steps.{Extends, HasAll, HasNoOther, IsAt, undoing}
 use Rattle.striped_map.specs.Additions.{due}
@@ -16,13 +17,18 @@ use Rattle.map_answers.specs.declared.stop.Stop.{Stop}
 use Rattle.map_answers.specs.declared.stop.Stop.TheVariants.{Busy, Refused}
 
 -- From `a` to `b`, the hand added exactly the entries `es` to the history. Other callers may have
--- added entries before them.
+-- added entries before them, but asked for no operation on a key of a stripe that `a` holds.
 pub record MovesHand (map : StripedMap) (a : Hand) (es : List Entry) (b : Hand) : Type 0 where
   pub number_is : (known b.seat).number ≡ (known a.seat).number
   pub retired_is : (known b.seat).retired ≡ (known a.seat).retired
   pub made_is : (known b.seat).made ≡ (known a.seat).made
-  pub goes : Extends (stripes_of map) (known a.seat).number (known a.seat).seen es
-      (known b.seat).seen
+  pub goes : Extends (stripes_of map) (known a.seat).number (known a.seat).held
+      (known a.seat).seen es (known b.seat).seen
+
+-- From `a` to `b`, the hand added no entry and gave no stripe back.
+pub record GoesOn (map : StripedMap) (a b : Hand) : Type 0 where
+  pub moves : MovesHand map a [] b
+  pub keeps : KeepsHeld (known a.seat) (known b.seat)
 
 -- The hand did not do the operation, for one of these reasons.
 -- - `Busy`: another caller, which has begun a transaction before, held the stripe. The transaction

@@ -148,7 +148,7 @@ fn give_all(map: &StripedMap, seat: &mut MapSeat, held: &mut Vec<usize>)
 }
 
 impl Hand {
-    ghost use Rattle.striped_map.specs.Hands.{ReadsPairs, IsCut, IsStopped, IsUnread, MovesHand};
+    ghost use Rattle.striped_map.specs.Hands.{GoesOn, ReadsPairs, IsCut, IsStopped, IsUnread, MovesHand};
 
     /// A hand that holds no stripe. Its seat has seen no entries.
     pub(crate) fn new(alloc: Global, seat: MapSeat) -> Hand
@@ -193,10 +193,9 @@ impl Hand {
         requires stripe { stripe < stripes_of map.now }
         ensures map { IsOf self.new.seat map.now }
         ensures open { IsAt Opened (known self.new.seat) }
-        ensures moves { MovesHand map.now self.old [] self.new }
+        ensures goes_on { GoesOn map.now self.old self.new }
         ensures held { IfOk result (λ place. slice_get self.new.held.items place ≡ Some stripe) }
         ensures gained { GainsAtMost stripe (known self.old.seat).held (known self.new.seat).held }
-        ensures keeps { KeepsHeld (known self.old.seat) (known self.new.seat) }
         ensures order { self.new.order ≡ self.old.order }
         ensures levels { self.new.levels ≡ self.old.levels }
         ensures miss { IfErr result (IsMiss (known self.new.seat)) }

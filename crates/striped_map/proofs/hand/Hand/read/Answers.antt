@@ -17,7 +17,7 @@ returns-in-Ok-clause-ok c = let map = c.args.map.now in let n = map.table.shared
     let a = known c.args.self.now.seat in let v = known c.pairs.new.self.seat in let w = known c.gather.new.self.seat in
     let same : now w.seen ≡ now v.seen = same_map (now w.seen) (now v.seen) (λ key. sees.still key (c.in-Ok.ensures.all (stripe_of n key) (mod-lt key map.some))) in
     let retired : v.retired ≡ a.retired = done.1.retired_is ∙ begun.1.retired_is in
-    let goes = moved_on map c.begin.new.self c.pairs.new.self c.gather.new.self done.1 (moved_seen map c.pairs.new.self c.gather.new.self sees) in
+    let goes = moved_on map c.begin.new.self c.pairs.new.self c.gather.new.self (record { moves = done.1; keeps = c.in-Ok.ensures.keeps done.0 }) (moved_seen map c.pairs.new.self c.gather.new.self sees) in
     let unchanged = due_kept map c.begin.new.self c.gather.new.self goes in
     record {
       txn = begun.0;
@@ -38,6 +38,12 @@ returns-in-Err-Busy-clause-err c = let begun = c.begin.ensures.begun in
 pub returns-in-Err-Refused-clause-err : goal.returns-in-Err-Refused-clause-err
 returns-in-Err-Refused-clause-err c = let map = c.args.map.now in let begun = c.begin.ensures.begun in
     let cut : IsCut map c.begin.new.self c.pairs.new.self (Refused c.in-Err-Refused.refusal) = subst (λ stop. IsCut map c.begin.new.self c.pairs.new.self stop) c.in-Err-Refused.field-0-is c.in-Err-Refused.ensures.err in
-    let left = cut.1 in
-    (left.0, begun.0, c.begin.new.self, begun.1, c.pairs.new.self, left.2,
-      moved_back map c.pairs.new.self c.leave-in-Err-Refused.new.self (due_kept map c.begin.new.self c.pairs.new.self left.2 ∙ c.begin.ensures.fresh) c.leave-in-Err-Refused.ensures.moves)
+    let left = cut.1 in (
+      left.0,
+      begun.0,
+      c.begin.new.self,
+      begun.1,
+      c.pairs.new.self,
+      left.2,
+      moved_back map c.pairs.new.self c.leave-in-Err-Refused.new.self (due_kept map c.begin.new.self c.pairs.new.self left.2 ∙ c.begin.ensures.fresh) c.leave-in-Err-Refused.ensures.moves,
+    )
