@@ -20,7 +20,7 @@ use Rattle.txn_trace.proofs.Seated.{none_before, are_seated}
 use Rattle.txn_trace.proofs.Steps.{serial-push_commit}
 use Rattle.txn_trace.proofs.Now.{open_going}
 use Rattle.striped_map.specs.declared.caller.Caller.{Caller}
-use Rattle.striped_map.specs.Callers.{number, seen, stripes_in, IsSince, IsRun}
+use Rattle.striped_map.specs.Callers.{number, seen, stripes_held, stripes_in, IsSince, IsRun}
 use Rattle.striped_map.specs.Seats.{stripes_of}
 use Rattle.striped_map.specs.Steps.{Extends}
 use Rattle.striped_map.proofs.Hands.{own_extends}
@@ -87,10 +87,10 @@ transferred from to sum found moved a b t u l apart since run worked =
     let n : ℕ = stripes_in u in
     let t_is : number t ≡ c = run.began.number_is ∙ since.number_is in
     let u_is : number u ≡ c = worked.added.number_is ∙ t_is in
-    let begins : Extends (stripes_in b) c (seen b) (begin ∷ []) (seen t) = subst (λ (k : ℕ). Extends (stripes_in b) k (seen b) (Began k run.txn ∷ []) (seen t)) since.number_is run.began.goes in
-    let commits : Extends n c (seen u) (end ∷ []) (seen l) =
-    subst (λ (k : ℕ). Extends n c (seen u) (Committed k place ∷ []) (seen l)) since.number_is
-    (subst (λ (k : ℕ). Extends n k (seen u) (Committed (number b) place ∷ []) (seen l)) u_is run.committed.goes) in
+    let begins : Extends (stripes_in b) c (stripes_held b) (seen b) (begin ∷ []) (seen t) = subst (λ (k : ℕ). Extends (stripes_in b) k (stripes_held b) (seen b) (Began k run.txn ∷ []) (seen t)) since.number_is run.began.goes in
+    let commits : Extends n c (stripes_held u) (seen u) (end ∷ []) (seen l) =
+    subst (λ (k : ℕ). Extends n c (stripes_held u) (seen u) (Committed k place ∷ []) (seen l)) since.number_is
+    (subst (λ (k : ℕ). Extends n k (stripes_held u) (seen u) (Committed (number b) place ∷ []) (seen l)) u_is run.committed.goes) in
     let begun : List Entry = (seen b ++ begins.between) ++ begin ∷ [] in
     let rest : List Entry = worked.added.rest in
     let k : List Entry = rest ++ commits.between in
@@ -111,7 +111,7 @@ transferred from to sum found moved a b t u l apart since run worked =
       goes = λ i e is. subst (λ (s : List Entry). slice_get s i ≡ Some e) (sym commits.goes) (prefix (seen u ++ commits.between) (end ∷ []) i e (prefix (seen u) commits.between i e (so_far.goes i e is)));
       legal = subst (λ m. IsLegal Begun (stripes_of m.value) (seen l)) (sym run.committed.map_is) commits.legal;
       once =
-          ap (how_many is_commit) (own_extends n c (seen u) (end ∷ []) (seen l) commits (own-push_in c [] end refl))
+          ap (how_many is_commit) (own_extends n c (stripes_held u) (seen u) (end ∷ []) (seen l) commits (own-push_in c [] end refl))
           ∙ how_many-push is_commit (own c (seen u)) end ∙ ap (λ (j : ℕ). j + 1) so_far.commits;
       place = place;
       before = begun ++ k;

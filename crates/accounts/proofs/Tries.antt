@@ -19,6 +19,7 @@ fails_so work wider a b stop is failed = record {
   why = failed.why;
   since = failed.since;
   closed = failed.closed;
+  back = failed.back;
 }
 
 busy_so : {T : Type 0} (work wider : Caller → Result T Stop → Caller → Type 0) (n : ℕ) (a b : Caller) → ((a : Caller) (r : Result T Stop) (b : Caller) → work a r b → wider a r b) → FailsBusy work n a b → FailsBusy wider n a b

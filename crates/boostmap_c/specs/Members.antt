@@ -2,14 +2,14 @@
 -- before and after. Only `Opens` and `Joins` give a member to an empty handle. For every other call
 -- on an empty handle the status says that the handle is empty.
 use Rattle.std.specs.Prelude.{◌≡◌, ℕ, ◌+◌, ◌<◌, ◌&&◌, nat_le, Bool, true, [], ◌∷◌, ◌++◌, length, Option, Some, None, Result, if◌then◌else◌}
-use Rattle.std.specs.List.{HoldsAt}
 use Rattle.txn_words.specs.declared.refusal.Refusal.TheVariants.{NoMemory, NoSuchCaller, Limit}
 use Rattle.striped_map.specs.declared.caller.Caller.{Caller}
-use Rattle.striped_map.specs.declared.map.StripedMap.{StripedMap}
 use Rattle.map_answers.specs.declared.stop.Stop.{Stop}
-use Rattle.striped_map.specs.Callers.{IsNew}
+use Rattle.striped_map.specs.declared.host.Host.{Host}
+use Rattle.striped_map.specs.Hosts.{IsOpened}
 use Rattle.boostmap_c.specs.declared.member.Member.{Member}
 use Rattle.boostmap_c.specs.Replies.{done, empty_handle, full, refused}
+use Rattle.boostmap_c.specs.Striped.{Aborts}
 use Rattle.boostmap_c.specs.Stops.{status_of_reply, word_of_reply, status_of_number, word_of_number, status_of_end}
 
 -- The member's caller makes a call that returns a value or none. The status and the word report the
@@ -48,15 +48,12 @@ abbrev pub are_striped_limits : ℕ → ℕ → Bool
 are_striped_limits callers stripes =
     (nat_le 1 callers && nat_le callers 4096) && (nat_le 1 stripes && nat_le stripes 4096)
 
--- The first member of a map, before any caller of the map has made a call. The member's own caller
--- has the largest number. The other callers wait in the member, in the order of their numbers from
--- 1.
+-- The first member of a map that was opened (`IsOpened`): the map has no entries yet, and no
+-- callers but those of the member. The member's own caller has the largest number. The other callers
+-- wait in the member, in the order of their numbers from 1.
 pub record IsFirstMember (callers stripes : ℕ) (m : Member) : Type 0 where
-  pub map : StripedMap
-  pub caller : IsNew map stripes callers m.caller
-  pub count : length m.waiting.items + 1 ≡ callers
-  pub waiting : (place : ℕ) → place + 1 < callers
-      → HoldsAt (IsNew map stripes (place + 1)) m.waiting.items place
+  pub host : Host
+  pub opened : IsOpened stripes callers host (m.waiting.items ++ m.caller ∷ [])
 
 -- The call makes the first member of a new map, unless the map's limits or memory are refused.
 abbrev pub OpensAt : ℕ → ℕ → ℕ → ℕ → ℕ → Option Member → Type 0
@@ -101,7 +98,8 @@ Joins first (Some next) status before after new made =
     (status ≡ full) × (after ≡ before) × (new ≡ first) × (made ≡ Some next)
 Joins (Some old) None status before after None made = ⊥
 
--- The handle no longer has a member.
+-- The handle no longer has a member. If the member's caller was in a transaction, this was aborted.
 abbrev pub LeavesMap : Option Member → ℕ → Option Member → Type 0
 LeavesMap (Some old) status new = (status ≡ done) × (new ≡ None)
+    × (answer : Result Unit Stop) × (left : Caller) × Aborts old.caller answer left
 LeavesMap None status new = (status ≡ empty_handle) × (new ≡ None)

@@ -5,16 +5,17 @@ use Rattle.txn_words.specs.Map.{count_of}
 use Rattle.txn_trace.specs.Now.{now}
 use Rattle.striped_map.specs.declared.caller.Caller.{Caller}
 use Rattle.map_answers.specs.declared.stop.Stop.{Stop}
-use Rattle.striped_map.specs.Callers.{seen, IsCut, IsStep}
+use Rattle.striped_map.specs.Callers.{seen, HoldsEvery, IsCut, IsStep}
 use Rattle.boostmap_c.specs.declared.member.Member.{Member}
 use Rattle.boostmap_c.specs.declared.read.CPair.{CPair}
 use Rattle.boostmap_c.specs.Contents.{LaysOf}
 use Rattle.boostmap_c.specs.Replies.{empty_handle}
 use Rattle.boostmap_c.specs.Stops.{status_of_stop, word_of_stop}
 
--- The caller is in a transaction before and after the call, and has added no entry.
+-- The caller is in a transaction before and after the call, and has added no entry. It then holds
+-- every stripe.
 abbrev pub Looks : Caller → Caller → Type 0
-Looks a b = (a.is_open ≡ true) × (b.is_open ≡ true) × IsStep a [] b
+Looks a b = (a.is_open ≡ true) × (b.is_open ≡ true) × IsStep a [] b × HoldsEvery b
 
 -- The result is the number of keys of the map, or the reason why the call was not done.
 abbrev pub Counts : Caller → Result ℕ Stop → Caller → Type 0

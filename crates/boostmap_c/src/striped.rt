@@ -3,13 +3,14 @@
 //! handle. All callers are made when the map is opened, so a join takes memory only for its member.
 ghost use Rattle.std.specs.Prelude.{◌≡◌, ◌++◌, [], ◌∷◌, IfOk, IfErr, OnOk, OnErr, true, length, nat_le, if◌then◌else◌};
 ghost use Rattle.txn_words.specs.declared.refusal.Refusal.TheVariants.{NoMemory, NoSuchCaller, Limit};
+ghost use Rattle.boostmap_c.specs.Striped.{Aborts};
 ghost use Rattle.boostmap_c.specs.Members.{IsFirstMember, IsSame, Joins, LeavesMap, Opens, are_striped_limits};
 
 use crate::member::Member;
 use crate::member_handle::{CallerHandle, put_in, take_out};
 use crate::status::{DONE, EMPTY, FULL, refused};
 use std::alloc::Global;
-use striped_map::{MOST, open_map};
+use striped_map::{MOST, Stop, open_map};
 use txn_trace::Refusal;
 
 /// Whether a map can have these numbers of callers and stripes.
@@ -145,9 +146,20 @@ pub extern "C" fn boostmap_striped_join(
     }
 }
 
+/// Aborts the transaction of the member's caller, if there is one.
+fn end(member: &mut Member) -> Result<(), Stop>
+    ensures { Aborts member.old.caller result member.new.caller }
+{
+    member.caller.abort()
+}
+
 /// Frees the caller. An open transaction is aborted, and its stripes are given back. The handle is
 /// then all zeros. If the caller is the first of its map, the callers that still wait for a handle
 /// are freed too. The map is freed with its last caller.
+///
+/// The contract says that the abort was made. It cannot say that the freed caller does nothing after
+/// it, since a freed value has no last state. The function `freeing` of `bindings/tests/striped.c`
+/// tests this.
 ///
 /// # Errors
 ///
@@ -162,7 +174,10 @@ pub extern "C" fn boostmap_striped_free(alloc: Global, caller: &mut CallerHandle
     ensures { LeavesMap caller.old.held.member result caller.new.held.member }
 {
     match take_out(alloc, caller) {
-        Some(_member) => DONE,
+        Some(mut member) => {
+            let _aborted = end(&mut member);
+            DONE
+        }
         None => EMPTY,
     }
 }

@@ -70,12 +70,12 @@ open_cut c g shape = by_entries (λ h. is_running (seat_after (own c h)) ≡ tru
 
 -- If a caller commits its transaction, the transaction has the same replies as if it ran alone on
 -- the map that results from the earlier commits.
-pub commits_alone : (n c place : ℕ) (seen log : List Entry) (seat : Seat) → IsLegal Begun n seen → seat_after (own c seen) ≡ Some seat → seat.phase ≡ Opened → Extends n c seen (Committed c place ∷ []) log → RunsAlone c place log
-commits_alone n c place seen log seat legal seat_is opened x =
+pub commits_alone : (n c place : ℕ) (held : List ℕ) (seen log : List Entry) (seat : Seat) → IsLegal Begun n seen → seat_after (own c seen) ≡ Some seat → seat.phase ≡ Opened → Extends n c held seen (Committed c place ∷ []) log → RunsAlone c place log
+commits_alone n c place held seen log seat legal seat_is opened x =
     let cut = open_cut c seen legal.shape (ap is_running seat_is ∙ ap runs opened) in
     let end : Entry = Committed c place in
     let whole : own c (end ∷ []) ≡ end ∷ [] = own-mine c [] end refl in
-    let own_is : own c log ≡ cut.front ++ ((Began c cut.txn ∷ cut.inner ++ end ∷ []) ++ []) = own_extends n c seen (end ∷ []) log x whole ∙ ap (λ (l : List Entry). l ++ end ∷ []) cut.is
+    let own_is : own c log ≡ cut.front ++ ((Began c cut.txn ∷ cut.inner ++ end ∷ []) ++ []) = own_extends n c held seen (end ∷ []) log x whole ∙ ap (λ (l : List Entry). l ++ end ∷ []) cut.is
     ∙ append_assoc cut.front (Began c cut.txn ∷ cut.inner) (end ∷ []) ∙ ap (λ (l : List Entry). cut.front ++ l) (sym (append-nil (Began c cut.txn ∷ cut.inner ++ end ∷ []))) in
     let done = has_committed c cut.txn place log cut.front cut.inner [] x.legal.shape x.legal.replies own_is cut.quiet in
     record {

@@ -15,7 +15,7 @@ use Rattle.txn_words.specs.declared.op.Op.TheVariants.{Put, Take, Get, PutIf}
 use Rattle.txn_words.specs.Held.{times, removed}
 use Rattle.txn_words.specs.Map.{Map, get, insert, after, key_of, set_at}
 use Rattle.txn_trace.specs.Now.{now}
-use Rattle.txn_trace.specs.Locks.{stripe_of}
+use Rattle.txn_trace.specs.Locks.{asks_in, stripe_of}
 use Rattle.txn_trace.specs.Legal.{IsLegal}
 use Rattle.txn_words.specs.Shape.{changes, own}
 use Rattle.txn_words.proofs.Effects.{get-after_other}
@@ -30,7 +30,7 @@ use Rattle.striped_map.specs.Seats.{HoldsAll, LeavesOthers, part_in}
 use Rattle.striped_map.specs.Steps.{Extends, GainsStripe, lost, rolled_back}
 use Rattle.striped_map.specs.Handling.{under}
 use Rattle.striped_map.specs.Sound.{HeldPart, held_parts, stripes_in, with_part, owed_on, at_place, of_job, Change, Spot, AreHeld, AreLogged}
-use Rattle.striped_map.proofs.Lands.{own-append, own-none}
+use Rattle.striped_map.proofs.Lands.{asks_none, own-append, own-none}
 
 abbrev pub Job : Type 0
 Job = ℕ × Option ℕ
@@ -380,26 +380,28 @@ logged_none n held none = record { owed = λ i h at. absurd (none i h at); order
 
 -- If the history `log` extends `seen` by the entries `es` (`Extends`), and all of these entries are
 -- the caller's, its own entries in `log` are its own entries in `seen`, followed by `es`.
-pub own_extends : (n c : ℕ) (seen es log : List Entry) → Extends n c seen es log → own c es ≡ es → own c log ≡ own c seen ++ es
-own_extends n c seen es log x whole =
+pub own_extends : (n c : ℕ) (held : List ℕ) (seen es log : List Entry) → Extends n c held seen es log → own c es ≡ es → own c log ≡ own c seen ++ es
+own_extends n c held seen es log x whole =
     ap (own c) x.goes ∙ own-append c (seen ++ x.between) es ∙ ap (λ (l : List Entry). l ++ own c es) (own-append c seen x.between ∙ ap (λ (l : List Entry). own c seen ++ l) x.others ∙ append-nil (own c seen))
     ∙ ap (λ (l : List Entry). own c seen ++ l) whole
 
-pub own_same : (n c : ℕ) (seen log : List Entry) → Extends n c seen [] log → own c log ≡ own c seen
-own_same n c seen log x = own_extends n c seen [] log x refl ∙ append-nil (own c seen)
+pub own_same : (n c : ℕ) (held : List ℕ) (seen log : List Entry) → Extends n c held seen [] log → own c log ≡ own c seen
+own_same n c held seen log x = own_extends n c held seen [] log x refl ∙ append-nil (own c seen)
 
 -- If `mid` extends `seen` by no entries of the caller, and `log` extends `mid` by the entries `es`,
 -- then `log` extends `seen` by `es` (`Extends`).
-pub extends_then : (n c : ℕ) (seen mid es log : List Entry) → Extends n c seen [] mid → Extends n c mid es log → Extends n c seen es log
-extends_then n c seen mid es log a b = record {
+pub extends_then : (n c : ℕ) (held more : List ℕ) (seen mid es log : List Entry) → ((stripe : ℕ) → 0 < times stripe held → 0 < times stripe more)
+    → Extends n c held seen [] mid → Extends n c more mid es log → Extends n c held seen es log
+extends_then n c held more seen mid es log keeps a b = record {
   between = a.between ++ b.between;
   goes = b.goes ∙ ap (λ (l : List Entry). (l ++ b.between) ++ es) (a.goes ∙ append-nil (seen ++ a.between)) ∙ ap (λ (l : List Entry). l ++ es) (append_assoc seen a.between b.between);
   others = own-none c a.between b.between a.others b.others;
+  spared = λ stripe hold. asks_none (asks_in n stripe) a.between b.between (a.spared stripe hold) (b.spared stripe (keeps stripe hold));
   legal = b.legal;
 }
 
-pub extends_none : (n c : ℕ) (seen : List Entry) → IsLegal Begun n seen → Extends n c seen [] seen
-extends_none n c seen legal = record { between = []; goes = sym (append-nil (seen ++ []) ∙ append-nil seen); others = refl; legal = legal }
+pub extends_none : (n c : ℕ) (held : List ℕ) (seen : List Entry) → IsLegal Begun n seen → Extends n c held seen [] seen
+extends_none n c held seen legal = record { between = []; goes = sym (append-nil (seen ++ []) ∙ append-nil seen); others = refl; spared = λ stripe hold. refl; legal = legal }
 
 pub back_step : (m : Map) (left less : ℕ) (jobs older : List Job) (job : Job) → left ≡ suc less → jobs ≡ job ∷ older
     → (rolled_back (set_at m job.0 job.1) (take less older) ≡ rolled_back m (take left jobs)) × (drop less older ≡ drop left jobs)

@@ -2,7 +2,7 @@
 use Rattle.std.proofs.Common.{is_some, ◌≡◌, ◌≢◌, ℕ, ◌+◌, ◌-◌, ◌<◌, ◌==◌, ◌⊎◌, Bool, true, false, cond, List, [], ◌∷◌, ◌++◌, Option, Some, None, refl, sym, ap, subst, ◌∙◌, inl, inr, ⊎_elim, arith, append_assoc, append-nil, eqb-true, eq-eqb, ne_eqb, length, length-append, slice_index, take, mod-lt}
 use Rattle.std.specs.Option.{option_eq}
 use Rattle.std.specs.Prelude.{nat_eq, not, ◌&&◌}
-use Rattle.std.specs.List.{AllByRecursion}
+use Rattle.std.specs.List.{AllByRecursion, filter}
 use Rattle.std.proofs.lemmas.Bool.{and_from, or_left}
 use Rattle.std.proofs.lemmas.List.Folds.{list_any-append}
 use Rattle.std.proofs.lemmas.List.Elements.{filter-append}
@@ -15,7 +15,7 @@ use Rattle.txn_words.specs.declared.seat.Phase.TheVariants.{Closed, Opened, Wait
 use Rattle.txn_words.specs.Kinds.{caller_of, is_began, is_commit}
 use Rattle.txn_words.specs.Map.{Map, get, key_of, reply_of, after, set_at}
 use Rattle.txn_trace.specs.Now.{now}
-use Rattle.txn_trace.specs.Locks.{stripe_of, holder_of, has_begun, is_locked}
+use Rattle.txn_trace.specs.Locks.{asks_in, stripe_of, holder_of, has_begun, is_locked}
 use Rattle.txn_trace.specs.Serial.{serial}
 use Rattle.txn_words.specs.Shape.{Seat, changes, row, seat_after, own, how_many}
 use Rattle.txn_trace.specs.Legal.{IsLegal, runs, is_running}
@@ -43,17 +43,23 @@ own-append d es fs = filter-append (λ e. caller_of e == d) es fs
 pub own-none : (d : ℕ) (es fs : List Entry) → own d es ≡ [] → own d fs ≡ [] → own d (es ++ fs) ≡ []
 own-none d es fs a b = own-append d es fs ∙ ap (λ (l : List Entry). l ++ own d fs) a ∙ b
 
+-- If neither of two lists has an entry that passes a test, the two lists in a row have none.
+pub asks_none : (test : Entry → Bool) (es fs : List Entry) → filter test es ≡ [] → filter test fs ≡ [] → filter test (es ++ fs) ≡ []
+asks_none test es fs a b = filter-append test es fs ∙ ap (λ (l : List Entry). l ++ filter test fs) a ∙ b
+
 grows_one : (n : ℕ) (P : ℕ → Type 0) (g : List Entry) (e : Entry) (seat : Seat) (jobs : List Job) (serial current : Map) (held : ℕ → Option ℕ)
     → Next Begun n g e seat jobs serial current held
     → ((k d : ℕ) → held k ≡ Some d → (holder_of n k g ≡ Some d) ⊎ ((d ≡ caller_of e) × P k))
     → ((q : ℕ) → (P (stripe_of n q) → ⊥) → get current q ≡ get (now g) q)
+    → ((k : ℕ) → (P k → ⊥) → filter (asks_in n k) (e ∷ []) ≡ [])
     → Grows n (caller_of e) P (cond (is_commit e) 1 0) g (e ∷ [])
-grows_one n P g e seat jobs serial current held next from still = record {
+grows_one n P g e seat jobs serial current held next from still asks = record {
   legal = next.legal;
   others = λ d other. ap (λ b. cond b (e ∷ []) []) (not_equal d (caller_of e) other);
   commits = how_many-push is_commit g e;
   holders = λ k d is. from k d (sym (next.holder_is k) ∙ is);
   still = λ q apart. ap (λ (m : Map). get m q) next.now_is ∙ still q apart;
+  asks = asks;
 }
 
 grows_both : (n c : ℕ) (P : ℕ → Type 0) (m k : ℕ) (g es fs : List Entry) → Grows n c P m g es → Grows n c P k (g ++ es) fs → Grows n c P (m + k) g (es ++ fs)
@@ -63,6 +69,7 @@ grows_both n c P m k g es fs a b = let is : (g ++ es) ++ fs ≡ g ++ (es ++ fs) 
   commits = ap (how_many is_commit) (sym is) ∙ b.commits ∙ ap (λ (x : ℕ). x + k) a.commits ∙ (omega arith);
   holders = λ s d h. ⊎_elim (λ (x : holder_of n s (g ++ es) ≡ Some d). a.holders s d x) (λ (x : (d ≡ c) × P s). inr x) (b.holders s d (ap (λ (l : List Entry). holder_of n s l) is ∙ h));
   still = λ q apart. ap (λ (l : List Entry). get (now l) q) (sym is) ∙ b.still q apart ∙ a.still q apart;
+  asks = λ k apart. asks_none (asks_in n k) es fs (a.asks k apart) (b.asks k apart);
 }
 
 -- If a history is legal, `Grows` holds for it with no new entries.
@@ -73,15 +80,17 @@ grows_none n c P g legal = let is : g ++ [] ≡ g = append-nil g in record {
   commits = ap (how_many is_commit) is ∙ (omega arith);
   holders = λ k d h. inl (ap (λ (l : List Entry). holder_of n k l) (sym is) ∙ h);
   still = λ q apart. ap (λ (l : List Entry). get (now l) q) is;
+  asks = λ k apart. refl;
 }
 
 lands_one : (n : ℕ) (P : ℕ → Type 0) (g : List Entry) (e : Entry) (seat : Seat) (jobs : List Job) (serial current : Map) (held : ℕ → Option ℕ)
     → Next Begun n g e seat jobs serial current held
     → ((k d : ℕ) → held k ≡ Some d → (holder_of n k g ≡ Some d) ⊎ ((d ≡ caller_of e) × P k))
     → ((q : ℕ) → (P (stripe_of n q) → ⊥) → get current q ≡ get (now g) q)
+    → ((k : ℕ) → (P k → ⊥) → filter (asks_in n k) (e ∷ []) ≡ [])
     → Lands n (caller_of e) P (cond (is_commit e) 1 0) g (e ∷ []) (record { seat = seat; log = jobs; map = current })
-lands_one n P g e seat jobs serial current held next from still = record {
-  grows = grows_one n P g e seat jobs serial current held next from still;
+lands_one n P g e seat jobs serial current held next from still asks = record {
+  grows = grows_one n P g e seat jobs serial current held next from still asks;
   seat_is = next.seat_is;
   log_is = next.log_is;
   have = λ q hold. ap (λ (m : Map). get m q) next.now_is;
@@ -129,8 +138,9 @@ notes n P g legal c op reply seat seat_is opened free mine right =
     let waits : Seat = record seat { phase = Waiting op } in
     let two = did n (g ++ a ∷ []) one.legal c op reply waits one.seat_is refl (right ∙ ap (λ (m : Map). reply_of m op) (sym one.now_is)) in
     let lands = lands_both n c P 0 0 g (a ∷ []) (e ∷ []) _
-    (grows_one n P g a _ _ _ _ _ one (λ k d h. some_cond (stripe_of n (key_of op) == k) (holder_of n k g) c d (P k) (λ t. subst P (eqb-true (stripe_of n (key_of op)) k t) mine) h) (λ q no. refl))
-    (lands_one n P (g ++ a ∷ []) e _ _ _ _ _ two (λ k d h. inl h) (λ q no. get-after_other (now (g ++ a ∷ [])) op q (λ same. no (subst (λ (x : ℕ). P (stripe_of n x)) (sym same) mine)))) in
+    (grows_one n P g a _ _ _ _ _ one (λ k d h. some_cond (stripe_of n (key_of op) == k) (holder_of n k g) c d (P k) (λ t. subst P (eqb-true (stripe_of n (key_of op)) k t) mine) h) (λ q no. refl)
+    (λ k no. ap (λ b. cond b (a ∷ []) []) (ne_eqb (stripe_of n (key_of op)) k (λ same. no (subst P same mine)))))
+    (lands_one n P (g ++ a ∷ []) e _ _ _ _ _ two (λ k d h. inl h) (λ q no. get-after_other (now (g ++ a ∷ [])) op q (λ same. no (subst (λ (x : ℕ). P (stripe_of n x)) (sym same) mine))) (λ k no. refl)) in
     lands_as n c P 0 g (a ∷ e ∷ []) _ _ _ _ lands refl (ap (λ (l : List Job). cond (changes op reply) ((key_of op, reply) ∷ l) l) one.log_is) (λ q hold. ap (λ (m : Map). get (after m op) q) one.now_is)
 
 -- If a caller is in no transaction, `Lands` holds for the entry that begins one.
@@ -138,13 +148,13 @@ pub begins : (n : ℕ) (P : ℕ → Type 0) (g : List Entry) → IsLegal Begun n
     → Lands n c P 0 g (Began c (how_many is_began g + 1) ∷ []) (at_begin g)
 begins n P g legal c seat seat_is closed =
     let next = began n g legal c (how_many is_began g + 1) seat seat_is closed refl in
-    lands_one n P g (Began c (how_many is_began g + 1)) _ _ _ _ _ next (λ k d h. inl h) (λ q no. refl)
+    lands_one n P g (Began c (how_many is_began g + 1)) _ _ _ _ _ next (λ k d h. inl h) (λ q no. refl) (λ k no. refl)
 
 pub commits : (n : ℕ) (P : ℕ → Type 0) (g : List Entry) → IsLegal Begun n g → (c : ℕ) (seat : Seat) → seat_after (own c g) ≡ Some seat → seat.phase ≡ Opened
     → Lands n c P 1 g (Committed c (how_many is_commit g + 1) ∷ []) (at_end (now g))
 commits n P g legal c seat seat_is opened =
     let next = committed n g legal c (how_many is_commit g + 1) seat seat_is opened refl in
-    lands_one n P g (Committed c (how_many is_commit g + 1)) _ _ _ _ _ next (λ k d h. inl (none_cond (option_eq nat_eq (holder_of n k g) (Some c)) (holder_of n k g) d h)) (λ q no. refl)
+    lands_one n P g (Committed c (how_many is_commit g + 1)) _ _ _ _ _ next (λ k d h. inl (none_cond (option_eq nat_eq (holder_of n k g) (Some c)) (holder_of n k g) d h)) (λ q no. refl) (λ k no. refl)
 
 -- If two maps have the same value at a key, they still have the same value there after the same
 -- changes are taken back in both.
@@ -157,14 +167,14 @@ undoes_one : (n : ℕ) (P : ℕ → Type 0) (c : ℕ) (job : Job) (g : List Entr
     → Next Begun n g (Undone c) seat jobs serial (set_at (now g) job.0 job.1) (λ s. holder_of n s g) → P (stripe_of n job.0) → Grows n c P 0 g (Undone c ∷ [])
 undoes_one n P c job g seat jobs serial held next mine =
     grows_one n P g (Undone c) _ _ _ _ _ next (λ k d h. inl h)
-    (λ q no. get-set_at (now g) job.0 job.1 q ∙ ap (λ b. cond b job.1 (get (now g) q)) (ne_eqb q job.0 (λ same. no (subst (λ (x : ℕ). P (stripe_of n x)) (sym same) mine))))
+    (λ q no. get-set_at (now g) job.0 job.1 q ∙ ap (λ b. cond b job.1 (get (now g) q)) (ne_eqb q job.0 (λ same. no (subst (λ (x : ℕ). P (stripe_of n x)) (sym same) mine)))) (λ k no. refl)
 
 undoes_to_end : (n : ℕ) (P : ℕ → Type 0) (c : ℕ) (jobs : List Job) (g : List Entry) → IsLegal Begun n g → (seat : Seat) → seat_after (own c g) ≡ Some seat → seat.phase ≡ LeavingToEnd → log_of c g ≡ jobs
     → AllByRecursion (λ (job : Job). P (stripe_of n job.0)) jobs → Lands n c P 0 g (undoing c jobs (Aborted c)) (at_end (rolled_back (now g) jobs))
 undoes_to_end n P c [] g legal seat seat_is leaving log_is mine =
     let none : seat.standing ≡ 0 = sym (length-log_of g c seat seat_is) ∙ ap length log_is in
     let next = aborted n g legal c seat seat_is leaving none in
-    lands_one n P g (Aborted c) _ _ _ _ _ next (λ k d h. inl (none_cond (option_eq nat_eq (holder_of n k g) (Some c)) (holder_of n k g) d h)) (λ q no. refl)
+    lands_one n P g (Aborted c) _ _ _ _ _ next (λ k d h. inl (none_cond (option_eq nat_eq (holder_of n k g) (Some c)) (holder_of n k g) d h)) (λ q no. refl) (λ k no. refl)
 undoes_to_end n P c (job ∷ jobs) g legal seat seat_is leaving log_is mine =
     let long : seat.standing ≡ length (job ∷ jobs) = sym (length-log_of g c seat seat_is) ∙ ap length log_is in
     let next = undone_to_end n g legal c seat seat_is leaving (omega arith) job jobs log_is in
@@ -178,7 +188,7 @@ undoes_to_level : (n : ℕ) (P : ℕ → Type 0) (c level : ℕ) (jobs kept : Li
 undoes_to_level n P c level [] kept g legal seat seat_is leaving log_is at mine =
     let many : seat.standing ≡ length kept = sym (length-log_of g c seat seat_is) ∙ ap length log_is in
     let next = returned n g legal c level seat seat_is leaving (at ∙ sym many) in
-    lands_as n c P 0 g (Returned c level ∷ []) _ _ _ _ (lands_one n P g (Returned c level) _ _ _ _ _ next (λ k d h. inl h) (λ q no. refl))
+    lands_as n c P 0 g (Returned c level ∷ []) _ _ _ _ (lands_one n P g (Returned c level) _ _ _ _ _ next (λ k d h. inl h) (λ q no. refl) (λ k no. refl))
     (ap (λ (x : ℕ). let s : Seat = record { phase = Opened; standing = x; kept = take (level + 1) seat.kept } in s) many) log_is (λ q hold. refl)
 undoes_to_level n P c level (job ∷ jobs) kept g legal seat seat_is leaving log_is at mine =
     let long : seat.standing ≡ length (job ∷ jobs ++ kept) = sym (length-log_of g c seat seat_is) ∙ ap length log_is in
@@ -235,16 +245,16 @@ module _ (n : ℕ) (v : View) (acting : v.acts ≡ true) (seat : Seat) (seat_is 
   pub may_save : MayAdd n v (Saved v.number ∷ []) (saving v seat)
   may_save log on =
       let next = saved n log on.legal v.number seat (seat_on log on) opened in
-      lands_as n v.number (Holds v) 0 log _ _ _ _ _ (lands_one n (Holds v) log (Saved v.number) _ _ _ _ _ next (λ k d h. inl h) (λ q no. refl)) refl (log_on log on) on.seen.still
+      lands_as n v.number (Holds v) 0 log _ _ _ _ _ (lands_one n (Holds v) log (Saved v.number) _ _ _ _ _ next (λ k d h. inl h) (λ q no. refl) (λ k no. refl)) refl (log_on log on) on.seen.still
 
   -- If an entry `first` makes the caller begin an abort (phase `LeavingToEnd`), the caller may add
   -- `first` and then the entries that take all its changes back.
-  leaves : 0 < n → (first : Entry) → caller_of first ≡ v.number → is_commit first ≡ false
+  leaves : 0 < n → (first : Entry) → caller_of first ≡ v.number → is_commit first ≡ false → ((k : ℕ) → filter (asks_in n k) (first ∷ []) ≡ [])
       → ((log : List Entry) → GoesOnFrom n v log → Next Begun n log first (record seat { phase = LeavingToEnd }) (log_of v.number log) (serial log) (now log) (λ s. holder_of n s log))
       → MayAdd n v (first ∷ undoing v.number (log_of v.number v.seen) (Aborted v.number)) (at_end (rolled_back (now v.seen) (log_of v.number v.seen)))
-  leaves some first is quiet next log on =
+  leaves some first is quiet asks next log on =
       let c : ℕ = v.number in let jobs : List Job = log_of c v.seen in let one = next log on in
-      let goes = grows_one n (Holds v) log first _ _ _ _ _ one (λ k d h. inl h) (λ q no. refl) in
+      let goes = grows_one n (Holds v) log first _ _ _ _ _ one (λ k d h. inl h) (λ q no. refl) (λ k no. asks k) in
       let goes' : Grows n c (Holds v) 0 log (first ∷ []) = subst (λ (x : ℕ). Grows n x (Holds v) 0 log (first ∷ [])) is (subst (λ b. Grows n (caller_of first) (Holds v) (cond b 1 0) log (first ∷ [])) quiet goes) in
       let seat' : seat_after (own c (log ++ first ∷ [])) ≡ Some (record seat { phase = LeavingToEnd }) = subst (λ (x : ℕ). seat_after (own x (log ++ first ∷ [])) ≡ Some (record seat { phase = LeavingToEnd })) is one.seat_is in
       let log' : log_of c (log ++ first ∷ []) ≡ jobs = subst (λ (x : ℕ). log_of x (log ++ first ∷ []) ≡ log_of c log) is one.log_is ∙ log_on log on in
@@ -253,11 +263,11 @@ module _ (n : ℕ) (v : View) (acting : v.acts ≡ true) (seat : Seat) (seat_is 
       (λ q hold. undone_same q jobs (now (log ++ first ∷ [])) (now v.seen) (ap (λ (m : Map). get m q) one.now_is ∙ on.seen.still q hold))
 
   pub may_abort : 0 < n → MayAdd n v (Leave v.number None ∷ undoing v.number (log_of v.number v.seen) (Aborted v.number)) (at_end (rolled_back (now v.seen) (log_of v.number v.seen)))
-  may_abort some = leaves some (Leave v.number None) refl refl (λ log on. left_to_end n log on.legal v.number seat (seat_on log on) opened)
+  may_abort some = leaves some (Leave v.number None) refl refl (λ k. refl) (λ log on. left_to_end n log on.legal v.number seat (seat_on log on) opened)
 
   pub may_yield : 0 < n → (op : Op) (x : ℕ) → x ≢ v.number → has_begun x v.seen ≡ true
       → MayAdd n v (Busy v.number op x ∷ undoing v.number (log_of v.number v.seen) (Aborted v.number)) (at_end (rolled_back (now v.seen) (log_of v.number v.seen)))
-  may_yield some op x other begun = leaves some (Busy v.number op x) refl refl (λ log on.
+  may_yield some op x other begun = leaves some (Busy v.number op x) refl refl (λ k. refl) (λ log on.
       let still : has_begun x log ≡ true = ap (has_begun x) on.seen.goes ∙ begun_on x v.seen on.seen.rest begun in
       let locked : (not (x == v.number) && has_begun x log) ≡ true = and_from (not (x == v.number)) (has_begun x log) (ap not (ne_eqb x v.number other)) still in
       busy n log on.legal v.number op x seat (seat_on log on) opened locked)
@@ -270,5 +280,5 @@ module _ (n : ℕ) (v : View) (acting : v.acts ≡ true) (seat : Seat) (seat_is 
       let log' : log_of c (log ++ first ∷ []) ≡ jobs ++ kept = one.log_is ∙ log_on log on ∙ split in
       let mine = first_pass (λ (job : Job). Holds v (stripe_of n job.0)) jobs kept (subst (AllByRecursion (λ (job : Job). Holds v (stripe_of n job.0))) split (all_mine some log on)) in
       let more = undoes_to_level n (Holds v) c level jobs kept (log ++ first ∷ []) one.legal (record seat { phase = LeavingTo level }) one.seat_is refl log' at mine in
-      lands_as n c (Holds v) 0 log _ _ _ _ _ (lands_both n c (Holds v) 0 0 log (first ∷ []) (undoing c jobs (Returned c level)) _ (grows_one n (Holds v) log first _ _ _ _ _ one (λ k d h. inl h) (λ q no. refl)) more) refl refl
+      lands_as n c (Holds v) 0 log _ _ _ _ _ (lands_both n c (Holds v) 0 0 log (first ∷ []) (undoing c jobs (Returned c level)) _ (grows_one n (Holds v) log first _ _ _ _ _ one (λ k d h. inl h) (λ q no. refl) (λ k no. refl)) more) refl refl
       (λ q hold. undone_same q jobs (now (log ++ first ∷ [])) (now v.seen) (ap (λ (m : Map). get m q) one.now_is ∙ on.seen.still q hold))

@@ -36,6 +36,7 @@ has_seen n log u w = subst (HasSeen n log) w.2 (record {
   goes = sym w.1.1;
   others = λ a. absurd (false≢true a);
   still = λ q h. absurd (omega (arith, h));
+  spared = λ k h. absurd (omega (arith, h));
   met = (log, refl);
 })
 
@@ -117,7 +118,7 @@ hears id other v seen acting s kept me ne at =
     let there : get_elem? s.views other ≡ some (witness seen) = sym (set_else s.views id other w ne) ∙ at in
     let front : IsPrefix seen kept.0 = (let h = kept.3.seen other (witness seen) there in (h.rest, sym h.goes)) in
     let h = kept.3.seen id v me in
-    let has : HasSeen n kept.0 w = record { rest = h.rest; goes = h.goes; others = h.others; still = h.still; met = front } in
+    let has : HasSeen n kept.0 w = record { rest = h.rest; goes = h.goes; others = h.others; still = h.still; spared = h.spared; met = front } in
     let met : IsKeptAt n (board s.words s.homes (set s.views id w)) = viewed n s kept id v w me acting refl acting refl (omega arith) refl has in
     let heard_of : IsPrefix seen met.0 = (met.3.seen id w (set_here s.views id w (within s.views id v me))).met in
     forgotten n (board s.words s.homes (set s.views id w)) met other seen heard_of at

@@ -45,4 +45,5 @@ failed_by old begun left new txn answer stop began worked within why back = reco
   why = why;
   since = since_then old left new (since_then old begun left (since_began old begun txn began) within.since) (within_taken_back left new back).since;
   closed = back.closed;
+  back = back;
 }

@@ -1,11 +1,12 @@
 -- The entries that a caller may add to the history.
 use Rattle.std.specs.Prelude.{◌≡◌, ◌≢◌, ℕ, ◌+◌, ◌<◌, ◌⊎◌, List, [], ◌++◌, Some}
+use Rattle.std.specs.List.{filter}
 use Rattle.txn_words.specs.declared.entry.Entry.{Entry}
 use Rattle.txn_words.specs.declared.holder.Holder.TheVariants.{Begun}
 use Rattle.txn_words.specs.Kinds.{is_commit}
 use Rattle.txn_words.specs.Map.{get}
 use Rattle.txn_trace.specs.Now.{now}
-use Rattle.txn_trace.specs.Locks.{stripe_of, holder_of}
+use Rattle.txn_trace.specs.Locks.{asks_in, stripe_of, holder_of}
 use Rattle.txn_words.specs.Shape.{own, how_many, seat_after}
 use Rattle.txn_trace.specs.Log.{log_of}
 use Rattle.txn_trace.specs.Legal.{IsLegal}
@@ -15,7 +16,7 @@ use Rattle.striped_map.specs.Steps.{StateAfter}
 
 -- The history `log ++ es` is legal, and all entries of `es` are entries of caller `c`.
 -- `commits_more` of them are commits. Through these entries, `c` becomes the holder only of stripes
--- in `P`, and only keys of stripes in `P` change.
+-- in `P`, only keys of stripes in `P` change, and only operations on such keys are asked for.
 pub record Grows (stripes c : ℕ) (P : ℕ → Type 0) (commits_more : ℕ) (log es : List Entry) : Type 0
   where
     pub legal : IsLegal Begun stripes (log ++ es)
@@ -25,6 +26,7 @@ pub record Grows (stripes c : ℕ) (P : ℕ → Type 0) (commits_more : ℕ) (lo
         → (holder_of stripes stripe log ≡ Some d) ⊎ ((d ≡ c) × P stripe)
     pub still : (key : ℕ) → (P (stripe_of stripes key) → ⊥)
         → get (now (log ++ es)) key ≡ get (now log) key
+    pub asks : (stripe : ℕ) → (P stripe → ⊥) → filter (asks_in stripes stripe) es ≡ []
 
 -- The history is legal, and continues what the seat has seen. In this history, no other seat holds
 -- a stripe of the view's list `held`, and the seat itself holds only stripes of this list.

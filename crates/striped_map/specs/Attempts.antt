@@ -6,7 +6,7 @@ use Rattle.txn_words.specs.declared.refusal.Refusal.TheVariants.{NotOpen}
 use Rattle.striped_map.specs.declared.caller.Caller.{Caller}
 use Rattle.map_answers.specs.declared.stop.Stop.{Stop}
 use Rattle.map_answers.specs.declared.stop.Stop.TheVariants.{Busy, Refused}
-use Rattle.striped_map.specs.Callers.{number, IsStep, IsSince}
+use Rattle.striped_map.specs.Callers.{number, IsStep, IsSince, IsTakenBack}
 
 -- Turns a relation between values, each of which holds a caller, into a relation between these
 -- callers.
@@ -21,8 +21,8 @@ abbrev pub IsWhy : {T : Type 0} → Result T Stop → Caller → Stop → Type 0
 IsWhy (Err found) left stop = stop ≡ found
 IsWhy (Ok value) left stop = (stop ≡ Refused NotOpen) × (left.is_open ≡ false)
 
--- One attempt failed: a transaction was begun, and the work ran in it. Nothing is committed, and no
--- transaction is open.
+-- One attempt failed: a transaction was begun, the work ran in it, and the transaction was taken back
+-- (`IsTakenBack`). Nothing is committed, and no transaction is open.
 pub record Fails {T : Type 0} (work : Caller → Result T Stop → Caller → Type 0) (a b : Caller)
     (stop : Stop) : Type 0 where
   pub txn : ℕ
@@ -34,6 +34,7 @@ pub record Fails {T : Type 0} (work : Caller → Result T Stop → Caller → Ty
   pub why : IsWhy answer left stop
   pub since : IsSince a b
   pub closed : b.is_open ≡ false
+  pub back : IsTakenBack left b
 
 -- The given number of attempts were made, one after another, and each failed with `Busy`.
 abbrev pub FailsBusy : {T : Type 0} → (Caller → Result T Stop → Caller → Type 0) → ℕ → Caller

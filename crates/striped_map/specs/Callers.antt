@@ -5,6 +5,7 @@ use Rattle.txn_words.specs.declared.entry.Entry.TheVariants.{Began, Leave, Commi
 use Rattle.txn_words.specs.declared.op.Op.{Op}
 use Rattle.txn_words.specs.declared.op.Op.TheVariants.{Get}
 use Rattle.txn_words.specs.declared.refusal.Refusal.TheVariants.{NoMemory, NotOpen}
+use Rattle.txn_trace.specs.Locks.{stripe_of}
 use Rattle.txn_words.specs.Kinds.{is_began, is_commit}
 use Rattle.txn_words.specs.Shape.{own, how_many}
 use Rattle.striped_map.specs.declared.caller.Caller.{Caller}
@@ -12,6 +13,7 @@ use Rattle.striped_map.specs.declared.map.StripedMap.{StripedMap}
 use Rattle.map_answers.specs.declared.stop.Stop.{Stop}
 use Rattle.map_answers.specs.declared.stop.Stop.TheVariants.{Busy, Refused}
 use Rattle.striped_map.specs.Additions.{due, above}
+use Rattle.striped_map.specs.Handling.{GainsAtMost, HoldsAllOf, KeepsHeld}
 use Rattle.striped_map.specs.Steps.{Extends, seat_of, undoing}
 use Rattle.striped_map.specs.Seats.{known, stripes_of}
 
@@ -43,12 +45,26 @@ changes_made c = due (known c.hand.seat)
 abbrev pub changes_above : ℕ → Caller → List (ℕ × Option ℕ)
 changes_above level c = above level (known c.hand.seat)
 
+-- The caller holds every stripe of its map.
+abbrev pub HoldsEvery : Caller → Type 0
+HoldsEvery c = HoldsAllOf (stripes_in c) (known c.hand.seat)
+
+-- Unless the call ends the transaction, the caller still holds every stripe that it held before.
+abbrev pub KeepsStripes : Caller → Caller → Type 0
+KeepsStripes a b = b.is_open ≡ true → KeepsHeld (known a.hand.seat) (known b.hand.seat)
+
+-- Unless the call ends the transaction, the caller holds the same stripes as before, and perhaps
+-- the stripe of this key too.
+abbrev pub TakesAtMost : ℕ → Caller → Caller → Type 0
+TakesAtMost key a b = b.is_open ≡ true
+    → GainsAtMost (stripe_of (stripes_in a) key) (stripes_held a) (stripes_held b)
+
 -- From `a` to `b`, the caller added exactly the entries `es` to the history. Other callers may have
--- added entries before them.
+-- added entries before them, but asked for no operation on a key of a stripe that `a` holds.
 pub record IsStep (a : Caller) (es : List Entry) (b : Caller) : Type 0 where
   pub map_is : b.map ≡ a.map
   pub number_is : number b ≡ number a
-  pub goes : Extends (stripes_in a) (number a) (seen a) es (seen b)
+  pub goes : Extends (stripes_in a) (number a) (stripes_held a) (seen a) es (seen b)
 
 -- The caller did not do the operation, for one of these reasons.
 -- - `Busy`: another caller, which has begun a transaction before, held the stripe. The transaction

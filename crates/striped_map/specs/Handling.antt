@@ -1,11 +1,13 @@
 -- The facts that a hand's contracts name: an operation under another key, a view without stripes,
--- why a stripe was not taken, and the ends of a transaction that take all changes back.
-use Rattle.std.specs.Prelude.{◌≡◌, ◌≢◌, ℕ, [], true}
+-- which stripes a seat holds after a call, why a stripe was not taken, and the ends of a transaction
+-- that take all changes back.
+use Rattle.std.specs.Prelude.{◌≡◌, ◌≢◌, ◌⊎◌, ℕ, ◌<◌, List, [], ◌∷◌, true}
 use Rattle.txn_words.specs.declared.op.Op.{Op}
 use Rattle.txn_words.specs.declared.op.Op.TheVariants.{Put, Take, Get, PutIf}
 use Rattle.txn_words.specs.declared.refusal.Refusal.TheVariants.{NoMemory}
 use Rattle.txn_trace.specs.Locks.{has_begun}
 use Rattle.striped_map.specs.declared.view.View.{View}
+use Rattle.striped_map.specs.Rule.{Holds}
 use Rattle.striped_map.specs.declared.addition.Addition.{Addition}
 use Rattle.striped_map.specs.declared.addition.Addition.TheVariants.{Abort, Yield}
 use Rattle.map_answers.specs.declared.stop.Stop.{Stop}
@@ -34,3 +36,15 @@ abbrev pub IsEnd : View → Addition → Type 0
 IsEnd v Abort = Unit {0}
 IsEnd v (Yield op holder) = (has_begun holder v.seen ≡ true) × (holder ≢ v.number)
 IsEnd v _ = ⊥
+
+-- The stripes `after` are the stripes `before`, and perhaps this stripe too.
+abbrev pub GainsAtMost : ℕ → List ℕ → List ℕ → Type 0
+GainsAtMost stripe before after = (after ≡ before) ⊎ (after ≡ stripe ∷ before)
+
+-- The seat with the view `w` holds each stripe that the seat with the view `v` holds.
+abbrev pub KeepsHeld : View → View → Type 0
+KeepsHeld v w = (stripe : ℕ) → Holds v stripe → Holds w stripe
+
+-- The seat with this view holds every stripe.
+abbrev pub HoldsAllOf : ℕ → View → Type 0
+HoldsAllOf stripes v = (stripe : ℕ) → stripe < stripes → Holds v stripe

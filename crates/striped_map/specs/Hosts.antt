@@ -1,5 +1,5 @@
 -- The facts that contracts name about a host.
-use Rattle.std.specs.Prelude.{ℕ, ◌≡◌, ◌+◌, ◌<◌, Bool, ◌&&◌, nat_le, true, false, List, length}
+use Rattle.std.specs.Prelude.{ℕ, ◌≡◌, ◌+◌, ◌<◌, Bool, ◌&&◌, nat_le, true, false, List, [], length}
 use Rattle.std.specs.List.{HoldsAt}
 use Rattle.txn_words.specs.declared.refusal.Refusal.{Refusal}
 use Rattle.txn_words.specs.declared.refusal.Refusal.TheVariants.{Limit, NoMemory}
@@ -26,11 +26,13 @@ seen_by host = (known host.hand.seat).seen
 abbrev pub may_open : ℕ → ℕ → Bool
 may_open stripes callers = nat_le 1 stripes && nat_le stripes 4096 && nat_le callers 4096
 
--- A map with this many stripes and callers was opened: its callers are new, and have the numbers
--- from 1 on.
+-- A map with this many stripes and callers was opened. Its host has merged no caller and has seen no
+-- entry. Its callers are new, and have the numbers from 1 on. There are no other callers.
 pub record IsOpened (stripes callers : ℕ) (host : Host) (all : List Caller) : Type 0 where
   pub within : may_open stripes callers ≡ true
   pub numbers_are : numbers host ≡ callers + 1
+  pub none : taken host ≡ []
+  pub unseen : seen_by host ≡ []
   pub count : length all ≡ callers
   pub each : (place : ℕ) → place < callers → HoldsAt (IsNew host.map.value stripes (place + 1)) all place
 

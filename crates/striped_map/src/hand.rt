@@ -14,9 +14,8 @@ ghost use Rattle.txn_trace.specs.Now.{now};
 ghost use Rattle.txn_words.specs.Owed.{may_change};
 ghost use Rattle.stripe_part.specs.Calls.{IsRefused};
 ghost use Rattle.striped_map.specs.Additions.{above, due, entries_of};
-ghost use Rattle.striped_map.specs.Handling.{IsEnd, IsMiss, idle};
+ghost use Rattle.striped_map.specs.Handling.{GainsAtMost, HoldsAllOf, IsEnd, IsMiss, KeepsHeld, idle};
 ghost use Rattle.striped_map.specs.Lone.{RunsAlone};
-ghost use Rattle.striped_map.specs.Rule.{Holds};
 ghost use Rattle.striped_map.specs.Seats.{IsOf, known, part_in, stripes_of};
 ghost use Rattle.striped_map.specs.Sound.{AreHeld, AreLogged, IsIndexed, IsSound, held_parts};
 ghost use Rattle.striped_map.specs.Steps.{HasAll, HasNoOther, IsAt, SeesIn, seat_of, taken_in, rolled_back, undoing};
@@ -149,7 +148,7 @@ fn give_all(map: &StripedMap, seat: &mut MapSeat, held: &mut Vec<usize>)
 }
 
 impl Hand {
-    ghost use Rattle.striped_map.specs.Hands.{ReadsPairs, IsCut, IsStopped, IsUnread, MovesHand};
+    ghost use Rattle.striped_map.specs.Hands.{GoesOn, ReadsPairs, IsCut, IsStopped, IsUnread, MovesHand};
 
     /// A hand that holds no stripe. Its seat has seen no entries.
     pub(crate) fn new(alloc: Global, seat: MapSeat) -> Hand
@@ -167,6 +166,7 @@ impl Hand {
     }
 
     /// Begins a transaction.
+    #[tactic(auto, using(crate::proofs::Ends::held_added, crate::proofs::Ends::nothing_due))]
     pub(crate) fn begin(&mut self, map: &StripedMap)
         requires map { IsOf self.old.seat map.now }
         requires closed { IsAt Closed (known self.old.seat) }
@@ -174,6 +174,8 @@ impl Hand {
         ensures map { IsOf self.new.seat map.now }
         ensures open { IsAt Opened (known self.new.seat) }
         ensures levels { self.new.levels.items ≡ [] }
+        ensures fresh { due (known self.new.seat) ≡ [] }
+        ensures still { (known self.new.seat).held ≡ (known self.old.seat).held }
         ensures begun { (t : ℕ) × MovesHand map.now self.old
             (Began (known self.old.seat).number t ∷ []) self.new }
     {
@@ -184,17 +186,16 @@ impl Hand {
 
     /// Takes a stripe, unless the hand holds it already. Returns the place of the stripe in the
     /// list of held stripes.
-    #[tactic(auto, using(crate::proofs::Ends::holds_taken, crate::proofs::Ends::holds_found))]
+    #[tactic(auto, using(crate::proofs::Ends::holds_taken, crate::proofs::Ends::holds_found, crate::proofs::Ends::gained_taken, crate::proofs::Ends::gained_found))]
     fn hold(&mut self, map: &StripedMap, stripe: usize) -> Result<usize, Stop>
         requires map { IsOf self.old.seat map.now }
         requires open { IsAt Opened (known self.old.seat) }
         requires stripe { stripe < stripes_of map.now }
         ensures map { IsOf self.new.seat map.now }
         ensures open { IsAt Opened (known self.new.seat) }
-        ensures moves { MovesHand map.now self.old [] self.new }
+        ensures goes_on { GoesOn map.now self.old self.new }
         ensures held { IfOk result (λ place. slice_get self.new.held.items place ≡ Some stripe) }
-        ensures keeps { (other : ℕ) → Holds (known self.old.seat) other
-            → Holds (known self.new.seat) other }
+        ensures gained { GainsAtMost stripe (known self.old.seat).held (known self.new.seat).held }
         ensures order { self.new.order ≡ self.old.order }
         ensures levels { self.new.levels ≡ self.old.levels }
         ensures miss { IfErr result (IsMiss (known self.new.seat)) }
@@ -230,8 +231,9 @@ impl Hand {
         ensures levels { OnOk result (self.new.levels ≡ self.old.levels) }
         ensures ok { OnOk result (IsAt Opened (known self.new.seat)
             × MovesHand map.now self.old [] self.new) }
-        ensures all { OnOk result ((stripe : ℕ) → stripe < stripes_of map.now
-            → Holds (known self.new.seat) stripe) }
+        ensures all { OnOk result (HoldsAllOf (stripes_of map.now) (known self.new.seat)) }
+        ensures keeps { IsAt Opened (known self.new.seat)
+            → KeepsHeld (known self.old.seat) (known self.new.seat) }
         ensures err { IfErr result (IsCut map.now self.old self.new) }
     {
         for stripe in 0..map.stripes() {
@@ -256,6 +258,9 @@ impl Hand {
         ensures ok { IfOk result (λ count. IsAt Opened (known self.new.seat)
             × MovesHand map.now self.old [] self.new
             × (count ≡ count_of (now (known self.new.seat).seen))) }
+        ensures all { OnOk result (HoldsAllOf (stripes_of map.now) (known self.new.seat)) }
+        ensures keeps { IsAt Opened (known self.new.seat)
+            → KeepsHeld (known self.old.seat) (known self.new.seat) }
         ensures err { IfErr result (IsCut map.now self.old self.new) }
     {
         self.hold_all(map)?;
@@ -274,8 +279,9 @@ impl Hand {
         ensures ok { IfOk result (λ pairs. IsAt Opened (known self.new.seat)
             × MovesHand map.now self.old [] self.new
             × (pairs.items ≡ (now (known self.new.seat).seen).rows)) }
-        ensures all { OnOk result ((stripe : ℕ) → stripe < stripes_of map.now
-            → Holds (known self.new.seat) stripe) }
+        ensures all { OnOk result (HoldsAllOf (stripes_of map.now) (known self.new.seat)) }
+        ensures keeps { IsAt Opened (known self.new.seat)
+            → KeepsHeld (known self.old.seat) (known self.new.seat) }
         ensures err { IfErr result (IsCut map.now self.old self.new) }
     {
         self.hold_all(map)?;
@@ -364,6 +370,7 @@ impl Hand {
     /// operation's key. Adds the operation and its reply to the history. If the operation changes
     /// the part, notes the change, so that it can be taken back.
     #[inline(always)]
+    #[tactic(auto, using(crate::proofs::Ends::held_added))]
     fn apply(
         &mut self,
         map: &StripedMap,
@@ -387,6 +394,7 @@ impl Hand {
             self.new) }
         ensures refused { IfErr result (IsRefused op) }
         ensures unmoved { OnErr result (MovesHand map.now self.old [] self.new) }
+        ensures still { (known self.new.seat).held ≡ (known self.old.seat).held }
     {
         let stripe = self.held[place];
         let reply = map.apply(&mut self.seat, alloc, stripe, under(op, sub_key))?;
@@ -408,6 +416,9 @@ impl Hand {
         ensures ok { IfOk result (λ reply. IsAt Opened (known self.new.seat)
             × MovesHand map.now self.old (Asked (known self.old.seat).number op
             ∷ Did (known self.old.seat).number reply ∷ []) self.new) }
+        ensures gained { IsAt Opened (known self.new.seat)
+            → GainsAtMost (stripe_of (stripes_of map.now) (key_of op)) (known self.old.seat).held
+            (known self.new.seat).held }
         ensures err { IfErr result (IsStopped map.now self.old op self.new) }
     {
         if op.may_change() && self.order.reserve(1).is_err() {
@@ -430,6 +441,7 @@ impl Hand {
     }
 
     /// Sets a savepoint, and returns its level.
+    #[tactic(auto, using(crate::proofs::Ends::held_added))]
     pub(crate) fn save(&mut self, map: &StripedMap) -> Result<u64, Refusal>
         requires map { IsOf self.old.seat map.now }
         requires open { IsAt Opened (known self.old.seat) }
@@ -439,6 +451,7 @@ impl Hand {
         ensures ok { IfOk result (λ level. (level + 1 ≡ length (seat_of (known self.new.seat)).kept)
             × MovesHand map.now self.old (Saved (known self.old.seat).number ∷ []) self.new) }
         ensures refused { IfErr result (λ refusal. refusal ≡ NoMemory) }
+        ensures still { (known self.new.seat).held ≡ (known self.old.seat).held }
         ensures unchanged { OnErr result (self.new.seat ≡ self.old.seat) }
     {
         self.levels.reserve(1)?;
@@ -456,6 +469,7 @@ impl Hand {
 
     /// Takes back the changes since a level's savepoint. Level 0 is the beginning of the
     /// transaction.
+    #[tactic(auto, using(crate::proofs::Ends::held_added))]
     pub(crate) fn back(&mut self, map: &StripedMap, level: usize)
         requires map { IsOf self.old.seat map.now }
         requires open { IsAt Opened (known self.old.seat) }
@@ -463,6 +477,7 @@ impl Hand {
         ensures map { IsOf self.new.seat map.now }
         ensures open { IsAt Opened (known self.new.seat) }
         ensures levels { vec_len self.new.levels ≡ level }
+        ensures still { (known self.new.seat).held ≡ (known self.old.seat).held }
         ensures moves { MovesHand map.now self.old
             (Leave (known self.old.seat).number (Some level) ∷ undoing (known self.old.seat).number
             (above level (known self.old.seat)) (Returned (known self.old.seat).number level))

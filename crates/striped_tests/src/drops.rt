@@ -1,6 +1,8 @@
 //! These tests drop a caller before the first call of a transaction, or after any later call of the
-//! transaction. No contract says that another caller then gets the stripes. Here caller 2 gets all
-//! stripes after the drop, and finds only the pairs that were committed before the transaction.
+//! transaction. The contract of the drop says that the transaction is aborted and that its stripes
+//! are given back. No contract says that the drop does nothing after this, or that another caller
+//! then gets the stripes. Here caller 2 gets all stripes after the drop, finds only the pairs that
+//! were committed before the transaction, and makes the next commit.
 use crate::calls::{Ask, Home, NEW, Row, Told, has_left, open, play};
 use std::process::Abort;
 use txn_words::Op;

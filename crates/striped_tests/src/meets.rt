@@ -1,17 +1,18 @@
-//! Callers catch up with one another here: on one thread, and after they ran in threads. `catch_up`
-//! requires that both callers belong to the same map, so the functions of this module have clauses
-//! that say so. The balances were worked out by hand, and do not depend on the order of the
-//! threads.
+//! Callers catch up with one another here, on one thread and after they ran in threads, and are
+//! merged into the host. `catch_up` and `take_in` require that both sides belong to the same map, so
+//! the functions of this module have clauses that say so. The balances and the commit numbers were
+//! worked out by hand, and do not depend on the order of the threads.
 ghost use Rattle.std.specs.Prelude.{◌≡◌};
 
-use crate::calls::{Home, leaves, play};
+use crate::calls::{Ask, Home, NEW, Told, ask_row, has_left, leaves, play};
 use crate::transfers::FILLED;
 use accounts::transfer;
 use std::alloc::Global;
 use std::process::Abort;
 use std::thread;
 use std::thread::Threads;
-use striped_map::{Caller, Stop, open_map};
+use striped_map::{Caller, Host, Stop, open_map};
+use txn_words::Op;
 
 /// Opens a map with three callers. Returns the map with its first caller, then the other two
 /// callers.
@@ -102,4 +103,136 @@ fn callers_from_threads_meet(rt: HostRuntime) {
     play(&rt, &mut home, FILLED);
     both_moved(&rt, move_and_meet(&rt, second, third));
     leaves(&rt, &mut home, &[(1, 6), (2, 4), (3, u64::MAX)]);
+}
+
+/// Opens a map with four stripes and three callers. Returns its host and its callers.
+fn with_host<R: Abort>(rt: &R, alloc: Global) -> (Host, Caller, Caller, Caller)
+    ensures first { result.1.map.value ≡ result.0.map.value }
+    ensures second { result.2.map.value ≡ result.0.map.value }
+{
+    let (host, mut callers) = open_map(alloc, 4, 3).expect(rt, "a map");
+    let third = callers.pop().expect(rt, "a caller");
+    let second = callers.pop().expect(rt, "a caller");
+    let first = callers.pop().expect(rt, "a caller");
+    (host, first, second, third)
+}
+
+/// Makes the requests to a caller, in order, and compares the answers.
+fn asks<R: Abort>(rt: &R, caller: &mut Caller, rows: &[(Ask, Told)]) {
+    for (row, &(what, wanted)) in rows.iter().enumerate() {
+        ask_row(rt, caller, row, what, wanted);
+    }
+}
+
+/// Merges a caller, which must be in no transaction.
+fn merge<R: Abort>(rt: &R, host: &mut Host, caller: Caller)
+    requires same_map { caller.map.value ≡ host.old.map.value }
+    ensures map { host.new.map ≡ host.old.map }
+{
+    let merged = host.take_in(caller);
+    assert!(rt; merged.is_ok());
+}
+
+/// Moves a sum from account 1 to account 2, in one try, with this outcome.
+fn moves<R: Abort>(rt: &R, caller: &mut Caller, sum: u64, wanted: Result<bool, Stop>)
+    ensures same_map { caller.new.map.value ≡ caller.old.map.value }
+{
+    let is_moved = transfer(caller, 0, 1, 2, sum);
+    assert!(rt; is_moved == wanted);
+}
+
+/// The third caller makes the first commit.
+const FILLS: &[(Ask, Told)] = &[
+    (Ask::Begin, Told::Done),
+    (Ask::Do(Op::Put(1, 10)), NEW),
+    (Ask::Commit, Told::Number(1)),
+];
+
+/// The third caller fills account 1. The first caller moves 4 from it to account 2, and is merged.
+fn merges_first<R: Abort>(rt: &R, host: &mut Host, mut first: Caller, third: &mut Caller)
+    requires same_map { first.map.value ≡ host.old.map.value }
+    ensures map { host.new.map ≡ host.old.map }
+{
+    asks(rt, third, FILLS);
+    moves(rt, &mut first, 4, Ok(true));
+    merge(rt, host, first);
+    host.gather();
+}
+
+/// Commit 2 was that of the first caller. The host's `gather` has committed nothing and put
+/// nothing, and it holds no stripe: the third caller gets every stripe, finds two pairs, and makes
+/// commit 3. Its next transaction holds the stripe of account 1.
+const HOLDS_ACCOUNT_1: &[(Ask, Told)] = &[
+    (Ask::Begin, Told::Done),
+    (Ask::Len, Told::Number(2)),
+    (Ask::Do(Op::Get(2)), Told::Replied(Some(4))),
+    (Ask::Commit, Told::Number(3)),
+    (Ask::Begin, Told::Done),
+    (Ask::Do(Op::Get(1)), Told::Replied(Some(6))),
+];
+
+/// The second caller meets the held stripe of account 1, gives up, and is merged. Then the host
+/// looks at the history, while the third caller is in its transaction.
+fn merges_second<R: Abort>(rt: &R, host: &mut Host, mut second: Caller, third: &mut Caller)
+    requires same_map { second.map.value ≡ host.old.map.value }
+{
+    asks(rt, third, HOLDS_ACCOUNT_1);
+    moves(rt, &mut second, 1, Err(Stop::Busy { holder: 3 }));
+    merge(rt, host, second);
+    host.gather();
+}
+
+/// The host cannot read the pairs while the third caller holds a stripe.
+fn reads_nothing<R: Abort>(rt: &R, host: &mut Host) {
+    let pairs = host.pairs();
+    assert!(rt; matches!(pairs, Err(Stop::Busy { holder: 3 })));
+}
+
+/// Neither the second caller nor the host has committed, and the host's failed read has left no
+/// stripe held: the third caller gets every stripe, and makes commit 4.
+const COMMITS_FOURTH: &[(Ask, Told)] = &[
+    (Ask::Do(Op::Put(3, 30)), NEW),
+    (Ask::Len, Told::Number(3)),
+    (Ask::Commit, Told::Number(4)),
+];
+
+/// The host has read the map without a commit, and holds no stripe.
+const COMMITS_FIFTH: &[(Ask, Told)] = &[
+    (Ask::Begin, Told::Done),
+    (Ask::Len, Told::Number(3)),
+    (Ask::Commit, Told::Number(5)),
+];
+
+#[test]
+fn merged_callers_are_gathered(rt: HostRuntime) {
+    let (mut host, first, second, mut third) = with_host(&rt, rt.alloc());
+    merges_first(&rt, &mut host, first, &mut third);
+    merges_second(&rt, &mut host, second, &mut third);
+    reads_nothing(&rt, &mut host);
+    asks(&rt, &mut third, COMMITS_FOURTH);
+    has_left(&rt, &mut host, &[(1, 6), (2, 4), (3, 30)]);
+    host.gather();
+    asks(&rt, &mut third, COMMITS_FIFTH);
+}
+
+/// A caller that has begun a transaction is not merged, but handed back. It aborts, and is merged.
+fn merges_when_idle<R: Abort>(rt: &R, host: &mut Host, mut caller: Caller)
+    requires same_map { caller.map.value ≡ host.old.map.value }
+{
+    let begun = caller.begin();
+    assert!(rt; begun.is_ok());
+    if let Err(mut back) = host.take_in(caller) {
+        let aborted = back.abort();
+        assert!(rt; aborted.is_ok());
+        merge(rt, host, back);
+    }
+}
+
+#[test]
+fn an_open_caller_is_not_merged(rt: HostRuntime) {
+    let (mut host, first, _second, mut third) = with_host(&rt, rt.alloc());
+    asks(&rt, &mut third, FILLS);
+    merges_when_idle(&rt, &mut host, first);
+    host.gather();
+    has_left(&rt, &mut host, &[(1, 10)]);
 }

@@ -2,7 +2,8 @@
 //! pairs that remain at the end. All values were worked out by hand. By the contracts, any call may
 //! be refused memory, or be busy although the stripe is free. Here a call is refused or busy only
 //! if its row says so.
-use crate::calls::{Ask, NEW, Told, Worked, play_worked};
+use crate::calls::{Ask, Home, NEW, Row, Told, Worked, open, play, play_worked};
+use std::process::Abort;
 use txn_words::{Op, Refusal};
 
 /// The reply to an operation on a key that had the value 10.
@@ -267,4 +268,39 @@ fn nine_undone_newest_first(rt: HostRuntime) {
 #[test]
 fn refusals_in_order(rt: HostRuntime) {
     play_worked(&rt, rt.alloc(), &REFUSALS_IN_ORDER)
+}
+
+/// Caller 1 puts a key, in a map with three stripes.
+const PUTS_ONE: &[Row] = &[
+    (0, Ask::Begin, Told::Done),
+    (0, Ask::Do(Op::Put(1, 10)), NEW),
+];
+
+/// Caller 2 is busy with a key of each stripe until caller 1 commits.
+const EVERY_STRIPE_IS_HELD: &[Row] = &[
+    (1, Ask::Begin, Told::Done),
+    (1, Ask::Do(Op::Get(0)), Told::Busy(1)),
+    (1, Ask::Begin, Told::Done),
+    (1, Ask::Do(Op::Get(1)), Told::Busy(1)),
+    (1, Ask::Begin, Told::Done),
+    (1, Ask::Do(Op::Get(2)), Told::Busy(1)),
+    (0, Ask::Commit, Told::Number(1)),
+    (1, Ask::Begin, Told::Done),
+    (1, Ask::Do(Op::Get(2)), NEW),
+    (1, Ask::Do(Op::Get(1)), TEN),
+    (1, Ask::Commit, Told::Number(2)),
+];
+
+/// Caller 1 asks whether the map has no keys. From then until its commit it holds every stripe.
+fn asks_if_empty<R: Abort>(rt: &R, home: &mut Home) {
+    play(rt, home, PUTS_ONE);
+    assert!(rt; 0 < home.callers.len());
+    let is_empty = home.callers[0].is_empty();
+    assert!(rt; is_empty == Ok(false));
+    play(rt, home, EVERY_STRIPE_IS_HELD);
+}
+
+#[test]
+fn is_empty_holds_every_stripe(rt: HostRuntime) {
+    asks_if_empty(&rt, &mut open(&rt, rt.alloc(), 3, 2));
 }

@@ -25,5 +25,5 @@ none_between b second one two begins within same =
     parts ∙ ap (λ (es : List Entry). own b second ++ es) none ∙ append-nil (own b second)
 
 pub returns : goal.returns
-returns c = λ n a b first second one two goes begins also within.
-    (own_same n a first one goes, none_between b second one two begins within (own_same n b second two also))
+returns c = λ n a b held held' first second one two goes begins also within.
+    (own_same n a held first one goes, none_between b second one two begins within (own_same n b held' second two also))

@@ -48,5 +48,5 @@ returns-clause-committed c = let p = c.commit-place.ensures.committed in let w =
       p.0,
       p.1,
       moved_idle _ _ _ w _ _ p.2 c.give_all.ensures.idle,
-      subst (RunsAlone v.number p.0) (sym (ap (λ (x : View). x.seen) c.give_all.ensures.idle)) (commits_alone n v.number p.0 v.seen w.seen (seat_of v) s.legal at.seat_is at.phase_is p.2.goes),
+      subst (RunsAlone v.number p.0) (sym (ap (λ (x : View). x.seen) c.give_all.ensures.idle)) (commits_alone n v.number p.0 v.held v.seen w.seen (seat_of v) s.legal at.seat_is at.phase_is p.2.goes),
     )

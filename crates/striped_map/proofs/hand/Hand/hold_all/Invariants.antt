@@ -1,7 +1,7 @@
-use Rattle.std.specs.Prelude.{◌≡◌, ℕ, ◌<◌, []}
+use Rattle.std.specs.Prelude.{◌≡◌}
 use Rattle.txn_words.specs.declared.seat.Phase.TheVariants.{Opened}
-use Rattle.striped_map.specs.Hands.{MovesHand}
-use Rattle.striped_map.specs.Rule.{Holds}
+use Rattle.striped_map.specs.Handling.{HoldsAllOf}
+use Rattle.striped_map.specs.Hands.{GoesOn}
 use Rattle.striped_map.specs.Seats.{IsOf, known}
 use Rattle.striped_map.specs.Steps.{IsAt}
 use Rattle.striped_map.proofs.hand.Hand.hold_all.Given as goal
@@ -11,6 +11,6 @@ invariant-loop-stripe l = record {
   map : IsOf l.self.seat l.map;
   opened : IsAt Opened (known l.self.seat);
   levels : l.self.levels ≡ l.initial.self.levels;
-  moves : MovesHand l.map l.initial.self [] l.self;
-  held : (other : ℕ) → other < l.stripe → Holds (known l.self.seat) other;
+  goes_on : GoesOn l.map l.initial.self l.self;
+  held : HoldsAllOf l.stripe (known l.self.seat);
 }

@@ -5,9 +5,10 @@ use Rattle.txn_words.specs.Map.{Map}
 use Rattle.txn_trace.specs.Now.{now}
 use Rattle.txn_words.specs.Shape.{own}
 use Rattle.txn_words.proofs.Maps.{same_map}
+use Rattle.map_answers.specs.declared.stop.Stop.TheVariants.{Refused}
 use Rattle.striped_map.specs.Hands.{IsCut}
 use Rattle.striped_map.specs.Seats.{known}
-use Rattle.striped_map.proofs.Ends.{moved_seen, moved_on}
+use Rattle.striped_map.proofs.Ends.{due_kept, moved_back, moved_seen, moved_on}
 use Rattle.striped_map.proofs.hand.Hand.read.Goals as goal
 
 pub returns-in-Ok-clause-ok : goal.returns-in-Ok-clause-ok
@@ -16,18 +17,33 @@ returns-in-Ok-clause-ok c = let map = c.args.map.now in let n = map.table.shared
     let a = known c.args.self.now.seat in let v = known c.pairs.new.self.seat in let w = known c.gather.new.self.seat in
     let same : now w.seen ≡ now v.seen = same_map (now w.seen) (now v.seen) (λ key. sees.still key (c.in-Ok.ensures.all (stripe_of n key) (mod-lt key map.some))) in
     let retired : v.retired ≡ a.retired = done.1.retired_is ∙ begun.1.retired_is in
+    let goes = moved_on map c.begin.new.self c.pairs.new.self c.gather.new.self (record { moves = done.1; keeps = c.in-Ok.ensures.keeps done.0 }) (moved_seen map c.pairs.new.self c.gather.new.self sees) in
+    let unchanged = due_kept map c.begin.new.self c.gather.new.self goes in
     record {
       txn = begun.0;
       during = c.begin.new.self;
       begun = begun.1;
       left = c.gather.new.self;
-      goes = moved_on map c.begin.new.self c.pairs.new.self c.gather.new.self done.1 (moved_seen map c.pairs.new.self c.gather.new.self sees);
+      goes = goes;
       all = subst (λ (rs : List (ℕ × List Entry)). (j : ℕ) (r : ℕ × List Entry) → slice_get rs j ≡ Some r → own r.0 w.seen ≡ r.1) retired c.gather.ensures.all;
       others = λ k low. c.gather.ensures.others (done.1.number_is ∙ begun.1.number_is ∙ c.requires.first) k (subst (λ (x : ℕ). x ≤ k) (sym (done.1.made_is ∙ begun.1.made_is)) low);
       pairs_are = done.2 ∙ ap (λ (m : Map). m.rows) (sym same);
-      seen = (_, ended.goes.goes ∙ append_assoc w.seen ended.goes.between _);
+      ended = moved_back map c.gather.new.self c.leave.new.self (unchanged ∙ c.begin.ensures.fresh) ended;
     }
 
 pub returns-in-Err-Busy-clause-err : goal.returns-in-Err-Busy-clause-err
 returns-in-Err-Busy-clause-err c = let begun = c.begin.ensures.begun in
     (begun.0, c.begin.new.self, begun.1, subst (λ stop. IsCut c.args.map.now c.begin.new.self c.pairs.new.self stop) c.in-Err-Busy.field-0-is c.in-Err-Busy.ensures.err)
+
+pub returns-in-Err-Refused-clause-err : goal.returns-in-Err-Refused-clause-err
+returns-in-Err-Refused-clause-err c = let map = c.args.map.now in let begun = c.begin.ensures.begun in
+    let cut : IsCut map c.begin.new.self c.pairs.new.self (Refused c.in-Err-Refused.refusal) = subst (λ stop. IsCut map c.begin.new.self c.pairs.new.self stop) c.in-Err-Refused.field-0-is c.in-Err-Refused.ensures.err in
+    let left = cut.1 in (
+      left.0,
+      begun.0,
+      c.begin.new.self,
+      begun.1,
+      c.pairs.new.self,
+      left.2,
+      moved_back map c.pairs.new.self c.leave-in-Err-Refused.new.self (due_kept map c.begin.new.self c.pairs.new.self left.2 ∙ c.begin.ensures.fresh) c.leave-in-Err-Refused.ensures.moves,
+    )
