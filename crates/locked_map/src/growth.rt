@@ -3,8 +3,11 @@
 //! wait. In a map whose room was written, the thread that sees little room takes and writes the
 //! memory outside the lock instead. It hands the memory over in its next hold, which copies the
 //! history. Meanwhile the other threads use up the remaining room; a thread that finds too little
-//! room for its turn frees the lock without a step. Invariant: if the history must not grow under
-//! the lock, no turn is taken with less room than the turn may need.
+//! room for its turn frees the lock without a step. So if the history must not grow under the lock,
+//! no turn is taken with less room than the turn may need.
+//!
+//! Only code and tests show this. The one contract here is about the caller's token and drive
+//! (`HeldOnce`). No clause says what the code here does to the core.
 ghost use Rattle.std.specs.Prelude.{◌≡◌};
 ghost use Rattle.core_tokens.specs.Tokens.{HasTriedNext};
 ghost use Rattle.locked_map.specs.Calls.{HeldOnce};

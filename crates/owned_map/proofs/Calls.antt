@@ -12,6 +12,7 @@ use Rattle.boost_core.specs.State.{State, holder_by}
 use Rattle.owned_map.specs.Within.{IsBasedOn, IsAt, CanAbort, OnlyWorked, GoesOn, HasDone, IsTakenBack, IsCommitted, IsRun, IsSameMap, IsGrown}
 use Rattle.owned_map.specs.Keeps.{Keeps}
 use Rattle.owned_map.proofs.Only as only
+use Rattle.owned_map.proofs.Growing.{KeepsHistory, kept_by}
 use Rattle.owned_map.specs.declared.transaction.Transaction.{Transaction}
 
 -- If `GoesOn` holds from `old` to `between`, and from `between` to `new`, it holds from `old` to
@@ -27,12 +28,15 @@ pub stays : (c : ℕ) (old : State) → GoesOn c old old
 stays c old = record { back = λ base can. can; beside = only.same c old old refl }
 
 -- If only the table grows, `GoesOn` holds.
-pub grew : (c : ℕ) (old new : State) → IsGrown old new → GoesOn c old new
-grew c old new is = record {
+pub grew : (c : ℕ) (old new : State) → IsGrown c old new → GoesOn c old new
+grew c old new grown = record {
   back = λ base can. moved base can;
   beside = only.same c old new is.history;
 }
   where
+    is : KeepsHistory old new
+    is = kept_by c old new grown
+
     standing : (base : Map) (q : _) → IsAt c base q old → IsAt c base q new
     standing base q stands =
         subst (λ h. IsBasedOn (holder_by new.words) new.limits c base q h) (sym is.history)
@@ -69,8 +73,8 @@ back_on c old between new goes_on back = record {
 }
 
 -- If `HasDone` holds for an operation, it still holds after the table has grown.
-pub grew_done : (op : Op) (x : Option ℕ) (old between new : State) → HasDone op x old between → IsGrown between new → HasDone op x old new
-grew_done op x old between new done is = record { replied = done.replied; changed = ap now is.history ∙ done.changed }
+pub grew_done : (c : ℕ) (op : Op) (x : Option ℕ) (old between new : State) → HasDone op x old between → IsGrown c between new → HasDone op x old new
+grew_done c op x old between new done grown = record { replied = done.replied; changed = ap now (kept_by c between new grown).history ∙ done.changed }
 
 -- If a transaction began, continued and was committed, `IsRun` holds.
 pub run : (c place : ℕ) (old begun done new : State) → now begun.history ≡ now old.history → OnlyWorked c old begun → GoesOn c begun done → IsCommitted c place done new → IsRun c old begun done new

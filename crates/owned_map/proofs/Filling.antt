@@ -1,7 +1,7 @@
 -- The answers that the steps of a new history's first transaction get. Only caller 0 takes these
 -- steps.
-use Rattle.std.proofs.Common.{◌≡◌, ◌≢◌, ℕ, ◌<◌, ◌==◌, zero, suc, Bool, true, false, cond, List, [], ◌∷◌, ◌++◌, length, take, drop, slice_index_or, Option, Some, None, refl, sym, ap, subst, ◌∙◌, arith}
-use Rattle.std.specs.Prelude.{nat_le, not, ◌&&◌, ◌||◌, unwrap_or}
+use Rattle.std.proofs.Common.{◌≡◌, ◌≢◌, ℕ, ◌*◌, ◌-◌, ◌^◌, ◌<◌, ◌≤◌, ◌==◌, zero, suc, Bool, true, false, cond, List, [], ◌∷◌, ◌++◌, length, take, drop, slice_index_or, Option, Some, None, refl, sym, ap, subst, ◌∙◌, arith}
+use Rattle.std.specs.Prelude.{nat_le, not, ◌||◌, unwrap_or}
 use Rattle.std.specs.Option.{option_eq}
 use Rattle.std.specs.Prelude.{nat_eq}
 use Rattle.std.proofs.lemmas.Bool.{false≢true, and_parts, eq-eqb, eqb-true, lt-leb}
@@ -17,14 +17,12 @@ use Rattle.txn_words.specs.declared.step.Step.{Step}
 use Rattle.txn_words.specs.declared.step.Step.TheVariants.{Begin, Ask, Commit}
 use Rattle.txn_words.specs.declared.answer.Answer.{Answer}
 use Rattle.txn_words.specs.declared.answer.Answer.TheVariants as answers
-use Rattle.txn_words.specs.declared.entry.Entry.{Entry}
 use Rattle.txn_words.specs.declared.entry.Entry.TheVariants as entry
 use Rattle.txn_words.specs.declared.holder.Holder.TheVariants.{Now}
-use Rattle.txn_words.specs.declared.seat.Phase.{Phase}
 use Rattle.txn_words.specs.declared.seat.Phase.TheVariants.{Opened}
 use Rattle.txn_trace.specs.Legal.{IsLegal, is_running}
 use Rattle.txn_trace.specs.Locks.{stripe_of, is_locked, holder_of}
-use Rattle.txn_words.specs.Map.{Map, get, key_of}
+use Rattle.txn_words.specs.Map.{Map, key_of}
 use Rattle.txn_trace.specs.Now.{now}
 use Rattle.txn_words.specs.Ordered.{split_cmp, ordered}
 use Rattle.txn_words.specs.Seats.{is_closed, is_leaving, is_waiting}
@@ -34,15 +32,15 @@ use Rattle.txn_trace.proofs.Holders.{is_locked-busy}
 use Rattle.txn_trace.proofs.Held.{holder_running}
 use Rattle.txn_words.proofs.Order.{split_cmp_tied, value_at, value_at-ordered}
 use Rattle.boost_core.specs.State.{State, holder_by, seat_in}
-use Rattle.boost_core.specs.Helps.{IsLack}
 use Rattle.boost_core.specs.Refusals.{refusal_of, MayLack, has_stamp_for}
-use Rattle.boost_core.specs.Machine.{IsAllowed, Move, Happens}
+use Rattle.boost_core.specs.Machine.{IsAllowed, Move}
 use Rattle.boost_core.specs.Plain.{Operates}
 use Rattle.owned_map.specs.Within.{IsAt, OnlyWorked, IsGrown}
 use Rattle.owned_map.specs.Taken.{HasTakenKeys}
-use Rattle.owned_map.specs.Trimmed.{IsFilling}
+use Rattle.owned_map.specs.Trimmed.{IsFilling, LacksFor}
 use Rattle.owned_map.proofs.Histories.{seat_there}
 use Rattle.owned_map.proofs.Only as only
+use Rattle.owned_map.proofs.Growing.{KeepsHistory, kept_by}
 use Rattle.owned_map.proofs.Steps.{begins, does, based, phase_in}
 
 -- If the limits are valid, there is a caller 0.
@@ -82,14 +80,9 @@ begun old new t blank there legal move = record {
   alone = others old new (λ d apart. ap (own d) blank) (only.moved 0 old new (Begin 0) (answers.Began t) (record { whose = refl; quiet = refl }) move);
 }
 
-lacks_begin : (state : State) (refusal : Refusal) → MayLack state (Begin 0) refusal → IsLack refusal
-lacks_begin state refusals.NoMemory lack = tt
+lacks_begin : (state : State) (refusal : Refusal) → MayLack state (Begin 0) refusal → refusal ≡ refusals.NoMemory
+lacks_begin state refusals.NoMemory lack = refl
 lacks_begin state _ lack = absurd lack
-
-lacks_ask : (state : State) (op : Op) (refusal : Refusal) → MayLack state (Ask 0 op) refusal → IsLack refusal
-lacks_ask state op refusals.NoMemory lack = tt
-lacks_ask state op refusals.StampsUsedUp lack = tt
-lacks_ask state op _ lack = absurd lack
 
 -- A step that passes every test is refused only if memory or stamps are missing.
 lacked : (state : State) (step : Step) (refusal : Refusal) → refusal_of state step ≡ None → IsAllowed state step (answers.Refused refusal) → MayLack state step refusal
@@ -102,7 +95,7 @@ begin_free s blank within =
     (cond (is_leaving (seat_in h 0).phase) (Some refusals.Leaving) (cond (not (is_closed (seat_in h 0).phase)) (Some refusals.AlreadyOpen) None))) blank
     ∙ ap (λ b. cond b (Some refusals.NoSuchCaller) None) within
 
-pub begin_lacks : (old new : State) (refusal : Refusal) → old.history ≡ [] → 0 < old.limits.callers → Move old (Begin 0) (answers.Refused refusal) new → IsLack refusal
+pub begin_lacks : (old new : State) (refusal : Refusal) → old.history ≡ [] → 0 < old.limits.callers → Move old (Begin 0) (answers.Refused refusal) new → refusal ≡ refusals.NoMemory
 begin_lacks old new refusal blank there move = lacks_begin old refusal (lacked old (Begin 0) refusal (begin_free old blank (within_of old there)) move.allowed)
 
 -- If caller 0 exists and its transaction is open, the first four tests of a step pass, and the
@@ -121,11 +114,27 @@ ready_for s rest within opened =
 
 -- If the limits accept the key of a put, the put is refused only for lack of memory or stamps.
 pub put_lacks : (old new : State) (k v : ℕ) (refusal : Refusal) → IsFilling old → is_bad_key old.limits.half k ≡ false
-    → Operates old 0 (Put k v) (answers.Refused refusal) new → IsLack refusal
-put_lacks old new k v refusal filling taken event = lacks_ask old (Put k v) refusal (lacked old (Ask 0 (Put k v)) refusal free event.move.allowed)
+    → Operates old 0 (Put k v) (answers.Refused refusal) new → MayLack old (Ask 0 (Put k v)) refusal
+put_lacks old new k v refusal filling taken event = lacked old (Ask 0 (Put k v)) refusal free event.move.allowed
   where
     free : refusal_of old (Ask 0 (Put k v)) ≡ None
     free = ready_for old (cond (is_bad_key old.limits.half k) (Some refusals.BadKey) None) (within_of old filling.there) filling.opened ∙ ap (λ b. cond b (Some refusals.BadKey) None) taken
+
+-- If the puts before this one have taken at most two stamps each, and memory or stamps are missing
+-- for this one, they are missing for all pairs.
+pub lacks_for : (s : State) (k v at pairs : ℕ) (refusal : Refusal) → s.stamp ≤ 2 * at → at < pairs → MayLack s (Ask 0 (Put k v)) refusal → LacksFor pairs refusal
+lacks_for s k v at pairs refusals.NoMemory few less lack = tt
+lacks_for s k v at pairs refusals.StampsUsedUp few less lack =
+    let last : s.stamp ≡ 2 ^ 64 - 2 = eqb-true s.stamp (2 ^ 64 - 2) (not_not (s.stamp == 2 ^ 64 - 2) lack) in
+    omega (arith, last, few, less)
+  where
+    not_not : (b : Bool) → not (not b) ≡ true → b ≡ true
+    not_not true is = refl
+    not_not false is = absurd (false≢true is)
+lacks_for s k v at pairs _ few less lack = absurd lack
+
+pub lacks_memory : (pairs : ℕ) (refusal : Refusal) → refusal ≡ refusals.NoMemory → LacksFor pairs refusal
+lacks_memory pairs refusal is = subst (LacksFor pairs) (sym is) tt
 
 -- No operation is answered `Busy`, since no other caller holds a stripe.
 never_busy : (old new : State) (op : Op) (x : ℕ) → IsFilling old → old.words ≡ false → IsLegal (holder_by old.words) old.limits.stripes old.history → Operates old 0 op (answers.Busy x) new → ⊥
@@ -161,12 +170,15 @@ kept_limits old new op x (s1, ask, (s2, seek, (s3, did, last))) =
     ap (λ (s : State). s.limits) last ∙ ap (λ (s : State). s.limits) did.move.state ∙ ap (λ (s : State). s.limits) seek.move.state ∙ ap (λ (s : State). s.limits) ask.move.state
 
 pub put_on : (old between new : State) (k v : ℕ) (x : Option ℕ) → IsFilling old → IsLegal (holder_by old.words) old.limits.stripes old.history
-    → Operates old 0 (Put k v) (answers.Done x) between → IsGrown between new → IsFilling new
-put_on old between new k v x filling legal operates grown = record {
+    → Operates old 0 (Put k v) (answers.Done x) between → IsGrown 0 between new → IsFilling new
+put_on old between new k v x filling legal operates grows = record {
   there = subst (λ (l : Sizes). 0 < l.callers) (sym (grown.limits ∙ kept_limits old between (Put k v) x operates)) filling.there;
   opened = ap (λ h. (seat_in h 0).phase) grown.history ∙ opened_at between (based 0 old) (does old between 0 (based 0 old) (Put k v) x (at_open old legal (within_of old filling.there) filling.opened) operates).0;
   alone = λ d apart. ap (own d) grown.history ∙ others old between filling.alone (only.operated 0 old between (Put k v) (answers.Done x) operates) d apart;
 }
+  where
+    grown : KeepsHistory between new
+    grown = kept_by 0 between new grows
 
 -- If `IsFilling` holds, a commit of caller 0 is not refused.
 pub only_commits : (old new : State) (answer : Answer) → IsFilling old → ((p : ℕ) → answer ≡ answers.Committed p → ⊥) → Move old (Commit 0) answer new → ⊥

@@ -1,5 +1,6 @@
 pub mod Histories
 pub mod Only
+pub mod Growing
 pub mod Steps
 pub mod Trimming
 pub mod Calls

@@ -7,7 +7,7 @@ use Rattle.std.proofs.lemmas.List.{append-nil}
 use Rattle.std.proofs.lemmas.List.Elements.{filter-append}
 use Rattle.txn_words.specs.declared.op.Op.{Op}
 use Rattle.txn_words.specs.declared.step.Step.{Step}
-use Rattle.txn_words.specs.declared.step.Step.TheVariants.{Begin, Ask, Seek, Act, Save, Back, Commit, Abort, InitSeek, InitLink, InitStore, Double}
+use Rattle.txn_words.specs.declared.step.Step.TheVariants.{Begin, Ask, Seek, Act, Save, Back, Commit, Abort}
 use Rattle.txn_words.specs.declared.answer.Answer.{Answer}
 use Rattle.txn_words.specs.declared.answer.Answer.TheVariants as answers
 use Rattle.txn_words.specs.declared.entry.Entry.{Entry}
@@ -22,7 +22,7 @@ use Rattle.boost_core.specs.Refusals.{owner_of}
 use Rattle.boost_core.specs.Answers.{is_at_end}
 use Rattle.boost_core.specs.Machine.{Move, Moves}
 use Rattle.boost_core.specs.Plain.{Operates, Returns, Aborts, Ends, Leaves, undoing, undone}
-use Rattle.owned_map.specs.Within.{OnlyDid, OnlyWorked, commit_entries, is_grown, IsGrown}
+use Rattle.owned_map.specs.Within.{OnlyDid, OnlyWorked, commit_entries}
 
 -- True if the step is not a commit.
 abbrev pub is_quiet : Step → Bool
@@ -140,19 +140,3 @@ returned c n old new (answers.Returned m) (reached, between, event, ends) =
     after c old between new (moved c old between (Back c n) answers.Leaving (record { whose = refl; quiet = refl }) event.move) (ended c between new (answers.Returned m) ends)
 returned c n old new answers.Leaving none = absurd none
 returned c n old new answer event = moved c old new (Back c n) answer (record { whose = refl; quiet = refl }) event.move
-
--- A helper's step, or the step that doubles the table, adds no entry.
-pub grown : (old new : State) (step : Step) (answer : Answer) → is_grown step ≡ true → Move old step answer new → new.words ≡ old.words → IsGrown old new
-grown old new step answer is move words = record { history = added step answer is move; limits = kept answer move; words = words }
-  where
-    added : (step : Step) (answer : Answer) → is_grown step ≡ true → Move old step answer new → new.history ≡ old.history
-    added step (answers.Refused refusal) is move = ap (λ (s : State). s.history) move.state
-    added (InitSeek h b) answer is move = ap (λ (s : State). s.history) move.state ∙ append-nil old.history
-    added (InitLink h) answer is move = ap (λ (s : State). s.history) move.state ∙ append-nil old.history
-    added (InitStore h) answer is move = ap (λ (s : State). s.history) move.state ∙ append-nil old.history
-    added (Double n) answer is move = ap (λ (s : State). s.history) move.state ∙ append-nil old.history
-    added step answer is move = absurd (false≢true is)
-
-    kept : (answer : Answer) → Move old step answer new → new.limits ≡ old.limits
-    kept (answers.Refused refusal) move = ap (λ (s : State). s.limits) move.state
-    kept answer move = ap (λ (s : State). s.limits) move.state

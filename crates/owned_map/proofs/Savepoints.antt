@@ -33,6 +33,7 @@ use Rattle.boost_core.specs.Refusals.{has_job, has_stamp_for}
 use Rattle.boost_core.specs.Machine.{Move, Moves}
 use Rattle.boost_core.specs.Plain.{Operates, Returns, undoing, undone}
 use Rattle.owned_map.specs.Within.{taken_back, map_at, level_count, KeepsLevels, KeepsSavepoints, IsSaved, IsBackAt, IsBasedOn, IsAt, IsGrown}
+use Rattle.owned_map.proofs.Growing.{kept_by}
 use Rattle.owned_map.proofs.Steps.{to_state, unmoved, phase_in, ready, based, replied, waits}
 use Rattle.owned_map.proofs.Levels.{past, left_to_now, undone_to_now, reached_at}
 use Rattle.boost_core.proofs.Refused.{first_none}
@@ -196,11 +197,10 @@ history_of s = s.history
 keeps_same : (c : ℕ) (old new : State) → new.history ≡ old.history → KeepsSavepoints c old new
 keeps_same c old new is = record { levels = ap (level_count c) is; maps = λ n less. ap (map_at c n) is }
 
-pub keeps_grown : (c : ℕ) (old between new : State) → KeepsSavepoints c old between → IsGrown between new → KeepsSavepoints c old new
-keeps_grown c old between new keeps grown = record {
-  levels = ap (level_count c) grown.history ∙ keeps.levels;
-  maps = λ n less. ap (map_at c n) grown.history ∙ keeps.maps n less;
-}
+pub keeps_grown : (c : ℕ) (old between new : State) → KeepsSavepoints c old between → IsGrown c between new → KeepsSavepoints c old new
+keeps_grown c old between new keeps grown =
+    let same = (kept_by c between new grown).history in
+    record { levels = ap (level_count c) same ∙ keeps.levels; maps = λ n less. ap (map_at c n) same ∙ keeps.maps n less }
 
 keeps_on : (c : ℕ) (old between new : State) → KeepsSavepoints c old between → KeepsSavepoints c between new → KeepsSavepoints c old new
 keeps_on c old between new first second = record {

@@ -1,8 +1,8 @@
 -- The map after the first transaction of a new history has exactly the pairs that this transaction
 -- puts.
-use Rattle.std.proofs.Common.{◌≡◌, ◌≢◌, ℕ, ◌+◌, ◌<◌, ◌≤◌, ◌==◌, ◌&&◌, zero, suc, Bool, true, false, cond, T, List, [], ◌∷◌, ◌++◌, length, take, drop, slice_index_or, Option, Some, None, refl, sym, ap, subst, ◌∙◌, arith}
-use Rattle.std.specs.Prelude.{unwrap_or, Result, Ok, Err, OnOk}
-use Rattle.std.specs.List.{flat_map, sum_by, range_with_len, filter}
+use Rattle.std.proofs.Common.{◌≡◌, ◌≢◌, ℕ, ◌+◌, ◌<◌, ◌≤◌, ◌==◌, zero, suc, true, false, cond, T, List, [], ◌∷◌, ◌++◌, length, take, drop, slice_index_or, Option, Some, None, refl, sym, ap, subst, ◌∙◌, arith}
+use Rattle.std.specs.Prelude.{unwrap_or, Result, Ok, Err, OnOk, IfErr}
+use Rattle.std.specs.List.{flat_map, sum_by, range_with_len}
 use Rattle.std.specs.FinMap.Entries.{is_sorted, below_all}
 use Rattle.std.specs.Ordering.{is_lt, eq_by_cmp}
 use Rattle.std.specs.Cmp.{tied_itself}
@@ -12,8 +12,9 @@ use Rattle.std.proofs.Math.Seq.{drop-cons, take-suc}
 use Rattle.std.proofs.lemmas.Grind.{flat_map-append}
 use Rattle.std.proofs.lemmas.List.Sums.{sum_by-cons}
 use mathlib.Core.Logic.{inl, inr}
-use Rattle.txn_words.specs.declared.op.Op.{Op}
 use Rattle.txn_words.specs.declared.op.Op.TheVariants.{Put}
+use Rattle.txn_words.specs.declared.refusal.Refusal.{Refusal}
+use Rattle.txn_words.specs.declared.refusal.Refusal.TheVariants.{AlreadyOpen}
 use Rattle.txn_words.specs.declared.step.Step.TheVariants.{Begin, Commit}
 use Rattle.txn_words.specs.declared.answer.Answer.TheVariants as answers
 use Rattle.txn_words.specs.declared.entry.Entry.{Entry}
@@ -21,7 +22,7 @@ use Rattle.txn_words.specs.declared.entry.Entry.TheVariants.{Began, Asked, Did, 
 use Rattle.txn_words.specs.declared.seat.Phase.{Phase}
 use Rattle.txn_words.specs.declared.seat.Phase.TheVariants.{Closed, Opened, Waiting, LeavingTo, LeavingToEnd}
 use Rattle.txn_words.specs.Kinds.{is_began, is_commit}
-use Rattle.txn_words.specs.Map.{Map, get, insert}
+use Rattle.txn_words.specs.Map.{Map, count_of, get, insert}
 use Rattle.txn_trace.specs.Now.{now}
 use Rattle.txn_trace.specs.Legal.{IsLegal}
 use Rattle.txn_words.specs.Ordered.{split_cmp, ordered}
@@ -33,8 +34,7 @@ use Rattle.txn_words.proofs.Order.{split_cmp_total, split_cmp_tied, value_at, Is
 use Rattle.boost_core.specs.State.{State, holder_by, seat_in}
 use Rattle.boost_core.specs.Machine.{Move}
 use Rattle.boost_core.specs.Plain.{Operates}
-use Rattle.owned_map.specs.Within.{IsIdle}
-use Rattle.owned_map.specs.Trimmed.{put_new, filling, IsAtRest}
+use Rattle.owned_map.specs.Trimmed.{put_new, filling, IsAtRest, IsNotTrimmed, LacksFor}
 use Rattle.owned_map.proofs.Steps.{done}
 
 abbrev history_of : State → List Entry
@@ -208,6 +208,16 @@ pub some_open : (s : State) → owed s.limits.callers s.history ≢ 0 → (c : �
 some_open s owes =
     let (c, within, some) = some_owes (λ d. owed_by (seat_after (own d s.history))) s.limits.callers 0 owes in
     (c, omega (arith, within), open_by (seat_after (own c s.history)) some)
+
+-- If no caller has a transaction, and the new map cannot take the pairs, `IsNotTrimmed` holds.
+not_trimmed : (s : State) (refusal : Refusal) → owed s.limits.callers s.history ≡ 0 → LacksFor (count_of (now s.history)) refusal → IsNotTrimmed s refusal
+not_trimmed s AlreadyOpen none lack = absurd lack
+not_trimmed s refusal none lack = (at_rest s none, lack)
+
+pub caused : {T : Type 0} (s : State) (result : Result T Refusal) → owed s.limits.callers s.history ≡ 0
+    → IfErr result (λ refusal. LacksFor (count_of (now s.history)) refusal) → IfErr result (λ refusal. IsNotTrimmed s refusal)
+caused s (Ok value) none lack = tt
+caused s (Err refusal) none lack = not_trimmed s refusal none lack
 
 -- If `P` implies `Q`, `OnOk` with `P` implies `OnOk` with `Q`.
 pub on_ok : {T E P Q : Type 0} (result : Result T E) → (P → Q) → OnOk result P → OnOk result Q

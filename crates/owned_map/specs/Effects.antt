@@ -1,5 +1,5 @@
 -- Which steps a transaction's calls take on the core, and which answers these steps get.
-use Rattle.std.specs.Prelude.{ℕ, ◌≡◌, Option}
+use Rattle.std.specs.Prelude.{ℕ, ◌≡◌, true, Option, is_some}
 use Rattle.txn_words.specs.declared.answer.Answer.{Answer}
 use Rattle.txn_words.specs.declared.answer.Answer.TheVariants as answers
 use Rattle.txn_words.specs.declared.op.Op.{Op}
@@ -22,10 +22,12 @@ answer_of (stops.Refused refusal) = answers.Refused refusal
 abbrev pub IsStopped : State → Step → Stop → State → Type 0
 IsStopped old step stop new = Happens old step (answer_of stop) new
 
--- A caller's operation was done once, with this reply, and then the table may have grown.
+-- A caller's operation was done once, with this reply. If its key was absent, the table may then have
+-- grown.
 abbrev pub HasOperated : ℕ → Op → Option ℕ → State → State → Type 0
 HasOperated c op reply old new =
-    (done : State) × Operates old c op (answers.Done reply) done × IsGrown done new
+    (done : State) × Operates old c op (answers.Done reply) done × IsGrown c done new
+    × (is_some reply ≡ true → new ≡ done)
 
 -- A caller began a transaction. The map is unchanged.
 pub record HasBegun (c : ℕ) (old new : State) : Type 0 where

@@ -1,12 +1,12 @@
 -- Trimming a history: it is replaced by one transaction, which puts the pairs of the map.
-use Rattle.std.specs.Prelude.{ℕ, ◌≡◌, ◌≢◌, ◌<◌, false, List, [], ◌∷◌, ◌++◌, None}
+use Rattle.std.specs.Prelude.{ℕ, ◌^◌, ◌≡◌, ◌≢◌, ◌<◌, ◌≤◌, false, List, [], ◌∷◌, ◌++◌, None}
 use Rattle.std.specs.List.{flat_map}
 use Rattle.txn_words.specs.declared.op.Op.TheVariants.{Put}
 use Rattle.txn_words.specs.declared.entry.Entry.{Entry}
 use Rattle.txn_words.specs.declared.entry.Entry.TheVariants.{Began, Asked, Did, Committed}
 use Rattle.txn_words.specs.declared.refusal.Refusal.{Refusal}
 use Rattle.txn_words.specs.declared.refusal.Refusal.TheVariants.{AlreadyOpen, NoMemory, StampsUsedUp}
-use Rattle.txn_words.specs.Map.{Map}
+use Rattle.txn_words.specs.Map.{count_of}
 use Rattle.txn_trace.specs.Now.{now}
 use Rattle.txn_words.specs.Ordered.{ordered}
 use Rattle.txn_words.specs.declared.seat.Phase.TheVariants.{Opened}
@@ -42,11 +42,16 @@ pub record IsTrimmed (old new : State) : Type 0 where
   pub same : now new.history ≡ now old.history
   pub limits : new.limits ≡ old.limits
 
--- The reason why a history is not trimmed: a caller has a transaction, memory is refused, or no
--- stamps are left.
+-- What is lacking if a new map cannot take this many pairs: memory, or stamps. A pair takes at most
+-- two stamps: one for its own node, and one for the dummy of a bucket that the table then gains.
+abbrev pub LacksFor : ℕ → Refusal → Type 0
+LacksFor pairs NoMemory = Unit {0}
+LacksFor pairs StampsUsedUp = 2 ^ 63 ≤ pairs
+LacksFor pairs refusal = ⊥
+
+-- The reason why a history is not trimmed. Either a caller has a transaction, or no caller has one
+-- and the new map cannot take the pairs.
 abbrev pub IsNotTrimmed : State → Refusal → Type 0
 IsNotTrimmed state AlreadyOpen =
     (c : ℕ) × (c < state.limits.callers) × (is_closed (seat_in state.history c).phase ≡ false)
-IsNotTrimmed state NoMemory = Unit {0}
-IsNotTrimmed state StampsUsedUp = Unit {0}
-IsNotTrimmed state refusal = ⊥
+IsNotTrimmed state refusal = IsAtRest state × LacksFor (count_of (now state.history)) refusal

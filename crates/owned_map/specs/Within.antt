@@ -1,6 +1,7 @@
 -- What the calls of one caller's transaction do, if no other caller takes a step in between.
-use Rattle.std.specs.Prelude.{ℕ, ◌+◌, ◌-◌, ◌<◌, ◌≡◌, ◌≢◌, ◌⊎◌, Bool, true, List, [], ◌∷◌, ◌++◌, length, take, slice_index, Option, Some, nat_le, false}
+use Rattle.std.specs.Prelude.{ℕ, ◌+◌, ◌*◌, ◌-◌, ◌<◌, ◌≡◌, ◌≢◌, ◌⊎◌, true, List, [], ◌∷◌, ◌++◌, length, take, slice_index, Option, Some, nat_le, false, if◌then◌else◌}
 use Rattle.std.specs.List.{filter}
+use Rattle.txn_words.specs.declared.answer.Answer.{Answer}
 use Rattle.txn_words.specs.declared.op.Op.{Op}
 use Rattle.txn_words.specs.declared.step.Step.{Step}
 use Rattle.txn_words.specs.declared.step.Step.TheVariants.{InitSeek, InitLink, InitStore, Double}
@@ -11,13 +12,14 @@ use Rattle.txn_words.specs.declared.seat.Phase.{Phase}
 use Rattle.txn_words.specs.declared.seat.Phase.TheVariants.{Opened, LeavingToEnd}
 use Rattle.txn_words.specs.Kinds.{is_commit}
 use Rattle.txn_words.specs.Sizes.{Sizes}
-use Rattle.txn_words.specs.Map.{Map, reply_of, after, set_at}
+use Rattle.txn_words.specs.Map.{Map, count_of, reply_of, after, set_at}
 use Rattle.txn_trace.specs.Now.{now}
 use Rattle.txn_trace.specs.Log.{log_of}
 use Rattle.txn_words.specs.Seats.{is_closed}
 use Rattle.txn_words.specs.Shape.{Seat, seat_after, own}
 use Rattle.txn_trace.specs.Legal.{IsLegal}
 use Rattle.boost_core.specs.State.{State, holder_by, seat_in}
+use Rattle.boost_core.specs.Machine.{Moves}
 
 -- The map after these changes are taken back, in the order of the list. Each change is given by its
 -- key and the value that the key had before.
@@ -138,17 +140,24 @@ pub record IsRun (c : ℕ) (old begun done new : State) : Type 0 where
   pub place : ℕ
   pub commits : commit_entries new.history ≡ commit_entries old.history ++ Committed c place ∷ []
 
--- True if the step is a helper's step (`InitSeek`, `InitLink` or `InitStore`), or the step that
--- doubles the table (`Double`).
-abbrev pub is_grown : Step → Bool
-is_grown (InitSeek h b) = true
-is_grown (InitLink h) = true
-is_grown (InitStore h) = true
-is_grown (Double n) = true
-is_grown step = false
+-- The steps by which a caller initialises a bucket.
+abbrev pub initialising : ℕ → ℕ → List Step
+initialising c bucket = InitSeek c bucket ∷ InitLink c ∷ InitStore c ∷ []
 
--- The table may have grown. The history is unchanged, and so are the map and every transaction.
-pub record IsGrown (old new : State) : Type 0 where
-  pub history : new.history ≡ old.history
-  pub limits : new.limits ≡ old.limits
-  pub words : new.words ≡ old.words
+-- The steps by which a caller adds a bucket to a table of this size. If the bucket is not below the
+-- size, the table is doubled first.
+abbrev pub growing : ℕ → ℕ → ℕ → List Step
+growing c size bucket =
+    if nat_le size bucket then Double size ∷ initialising c bucket else initialising c bucket
+
+-- A caller took the steps that add a bucket, each once, and no other step. The map has more than two
+-- keys for each bucket below this one.
+pub record Grows (c : ℕ) (old new : State) : Type 0 where
+  pub bucket : ℕ
+  pub wanted : 2 * bucket < count_of (now old.history)
+  pub given : List Answer
+  pub moves : Moves old (growing c old.size bucket) given new
+
+-- A caller added at most one bucket to the table. If it added none, nothing changed.
+abbrev pub IsGrown : ℕ → State → State → Type 0
+IsGrown c old new = (new ≡ old) ⊎ Grows c old new

@@ -29,11 +29,13 @@
 //! - A transaction that is dropped is aborted: at every `?` and every early return its changes are
 //!   taken back and its stripes given back (`IsTakenBack`). `commit` and `abort` take the
 //!   transaction by value, so it cannot be used afterwards.
-//! - When the table grows, the history is unchanged (`IsGrown`).
+//! - The table grows by itself: an operation whose key was absent adds at most one bucket. A growth
+//!   takes the three steps that initialise this bucket, after a doubling if the table is too small
+//!   for it, and no other step (`IsGrown`). The history is unchanged.
+//! - `trim` keeps the map, and is refused only for its causes (`IsTrimmed`, `IsNotTrimmed`).
 //!
-//! The table grows by itself: each operation whose key was absent adds at most one bucket. If the
-//! memory for a growth is refused, the growth initialises no bucket. No contract of this crate
-//! states this.
+//! No contract of this crate says that a table grows when it should. If the memory for a growth is
+//! refused, the growth initialises no bucket.
 //!
 //! One definition, `Keeps`, says what holds of every call of a work: the transaction is still the
 //! same, and it continues. A work's proof joins the work's calls by `keeps_stay` and `keeps_on` of

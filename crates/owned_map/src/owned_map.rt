@@ -4,17 +4,18 @@
 //! about states of the core. `grown` is the number of the next bucket to initialise. It rises only
 //! after that bucket is initialised, so all buckets below it are initialised. No contract states
 //! this.
-ghost use Rattle.std.specs.Prelude.{◌≡◌, ◌==◌, true, false, ℕ, ◌⊎◌, IfOk, IfErr, OnOk, OnErr, Ok, Err};
+ghost use Rattle.std.specs.Prelude.{◌≡◌, ◌==◌, ◌≤◌, ◌*◌, true, false, ℕ, ◌⊎◌, [], ◌∷◌, IfOk, IfErr, OnOk, OnErr, Ok, Err};
 ghost use Rattle.txn_words.specs.Map.{count_of};
 ghost use Rattle.txn_trace.specs.Now.{now};
+ghost use Rattle.txn_words.specs.declared.answer.Answer.{Answer};
 ghost use Rattle.txn_words.specs.declared.answer.Answer.TheVariants as answers;
 ghost use Rattle.txn_words.specs.declared.step.Step.TheVariants as steps;
-ghost use Rattle.boost_core.specs.Machine.{Happens, Move};
+ghost use Rattle.boost_core.specs.Machine.{Happens, Move, Moves};
 ghost use Rattle.boost_core.specs.State.{start};
 ghost use Rattle.boost_core.specs.Plain.{Operates, Returns};
 ghost use Rattle.owned_map.specs.Effects.{HasAborted, HasBegun, HasOperated, IsNotCommitted, IsStopped};
 ghost use Rattle.owned_map.specs.Taken.{asks_well};
-ghost use Rattle.owned_map.specs.Within.{CanAbort, GoesOn, HasDone, IsBackAt, OnlyWorked, IsCommitted, IsGrown, IsRun, IsSameMap, IsSaved, IsTakenBack, KeepsSavepoints, OnlyDid, is_grown};
+ghost use Rattle.owned_map.specs.Within.{CanAbort, GoesOn, HasDone, IsBackAt, OnlyWorked, IsCommitted, IsGrown, IsRun, IsSameMap, IsSaved, IsTakenBack, KeepsSavepoints, OnlyDid, initialising};
 
 use crate::transaction::Transaction;
 use boost_core::Core;
@@ -123,7 +124,7 @@ impl OwnedMap {
 
     /// Does an operation. If the key was absent and the table has too few buckets, the table then
     /// grows.
-    #[tactic(auto, using(crate::proofs::Savepoints::keeps_operated, crate::proofs::Savepoints::keeps_grown))]
+    #[tactic(auto, using(crate::proofs::Savepoints::keeps_operated))]
     pub(crate) fn operate(&mut self, caller: u64, op: Op) -> Result<Reply, Stop>
         ensures goes_on { GoesOn caller self.old.core self.new.core }
         ensures savepoints { KeepsSavepoints caller self.old.core self.new.core }
@@ -231,7 +232,9 @@ impl OwnedMap {
     }
 
     /// The number of buckets that should be initialised for the present keys.
-    fn wanted(&self) -> u64 {
+    fn wanted(&self) -> u64
+        ensures { 2 * result ≤ count_of (now self.now.core.history) }
+    {
         let keys = self.core.count();
         let few = FEW_BUCKETS.min(keys / 2);
         let most = u64::from(self.core.limits().buckets());
@@ -241,7 +244,7 @@ impl OwnedMap {
     /// If too few buckets are initialised, initialises the next one. If that bucket is not below
     /// the table's size, doubles the table first.
     pub(crate) fn grow(&mut self, caller: u64)
-        ensures { IsGrown self.old.core self.new.core }
+        ensures { IsGrown caller self.old.core self.new.core }
     {
         let bucket = self.grown;
         if bucket >= self.wanted() {
@@ -249,22 +252,21 @@ impl OwnedMap {
         }
         let buckets = u64::from(self.core.size());
         if bucket >= buckets {
-            self.serve(Step::Double(buckets));
+            self.take_step(Step::Double(buckets));
         }
-        self.serve(Step::InitSeek(caller, bucket));
-        self.serve(Step::InitLink(caller));
-        if let Answer::Stored = self.serve(Step::InitStore(caller)) {
+        if let Answer::Stored = self.initialise(caller, bucket) {
             self.grown = bucket + 1;
         }
     }
 
-    /// Takes a step of a helper or of the table.
-    #[tactic(auto, using(crate::proofs::Only::grown))]
-    fn serve(&mut self, step: Step) -> Answer
-        requires { is_grown step ≡ true }
-        ensures { IsGrown self.old.core self.new.core }
+    /// Takes the three steps that initialise a bucket. Returns the answer to the last one.
+    fn initialise(&mut self, caller: u64, bucket: u64) -> Answer
+        ensures { (sought linked : Answer) × Moves self.old.core (initialising caller bucket)
+            (sought ∷ linked ∷ result ∷ []) self.new.core }
     {
-        self.take_step(step)
+        self.take_step(Step::InitSeek(caller, bucket));
+        self.take_step(Step::InitLink(caller));
+        self.take_step(Step::InitStore(caller))
     }
 
     /// Takes a step of the core.

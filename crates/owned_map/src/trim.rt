@@ -2,8 +2,10 @@
 //!
 //! A trim makes a second core, which takes the place of the first. The new history begins with one
 //! transaction, which puts all pairs.
-ghost use Rattle.std.specs.Prelude.{◌≡◌, ◌+◌, ◌++◌, [], ◌∷◌, None, false, IfOk, IfErr, OnOk, OnErr};
+ghost use Rattle.std.specs.Prelude.{◌≡◌, ◌≤◌, ◌+◌, ◌++◌, length, [], ◌∷◌, None, false, IfOk, IfErr, OnOk, OnErr};
 ghost use Rattle.txn_words.specs.declared.entry.Entry.TheVariants as entries;
+ghost use Rattle.txn_words.specs.declared.op.Op.TheVariants as ops;
+ghost use Rattle.txn_words.specs.declared.step.Step.TheVariants as steps;
 ghost use Rattle.txn_words.specs.Kinds.{is_commit};
 ghost use Rattle.txn_words.specs.Map.{Map, get, insert};
 ghost use Rattle.txn_trace.specs.Now.{now};
@@ -11,8 +13,8 @@ ghost use Rattle.txn_words.specs.Ordered.{ordered};
 ghost use Rattle.txn_words.specs.Shape.{how_many};
 ghost use Rattle.txn_words.specs.Sizes.{is_bad_key};
 ghost use Rattle.owned_map.specs.Taken.{HasTakenKeys};
-ghost use Rattle.boost_core.specs.Helps.{IsLack};
-ghost use Rattle.owned_map.specs.Trimmed.{IsFilling, IsNotTrimmed, IsTrimmed, filling, put_new as putting};
+ghost use Rattle.boost_core.specs.Refusals.{MayLack};
+ghost use Rattle.owned_map.specs.Trimmed.{IsFilling, IsNotTrimmed, IsTrimmed, LacksFor, filling, put_new as putting};
 
 use crate::owned_map::OwnedMap;
 use boost_core::Core;
@@ -33,7 +35,8 @@ impl OwnedMap {
     ///
     /// - `AlreadyOpen` if a caller has a transaction.
     /// - `NoMemory` if memory is refused.
-    /// - `StampsUsedUp` if no stamp is left for a key in the new core.
+    /// - `StampsUsedUp` if no stamp is left for a key in the new core. The map then has at least
+    ///   2^63 keys.
     ///
     /// # Cost
     ///
@@ -58,13 +61,14 @@ impl OwnedMap {
     /// Puts pairs into a new map, in one transaction.
     fn fill(&mut self, pairs: &[(u64, u64)]) -> Result<(), Refusal>
         requires blank { self.old.core.history ≡ [] }
+        requires unused { self.old.core.stamp ≡ 0 }
         requires listed { (m : Map) × (pairs.now ≡ ordered m)
             × HasTakenKeys self.old.core.limits.half m }
         ensures ok { OnOk result (self.new.core.history ≡ filling pairs.now) }
         ensures map { OnOk result ((m : Map) → pairs.now ≡ ordered m
             → now self.new.core.history ≡ m) }
         ensures limits { self.new.core.limits ≡ self.old.core.limits }
-        ensures lack { IfErr result (λ refusal. IsLack refusal) }
+        ensures lack { IfErr result (λ refusal. LacksFor (length pairs.now) refusal) }
     {
         self.begin_first()?;
         for pair in pairs {
@@ -81,7 +85,8 @@ impl OwnedMap {
         ensures ok { OnOk result (self.new.core.history ≡ entries.Began 0 1 ∷ []) }
         ensures only { OnOk result (IsFilling self.new.core) }
         ensures limits { self.new.core.limits ≡ self.old.core.limits }
-        ensures lack { IfErr result (λ refusal. IsLack refusal) }
+        ensures stamp { OnOk result (self.new.core.stamp ≡ self.old.core.stamp) }
+        ensures lack { IfErr result (λ refusal. refusal ≡ Refusal.NoMemory) }
     {
         // For the proof: the history is legal, and there is a caller 0.
         let _legal = self.core.trace();
@@ -95,7 +100,7 @@ impl OwnedMap {
 
     /// Puts a pair whose key is new, and then grows the table if it has too few buckets. The limits
     /// accept the key, and no other caller holds its stripe. So the call fails only for lack of
-    /// memory or stamps.
+    /// memory or stamps. It takes at most two stamps.
     #[tactic(auto, using(crate::proofs::Filling::only_puts))]
     fn put_new(&mut self, key: u64, value: u64) -> Result<(), Refusal>
         requires only { IsFilling self.old.core }
@@ -107,7 +112,9 @@ impl OwnedMap {
             ≡ insert (now self.old.core.history) key value) }
         ensures only { OnOk result (IsFilling self.new.core) }
         ensures limits { self.new.core.limits ≡ self.old.core.limits }
-        ensures lack { IfErr result (λ refusal. IsLack refusal) }
+        ensures stamp { OnOk result (self.new.core.stamp ≤ self.old.core.stamp + 2) }
+        ensures lack { IfErr result (λ refusal. MayLack self.old.core
+            (steps.Ask 0 (ops.Put key value)) refusal) }
     {
         // For the proof: the history is legal.
         let _legal = self.core.trace();

@@ -16,3 +16,6 @@ pub returns-in-Refused-clause-lack : goal.returns-in-Refused-clause-lack
 returns-in-Refused-clause-lack c =
     begin_lacks c.args.self.now.core c.take_step.new.self.core c.in-Refused.refusal c.requires.blank (caller_there c.args.self.now.core.limits c.limits.result.callers c.limits.result.stripes c.limits.result.buckets c.callers-callers.ensures.limits (ap (λ (l : Sizes). l.callers) c.limits.ensures))
     c.in-Refused.ensures.moves
+
+pub returns-in-Began-clause-stamp : goal.returns-in-Began-clause-stamp
+returns-in-Began-clause-stamp c = c.in-Began.ensures.event.lists.stamp

@@ -1,6 +1,6 @@
 use Rattle.std.proofs.Common.{◌≡◌, ◌<◌, ◌≤◌, length, ◌∙◌, sym, subst, slice_index_or, false, arith}
 use Rattle.txn_words.specs.Sizes.{Sizes, is_bad_key}
-use Rattle.owned_map.proofs.Trimming.{HasPut, fresh_at, put_none, put_at, put_all, filled, same_listed}
+use Rattle.owned_map.proofs.Trimming.{HasPut, fresh_at, put_at, put_all, filled, same_listed}
 use Rattle.owned_map.proofs.Filling.{taken_at}
 use Rattle.owned_map.proofs.owned_map.OwnedMap.fill.Goals as goal
 
@@ -20,6 +20,7 @@ loop-pair-preserved c =
       put = put_at c.args.pairs.now c.loop-pair.self.core.history c.put_new.new.self.core.history c.loop-pair.pair-index less c.loop-pair.invariant.put fresh c.in_ok-put_new.ensures.ok c.in_ok-put_new.ensures.map;
       limits = c.in_ok-put_new.ensures.limits ∙ c.loop-pair.invariant.limits;
       only = c.in_ok-put_new.ensures.only;
+      stamp = (let before = c.loop-pair.invariant.stamp in let more = c.in_ok-put_new.ensures.stamp in omega (arith, before, more));
     }
 
 pub returns-clause-ok : goal.returns-clause-ok

@@ -2,16 +2,17 @@ use Rattle.std.proofs.Common.{ap, ◌∙◌}
 use Rattle.txn_trace.specs.Now.{now}
 use Rattle.owned_map.proofs.Trimming.{put_once}
 use Rattle.owned_map.proofs.Filling.{put_on, put_lacks}
+use Rattle.owned_map.proofs.Growing.{kept_by, stamp_put}
 use Rattle.owned_map.proofs.owned_map.OwnedMap.put_new.Goals as goal
 
 pub returns-in-Done-clause-ok : goal.returns-in-Done-clause-ok
 returns-in-Done-clause-ok c =
-    c.grow.ensures.history
+    (kept_by 0 c.ask.new.self.core c.grow.new.self.core c.grow.ensures).history
     ∙ (put_once c.args.self.now.core c.ask.new.self.core c.args.key c.args.value c.in-Done.field-0 c.trace-legal.ensures.legal c.in-Done.ensures c.requires.fresh).0
 
 pub returns-in-Done-clause-map : goal.returns-in-Done-clause-map
 returns-in-Done-clause-map c =
-    ap now c.grow.ensures.history
+    ap now (kept_by 0 c.ask.new.self.core c.grow.new.self.core c.grow.ensures).history
     ∙ (put_once c.args.self.now.core c.ask.new.self.core c.args.key c.args.value c.in-Done.field-0 c.trace-legal.ensures.legal c.in-Done.ensures c.requires.fresh).1
 
 pub returns-in-Done-clause-only : goal.returns-in-Done-clause-only
@@ -20,3 +21,11 @@ returns-in-Done-clause-only c =
 
 pub returns-in-Refused-clause-lack : goal.returns-in-Refused-clause-lack
 returns-in-Refused-clause-lack c = put_lacks c.args.self.now.core c.ask.new.self.core c.args.key c.args.value c.in-Refused.refusal c.requires.only c.requires.taken c.in-Refused.ensures
+
+pub returns-in-Done-clause-stamp : goal.returns-in-Done-clause-stamp
+returns-in-Done-clause-stamp c = stamp_put 0 c.args.key c.args.value c.in-Done.field-0 c.args.self.now.core c.ask.new.self.core c.grow.new.self.core c.in-Done.ensures c.grow.ensures
+
+pub returns-in-Done-clause-limits : goal.returns-in-Done-clause-limits
+returns-in-Done-clause-limits c =
+    (kept_by 0 c.ask.new.self.core c.grow.new.self.core c.grow.ensures).limits
+    ∙ (put_once c.args.self.now.core c.ask.new.self.core c.args.key c.args.value c.in-Done.field-0 c.trace-legal.ensures.legal c.in-Done.ensures c.requires.fresh).2

@@ -1,13 +1,15 @@
-use Rattle.std.proofs.Common.{rules, ◌≡◌, sym, ap, subst, ◌∙◌}
+use Rattle.std.proofs.Common.{rules, ◌≡◌, length, IfErr, sym, ap, subst, ◌∙◌}
 use Rattle.txn_trace.specs.Now.{now}
 use Rattle.txn_words.specs.Ordered.{ordered}
 use Rattle.boost_core.specs.State.{State}
 use Rattle.owned_map.specs.declared.owned_map.OwnedMap.{OwnedMap}
-use Rattle.owned_map.specs.Trimmed.{IsTrimmed, filling}
+use Rattle.txn_words.specs.Map.{count_of}
+use Rattle.txn_words.proofs.Order.{length-ordered}
+use Rattle.owned_map.specs.Trimmed.{IsTrimmed, LacksFor, filling}
 use Rattle.txn_words.specs.Sizes.{Sizes}
 use Rattle.owned_map.specs.Taken.{HasTakenKeys}
 use Rattle.owned_map.proofs.Taken.{none_there}
-use Rattle.owned_map.proofs.Trimming.{at_rest, some_open}
+use Rattle.owned_map.proofs.Trimming.{at_rest, some_open, caused}
 use Rattle.owned_map.proofs.owned_map.OwnedMap.trim.Goals as goal
 
 pub returns-then-owed-ne0-clause-cause : goal.returns-then-owed-ne0-clause-cause
@@ -32,3 +34,20 @@ returns-clause-trimmed c =
       limits = c.in_ok-fill.ensures.limits ∙ ap (λ (s : State). s.limits) c.in_ok-fresh.ensures.ok ∙ c.limits.ensures;
     } in
     subst (λ (m : OwnedMap). IsTrimmed c.args.self.now.core m.core) (sym c.replace.ensures.after) made
+
+pub returns-in_err-pairs-clause-cause : goal.returns-in_err-pairs-clause-cause
+returns-in_err-pairs-clause-cause c =
+    let none : c.owed.result ≡ 0 = search rules in
+    caused c.args.self.now.core c.from_residual.result (sym c.owed.ensures ∙ none) (search rules)
+
+pub returns-in_err-fresh-clause-cause : goal.returns-in_err-fresh-clause-cause
+returns-in_err-fresh-clause-cause c =
+    let none : c.owed.result ≡ 0 = search rules in
+    caused c.args.self.now.core c.from_residual-in_err-fresh.result (sym c.owed.ensures ∙ none) (search rules)
+
+pub returns-in_err-fill-clause-cause : goal.returns-in_err-fill-clause-cause
+returns-in_err-fill-clause-cause c =
+    let none : c.owed.result ≡ 0 = search rules in
+    let all : length c.as_slice.result.now ≡ count_of (now c.args.self.now.core.history) = ap length (c.as_slice.ensures.value ∙ c.in_ok-pairs.ensures) ∙ length-ordered (now c.args.self.now.core.history) in
+    let lack : IfErr c.from_residual-in_err-fill.result (λ refusal. LacksFor (length c.as_slice.result.now) refusal) = search rules in
+    caused c.args.self.now.core c.from_residual-in_err-fill.result (sym c.owed.ensures ∙ none) (subst (λ n. IfErr c.from_residual-in_err-fill.result (λ refusal. LacksFor n refusal)) all lack)
