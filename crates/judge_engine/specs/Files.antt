@@ -51,13 +51,3 @@ FailsToCheck remaining NoMemory = Unit {0}
 FailsToCheck remaining Read = Unit {0}
 FailsToCheck remaining (Line number fault) = ⊥
 FailsToCheck remaining Write = ⊥
-
--- Why there is no explanation of the history file that a reader gives: there is no verdict on the
--- file, or a write failed.
-abbrev pub FailsToExplain : Option (List ℕ) → Fault → Type 0
-FailsToExplain remaining (Input fault) =
-    OfFile remaining (λ bytes. IsUnjudgedFile bytes (Input fault))
-FailsToExplain remaining NoMemory = Unit {0}
-FailsToExplain remaining Read = Unit {0}
-FailsToExplain remaining Write = Unit {0}
-FailsToExplain remaining (Line number fault) = ⊥
