@@ -1,9 +1,11 @@
--- The known bytes of a reader after each read, and of a writer after each write.
-use Rattle.std.proofs.Common.{◌≡◌, ℕ, ◌+◌, ◌-◌, ◌≤◌, List, [], ◌++◌, length, take, drop, Option, Some, None, refl, sym, ap, subst, ◌∙◌, append_assoc, append-nil, arith}
+-- The known bytes of a reader after each read, and of a writer after each write. The rules of a file.
+use Rattle.std.proofs.Common.{◌≡◌, ℕ, ◌+◌, ◌-◌, ◌<◌, ◌≤◌, Bool, true, false, List, [], ◌++◌, length, take, drop, Option, Some, None, refl, sym, ap, subst, ◌∙◌, append_assoc, append-nil, arith}
 use Rattle.std.specs.Prelude.{IfSome, option_map}
 use Rattle.std.specs.Io.KnownBytes.{Appends, Consumes, IsAtEnd, Keeps}
 use Rattle.std.proofs.lemmas.List.{length-drop, take_all}
 use Rattle.std.proofs.Math.Seq.{take-add, take-length}
+use Rattle.judge_engine.specs.Bases.{HasStripes}
+use Rattle.judge_engine.specs.Files.{basis_of}
 
 pub first_of : (known : Option (List ℕ)) (n : ℕ) (bytes : List ℕ) → IfSome (option_map (take n) known) (λ some. bytes ≡ some) → IfSome known (λ all. bytes ≡ take n all)
 first_of None n bytes h = tt
@@ -37,6 +39,10 @@ OfAll-read P (Some us) (Some vs) xs p end h =
 
 -- ---- writes
 
+pub keeps_all : (a : Option (List ℕ)) → Keeps a a
+keeps_all None = tt
+keeps_all (Some xs) = refl
+
 pub Appends-nothing : (o : Option (List ℕ)) → Appends o o []
 Appends-nothing None = tt
 Appends-nothing (Some xs) = sym (append-nil xs)
@@ -68,3 +74,10 @@ still_within text done count le h = let k = rw rest_whole at h in omega (arith, 
 
 pub written_all : (a b : Option (List ℕ)) (text : List ℕ) (done : ℕ) → done ≤ length text → length text ≤ done → Appends a b (take done text) → Appends a b text
 written_all a b text done le ge p = let e : done ≡ length text = omega arith in rw (e, take-length) at p
+
+-- ---- the rules of a file
+
+-- The rules of a history file have at least one stripe.
+pub has_stripes : (by_commits : Bool) (stripes version : ℕ) → 0 < stripes → HasStripes (basis_of by_commits stripes version)
+has_stripes true stripes version some = tt
+has_stripes false stripes version some = some

@@ -22,7 +22,7 @@ use Rattle.bad_entry.specs.Changes.{last_with_fate}
 use Rattle.bad_entry.specs.Commits.{last_commit}
 use Rattle.bad_entry.specs.Desks.{txn_in}
 use Rattle.judge_engine.specs.declared.basis.Basis.{Basis}
-use Rattle.judge_engine.specs.declared.basis.Basis.TheVariants.{Locks, Commits}
+use Rattle.judge_engine.specs.declared.basis.Basis.TheVariants.{Locks}
 
 -- ---- words within a line
 

@@ -1,7 +1,6 @@
 -- What `why` writes for a history file.
-use Rattle.std.specs.Prelude.{◌≡◌, ◌⊎◌, ℕ, Bool, List, [], ◌∷◌, ◌++◌, Option, Some, Ok, Err}
+use Rattle.std.specs.Prelude.{◌≡◌, ◌⊎◌, ℕ, Bool, List, [], ◌∷◌, ◌++◌, Option, Some, Err}
 use Rattle.std.specs.Io.KnownBytes.{Appends, Keeps}
-use Rattle.txn_words.specs.declared.entry.Entry.{Entry}
 use Rattle.txn_files.specs.HistoryFile.{history_of}
 use Rattle.history_check.specs.declared.verdict.Verdict.{Verdict}
 use Rattle.history_check.specs.Verdicts.{says_legal, verdict_line}
@@ -11,20 +10,8 @@ use Rattle.bad_file.specs.Texts.{flaw_text}
 use Rattle.piece_files.specs.declared.file_fault.FileFault.{FileFault}
 use Rattle.judge_engine.specs.declared.fault.Fault.{Fault}
 use Rattle.judge_engine.specs.declared.fault.Fault.TheVariants.{Input, Line, NoMemory, Read, Write}
-use Rattle.judge_engine.specs.Bases.{IsVerdictBy}
-use Rattle.judge_engine.specs.Explained.{Explains}
-use Rattle.judge_engine.specs.Files.{OfFile, basis_of}
+use Rattle.judge_engine.specs.Files.{IsExplainedFile, OfFile}
 use Rattle.judge_engine.specs.Outputs.{AppendsPart}
-
--- The verdict on the history file with these bytes, and the lines that explain the verdict.
-pub record IsExplainedFile (by_commits : Bool) (bytes : List ℕ) (outcome : Verdict)
-    (lines : List ℕ) : Type 0 where
-  pub stripes : ℕ
-  pub history : List Entry
-  pub version : ℕ
-  pub file : history_of bytes ≡ Ok (stripes, history, version)
-  pub verdict : IsVerdictBy (basis_of by_commits stripes version) history outcome
-  pub explains : Explains (basis_of by_commits stripes version) history outcome lines
 
 -- The text is the line of the verdict on the history file with these bytes, and the lines that
 -- explain the verdict. `legal` is true exactly if the verdict says legal.

@@ -5,8 +5,7 @@ ghost use Rattle.std.specs.Prelude.{◌≡◌, ◌<◌, IfOk, IfErr, string_byte
 ghost use Rattle.std.specs.List.{All};
 ghost use Rattle.txn_words.specs.Kinds.{caller_of};
 ghost use Rattle.judge_engine.specs.Bases.{HasStripes, IsVerdictBy};
-ghost use Rattle.judge_engine.specs.Files.{IsJudgedFile, IsUnjudgedFile, basis_of};
-ghost use Rattle.judge_engine.specs.Whys.{IsExplainedFile};
+ghost use Rattle.judge_engine.specs.Files.{IsExplainedFile, IsJudgedFile, IsUnjudgedFile, basis_of};
 
 use crate::basis::Basis;
 use crate::fault::Fault;
@@ -30,11 +29,7 @@ fn basis_of(by_commits: bool, stripes: u32, version: u64) -> Basis
 }
 
 /// The verdict on entries by the rules of `basis`.
-fn verdict_by(
-    alloc: Global,
-    basis: Basis,
-    entries: &[SmallEntry],
-) -> Result<Verdict, AllocError>
+fn verdict_by(alloc: Global, basis: Basis, entries: &[SmallEntry]) -> Result<Verdict, AllocError>
     requires stripes { HasStripes basis }
     requires callers { All (λ entry. caller_of entry < 64) entries.now }
     ensures { IfOk result (IsVerdictBy basis entries.now) }

@@ -100,9 +100,7 @@ impl fmt::Display for Allowed {
     ghost use Rattle.std.specs.Prelude.{Some};
     ghost use Rattle.judge_engine.specs.ReasonLines.{allowed_words};
 
-    ghost output = {
-        λ a. Some (allowed_words a.caller a.phase a.newest a.began a.committed)
-    };
+    ghost output = { λ a. Some (allowed_words a.caller a.phase a.newest a.began a.committed) };
 
     fn fmt<W: fmt::Write>(&self, f: &mut fmt::Formatter<W>) -> fmt::Result {
         let caller = self.caller;
@@ -132,12 +130,7 @@ impl fmt::Display for Allowed {
 }
 
 /// Adds the line of an entry, with the entry's index in front.
-fn put_entry(
-    alloc: Global,
-    text: &mut String,
-    index: u64,
-    entry: Entry,
-) -> Result<(), AllocError>
+fn put_entry(alloc: Global, text: &mut String, index: u64, entry: Entry) -> Result<(), AllocError>
     ensures { OnOk result (string_bytes text.new ≡ string_bytes text.old ++ entry_line index entry) }
 {
     let line = history_lines(alloc, &[entry])?;
