@@ -1,6 +1,6 @@
 -- Changes of a key, and their fates.
 use Rattle.std.specs.Prelude.{◌≡◌, ℕ, ◌+◌, ◌-◌, ◌==◌, Bool, false, ◌&&◌, Option, Some, None}
-use Rattle.std.specs.Prelude.{List, [], ◌∷◌, length, drop, if◌then◌else◌}
+use Rattle.std.specs.Prelude.{List, [], ◌∷◌, length, drop, option_map, if◌then◌else◌}
 use Rattle.txn_words.specs.declared.op.Op.{Op}
 use Rattle.txn_words.specs.declared.entry.Entry.{Entry}
 use Rattle.txn_words.specs.declared.entry.Entry.TheVariants as entries
@@ -85,6 +85,5 @@ abbrev pub fate_of : List Entry → Change → Fate
 fate_of h change = fate_from change.caller None 0 (drop (change.did + 1) h)
 
 -- The last change of the key, with its fate.
-abbrev pub IsLast : ℕ → List Entry → Option (Change × Fate) → Type 0
-IsLast k h None = last_change k h ≡ None
-IsLast k h (Some last) = (last_change k h ≡ Some last.0) × (last.1 ≡ fate_of h last.0)
+abbrev pub last_with_fate : ℕ → List Entry → Option (Change × Fate)
+last_with_fate k h = option_map (λ change. (change, fate_of h change)) (last_change k h)

@@ -4,7 +4,7 @@ use Rattle.txn_words.specs.declared.op.Op.{Op}
 use Rattle.txn_words.specs.declared.entry.Entry.{Entry}
 use Rattle.txn_words.specs.declared.entry.Entry.TheVariants as entries
 use Rattle.txn_trace.specs.History.{is_open}
-use Rattle.txn_words.specs.Kinds.{caller_of, is_commit}
+use Rattle.txn_words.specs.Kinds.{caller_of, is_began, is_commit}
 use Rattle.txn_trace.specs.Locks.{stripe_of}
 use Rattle.txn_trace.specs.Log.{log_of}
 use Rattle.txn_words.specs.Map.{key_of, reply_of}
@@ -16,7 +16,7 @@ use Rattle.history_check.specs.declared.verdict.Rule.TheVariants as rules
 use Rattle.serial_check.specs.Commits.{FitsOrTorn, IsMisread}
 use Rattle.bad_entry.specs.declared.reason.Reason.{Reason}
 use Rattle.bad_entry.specs.declared.reason.Reason.TheVariants as reasons
-use Rattle.bad_entry.specs.Changes.{IsLast}
+use Rattle.bad_entry.specs.Changes.{last_with_fate}
 use Rattle.bad_entry.specs.Commits.{IsTornSince, last_commit}
 use Rattle.bad_entry.specs.Desks.{txn_in, waiting_in}
 use Rattle.bad_entry.specs.Holding.{IsHeldSince}
@@ -25,7 +25,8 @@ use Rattle.bad_entry.specs.Holding.{IsHeldSince}
 -- to `op`, and `last` is the last change of its key. `Nothing`: the caller waits for no operation.
 abbrev pub IsReplyReason : List Entry → ℕ → Reason → Type 0
 IsReplyReason h c (reasons.Reply op due last) =
-    (waiting_in h c ≡ Some op) × (due ≡ reply_of (now h) op) × IsLast (key_of op) h last
+    (waiting_in h c ≡ Some op) × (due ≡ reply_of (now h) op)
+    × (last ≡ last_with_fate (key_of op) h)
 IsReplyReason h c reasons.Nothing = waiting_in h c ≡ None
 IsReplyReason h c _ = ⊥
 
@@ -35,11 +36,12 @@ IsLockReason stripes op h (reasons.Lock stripe holder) =
     (stripe ≡ stripe_of stripes (key_of op)) × IsHeldSince stripes stripe h holder
 IsLockReason stripes op h _ = ⊥
 
--- The caller is in the phase `phase`, `newest` is its newest change that is not taken back, and
--- `committed` is the number of commits.
+-- The caller is in the phase `phase`, and `newest` is its newest change that is not taken back.
+-- `began` and `committed` are the numbers of transactions that began and that committed.
 abbrev pub IsShapeReason : List Entry → ℕ → Reason → Type 0
 IsShapeReason h c (reasons.Shape phase newest began committed) =
-    IsIn h c phase × (newest ≡ slice_get (log_of c h) 0) × (committed ≡ how_many is_commit h)
+    IsIn h c phase × (newest ≡ slice_get (log_of c h) 0) × (began ≡ how_many is_began h)
+    × (committed ≡ how_many is_commit h)
 IsShapeReason h c _ = ⊥
 
 -- This is the reason why the entry breaks the rule, if the history is judged by locks.

@@ -7,7 +7,7 @@ ghost use Rattle.txn_words.specs.Kinds.{caller_of};
 ghost use Rattle.txn_words.specs.declared.entry.Entry.{Entry};
 ghost use Rattle.bad_entry.specs.Desks.{HaveNoted};
 ghost use Rattle.bad_entry.specs.Changes.{above_after, change_at, decided, fate_from, fate_of};
-ghost use Rattle.bad_entry.specs.Changes.{IsLast, is_change, last_change, waiting_after};
+ghost use Rattle.bad_entry.specs.Changes.{is_change, last_change, last_with_fate, waiting_after};
 
 use crate::desks::Desks;
 use std::alloc::{AllocError, Global};
@@ -188,7 +188,7 @@ pub fn last_with_fate(
     key: u64,
 ) -> Result<Option<(Change, Fate)>, AllocError>
     requires { All (λ entry. caller_of entry < 64) entries.now }
-    ensures { IfOk result (IsLast key entries.now) }
+    ensures { IfOk result (λ last. last ≡ last_with_fate key entries.now) }
 {
     match last_change(alloc, entries, key)? {
         Some(change) => Ok(Some((change, fate_of(entries, change)))),

@@ -70,8 +70,13 @@ fn asked_in(
     }
 }
 
-/// The transaction of a caller after one more entry.
-fn next_txn(txn: Option<u64>, caller: u64, entry: Entry) -> Option<u64>
+/// Returns the transaction of a caller after one more entry. `txn` is the caller's transaction
+/// before the entry.
+///
+/// # Cost
+///
+/// Constant time; takes no memory.
+pub fn next_txn(txn: Option<u64>, caller: u64, entry: Entry) -> Option<u64>
     ensures { (before : ℕ → Option ℕ) → txn ≡ before caller →
         result ≡ txn_after before entry caller }
 {

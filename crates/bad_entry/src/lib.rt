@@ -13,7 +13,7 @@
 //! Proved, if the bad entry is the first one that is bad: each answer is what the definitions give.
 //! The right reply is that of the present map or of the committed map. The holder of a lock is
 //! `holder_of`. The last change of a key, its fate, and the entry since which a lock is held are as
-//! defined in `specs/`. The number of transactions that began (`Reason::Shape`) is not proved.
+//! defined in `specs/`.
 #![tactic(auto)]
 
 mod change;
@@ -24,5 +24,5 @@ mod reason;
 
 pub use change::{Change, Fate, fate_of, last_change, last_with_fate};
 pub use due::{last_commit, torn_since, value_now};
-pub use held::{Held, held_by, txn_of};
+pub use held::{Held, held_by, next_txn, txn_of};
 pub use reason::{Reason, by_commits, by_locks};

@@ -3,7 +3,7 @@
 //! is a separate pass over the entries, so a reason costs a few passes.
 ghost use Rattle.std.specs.Prelude.{◌≡◌, ℕ, ◌<◌, ◌%◌, List, Option, IfOk};
 ghost use Rattle.std.specs.List.{All};
-ghost use Rattle.txn_words.specs.Kinds.{caller_of};
+ghost use Rattle.txn_words.specs.Kinds.{caller_of, is_began};
 ghost use Rattle.txn_trace.specs.Legal.{IsLegal};
 ghost use Rattle.txn_words.specs.Shape.{how_many};
 ghost use Rattle.txn_words.specs.declared.entry.Entry.{Entry};
@@ -134,7 +134,9 @@ fn lock_reason(
 }
 
 /// How many transactions began in a history.
-fn began_in(entries: &[SmallEntry]) -> u64 {
+fn began_in(entries: &[SmallEntry]) -> u64
+    ensures { result ≡ how_many is_began entries.now }
+{
     entries
         .iter()
         .filter(|packed| matches!(packed.entry(), Entry::Began(..)))
@@ -146,7 +148,8 @@ fn began_in(entries: &[SmallEntry]) -> u64 {
 /// entry.
 fn shape_reason(callers: &Callers, began: u64, caller: u64) -> Reason
     requires { caller < 64 }
-    ensures { (h : List Entry) → HaveEntered h callers.now → IsShapeReason h caller result }
+    ensures { (h : List Entry) → HaveEntered h callers.now → began ≡ how_many is_began h →
+        IsShapeReason h caller result }
 {
     Reason::Shape {
         phase: callers.phase(caller),

@@ -1,17 +1,19 @@
 -- How reading ends, and what is written then.
-use Rattle.std.proofs.Common.{◌≡◌, ℕ, List, [], ◌++◌, Option, Some, None, Result, Ok, Err, take, refl, sym, subst, ◌⊎◌, inl, inr}
+use Rattle.std.proofs.Common.{◌≡◌, ℕ, Bool, List, [], ◌++◌, Option, Result, Ok, Err, take, refl, inl, inr}
 use Rattle.std.specs.Prelude.{IfOk, IfErr, MatchResult, IfSome}
-use Rattle.std.specs.Io.KnownBytes.{Consumes, IsAtEnd, Keeps}
+use Rattle.std.specs.Io.KnownBytes.{Consumes, IsAtEnd}
 use Rattle.history_check.specs.declared.verdict.Verdict.{Verdict}
+use Rattle.history_check.specs.Verdicts.{says_legal, verdict_line}
 use Rattle.judge_engine.specs.declared.basis.Basis.{Basis}
 use Rattle.judge_engine.specs.declared.fault.Fault.{Fault}
 use Rattle.judge_engine.specs.declared.fault.Fault.TheVariants.{Input, Line, NoMemory, Read, Write}
 use Rattle.entry_lines.specs.Lines.{history_of_lines}
 use Rattle.txn_files.specs.Reading.{max_read}
-use Rattle.judge_engine.specs.Files.{FailsToCheck, FailsToExplain, IsUnjudgedFile}
-use Rattle.judge_engine.specs.Outputs.{LeavesOutput}
+use Rattle.judge_engine.specs.Files.{FailsToCheck, IsExplainedFile, IsUnjudgedFile}
+use Rattle.judge_engine.specs.Outputs.{FailsToWrite, LeavesOutput}
 use Rattle.judge_engine.specs.Watching.{FailsToWatch, IsJudgedLines, IsRefusedLine, IsUnjudged, Watches}
-use Rattle.judge_engine.proofs.Known.{OfAll-early, OfAll-read}
+use Rattle.judge_engine.specs.Whys.{LeavesExplanation, Tells}
+use Rattle.judge_engine.proofs.Known.{OfAll-early, OfAll-read, keeps_all}
 
 -- ---- results
 
@@ -49,10 +51,6 @@ failed_early basis a b bytes Write p h = h []
 
 -- ---- what is written at a fault
 
-keeps_all : (a : Option (List ℕ)) → Keeps a a
-keeps_all None = tt
-keeps_all (Some xs) = refl
-
 pub leaves_watch : (P : Verdict → Type 0) (basis : Basis) (remaining old : Option (List ℕ)) (fault : Fault) → FailsToWatch basis remaining fault → LeavesOutput P (FailsToWatch basis remaining) old old fault
 leaves_watch P basis remaining old (Line number fault) h = (keeps_all old, h)
 leaves_watch P basis remaining old NoMemory h = keeps_all old
@@ -67,16 +65,26 @@ leaves_check P remaining old bytes Read known h = keeps_all old
 leaves_check P remaining old bytes (Line number fault) known h = absurd h
 leaves_check P remaining old bytes Write known h = absurd h
 
-pub fails_to_explain : (remaining : Option (List ℕ)) (bytes : List ℕ) (fault : Fault) → IfSome remaining (λ all. bytes ≡ take max_read all) → IsUnjudgedFile bytes fault → FailsToExplain remaining fault
-fails_to_explain remaining bytes (Input fault) known h = (bytes, known, h)
-fails_to_explain remaining bytes NoMemory known h = tt
-fails_to_explain remaining bytes Read known h = tt
-fails_to_explain remaining bytes (Line number fault) known h = absurd h
-fails_to_explain remaining bytes Write known h = absurd h
+pub leaves_verdict : (P : Verdict → Type 0) (F : Fault → Type 0) (old new : Option (List ℕ)) (outcome : Verdict) (fault : Fault) → P outcome → FailsToWrite old new (verdict_line outcome) fault → LeavesOutput P F old new fault
+leaves_verdict P F old new outcome Write right h = (outcome, right, h)
+leaves_verdict P F old new outcome NoMemory right h = h
+leaves_verdict P F old new outcome Read right h = absurd h
+leaves_verdict P F old new outcome (Input fault) right h = absurd h
+leaves_verdict P F old new outcome (Line number fault) right h = absurd h
 
--- If `FailsToExplain` holds for a fault, it also holds for what `tell` returns: the fault itself,
--- `NoMemory` or `Write`.
-pub told_fault : (remaining : Option (List ℕ)) (fault told : Fault) → (told ≡ fault) ⊎ ((told ≡ NoMemory) ⊎ (told ≡ Write)) → FailsToExplain remaining fault → FailsToExplain remaining told
-told_fault remaining fault told (inl is) h = subst (FailsToExplain remaining) (sym is) h
-told_fault remaining fault told (inr (inl is)) h = subst (FailsToExplain remaining) (sym is) tt
-told_fault remaining fault told (inr (inr is)) h = subst (FailsToExplain remaining) (sym is) tt
+-- ---- what `why` leaves at a fault
+
+module _ (by_commits : Bool) (remaining old new : Option (List ℕ)) (bytes : List ℕ) (known : IfSome remaining (λ all. bytes ≡ take max_read all)) where
+  pub leaves_told : (fault : Fault) → Tells bytes old new fault → LeavesExplanation by_commits remaining old new fault
+  leaves_told (Input fault) h = (bytes, known, h)
+  leaves_told NoMemory h = h
+  leaves_told Read h = h
+  leaves_told Write h = (bytes, known, (h.0, inr h.1, h.2))
+  leaves_told (Line number fault) h = absurd h
+
+  pub leaves_explained : (outcome : Verdict) (lines : List ℕ) (fault : Fault) → IsExplainedFile by_commits bytes outcome lines → FailsToWrite old new (verdict_line outcome ++ lines) fault → LeavesExplanation by_commits remaining old new fault
+  leaves_explained outcome lines Write is h = (bytes, known, (verdict_line outcome ++ lines, inl (says_legal outcome, (outcome, lines, is, refl, refl)), h))
+  leaves_explained outcome lines NoMemory is h = h
+  leaves_explained outcome lines Read is h = absurd h
+  leaves_explained outcome lines (Input fault) is h = absurd h
+  leaves_explained outcome lines (Line number fault) is h = absurd h

@@ -1,7 +1,9 @@
+pub mod Bad
 pub mod Ends
 pub mod Feeding
 pub mod Known
 pub mod LineLemmas
+pub mod Listed
 pub mod Settled
 pub mod Taking
 pub mod Telling

@@ -34,7 +34,8 @@ verdict_from : Option (ℕ × ℕ) → ℕ → ℕ → legal.Verdict
 verdict_from None commits running = legal.Legal commits running
 verdict_from (Some bad) commits running = legal.Illegal bad.0 bad.1
 
-found : (r : Option (ℕ × ℕ)) (commits running entry rule : ℕ) → legal.Illegal entry rule ≡ (elim r [ None ↦ legal.Legal commits running | Some bad ↦ legal.Illegal bad.0 bad.1 ]) → (bad : ℕ × ℕ) × (r ≡ Some bad) × (legal.Illegal entry rule ≡ legal.Illegal bad.0 bad.1)
+-- If a verdict is illegal, the search found a bad entry, which is the one of the verdict.
+pub found : (r : Option (ℕ × ℕ)) (commits running entry rule : ℕ) → legal.Illegal entry rule ≡ (elim r [ None ↦ legal.Legal commits running | Some bad ↦ legal.Illegal bad.0 bad.1 ]) → (bad : ℕ × ℕ) × (r ≡ Some bad) × (legal.Illegal entry rule ≡ legal.Illegal bad.0 bad.1)
 found None commits running entry rule e = absurd (cc)
 found (Some bad) commits running entry rule e = (bad, refl, e)
 

@@ -5,7 +5,10 @@ use Rattle.std.proofs.lemmas.List.Elements.{filter-append}
 use Rattle.std.specs.List.{filter}
 use Rattle.script_outcomes.specs.declared.outcome.Outcome.{Outcome}
 use Rattle.judge_engine.specs.declared.outcomes.Kind.{Kind}
-use Rattle.std.specs.Prelude.{◌↔◌, IfSome}
+use Rattle.judge_engine.specs.declared.outcomes.OutcomesFault.{OutcomesFault}
+use Rattle.judge_engine.specs.declared.outcomes.OutcomesFault.TheVariants.{Scripts, History, ScriptsRead, HistoryRead, NoMemory, Write}
+use Rattle.std.specs.Prelude.{◌↔◌, IfSome, is_ok}
+use Rattle.judge_engine.proofs.Known.{keeps_all}
 use Rattle.txn_words.specs.declared.entry.Entry.{Entry}
 use Rattle.txn_words.specs.Work.{Work}
 use Rattle.txn_files.specs.HistoryFile.{history_of}
@@ -16,7 +19,7 @@ use Rattle.piece_files.specs.declared.file_fault.FileFault.TheVariants as files
 use Rattle.script_outcomes.specs.Outcomes.{AreOutcomes}
 use Rattle.txn_files.specs.Reading.{max_read}
 use Rattle.judge_engine.specs.Files.{OfFile}
-use Rattle.judge_engine.specs.Outcomes.{is_kind, how_many, outcome_line, outcome_lines, outcomes_text, IsWell, HistoryOf, FailsForScripts, FailsForHistory, of_scripts, of_history, TellsOutcomes}
+use Rattle.judge_engine.specs.Outcomes.{is_kind, how_many, outcome_line, outcome_lines, outcomes_text, IsWell, HistoryOf, FailsForScripts, FailsForHistory, LeavesOutcomes, of_scripts, of_history, TellsOutcomes}
 
 count_push : (kind : Kind) (os : List Outcome) (o : Outcome) → how_many kind (os ++ o ∷ []) ≡ how_many kind os + cond (is_kind kind o) 1 0
 count_push kind os o =
@@ -75,6 +78,15 @@ fails_history left bytes files.NotJson known fails = (bytes, known, fails)
 fails_history left bytes files.Member known fails = (bytes, known, fails)
 fails_history left bytes (files.Piece part i) known fails = (bytes, known, fails)
 fails_history left bytes files.Limit known fails = (bytes, known, fails)
+
+-- If the scripts were read and the history was not, nothing was written.
+pub leaves_history : (scripts history old : Option (List ℕ)) (work : Work) (fault : OutcomesFault) → OfFile scripts (λ bytes. scripts_of bytes ≡ Ok work) → FailsForHistory history fault → LeavesOutcomes scripts history old old fault
+leaves_history scripts history old work (History fault) read fails = (keeps_all old, fails, (read.0, read.1, ap is_ok read.2))
+leaves_history scripts history old work HistoryRead read fails = keeps_all old
+leaves_history scripts history old work NoMemory read fails = keeps_all old
+leaves_history scripts history old work (Scripts fault) read fails = absurd fails
+leaves_history scripts history old work ScriptsRead read fails = absurd fails
+leaves_history scripts history old work Write read fails = absurd fails
 
 -- If the outcomes are right (`AreOutcomes`), their text is a report on the two files.
 pub told : (scripts history : Option (List ℕ)) (work : Work) (entries read : List Entry) (found seen : List Outcome) (workers : ℕ) (text : List ℕ) (well : Bool)

@@ -2,6 +2,9 @@
 use Rattle.std.specs.Prelude.{◌<◌, List}
 use Rattle.txn_words.specs.declared.entry.Entry.{Entry}
 use Rattle.txn_trace.specs.Legal.{IsLegal}
+use Rattle.bad_entry.specs.declared.reason.Reason.{Reason}
+use Rattle.bad_entry.specs.Reasons.{IsReasonByCommits, IsReasonByLocks}
+use Rattle.history_check.specs.declared.verdict.Rule.{Rule}
 use Rattle.history_check.specs.declared.verdict.Verdict.{Verdict}
 use Rattle.history_check.specs.Fed as locks
 use Rattle.history_check.specs.Verdicts as locks_verdicts
@@ -34,3 +37,8 @@ abbrev pub IsFedBy : Basis → List Entry → Judge → Type 0
 IsFedBy (Locks stripes holder) h (judges.Locks checker) = locks.IsFed holder stripes h checker
 IsFedBy Commits h (judges.Commits checker) = commits.IsFed h checker
 IsFedBy basis h judge = ⊥
+
+-- This is the reason why the entry `e` breaks the rule after the entries `h`.
+abbrev pub IsReasonBy : Basis → Rule → List Entry → Entry → Reason → Type 0
+IsReasonBy (Locks stripes holder) rule h e reason = IsReasonByLocks rule stripes h e reason
+IsReasonBy Commits rule h e reason = IsReasonByCommits rule h e reason

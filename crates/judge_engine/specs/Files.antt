@@ -9,6 +9,7 @@ use Rattle.judge_engine.specs.declared.basis.Basis.TheVariants.{Locks, Commits}
 use Rattle.judge_engine.specs.declared.fault.Fault.{Fault}
 use Rattle.judge_engine.specs.declared.fault.Fault.TheVariants.{Input, Line, NoMemory, Read, Write}
 use Rattle.judge_engine.specs.Bases.{IsVerdictBy}
+use Rattle.judge_engine.specs.Explained.{Explains}
 
 -- The rules by which a history file is judged.
 abbrev pub basis_of : Bool → ℕ → ℕ → Basis
@@ -23,6 +24,16 @@ pub record IsJudgedFile (by_commits : Bool) (bytes : List ℕ) (outcome : Verdic
   pub version : ℕ
   pub file : history_of bytes ≡ Ok (stripes, history, version)
   pub verdict : IsVerdictBy (basis_of by_commits stripes version) history outcome
+
+-- The verdict on the history file with these bytes, and the lines that explain the verdict.
+pub record IsExplainedFile (by_commits : Bool) (bytes : List ℕ) (outcome : Verdict)
+    (lines : List ℕ) : Type 0 where
+  pub stripes : ℕ
+  pub history : List Entry
+  pub version : ℕ
+  pub file : history_of bytes ≡ Ok (stripes, history, version)
+  pub verdict : IsVerdictBy (basis_of by_commits stripes version) history outcome
+  pub explains : Explains (basis_of by_commits stripes version) history outcome lines
 
 -- Why there is no verdict on the file with these bytes: the file is refused, memory is refused, or
 -- a read failed.
@@ -51,13 +62,3 @@ FailsToCheck remaining NoMemory = Unit {0}
 FailsToCheck remaining Read = Unit {0}
 FailsToCheck remaining (Line number fault) = ⊥
 FailsToCheck remaining Write = ⊥
-
--- Why there is no explanation of the history file that a reader gives: there is no verdict on the
--- file, or a write failed.
-abbrev pub FailsToExplain : Option (List ℕ) → Fault → Type 0
-FailsToExplain remaining (Input fault) =
-    OfFile remaining (λ bytes. IsUnjudgedFile bytes (Input fault))
-FailsToExplain remaining NoMemory = Unit {0}
-FailsToExplain remaining Read = Unit {0}
-FailsToExplain remaining Write = Unit {0}
-FailsToExplain remaining (Line number fault) = ⊥

@@ -1,5 +1,5 @@
 -- Which outcome each script of a script file has in the history of a history file.
-use Rattle.std.specs.Prelude.{◌≡◌, ◌↔◌, ℕ, ◌%◌, Bool, true, false, List, [], ◌∷◌, ◌++◌, length, Option, Some, Ok, Err, slice_get, codes, decimal}
+use Rattle.std.specs.Prelude.{◌≡◌, ◌↔◌, ℕ, ◌%◌, Bool, true, false, List, [], ◌∷◌, ◌++◌, length, Option, Some, Ok, Err, IsOk, slice_get, codes, decimal}
 use Prim.Native.Nat.{suc}
 use Rattle.std.specs.List.{filter}
 use Rattle.std.specs.Io.KnownBytes.{Appends, Keeps}
@@ -21,6 +21,7 @@ use Rattle.piece_files.specs.Faults.{words_of}
 use Rattle.piece_files.specs.declared.file_fault.FileFault.{FileFault}
 use Rattle.piece_files.specs.declared.file_fault.FileFault.TheVariants as files
 use Rattle.judge_engine.specs.Files.{OfFile}
+use Rattle.judge_engine.specs.Outputs.{AppendsPart}
 
 -- The exit status after this fault.
 abbrev pub outcomes_status : OutcomesFault → ℕ
@@ -145,17 +146,20 @@ abbrev pub WritesOutcomes : Option (List ℕ) → Option (List ℕ) → Option (
 WritesOutcomes scripts history old new well =
     (text : List ℕ) × TellsOutcomes scripts history text well × Appends old new text
 
--- The output after a fault. If a write failed, `TellsOutcomes` holds for the text that was to be
--- written, and nothing is said about the output. After any other fault nothing was written. If a
--- file was refused, the fault is the one that `scripts_of` or `history_of` gives.
+-- The output after a fault. If a write failed, the output grew by a proper prefix of a report on the
+-- two files. After any other fault nothing was written. If a file was refused, the fault is the one
+-- that `scripts_of` or `history_of` gives. The history file is refused only if the script file is
+-- accepted.
 abbrev pub LeavesOutcomes : Option (List ℕ) → Option (List ℕ) → Option (List ℕ)
     → Option (List ℕ) → OutcomesFault → Type 0
 LeavesOutcomes scripts history old new (Scripts fault) =
     Keeps old new × FailsForScripts scripts (Scripts fault)
 LeavesOutcomes scripts history old new (History fault) =
     Keeps old new × FailsForHistory history (History fault)
+    × OfFile scripts (λ bytes. IsOk (scripts_of bytes))
 LeavesOutcomes scripts history old new ScriptsRead = Keeps old new
 LeavesOutcomes scripts history old new HistoryRead = Keeps old new
 LeavesOutcomes scripts history old new NoMemory = Keeps old new
 LeavesOutcomes scripts history old new Write =
     (text : List ℕ) × (well : Bool) × TellsOutcomes scripts history text well
+    × AppendsPart old new text

@@ -5,9 +5,10 @@
 //! memory; the others keep a whole file.
 ghost use Rattle.std.specs.Prelude.{IfOk, IfErr};
 ghost use Rattle.judge_engine.specs.Bases.{HasStripes};
-ghost use Rattle.judge_engine.specs.Files.{Checks, FailsToCheck, FailsToExplain};
-ghost use Rattle.judge_engine.specs.Outputs.{LeavesOutput, WritesLine, WritesLines};
+ghost use Rattle.judge_engine.specs.Files.{Checks, FailsToCheck};
+ghost use Rattle.judge_engine.specs.Outputs.{LeavesOutput, WritesLine};
 ghost use Rattle.judge_engine.specs.Watching.{FailsToWatch, Watches};
+ghost use Rattle.judge_engine.specs.Whys.{LeavesExplanation, WritesExplanation};
 
 use crate::basis::Basis;
 use crate::fault::Fault;
@@ -106,10 +107,11 @@ pub fn check<R: Read + Drop, W: Write>(
 ///
 /// # Errors
 ///
-/// - `Read` if a read fails.
-/// - `Input` if the file is refused; the line of the flaw was written.
-/// - `NoMemory` if memory is refused.
-/// - `Write` if a write fails or takes nothing.
+/// - `Read` if a read fails. Nothing was written.
+/// - `Input` if the file is refused. The line of the flaw was written.
+/// - `NoMemory` if memory is refused. Nothing was written.
+/// - `Write` if a write fails or takes nothing. Then the beginning of the lines may be written, but
+///   not all of them.
 ///
 /// # Cost
 ///
@@ -121,9 +123,10 @@ pub fn why<R: Read + Drop, W: Write>(
     input: R,
     output: &mut W,
 ) -> Result<bool, Fault>
-    ensures judges { IfOk result (λ legal. WritesLines (Checks by_commits (R.remaining input)) legal
+    ensures judges { IfOk result (λ legal. WritesExplanation by_commits (R.remaining input) legal
         (W.contents output.old) (W.contents output.new)) }
-    ensures fault { IfErr result (FailsToExplain (R.remaining input)) }
+    ensures fault { IfErr result (LeavesExplanation by_commits (R.remaining input)
+        (W.contents output.old) (W.contents output.new)) }
 {
     let bytes = read_file(alloc, input)?;
     match explain_file(alloc, by_commits, &bytes) {

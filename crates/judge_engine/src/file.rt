@@ -1,40 +1,45 @@
 //! The verdict on the bytes of a history file, and the lines that explain the bad entry. No reader
 //! or writer is used here, so the contracts are about bytes only. `judge_file` drops the bytes
 //! before it judges; `explain_file` borrows them, so that `why` can search them for a flaw.
-ghost use Rattle.std.specs.Prelude.{◌<◌, IfOk, IfErr};
+ghost use Rattle.std.specs.Prelude.{◌≡◌, ◌<◌, IfOk, IfErr, string_bytes};
 ghost use Rattle.std.specs.List.{All};
 ghost use Rattle.txn_words.specs.Kinds.{caller_of};
-ghost use Rattle.judge_engine.specs.declared.basis.Basis.TheVariants as bases;
-ghost use Rattle.judge_engine.specs.Bases.{IsVerdictBy};
-ghost use Rattle.judge_engine.specs.Files.{IsJudgedFile, IsUnjudgedFile};
+ghost use Rattle.judge_engine.specs.Bases.{HasStripes, IsVerdictBy};
+ghost use Rattle.judge_engine.specs.Files.{IsExplainedFile, IsJudgedFile, IsUnjudgedFile, basis_of};
 
+use crate::basis::Basis;
 use crate::fault::Fault;
-use crate::lines::{lines_by_commits, lines_by_locks};
+use crate::lines::lines_of;
 use history_check::Verdict;
 use std::alloc::{AllocError, Global};
 use txn_files::{holder_in, into_packed_history, read_packed_history};
-use txn_trace::{Holder, SmallEntry};
+use txn_trace::SmallEntry;
 
-/// The verdict on entries by the order of commits.
-fn in_order_of_commits(alloc: Global, entries: &[SmallEntry]) -> Result<Verdict, AllocError>
-    requires { All (λ entry. caller_of entry < 64) entries.now }
-    ensures { IfOk result (IsVerdictBy bases.Commits entries.now) }
+/// The rules by which a history file with these stripes and this version is judged.
+fn basis_of(by_commits: bool, stripes: u32, version: u64) -> Basis
+    ensures { result ≡ basis_of by_commits stripes version }
 {
-    serial_check::check_packed(alloc, entries)
+    match by_commits {
+        true => Basis::Commits,
+        false => Basis::Locks {
+            stripes: u64::from(stripes),
+            holder: holder_in(version),
+        },
+    }
 }
 
-/// The verdict on entries by locks.
-fn by_locks(
-    alloc: Global,
-    entries: &[SmallEntry],
-    stripes: u64,
-    holder: Holder,
-) -> Result<Verdict, AllocError>
-    requires stripes { 0 < stripes }
+/// The verdict on entries by the rules of `basis`.
+fn verdict_by(alloc: Global, basis: Basis, entries: &[SmallEntry]) -> Result<Verdict, AllocError>
+    requires stripes { HasStripes basis }
     requires callers { All (λ entry. caller_of entry < 64) entries.now }
-    ensures { IfOk result (IsVerdictBy (bases.Locks stripes holder) entries.now) }
+    ensures { IfOk result (IsVerdictBy basis entries.now) }
 {
-    history_check::check_packed(alloc, entries, stripes, holder)
+    match basis {
+        Basis::Locks { stripes, holder } => {
+            history_check::check_packed(alloc, entries, stripes, holder)
+        }
+        Basis::Commits => serial_check::check_packed(alloc, entries),
+    }
 }
 
 /// The verdict on the history file with these bytes: by the order of commits, or by the locks of
@@ -53,12 +58,9 @@ pub(crate) fn judge_file(alloc: Global, by_commits: bool, bytes: Vec<u8>) -> Res
     ensures err { IfErr result (IsUnjudgedFile bytes.items) }
 {
     let (stripes, packed, version) = into_packed_history(alloc, bytes)?;
-    let entries = packed.as_slice();
-    let stripes = u64::from(stripes);
-    if by_commits {
-        return Ok(in_order_of_commits(alloc, entries)?);
-    }
-    Ok(by_locks(alloc, entries, stripes, holder_in(version))?)
+    let basis = basis_of(by_commits, stripes, version);
+    let verdict = verdict_by(alloc, basis, packed.as_slice())?;
+    Ok(verdict)
 }
 
 /// The verdict on the history file with these bytes, and the lines that explain the bad entry.
@@ -77,19 +79,14 @@ pub(crate) fn explain_file(
     by_commits: bool,
     bytes: &[u8],
 ) -> Result<(Verdict, String), Fault>
-    ensures ok { IfOk result (λ found. IsJudgedFile by_commits bytes.now found.0) }
+    ensures ok { IfOk result (λ found.
+        IsExplainedFile by_commits bytes.now found.0 (string_bytes found.1)) }
     ensures err { IfErr result (IsUnjudgedFile bytes.now) }
 {
     let (stripes, packed, version) = read_packed_history(alloc, bytes)?;
     let entries = packed.as_slice();
-    let stripes = u64::from(stripes);
-    if by_commits {
-        let verdict = in_order_of_commits(alloc, entries)?;
-        let lines = lines_by_commits(alloc, entries, verdict)?;
-        return Ok((verdict, lines));
-    }
-    let holder = holder_in(version);
-    let verdict = by_locks(alloc, entries, stripes, holder)?;
-    let lines = lines_by_locks(alloc, entries, verdict, stripes, holder)?;
+    let basis = basis_of(by_commits, stripes, version);
+    let verdict = verdict_by(alloc, basis, entries)?;
+    let lines = lines_of(alloc, basis, entries, verdict)?;
     Ok((verdict, lines))
 }

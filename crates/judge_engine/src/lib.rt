@@ -7,9 +7,10 @@
 //! judges nothing.
 //!
 //! Proved: the verdict is that of the definitions (`specs/Files.antt`, `specs/Watching.antt`), and
-//! the outcomes are those of `script_outcomes` (`specs/Outcomes.antt`). At any fault except a
-//! failed write, `check`, `watch` and `tell_outcomes` write nothing. What `why` writes beside the
-//! verdict is only tested.
+//! the outcomes are those of `script_outcomes` (`specs/Outcomes.antt`). The lines that explain a
+//! bad entry are those of a right reason (`specs/Explained.antt`), and the line of a flaw is that of
+//! the file's flaw (`specs/Whys.antt`). At a fault nothing is written, with two exceptions: `why`
+//! writes the flaw of a refused file, and a failed write may leave a proper prefix of the text.
 //!
 //! `watch` keeps a checker and a part of the input in memory, and the others keep whole files.
 #![tactic(auto)]

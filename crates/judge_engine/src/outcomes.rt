@@ -8,6 +8,7 @@ ghost use Rattle.judge_engine.specs.Files.{OfFile};
 ghost use Rattle.judge_engine.specs.Outcomes.{FailsForHistory, FailsForScripts, HistoryOf, IsWell, LeavesOutcomes, WritesOutcomes, has_abort, how_many, is_kind, outcome_lines, of_history, of_scripts, outcome_line, outcomes_message, outcomes_status, outcomes_text};
 
 use crate::fault::Fault;
+use crate::output::write_text;
 use crate::reading::read_file;
 use script_outcomes::{Outcome, outcomes};
 use std::alloc::{AllocError, Global};
@@ -277,7 +278,7 @@ pub fn tell_outcomes<S: Read + Drop, H: Read + Drop, W: Write>(
         return Err(OutcomesFault::NoMemory);
     };
     let well = is_well(work.scripts(), &found);
-    match output.write_all(text.as_bytes()) {
+    match write_text(output, text.as_bytes()) {
         Ok(()) => Ok(well),
         Err(_) => Err(OutcomesFault::Write),
     }

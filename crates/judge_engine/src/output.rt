@@ -1,18 +1,45 @@
-//! Only this module writes for `check`, `watch` and `why`. Writing is the last step of each
-//! command. The module writes a verdict, a verdict with lines after it, or the flaw of a refused
-//! file. A verdict and its lines become one text before the first write, so the output is unchanged
-//! if memory is refused.
-ghost use Rattle.std.specs.Prelude.{◌≡◌, ◌⊎◌, ◌++◌, IfErr, IfOk, string_bytes};
+//! Only this module writes. Writing is the last step of each command. A text is made as a whole
+//! before its first byte is written, so the output is unchanged if memory is refused. A writer is
+//! not called again after it failed or took no bytes.
+ghost use Rattle.std.specs.Prelude.{◌≡◌, ◌++◌, IfErr, IfOk, OnErr, OnOk, string_bytes};
 ghost use Rattle.std.specs.Io.KnownBytes.{Appends};
 ghost use Rattle.judge_engine.specs.declared.fault.Fault.TheVariants as faults;
 ghost use Rattle.history_check.specs.Verdicts.{says_legal, verdict_line};
-ghost use Rattle.judge_engine.specs.Outputs.{FailsToWrite};
+ghost use Rattle.judge_engine.specs.Files.{IsUnjudgedFile};
+ghost use Rattle.judge_engine.specs.Outputs.{AppendsPart, FailsToWrite};
+ghost use Rattle.judge_engine.specs.Whys.{FailsToTell, IsFlawLine, IsRefused, Tells, WritesFlaw};
 
 use crate::fault::Fault;
 use bad_file::flaw_in;
 use history_check::Verdict;
 use std::alloc::{AllocError, Global};
 use std::io::Write;
+
+/// Writes the whole text.
+///
+/// # Errors
+///
+/// `Write` if the writer fails or takes nothing. Then a proper prefix of the text is written.
+///
+/// # Cost
+///
+/// One call of the writer for each part of the text that it takes. Takes no memory.
+pub(crate) fn write_text<W: Write>(output: &mut W, text: &[u8]) -> Result<(), Fault>
+    ensures ok { OnOk result (Appends (W.contents output.old) (W.contents output.new) text.now) }
+    ensures err { OnErr result (AppendsPart (W.contents output.old)
+        (W.contents output.new) text.now) }
+    ensures fault { IfErr result (λ fault. fault ≡ faults.Write) }
+{
+    let mut done = 0;
+    while done < text.len() {
+        match output.write(&text[done..]) {
+            Ok(0) => return Err(Fault::Write),
+            Ok(count) => done += count,
+            Err(_) => return Err(Fault::Write),
+        }
+    }
+    Ok(())
+}
 
 /// The line of a verdict. It has at most 61 bytes.
 fn line_of(alloc: Global, verdict: Verdict) -> Result<String, AllocError>
@@ -21,6 +48,15 @@ fn line_of(alloc: Global, verdict: Verdict) -> Result<String, AllocError>
     let mut line = String::new(alloc);
     writeln!(line, "{verdict}")?;
     Ok(line)
+}
+
+/// The line of a verdict, and the lines after it.
+fn text_of(alloc: Global, verdict: Verdict, lines: &str) -> Result<String, AllocError>
+    ensures { IfOk result (λ text. string_bytes text ≡ verdict_line verdict ++ lines.now) }
+{
+    let mut text = line_of(alloc, verdict)?;
+    text.push_str(lines)?;
+    Ok(text)
 }
 
 /// Whether a verdict says that the history is legal. Constant time.
@@ -35,7 +71,7 @@ fn is_legal(verdict: Verdict) -> bool
 /// # Errors
 ///
 /// `NoMemory` if memory is refused: nothing is written. `Write` if the writer fails or takes
-/// nothing.
+/// nothing: a proper prefix of the line is written.
 ///
 /// # Cost
 ///
@@ -47,13 +83,12 @@ pub(crate) fn write_verdict<W: Write>(
 ) -> Result<bool, Fault>
     ensures ok { IfOk result (λ legal. (legal ≡ says_legal verdict)
         × Appends (W.contents output.old) (W.contents output.new) (verdict_line verdict)) }
-    ensures err { IfErr result (FailsToWrite (W.contents output.old) (W.contents output.new)) }
+    ensures err { IfErr result (FailsToWrite (W.contents output.old) (W.contents output.new)
+        (verdict_line verdict)) }
 {
     let line = line_of(alloc, verdict)?;
-    match output.write_all(line.as_bytes()) {
-        Ok(()) => Ok(is_legal(verdict)),
-        Err(_) => Err(Fault::Write),
-    }
+    write_text(output, line.as_bytes())?;
+    Ok(is_legal(verdict))
 }
 
 /// Writes the line of a verdict and the lines after it. Returns whether the verdict says that the
@@ -62,7 +97,7 @@ pub(crate) fn write_verdict<W: Write>(
 /// # Errors
 ///
 /// `NoMemory` if memory is refused: nothing is written. `Write` if the writer fails or takes
-/// nothing.
+/// nothing: a proper prefix of the lines is written.
 ///
 /// # Cost
 ///
@@ -76,31 +111,53 @@ pub(crate) fn write_explained<W: Write>(
     ensures ok { IfOk result (λ legal. (legal ≡ says_legal verdict)
         × Appends (W.contents output.old) (W.contents output.new)
         (verdict_line verdict ++ lines.now)) }
-    ensures err { IfErr result (FailsToWrite (W.contents output.old) (W.contents output.new)) }
+    ensures err { IfErr result (FailsToWrite (W.contents output.old) (W.contents output.new)
+        (verdict_line verdict ++ lines.now)) }
 {
-    let mut text = line_of(alloc, verdict)?;
-    text.push_str(lines)?;
-    match output.write_all(text.as_bytes()) {
-        Ok(()) => Ok(is_legal(verdict)),
-        Err(_) => Err(Fault::Write),
+    let text = text_of(alloc, verdict, lines)?;
+    write_text(output, text.as_bytes())?;
+    Ok(is_legal(verdict))
+}
+
+/// The line of the flaw of a file that is refused.
+fn flaw_line(alloc: Global, bytes: &[u8]) -> Result<String, AllocError>
+    requires { IsRefused bytes.now }
+    ensures { IfOk result (λ line. IsFlawLine bytes.now (string_bytes line)) }
+{
+    let mut line = String::new(alloc);
+    match flaw_in(alloc, bytes)? {
+        Some(flaw) => {
+            writeln!(line, "{flaw}")?;
+            Ok(line)
+        }
+        None => Ok(line),
     }
+}
+
+/// Writes the line of the flaw of a file that is refused.
+fn write_flaw<W: Write>(alloc: Global, bytes: &[u8], output: &mut W) -> Result<(), Fault>
+    requires { IsRefused bytes.now }
+    ensures ok { OnOk result (WritesFlaw bytes.now (W.contents output.old)
+        (W.contents output.new)) }
+    ensures err { IfErr result (FailsToTell bytes.now (W.contents output.old)
+        (W.contents output.new)) }
+{
+    let line = flaw_line(alloc, bytes)?;
+    write_text(output, line.as_bytes())
 }
 
 /// If the fault is that a history file is refused, writes the flaw of the file with these bytes, in
 /// one line. Returns `fault`. If memory is refused, returns `NoMemory` instead. If the writer fails
 /// or takes nothing, returns `Write` instead.
 pub(crate) fn tell<W: Write>(alloc: Global, fault: Fault, bytes: &[u8], output: &mut W) -> Fault
-    ensures { (result ≡ fault) ⊎ ((result ≡ faults.NoMemory) ⊎ (result ≡ faults.Write)) }
+    requires { IsUnjudgedFile bytes.now fault }
+    ensures { Tells bytes.now (W.contents output.old) (W.contents output.new) result }
 {
-    let Fault::Input(_) = fault else {
-        return fault;
-    };
-    match flaw_in(alloc, bytes) {
-        Ok(Some(flaw)) => match output.writeln(flaw) {
+    match fault {
+        Fault::Input(_) => match write_flaw(alloc, bytes, output) {
             Ok(()) => fault,
-            Err(_) => Fault::Write,
+            Err(failure) => failure,
         },
-        Ok(None) => fault,
-        Err(_) => Fault::NoMemory,
+        _ => fault,
     }
 }

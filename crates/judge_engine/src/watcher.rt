@@ -7,7 +7,7 @@ ghost use Rattle.txn_words.specs.declared.entry.Entry.{Entry};
 ghost use Rattle.entry_lines.specs.EntryLine.{entry_on};
 ghost use Rattle.judge_engine.specs.declared.basis.Basis.{Basis};
 ghost use Rattle.judge_engine.specs.declared.fault.Fault.TheVariants as faults;
-ghost use Rattle.judge_engine.specs.Bases.{HasStripes, IsFedBy};
+ghost use Rattle.judge_engine.specs.Bases.{HasStripes, IsFedBy, IsLegalBy};
 ghost use Rattle.judge_engine.specs.LineReads.{ReadsLine};
 ghost use Rattle.judge_engine.specs.Breaks.{is_break, IsUnbroken};
 ghost use Rattle.judge_engine.specs.Watching.{IsJudgedLines, IsUnjudged};
@@ -176,12 +176,15 @@ impl Watcher {
     /// # Cost
     ///
     /// Constant time; takes no memory.
+    #[tactic(auto, using(crate::proofs::Settled::legal_said))]
     pub(crate) fn verdict_so_far(&self) -> Result<Option<Verdict>, Fault>
         ensures settled { (basis : Basis) (bytes more : List ℕ) → TookIn basis bytes self.now →
             MatchResult result
             (λ found. IfSome found (IsJudgedLines basis (bytes ++ more)))
             (IsUnjudged basis (bytes ++ more)) }
         ensures open { result ≡ Ok None → self.now.refused ≡ None }
+        ensures legal { result ≡ Ok None → (basis : Basis) (h : List Entry) →
+            IsFedBy basis h self.now.judge → IsLegalBy basis h }
     {
         let verdict = self.judge.verdict();
         match (verdict, self.refused) {

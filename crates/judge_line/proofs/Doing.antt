@@ -9,15 +9,16 @@ use Rattle.judge_engine.specs.declared.fault.Fault.{Fault as EngineFault}
 use Rattle.judge_engine.specs.declared.fault.Fault.TheVariants as faults
 use Rattle.judge_engine.specs.declared.outcomes.OutcomesFault.{OutcomesFault}
 use Rattle.judge_engine.specs.declared.outcomes.OutcomesFault.TheVariants as both
-use Rattle.judge_engine.specs.Files.{Checks, FailsToCheck, FailsToExplain}
+use Rattle.judge_engine.specs.Files.{Checks, FailsToCheck}
 use Rattle.judge_engine.specs.Outcomes.{LeavesOutcomes, WritesOutcomes}
-use Rattle.judge_engine.specs.Outputs.{LeavesOutput, WritesLine, WritesLines}
+use Rattle.judge_engine.specs.Outputs.{LeavesOutput, WritesLine}
 use Rattle.judge_engine.specs.Watching.{FailsToWatch, Watches}
+use Rattle.judge_engine.specs.Whys.{LeavesExplanation, WritesExplanation}
 use Rattle.judge_line.specs.declared.failure.Failure.{Failure}
 use Rattle.judge_line.specs.declared.failure.Failure.TheVariants.{Fault, Outcomes}
 use Rattle.judge_line.specs.Words as asked
 use Rattle.judge_line.specs.Runs.{ByFault, RunsCall, EndsWith, Files, LeavesBoth, RunResult}
-use Rattle.judge_line.proofs.Sources.{Holds, of_file, of_all, writes_line, writes_lines, leaves, fails_to_check, fails_to_explain, fails_to_watch, writes_outcomes, leaves_outcomes}
+use Rattle.judge_line.proofs.Sources.{Holds, of_file, of_all, writes_line, writes_explanation, leaves, leaves_explanation, fails_to_check, fails_to_watch, writes_outcomes, leaves_outcomes}
 
 pub keeps_same : (known : Option (List ℕ)) → Keeps known known
 keeps_same None = tt
@@ -53,21 +54,21 @@ pub check_not_opened : (by_commits : Bool) (name : Text) (files : Files) (old : 
 check_not_opened by_commits name files old outcome failure =
     not_opened (λ well. WritesLine (Checks by_commits (files name)) well old old) (LeavesOutput (Checks by_commits (files name)) (FailsToCheck (files name)) old old) outcome failure (keeps_same old) (keeps_same old)
 
--- If `why` has written the lines of a verdict on the source with this name, `RunsCall` holds for
+-- If `why` has written an explanation of the source with this name, `RunsCall` holds for
 -- this run.
-pub why_done : (by_commits : Bool) (name : Text) (files : Files) (bytes old new : Option (List ℕ)) (well : Bool) → Holds (files name) bytes → WritesLines (Checks by_commits bytes) well old new
+pub why_done : (by_commits : Bool) (name : Text) (files : Files) (bytes old new : Option (List ℕ)) (well : Bool) → Holds (files name) bytes → WritesExplanation by_commits bytes well old new
     → RunsCall (asked.Why by_commits name) files old new (Ok well)
-why_done by_commits name files bytes old new well same = writes_lines _ _ well old new (λ v. of_file (files name) bytes _ same)
+why_done by_commits name files bytes old new well same = writes_explanation by_commits (files name) bytes old new well same
 
-pub why_failed : (by_commits : Bool) (name : Text) (files : Files) (bytes old new : Option (List ℕ)) (outcome : RunResult) (fault : EngineFault) → Holds (files name) bytes → FailsToExplain bytes fault
+pub why_failed : (by_commits : Bool) (name : Text) (files : Files) (bytes old new : Option (List ℕ)) (outcome : RunResult) (fault : EngineFault) → Holds (files name) bytes → LeavesExplanation by_commits bytes old new fault
     → IsErrAnd outcome (λ e. e ≡ Fault fault) → RunsCall (asked.Why by_commits name) files old new outcome
 why_failed by_commits name files bytes old new outcome fault same fails =
-    failed (λ well. WritesLines (Checks by_commits (files name)) well old new) (FailsToExplain (files name)) outcome fault (fails_to_explain (files name) bytes fault same fails)
+    failed (λ well. WritesExplanation by_commits (files name) well old new) (LeavesExplanation by_commits (files name) old new) outcome fault (leaves_explanation by_commits (files name) bytes old new fault same fails)
 
 pub why_not_opened : (by_commits : Bool) (name : Text) (files : Files) (old : Option (List ℕ)) (outcome : RunResult) (failure : Failure) → (failure ≡ Fault faults.NoMemory) ⊎ (failure ≡ Fault faults.Read)
     → IsErrAnd outcome (λ e. e ≡ failure) → RunsCall (asked.Why by_commits name) files old old outcome
 why_not_opened by_commits name files old outcome failure =
-    not_opened (λ well. WritesLines (Checks by_commits (files name)) well old old) (FailsToExplain (files name)) outcome failure tt tt
+    not_opened (λ well. WritesExplanation by_commits (files name) well old old) (LeavesExplanation by_commits (files name) old old) outcome failure (keeps_same old) (keeps_same old)
 
 -- If `watch` has written the line of a verdict on the entries of standard input, `RunsCall` holds
 -- for this run.

@@ -8,10 +8,11 @@ use Rattle.judge_engine.specs.declared.fault.Fault.{Fault}
 use Rattle.judge_engine.specs.declared.fault.Fault.TheVariants.{Input, Line, NoMemory, Read, Write}
 use Rattle.judge_engine.specs.declared.outcomes.OutcomesFault.{OutcomesFault}
 use Rattle.judge_engine.specs.declared.outcomes.OutcomesFault.TheVariants as both
-use Rattle.judge_engine.specs.Files.{FailsToCheck, FailsToExplain, OfFile, max_read}
+use Rattle.judge_engine.specs.Files.{FailsToCheck, OfFile, max_read}
 use Rattle.judge_engine.specs.Outcomes.{IsOutcomesText, LeavesOutcomes, WritesOutcomes, TellsOutcomes}
-use Rattle.judge_engine.specs.Outputs.{LeavesOutput, WritesLine, WritesLines}
+use Rattle.judge_engine.specs.Outputs.{LeavesOutput, WritesLine}
 use Rattle.judge_engine.specs.Watching.{FailsToWatch, OfAll}
+use Rattle.judge_engine.specs.Whys.{LeavesExplanation, WritesExplanation}
 
 -- If bytes are known, the source has these bytes.
 abbrev pub Holds : Option (List ℕ) → Option (List ℕ) → Type 0
@@ -31,11 +32,8 @@ of_all known bytes P same (read, is, holds) = (read, read_same known bytes (λ a
 pub writes_line : (P Q : Verdict → Type 0) (well : Bool) (old new : Option (List ℕ)) → ((v : Verdict) → P v → Q v) → WritesLine P well old new → WritesLine Q well old new
 writes_line P Q well old new follows (v, right, says, grows) = (v, follows v right, says, grows)
 
-pub writes_lines : (P Q : Verdict → Type 0) (well : Bool) (old new : Option (List ℕ)) → ((v : Verdict) → P v → Q v) → WritesLines P well old new → WritesLines Q well old new
-writes_lines P Q well old new follows (v, lines, right, says, grows) = (v, lines, follows v right, says, grows)
-
 pub leaves : (P Q : Verdict → Type 0) (F G : Fault → Type 0) (old new : Option (List ℕ)) (fault : Fault) → ((v : Verdict) → P v → Q v) → ((f : Fault) → F f → G f) → LeavesOutput P F old new fault → LeavesOutput Q G old new fault
-leaves P Q F G old new Write follows fails (v, right) = (v, follows v right)
+leaves P Q F G old new Write follows fails (v, right, part) = (v, follows v right, part)
 leaves P Q F G old new (Input fault) follows fails h = (h.0, fails _ h.1)
 leaves P Q F G old new (Line number fault) follows fails h = (h.0, fails _ h.1)
 leaves P Q F G old new NoMemory follows fails h = h
@@ -48,12 +46,15 @@ fails_to_check known bytes NoMemory same h = h
 fails_to_check known bytes Read same h = h
 fails_to_check known bytes Write same h = h
 
-pub fails_to_explain : (known bytes : Option (List ℕ)) (fault : Fault) → Holds known bytes → FailsToExplain bytes fault → FailsToExplain known fault
-fails_to_explain known bytes (Input fault) same h = of_file known bytes _ same h
-fails_to_explain known bytes (Line number fault) same h = h
-fails_to_explain known bytes NoMemory same h = h
-fails_to_explain known bytes Read same h = h
-fails_to_explain known bytes Write same h = h
+pub writes_explanation : (by_commits : Bool) (known bytes old new : Option (List ℕ)) (well : Bool) → Holds known bytes → WritesExplanation by_commits bytes well old new → WritesExplanation by_commits known well old new
+writes_explanation by_commits known bytes old new well same h = of_file known bytes _ same h
+
+pub leaves_explanation : (by_commits : Bool) (known bytes old new : Option (List ℕ)) (fault : Fault) → Holds known bytes → LeavesExplanation by_commits bytes old new fault → LeavesExplanation by_commits known old new fault
+leaves_explanation by_commits known bytes old new (Input fault) same h = of_file known bytes _ same h
+leaves_explanation by_commits known bytes old new (Line number fault) same h = h
+leaves_explanation by_commits known bytes old new NoMemory same h = h
+leaves_explanation by_commits known bytes old new Read same h = h
+leaves_explanation by_commits known bytes old new Write same h = of_file known bytes _ same h
 
 pub fails_to_watch : (basis : Basis) (known bytes : Option (List ℕ)) (fault : Fault) → Holds known bytes → FailsToWatch basis bytes fault → FailsToWatch basis known fault
 fails_to_watch basis known bytes (Line number fault) same h = of_all known bytes _ same h
@@ -72,8 +73,8 @@ writes_outcomes s h left right old new well one two (text, told, grows) = (text,
 
 pub leaves_outcomes : (s h left right old new : Option (List ℕ)) (fault : OutcomesFault) → Holds s left → Holds h right → LeavesOutcomes left right old new fault → LeavesOutcomes s h old new fault
 leaves_outcomes s h left right old new (both.Scripts fault) one two kept = (kept.0, of_file s left _ one kept.1)
-leaves_outcomes s h left right old new (both.History fault) one two kept = (kept.0, of_file h right _ two kept.1)
+leaves_outcomes s h left right old new (both.History fault) one two kept = (kept.0, of_file h right _ two kept.1, of_file s left _ one kept.2)
 leaves_outcomes s h left right old new both.ScriptsRead one two kept = kept
 leaves_outcomes s h left right old new both.HistoryRead one two kept = kept
 leaves_outcomes s h left right old new both.NoMemory one two kept = kept
-leaves_outcomes s h left right old new both.Write one two (text, well, told) = (text, well, tells s h left right text well one two told)
+leaves_outcomes s h left right old new both.Write one two (text, well, told, part) = (text, well, tells s h left right text well one two told, part)

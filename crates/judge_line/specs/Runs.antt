@@ -8,10 +8,11 @@ use Rattle.std.specs.Io.KnownBytes.{Appends, Keeps}
 use Rattle.clap.specs.Words.{Text}
 use Rattle.judge_engine.specs.declared.fault.Fault.{Fault}
 use Rattle.judge_engine.specs.declared.fault.Fault.TheVariants as faults
-use Rattle.judge_engine.specs.Files.{Checks, FailsToCheck, FailsToExplain}
+use Rattle.judge_engine.specs.Files.{Checks, FailsToCheck}
 use Rattle.judge_engine.specs.Outcomes.{LeavesOutcomes, WritesOutcomes}
-use Rattle.judge_engine.specs.Outputs.{LeavesOutput, WritesLine, WritesLines}
+use Rattle.judge_engine.specs.Outputs.{LeavesOutput, WritesLine}
 use Rattle.judge_engine.specs.Watching.{FailsToWatch, Watches}
+use Rattle.judge_engine.specs.Whys.{LeavesExplanation, WritesExplanation}
 use Rattle.judge_line.specs.declared.failure.TheConstants.{USAGE}
 use Rattle.judge_line.specs.declared.failure.Failure.{Failure}
 use Rattle.judge_line.specs.declared.failure.Failure.TheVariants as failures
@@ -57,8 +58,8 @@ RunsCall (Check by_commits file) files old new = EndsWith
     (λ well. WritesLine (Checks by_commits (files file)) well old new)
     (LeavesOutput (Checks by_commits (files file)) (FailsToCheck (files file)) old new)
 RunsCall (Why by_commits file) files old new = EndsWith
-    (λ well. WritesLines (Checks by_commits (files file)) well old new)
-    (FailsToExplain (files file))
+    (λ well. WritesExplanation by_commits (files file) well old new)
+    (LeavesExplanation by_commits (files file) old new)
 RunsCall (Watch basis) files old new = EndsWith
     (λ well. WritesLine (Watches basis (files (codes "-"))) well old new)
     (LeavesOutput (Watches basis (files (codes "-")))

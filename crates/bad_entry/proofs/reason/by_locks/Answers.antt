@@ -13,4 +13,4 @@ pub returns-in_ok-checker-in-Shape : goal.returns-in_ok-checker-in-Shape
 returns-in_ok-checker-in-Shape c legal =
     let h = c.args.entries.now in
     rw c.in-Shape.is (subst (λ d. IsShapeReason h d c.shape_reason.result) c.caller.ensures
-    (c.shape_reason.ensures h (c.callers.ensures c.args.holder c.args.stripes h c.in_ok-checker-in-Shape.ensures legal)))
+    (c.shape_reason.ensures h (c.callers.ensures c.args.holder c.args.stripes h c.in_ok-checker-in-Shape.ensures legal) c.began_in.ensures))

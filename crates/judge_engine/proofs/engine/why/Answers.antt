@@ -1,7 +1,16 @@
-use Rattle.judge_engine.proofs.Ends.{fails_to_explain, told_fault}
+use Rattle.std.specs.Prelude.{string_bytes}
+use Rattle.judge_engine.proofs.Ends.{err_more, leaves_explained, leaves_told}
 use Rattle.judge_engine.proofs.engine.why.Goals as goal
+
+pub tell-requires : goal.tell-requires
+tell-requires g c = rw (c.deref-in-Err.ensures.value, ← c.deref.ensures.value) c.in-Err.ensures.err
+
+pub returns-in-Ok-clause-fault : goal.returns-in-Ok-clause-fault
+returns-in-Ok-clause-fault g c =
+    let is = rw c.deref.ensures.value at c.in-Ok.ensures.ok in
+    let left = rw c.as_str.ensures.value at c.write_explained.ensures.err in
+    err_more c.write_explained.result _ _ (λ fault. leaves_explained c.args.by_commits (g.R.Read.remaining c.args.input) (g.W.Write.contents c.args.output.now) (g.W.Write.contents c.write_explained.new.output) c.in_ok-bytes.bytes.items c.in_ok-bytes.ensures.ok c.in-Ok.verdict (string_bytes c.in-Ok.lines) fault is) left
 
 pub returns-clause-fault : goal.returns-clause-fault
 returns-clause-fault g c =
-    told_fault (g.R.Read.remaining c.args.input) c.in-Err.fault c.tell.result c.tell.ensures
-    (fails_to_explain (g.R.Read.remaining c.args.input) c.in_ok-bytes.bytes.items c.in-Err.fault c.in_ok-bytes.ensures.ok (rw c.deref.ensures.value at c.in-Err.ensures.err))
+    leaves_told c.args.by_commits (g.R.Read.remaining c.args.input) _ _ c.in_ok-bytes.bytes.items c.in_ok-bytes.ensures.ok c.tell.result (rw c.deref-in-Err.ensures.value at c.tell.ensures)

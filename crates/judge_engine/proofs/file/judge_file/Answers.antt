@@ -1,11 +1,9 @@
 use Rattle.txn_files.proofs.InRange.{file_in_range}
+use Rattle.judge_engine.proofs.Known.{has_stripes}
 use Rattle.judge_engine.proofs.file.judge_file.Goals as goal
 
-pub in_order_of_commits-requires : goal.in_order_of_commits-requires
-in_order_of_commits-requires c = rw c.as_slice-entries.ensures.value (file_in_range c.args.bytes.items _ c.in_ok-stripes.ensures).1
+pub verdict_by-requires-clause-stripes : goal.verdict_by-requires-clause-stripes
+verdict_by-requires-clause-stripes c = rw c.basis_of-basis.ensures (has_stripes c.args.by_commits _ _ (file_in_range c.args.bytes.items _ c.in_ok-stripes.ensures).0)
 
-pub by_locks-requires-clause-stripes : goal.by_locks-requires-clause-stripes
-by_locks-requires-clause-stripes c = rw c.from-stripes.ensures (file_in_range c.args.bytes.items _ c.in_ok-stripes.ensures).0
-
-pub by_locks-requires-clause-callers : goal.by_locks-requires-clause-callers
-by_locks-requires-clause-callers c = rw c.as_slice-entries.ensures.value (file_in_range c.args.bytes.items _ c.in_ok-stripes.ensures).1
+pub verdict_by-requires-clause-callers : goal.verdict_by-requires-clause-callers
+verdict_by-requires-clause-callers c = rw c.as_slice.ensures.value (file_in_range c.args.bytes.items _ c.in_ok-stripes.ensures).1
