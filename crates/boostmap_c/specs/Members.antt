@@ -1,6 +1,6 @@
 -- The effect of a striped map's call on a handle, in terms of the member that the handle owns
--- before and after. Only `Opens` and `Joins` give a member to an empty handle. For every other call
--- on an empty handle the status says that the handle is empty.
+-- before and after. Only `Opens` and `Joins` give a member to an empty handle. For every other
+-- call on an empty handle the status says that the handle is empty.
 use Rattle.std.specs.Prelude.{◌≡◌, ℕ, ◌+◌, ◌<◌, ◌&&◌, nat_le, Bool, true, [], ◌∷◌, ◌++◌, length, Option, Some, None, Result, if◌then◌else◌}
 use Rattle.txn_words.specs.declared.refusal.Refusal.TheVariants.{NoMemory, NoSuchCaller, Limit}
 use Rattle.striped_map.specs.declared.caller.Caller.{Caller}
@@ -12,8 +12,8 @@ use Rattle.boostmap_c.specs.Replies.{done, empty_handle, full, refused}
 use Rattle.boostmap_c.specs.Striped.{Aborts}
 use Rattle.boostmap_c.specs.Stops.{status_of_reply, word_of_reply, status_of_number, word_of_number, status_of_end}
 
--- The member's caller makes a call that returns a value or none. The status and the word report the
--- result to C. The waiting callers are unchanged.
+-- The member's caller makes a call that returns a value or none. The status and the word report
+-- the result to C. The waiting callers are unchanged.
 abbrev pub TellsReply : (Caller → Result (Option ℕ) Stop → Caller → Type 0) → Option Member → ℕ → ℕ
     → ℕ → Option Member → Type 0
 TellsReply Calls (Some old) status before after (Some new) =
@@ -23,8 +23,8 @@ TellsReply Calls (Some old) status before after (Some new) =
 TellsReply Calls None status before after None = (status ≡ empty_handle) × (after ≡ before)
 TellsReply Calls old status before after new = ⊥
 
--- The member's caller makes a call that returns a number. The status and the word report the result
--- to C. The waiting callers are unchanged.
+-- The member's caller makes a call that returns a number. The status and the word report the
+-- result to C. The waiting callers are unchanged.
 abbrev pub TellsNumber : (Caller → Result ℕ Stop → Caller → Type 0) → Option Member → ℕ → ℕ → ℕ
     → Option Member → Type 0
 TellsNumber Calls (Some old) status before after (Some new) =
@@ -49,8 +49,8 @@ are_striped_limits callers stripes =
     (nat_le 1 callers && nat_le callers 4096) && (nat_le 1 stripes && nat_le stripes 4096)
 
 -- The first member of a map that was opened (`IsOpened`): the map has no entries yet, and no
--- callers but those of the member. The member's own caller has the largest number. The other callers
--- wait in the member, in the order of their numbers from 1.
+-- callers but those of the member. The member's own caller has the largest number. The other
+-- callers wait in the member, in the order of their numbers from 1.
 pub record IsFirstMember (callers stripes : ℕ) (m : Member) : Type 0 where
   pub host : Host
   pub opened : IsOpened stripes callers host (m.waiting.items ++ m.caller ∷ [])
@@ -77,8 +77,8 @@ abbrev pub IsSame : Member → Member → Type 0
 IsSame old new = (new.caller ≡ old.caller) × (new.waiting.items ≡ old.waiting.items)
 
 -- The last waiting caller gets its own member, in which no caller waits. The word is the number of
--- callers that waited before the call, which by `IsFirstMember` is the number of this caller. If no
--- caller waits or memory is refused, no member is made.
+-- callers that waited before the call, which by `IsFirstMember` is the number of this caller. If
+-- no caller waits or memory is refused, no member is made.
 abbrev pub JoinsOf : Member → ℕ → ℕ → ℕ → Member → Option Member → Type 0
 JoinsOf old status before after new (Some made) =
     (new.caller ≡ old.caller) × (old.waiting.items ≡ new.waiting.items ++ made.caller ∷ [])
@@ -98,7 +98,8 @@ Joins first (Some next) status before after new made =
     (status ≡ full) × (after ≡ before) × (new ≡ first) × (made ≡ Some next)
 Joins (Some old) None status before after None made = ⊥
 
--- The handle no longer has a member. If the member's caller was in a transaction, this was aborted.
+-- The handle no longer has a member. If the member's caller was in a transaction, this was
+-- aborted.
 abbrev pub LeavesMap : Option Member → ℕ → Option Member → Type 0
 LeavesMap (Some old) status new = (status ≡ done) × (new ≡ None)
     × (answer : Result Unit Stop) × (left : Caller) × Aborts old.caller answer left

@@ -1,6 +1,7 @@
 //! Opens and frees a striped map for C. Each caller of the map gets a handle of its own, and the
 //! map is freed with its last caller. Only the calls of this module fill and empty a caller's
-//! handle. All callers are made when the map is opened, so a join takes memory only for its member.
+//! handle. All callers are made when the map is opened, so a join takes memory only for its
+//! member.
 ghost use Rattle.std.specs.Prelude.{◌≡◌, ◌++◌, [], ◌∷◌, IfOk, IfErr, OnOk, OnErr, true, length, nat_le, if◌then◌else◌};
 ghost use Rattle.txn_words.specs.declared.refusal.Refusal.TheVariants.{NoMemory, NoSuchCaller, Limit};
 ghost use Rattle.boostmap_c.specs.Striped.{Aborts};
@@ -105,8 +106,8 @@ pub extern "C" fn boostmap_striped_open(
 }
 
 /// Gives a handle to the next waiting caller. The word is this caller's number, which is one less
-/// than the number of the caller that got a handle last. Only the first caller of a map has waiting
-/// callers.
+/// than the number of the caller that got a handle last. Only the first caller of a map has
+/// waiting callers.
 ///
 /// # Errors
 ///
@@ -157,9 +158,9 @@ fn end(member: &mut Member) -> Result<(), Stop>
 /// then all zeros. If the caller is the first of its map, the callers that still wait for a handle
 /// are freed too. The map is freed with its last caller.
 ///
-/// The contract says that the abort was made. It cannot say that the freed caller does nothing after
-/// it, since a freed value has no last state. The function `freeing` of `bindings/tests/striped.c`
-/// tests this.
+/// The contract says that the abort was made. It cannot say that the freed caller does nothing
+/// after it, since a freed value has no last state. The function `freeing` of
+/// `bindings/tests/striped.c` tests this.
 ///
 /// # Errors
 ///

@@ -15,14 +15,14 @@ abbrev pub on_callers : {H A : Type 0} → (H → Caller) → (H → A → H →
 on_callers caller_of relation a answer b =
     (h : _) × (k : _) × relation h answer k × (caller_of h ≡ a) × (caller_of k ≡ b)
 
--- Why an attempt failed. If the work returned an error, `stop` is this error. If the work succeeded
--- although one of its calls had ended the transaction, `stop` is `NotOpen`.
+-- Why an attempt failed. If the work returned an error, `stop` is this error. If the work
+-- succeeded although one of its calls had ended the transaction, `stop` is `NotOpen`.
 abbrev pub IsWhy : {T : Type 0} → Result T Stop → Caller → Stop → Type 0
 IsWhy (Err found) left stop = stop ≡ found
 IsWhy (Ok value) left stop = (stop ≡ Refused NotOpen) × (left.is_open ≡ false)
 
--- One attempt failed: a transaction was begun, the work ran in it, and the transaction was taken back
--- (`IsTakenBack`). Nothing is committed, and no transaction is open.
+-- One attempt failed: a transaction was begun, the work ran in it, and the transaction was taken
+-- back (`IsTakenBack`). Nothing is committed, and no transaction is open.
 pub record Fails {T : Type 0} (work : Caller → Result T Stop → Caller → Type 0) (a b : Caller)
     (stop : Stop) : Type 0 where
   pub txn : ℕ

@@ -1,6 +1,6 @@
 -- The facts that a hand's contracts name: an operation under another key, a view without stripes,
--- which stripes a seat holds after a call, why a stripe was not taken, and the ends of a transaction
--- that take all changes back.
+-- which stripes a seat holds after a call, why a stripe was not taken, and the ends of a
+-- transaction that take all changes back.
 use Rattle.std.specs.Prelude.{◌≡◌, ◌≢◌, ◌⊎◌, ℕ, ◌<◌, List, [], ◌∷◌, true}
 use Rattle.txn_words.specs.declared.op.Op.{Op}
 use Rattle.txn_words.specs.declared.op.Op.TheVariants.{Put, Take, Get, PutIf}

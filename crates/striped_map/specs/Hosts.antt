@@ -26,8 +26,8 @@ seen_by host = (known host.hand.seat).seen
 abbrev pub may_open : ℕ → ℕ → Bool
 may_open stripes callers = nat_le 1 stripes && nat_le stripes 4096 && nat_le callers 4096
 
--- A map with this many stripes and callers was opened. Its host has merged no caller and has seen no
--- entry. Its callers are new, and have the numbers from 1 on. There are no other callers.
+-- A map with this many stripes and callers was opened. Its host has merged no caller and has seen
+-- no entry. Its callers are new, and have the numbers from 1 on. There are no other callers.
 pub record IsOpened (stripes callers : ℕ) (host : Host) (all : List Caller) : Type 0 where
   pub within : may_open stripes callers ≡ true
   pub numbers_are : numbers host ≡ callers + 1

@@ -1,7 +1,7 @@
 //! Callers catch up with one another here, on one thread and after they ran in threads, and are
-//! merged into the host. `catch_up` and `take_in` require that both sides belong to the same map, so
-//! the functions of this module have clauses that say so. The balances and the commit numbers were
-//! worked out by hand, and do not depend on the order of the threads.
+//! merged into the host. `catch_up` and `take_in` require that both sides belong to the same map,
+//! so the functions of this module have clauses that say so. The balances and the commit numbers
+//! were worked out by hand, and do not depend on the order of the threads.
 ghost use Rattle.std.specs.Prelude.{◌≡◌};
 
 use crate::calls::{Ask, Home, NEW, Told, ask_row, has_left, leaves, play};
@@ -80,7 +80,8 @@ fn from_threads<R: Threads>(rt: &R, one: Caller, other: Caller) -> (Caller, Call
     )
 }
 
-/// Each caller catches up with the other one. Then each caller moves 1 from account 2 to account 1.
+/// Each caller catches up with the other one. Then each caller moves 1 from account 2 to account
+/// 1.
 fn meet(one: &mut Caller, other: &mut Caller) -> Result<(bool, bool), Stop>
     requires same_map { one.old.map.value ≡ other.old.map.value }
 {
