@@ -1,6 +1,6 @@
-//! Tests of `striped_map` and `sided_caller`, and of `transfer` of `accounts`. They test what no
-//! contract says: as long as there is memory, each call succeeds. A worked run lists each call with
-//! its answer, and the pairs that remain at the end.
+//! Tests of `striped_map`, and of `transfer` of `accounts`. They test what no contract says: as long
+//! as there is memory, each call succeeds. A worked run lists each call with its answer, and the
+//! pairs that remain at the end.
 //!
 //! The tests are a separate crate, since a crate with tests is proved twice. Most functions that
 //! make calls have no contract; `calls` says why.
@@ -20,10 +20,6 @@ mod meets;
 mod refused;
 #[cfg(test)]
 mod runs;
-#[cfg(test)]
-mod sided;
-#[cfg(test)]
-mod sided_limits;
 #[cfg(test)]
 mod threads;
 #[cfg(test)]
