@@ -1,8 +1,8 @@
 //! The lines that explain a bad entry: each part of the reason that `bad_entry` gives, in words.
 //! `specs/ReasonLines.antt` defines the lines. A reason that lists entries takes a few more passes
 //! over the history.
-ghost use Rattle.std.specs.Prelude.{◌≡◌, ◌<◌, ◌++◌, ◌==◌, ◌&&◌, List, length, nat_eq, nat_le, IfOk, OnOk};
-ghost use Rattle.std.specs.Prelude.{Some, slice_get, string_bytes, take};
+ghost use Rattle.std.specs.Prelude.{◌≡◌, ◌<◌, ◌++◌, ◌==◌, ◌&&◌, List, length, nat_eq, nat_le};
+ghost use Rattle.std.specs.Prelude.{IfOk, OnOk, Some, slice_get, string_bytes, take};
 ghost use Rattle.std.specs.Option.{option_eq};
 ghost use Rattle.std.specs.List.{All};
 ghost use Rattle.txn_words.specs.Kinds.{caller_of};
@@ -131,7 +131,8 @@ impl fmt::Display for Allowed {
 
 /// Adds the line of an entry, with the entry's index in front.
 fn put_entry(alloc: Global, text: &mut String, index: u64, entry: Entry) -> Result<(), AllocError>
-    ensures { OnOk result (string_bytes text.new ≡ string_bytes text.old ++ entry_line index entry) }
+    ensures { OnOk result (string_bytes text.new
+        ≡ string_bytes text.old ++ entry_line index entry) }
 {
     let line = history_lines(alloc, &[entry])?;
     write!(text, "  {index} {line}")
