@@ -22,8 +22,8 @@ answer_of (stops.Refused refusal) = answers.Refused refusal
 abbrev pub IsStopped : State → Step → Stop → State → Type 0
 IsStopped old step stop new = Happens old step (answer_of stop) new
 
--- A caller's operation was done once, with this reply. If its key was absent, the table may then have
--- grown.
+-- A caller's operation was done once, with this reply. If its key was absent, the table may then
+-- have grown.
 abbrev pub HasOperated : ℕ → Op → Option ℕ → State → State → Type 0
 HasOperated c op reply old new =
     (done : State) × Operates old c op (answers.Done reply) done × IsGrown c done new

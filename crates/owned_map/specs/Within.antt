@@ -150,8 +150,8 @@ abbrev pub growing : ℕ → ℕ → ℕ → List Step
 growing c size bucket =
     if nat_le size bucket then Double size ∷ initialising c bucket else initialising c bucket
 
--- A caller took the steps that add a bucket, each once, and no other step. The map has more than two
--- keys for each bucket below this one.
+-- A caller took the steps that add a bucket, each once, and no other step. The map has more than
+-- two keys for each bucket below this one.
 pub record Grows (c : ℕ) (old new : State) : Type 0 where
   pub bucket : ℕ
   pub wanted : 2 * bucket < count_of (now old.history)

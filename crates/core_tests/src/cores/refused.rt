@@ -269,6 +269,29 @@ static SECOND_SEGMENT: [(Step, Answer); 12] = [
     (Step::InitSeek(0, 64), Answer::Ready),
 ];
 
+/// Checks that these are the pairs of the keys below 129, each with itself as value. A list has
+/// keys below 256 in rising order of their eight bits read backwards: 0, 128, 64, 192, 32 and so
+/// on.
+fn are_many(rt: &impl Abort, pairs: &[(u64, u64)]) {
+    let mut found = pairs.iter();
+    for backwards in 0..256_u64 {
+        let key = backwards.reverse_bits() >> 56;
+        if key < 129 {
+            assert_eq!(rt; found.next(), Some(&(key, key)));
+        }
+    }
+    assert_eq!(rt; found.next(), None);
+}
+
+/// Checks the numbers of buckets and keys. If there is memory for the list of pairs, also checks
+/// the pairs.
+fn has_many(rt: &impl Abort, alloc: Global, core: &Core) {
+    assert_eq!(rt; sizes_of(core), (128, 129));
+    if let Ok(pairs) = pairs_of(alloc, core) {
+        are_many(rt, &pairs);
+    }
+}
+
 /// Puts the keys, stores bucket 64, and commits. If a step is refused memory twice, the caller
 /// aborts instead.
 fn fill_segments(rt: &impl Abort, alloc: Global, core: &mut Core) -> Result<(), Fail> {
@@ -278,7 +301,7 @@ fn fill_segments(rt: &impl Abort, alloc: Global, core: &mut Core) -> Result<(), 
         return Ok(());
     }
     step_is(rt, core, Step::Commit(0), Answer::Committed(1))?;
-    assert_eq!(rt; sizes_of(core), (128, 129));
+    has_many(rt, alloc, core);
     Ok(())
 }
 

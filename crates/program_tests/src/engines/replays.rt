@@ -1,7 +1,7 @@
 //! Step files, each with the report of `replay` for it. Each line of a run has steps, followed by
 //! the answers to these steps. The file and the report are both made from these lines. The answers
-//! were worked out by hand. One test puts 129 keys. Its lines are made by a rule, and its report is
-//! compared only up to the third pair.
+//! were worked out by hand. One test puts 129 keys. Its lines and the pairs of its report are made
+//! by rules.
 
 use super::{Command, Files, run_on};
 use crate::devices::{Ended, Narrow, compare_ended};
@@ -587,29 +587,43 @@ const SEGMENTS: &str = r#"["double",2] = doubled 4
 ["commit",0] = committed 1
 ["sweep"] = clean"#;
 
-/// A file with one caller and at most 128 buckets. `rest` has the lines of its report from the size
-/// to the third pair.
+/// A file with one caller and at most 128 buckets. `rest` has the line of its report that is
+/// followed by the pairs.
 const OF_SEGMENTS: Run = Run {
     name: "segments",
     version: 1,
     callers: 1,
     buckets: 128,
     parts: &[],
-    rest: "size 128 count 129\n0 0\n128 128\n64 64\n",
+    rest: "size 128 count 129\n",
 };
 
-/// Makes a file with 129 puts, followed by the steps of `SEGMENTS`. Returns the file, and its
-/// report up to the third pair.
+/// Adds a line for the pair of each key below `count`, which is at most 256. The list has these
+/// keys in rising order of their eight bits read backwards: 0, 128, 64, 192, 32 and so on.
+fn add_pairs(report: &mut String, count: u64) -> Result<(), Fail> {
+    for backwards in 0..256_u64 {
+        let key = backwards.reverse_bits() >> 56;
+        if key < count {
+            writeln!(report, "{key} {key}")?;
+        }
+    }
+    Ok(())
+}
+
+/// Makes a file with 129 puts, followed by the steps of `SEGMENTS`. Returns the file and its
+/// report.
 fn texts_of_segments(alloc: Global) -> Result<(String, String), Fail> {
     let mut puts = String::new(alloc);
     add_puts(&mut puts, 129)?;
-    texts_of(alloc, OF_SEGMENTS, &[&puts, SEGMENTS])
+    let (text, mut report) = texts_of(alloc, OF_SEGMENTS, &[&puts, SEGMENTS])?;
+    add_pairs(&mut report, 129)?;
+    Ok((text, report))
 }
 
 #[test]
 fn segments(rt: HostRuntime) -> Result<(), Fail> {
     let (text, report) = texts_of_segments(rt.alloc())?;
     let ended = replayed(&rt, rt.alloc(), &text);
-    assert!(rt; ended.output.text().starts_with(report.as_str()));
+    compare_ended(&rt, &ended, (&report, "", 0), OF_SEGMENTS.name);
     Ok(())
 }
