@@ -1,5 +1,5 @@
 #!/usr/bin/env python3
-"""bodies.py [CRATE..]: tries each wrong body of crates/NAME/must-fail/bodies.md, those of all crates by default.
+"""bodies.py [CRATE..]: tries each wrong body of crates/NAME/must-fail/bodies.md, of all crates by default.
 
 A wrong body passes if the prover refuses the function that it changes, with this body alone in this
 function. One check of a crate, in a copy, tries bodies of different functions: the contract of a function
@@ -233,7 +233,7 @@ def try_crate(libraries, crate):
                 print(f"{crate.name}: no verdict, status {os.waitstatus_to_exitcode(status)}: {output.strip()[-1500:]}")
             outcomes = outcomes_in(output.splitlines())
             for body in taken["bodies"]:
-                results[body.name] = outcome_of(body, outcomes)
+                results[body] = outcome_of(body, outcomes)
     return bodies, results, len(rounds), seconds
 
 
@@ -249,7 +249,7 @@ def main(names):
             bodies, results, rounds, used = runs[crate].result()
             seconds += used
             for body in bodies:
-                what, why = results[body.name]
+                what, why = results[body]
                 passed, failed = passed + (what != "failed"), failed + (what == "failed")
                 if what == "by name":
                     by_name.append(body)
