@@ -207,34 +207,41 @@ def outcome_of(body, outcomes):
     return max(best, key=rank)
 
 
+def try_round(command, crate, room, taken):
+    """Checks the functions of a round. Gives the outcome of each body, and the processor seconds."""
+    for file, text in taken["texts"].items():
+        Path(room, file).write_text(text, encoding="utf-8")
+    functions = sorted({function for body in taken["bodies"] for function in body.refused})
+    only = [word for function in functions for word in ("--only", function)]
+    ran = subprocess.Popen([*command, *only], cwd=room, stdout=subprocess.PIPE, stderr=subprocess.STDOUT, text=True, errors="replace")
+    output = ran.stdout.read()
+    _, status, used = os.wait4(ran.pid, 0)
+    for file in taken["texts"]:
+        shutil.copy(crate / file, Path(room, file))
+    if not re.search(r"^only=", output, re.M):
+        print(f"{crate.name}: no verdict, status {os.waitstatus_to_exitcode(status)}: {output.strip()[-1500:]}")
+    outcomes = outcomes_in(output.splitlines())
+    return {body: outcome_of(body, outcomes) for body in taken["bodies"]}, used.ru_utime + used.ru_stime
+
+
 def try_crate(libraries, crate):
     """Tries the bodies of a crate. Gives them with their outcomes, the number of rounds, and the processor seconds."""
-    bodies = bodies_of(crate)
-    rounds, results, seconds = rounds_of(crate, bodies), {}, 0.0
+    bodies, results, seconds, number = bodies_of(crate), {}, 0.0, 0
     with tempfile.TemporaryDirectory(prefix="bodies-") as room:
         for part in ("src", "specs", "proofs"):
             if (crate / part).is_dir():
                 shutil.copytree(crate / part, Path(room, part))
         os.mkdir(f"{room}/proved")
         root = "src/main.rt" if (crate / "src/main.rt").is_file() else "src/lib.rt"
-        for taken in rounds:
-            for file, text in taken["texts"].items():
-                Path(room, file).write_text(text, encoding="utf-8")
-            functions = sorted({function for body in taken["bodies"] for function in body.refused})
-            only = [word for function in functions for word in ("--only", function)]
-            ran = subprocess.Popen([*libraries.command(crate.name), root, *only], cwd=room, stdout=subprocess.PIPE,
-                                   stderr=subprocess.STDOUT, text=True, errors="replace")
-            output = ran.stdout.read()
-            _, status, used = os.wait4(ran.pid, 0)
-            seconds += used.ru_utime + used.ru_stime
-            for file in taken["texts"]:
-                shutil.copy(crate / file, Path(room, file))
-            if not re.search(r"^only=", output, re.M):
-                print(f"{crate.name}: no verdict, status {os.waitstatus_to_exitcode(status)}: {output.strip()[-1500:]}")
-            outcomes = outcomes_in(output.splitlines())
-            for body in taken["bodies"]:
-                results[body] = outcome_of(body, outcomes)
-    return bodies, results, len(rounds), seconds
+        rounds = rounds_of(crate, bodies)
+        while rounds:
+            found, used = try_round([*libraries.command(crate.name), root], crate, room, rounds.pop(0))
+            results |= found
+            seconds, number = seconds + used, number + 1
+            # Of a function that calls one that this round has changed too, the prover may say nothing else.
+            again = [body for body, (what, why) in found.items() if what == "failed" and "it calls" in why and len(found) > 1]
+            rounds += [round_ for body in again for round_ in rounds_of(crate, [body])]
+    return bodies, results, number, seconds
 
 
 def main(names):
