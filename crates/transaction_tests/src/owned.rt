@@ -32,7 +32,6 @@ fn contains(t: &mut Transaction<'_>, key: u64) -> Result<Reply, Stop>
 }
 
 /// Puts 1 at a key, and sets a savepoint.
-#[tactic(auto, using(owned_map::proofs::Calls::keeps_on))]
 fn put_and_save(t: &mut Transaction<'_>, key: u64) -> Result<u64, Stop>
     ensures { Keeps t.old t.new }
 {
