@@ -91,18 +91,17 @@ def function_at(crate, file, old):
 def name_of(owner):
     """The prover's name of an `impl` or a trait: the type, followed by the trait that it implements."""
     head = re.sub(r"^(?:pub\s+)?(?:impl|trait)\b|\s*(?:\{|\bwhere\b).*|&(?:'\w+ )?(?:mut )?", "", owner)
+    parameters = set()
     if head.startswith("<"):
-        depth = 0
-        for place, letter in enumerate(head):
-            depth += (letter == "<") - (letter == ">")
-            if depth == 0:
-                head = head[place + 1 :]
-                break
+        depths = [head[: place + 1].count("<") - head[: place + 1].count(">") for place in range(len(head))]
+        end = depths.index(0)
+        parameters = set(re.findall(r"[<,]\s*(?:const\s+)?(\w+)", head[:end]))
+        head = head[end + 1 :]
     trait, _, kind = head.strip().partition(" for ")
     last = lambda path: re.sub(r"<.*", "", path).split("::")[-1].split(":")[0].strip()
     if not kind:
         return last(trait)
-    of = "".join(re.findall(r"\w+", re.sub(r"^[^<]*", "", trait)))
+    of = "".join(word for word in re.findall(r"\w+", re.sub(r"^[^<]*", "", trait)) if word not in parameters)
     return last(kind) + ("" if last(trait) == "Drop" else last(trait) + of)
 
 
@@ -238,8 +237,9 @@ def try_crate(libraries, crate):
             found, used = try_round([*libraries.command(crate.name), root], crate, room, rounds.pop(0))
             results |= found
             seconds, number = seconds + used, number + 1
-            # Of a function that calls one that this round has changed too, the prover may say nothing else.
-            again = [body for body, (what, why) in found.items() if what == "failed" and "it calls" in why and len(found) > 1]
+            # Of a function that calls one that this round has changed too, the prover may say only that.
+            calls = re.compile("it calls|a call of")
+            again = [body for body, (what, why) in found.items() if what == "failed" and calls.search(why) and len(found) > 1]
             rounds += [round_ for body in again for round_ in rounds_of(crate, [body])]
     return bodies, results, number, seconds
 
