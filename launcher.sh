@@ -14,8 +14,8 @@
 # first. A call that `part` answers waits only for `part`, whose libraries are then kept beside it until
 # the whole program is built. Otherwise nothing is kept but the program. If `rt run` has built the program
 # before, as CONTRIBUTING.md tells people who change sources, then `rt run` builds it again, over what it
-# has kept. Standard error shows the progress. If the build fails, the status is 125, which no other call
-# returns. RT names a command to run instead of rt.
+# has kept. Standard error shows the progress. If rt is missing or the build fails, the status is 125, which no
+# other call returns. RT names a command to run instead of rt.
 #
 # A crate is proved as soon as those below it are, by the prover that `rt` calls. Of the crates that are
 # ready, the one that begins the longest chain of waiting crates gets all processors but one, and others
@@ -205,6 +205,8 @@ await_one() {
     unset "running[$process]"
     if [ $status != 0 ] || ! grep -q '^logic=proved' "$work/$name.log"; then
         cat -- "$work/$name.log" >&2
+        echo "$program: $name is not proved. Compare the sources with git status, and rt version with" \
+            "the logic that README.md names" >&2
         return 1
     fi
     proved[$name]=
@@ -260,6 +262,9 @@ if needs_build; then
     if [ -n "$part" ] && [ ! -d "$out/incremental" ] && ! needs_whole "$@"; then choose "$part"; fi
 fi
 if needs_build; then
+    # shellcheck source=tools.sh
+    . "$root/tools.sh"
+    need "$program" "${RT:-rt}" 'prove and build the program'
     mkdir -p -- "$out" "$(dirname -- "$lock")" || exit 125
     # Another call may be building the program.
     exec 9>"$lock" && flock 9 || exit 125

@@ -1,8 +1,10 @@
 /* Four threads move money between two accounts of one striped map. Each has its own caller. */
+#define _POSIX_C_SOURCE 200809L /* for nanosleep */
 #include <boostmap.h>
 #include <inttypes.h>
 #include <pthread.h>
 #include <stdio.h>
+#include <time.h>
 
 enum { THREADS = 4, ROUNDS = 1000 };
 
@@ -21,12 +23,22 @@ static boostmap_status move_one(boostmap_caller *c) {
     return status;
 }
 
-/* Moves ROUNDS times; a move that finds a stripe busy is tried again. Returns null if all were made. */
+/* Moves ROUNDS times. A move that finds a stripe busy is tried again after a sleep, which is twice as
+ * long each time, from a microsecond to half a millisecond: without it the threads keep one another
+ * from ever committing. Returns null if all were made. */
 static void *run(void *caller) {
+    struct timespec sleep = {0, 1000};
     for (int done = 0; done < ROUNDS;) {
         boostmap_status status = move_one(caller);
-        if (status == BOOSTMAP_DONE) done++;
-        else if (status != BOOSTMAP_BUSY) return caller;
+        if (status == BOOSTMAP_DONE) {
+            done++;
+            sleep.tv_nsec = 1000;
+        } else if (status == BOOSTMAP_BUSY) {
+            nanosleep(&sleep, NULL);
+            if (sleep.tv_nsec < 500000) sleep.tv_nsec *= 2;
+        } else {
+            return caller;
+        }
     }
     return NULL;
 }
@@ -35,7 +47,7 @@ int main(void) {
     boostmap_caller callers[THREADS] = {BOOSTMAP_INIT};
     pthread_t threads[THREADS];
     uint64_t word, one = 0, two = 0;
-    if (boostmap_striped_open(&callers[0], THREADS, 64, &word) != BOOSTMAP_DONE) return 1;
+    if (boostmap_striped_open(&callers[0], THREADS, 64, 0, BOOSTMAP_KEEP_COMMITS, 0, &word) != BOOSTMAP_DONE) return 1;
     for (int i = 1; i < THREADS; i++)
         if (boostmap_striped_join(&callers[0], &callers[i], &word) != BOOSTMAP_DONE) return 1;
     if (boostmap_striped_begin(&callers[0]) != BOOSTMAP_DONE ||

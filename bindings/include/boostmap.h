@@ -17,7 +17,7 @@
  *     boostmap_free(&map);
  *
  *     boostmap_caller mine = BOOSTMAP_INIT, yours = BOOSTMAP_INIT;   a map for two threads
- *     boostmap_striped_open(&mine, 2, 64, &word);                2 callers, 64 stripes
+ *     boostmap_striped_open(&mine, 2, 64, 0, BOOSTMAP_KEEP_NOTHING, 0, &word);   2 callers, 64 stripes
  *     boostmap_striped_join(&mine, &yours, &word);               `yours` goes to the other thread
  *     boostmap_striped_begin(&mine);
  *     boostmap_striped_put(&mine, 7, 70, &word);                 BOOSTMAP_BUSY if the other has it
@@ -243,10 +243,18 @@ typedef struct boostmap_caller {
     uint64_t apart[6];
 } boostmap_caller;
 
-/* Opens a map with no keys, for 1 to 4096 callers and with 1 to 4096 stripes, and makes `first` its
- * first caller; *word: the caller's number, which is the number of callers. The others wait until
- * they are joined.    0; 4; 38; 30 */
-boostmap_status boostmap_striped_open(boostmap_caller *first, uint64_t callers, uint64_t stripes, uint64_t *word);
+/* What a map keeps of its history. One that keeps its commits counts them in a word that all its
+ * callers write. */
+enum { BOOSTMAP_KEEP_NOTHING = 0, BOOSTMAP_KEEP_COMMITS = 1 };
+
+/* Opens a map with no keys, for 1 to 4096 callers and with 1 to 4096 stripes, with room for `keys`
+ * keys, and makes `first` its first caller; *word: the caller's number, which is the number of
+ * callers. The others wait until they are joined. `seed` is that of the hash of keys within a stripe:
+ * if strangers choose the keys, draw it at random below 2^32, or they can make every call slow. With
+ * larger seeds, consecutive keys may be slow.
+ * 0; 4; 38; 30 */
+boostmap_status boostmap_striped_open(boostmap_caller *first, uint64_t callers, uint64_t stripes, uint64_t keys,
+                                      uint32_t keep, uint64_t seed, uint64_t *word);
 
 /* Makes `next` the handle of the next caller that waits; *word: its number, counted down to 1. Both
  * handles are in this call.    0; 4: `next` is in use; 3: `first` is empty; 18: nobody waits; 30 */
@@ -259,7 +267,8 @@ boostmap_status boostmap_striped_free(boostmap_caller *caller);
 /* Begins a transaction.    0; 3; 20 */
 boostmap_status boostmap_striped_begin(boostmap_caller *caller);
 
-/* Commits; *word: the place in the order of commits, from 1, modulo 2^64.    0; 3; 19 */
+/* Commits; *word: the place in the order of commits, from 1, modulo 2^64, if the map keeps its commits,
+ * and 0 if not.    0; 3; 19 */
 boostmap_status boostmap_striped_commit(boostmap_caller *caller, uint64_t *word);
 
 /* Aborts: takes every change back, and gives the stripes back.    0; 3; 19 */

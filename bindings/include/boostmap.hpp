@@ -9,7 +9,10 @@
 //     });                                  commits; an exception aborts
 //
 //     auto callers = boostmap_cpp::open_striped(4, 64);      one for each of four threads
-//     callers[0].transact(100, [](auto &t) { t.put(1, 10); });   if busy, up to 100 further tries
+//     callers[0].transact([](auto &t) { t.put(1, 10); });        if busy, waits and tries again
+//
+// A job can neither commit nor abort. It throws, or calls `t.roll_back()` to return a value although
+// nothing is committed.
 //
 // Threads: as boostmap.h says, one call at a time on one map, one caller or one judge. A call that
 // fails throws `error`, or `busy`.
@@ -19,8 +22,10 @@
 #include "boostmap.h"
 
 #include <algorithm>
+#include <chrono>
 #include <cstdint>
 #include <optional>
+#include <random>
 #include <stdexcept>
 #include <string>
 #include <thread>
@@ -43,31 +48,61 @@ struct not_fed : error {
     not_fed(boostmap_status s, std::uint64_t count) : error(s), fed(count) {}
 };
 
-// Thrown if another caller holds a stripe that the call needs. The transaction can then only abort;
-// on a striped map it has been aborted.
+// Thrown if another caller, `holder`, holds a stripe that the call needs. The transaction can then only
+// abort; on a striped map it has been aborted. `handle` is that of the call.
 struct busy : error {
     std::uint64_t holder;
-    explicit busy(std::uint64_t caller) : error(BOOSTMAP_BUSY), holder(caller) {}
+    const void *handle;
+    busy(std::uint64_t caller, const void *called) : error(BOOSTMAP_BUSY), holder(caller), handle(called) {}
 };
 
 // The value of a key, or none.
 using value = std::optional<std::uint64_t>;
 
 namespace detail {
-// The answer of a call: a value, none, or an exception.
-inline value value_or_throw(boostmap_status status, std::uint64_t word) {
+// The answer of a call on a handle: a value, none, or an exception.
+inline value value_or_throw(boostmap_status status, std::uint64_t word, const void *handle = nullptr) {
     switch (status) {
     case BOOSTMAP_DONE: return word;
     case BOOSTMAP_ABSENT: return std::nullopt;
-    case BOOSTMAP_BUSY: throw busy(word);
+    case BOOSTMAP_BUSY: throw busy(word, handle);
     default: throw error(status);
     }
 }
+
+// Runs a job, and ends its transaction: commits, or aborts after `roll_back`.
+template <class Open, class Job> auto run_and_finish(Open &open, Job &job) {
+    if constexpr (std::is_void_v<decltype(job(open))>) {
+        job(open);
+        open.finish();
+    } else {
+        auto result = job(open);
+        open.finish();
+        return result;
+    }
+}
+
+// The waits between the tries of one transaction: four yields, and then sleeps, each twice as long as
+// the one before, up to half a millisecond, and shortened by chance by up to a half.
+class waits {
+public:
+    void wait() {
+        if (tries_++ < 4) return std::this_thread::yield();
+        random_ = random_ * 6364136223846793005 + 1442695040888963407;
+        std::this_thread::sleep_for(std::chrono::nanoseconds(longest_ / 2 + (random_ >> 33) % (longest_ / 2)));
+        longest_ = std::min<std::uint64_t>(longest_ * 2, 500000);
+    }
+
+private:
+    std::uint64_t tries_ = 0, longest_ = 1000, random_ = reinterpret_cast<std::uintptr_t>(this);
+};
 
 // For a call that answers no value.
 inline void check(boostmap_status status) { value_or_throw(status, 0); }
 } // namespace detail
 
+class map_calls;
+class map_job;
 class transaction;
 
 class map {
@@ -105,23 +140,22 @@ public:
     // Begins a transaction, which aborts if it is destroyed before it is committed.
     [[nodiscard]] transaction begin(std::uint64_t caller);
 
-    // Runs a job in a transaction: commits, or aborts if the job throws. Returns the job's result.
+    // Runs a job, which is given a `map_job`, in a transaction: commits, or aborts if the job throws or
+    // rolls back. Returns the job's result.
     template <class Job> auto transact(std::uint64_t caller, Job &&job);
 
 private:
-    friend class transaction;
+    friend class map_calls;
     boostmap handle_ = BOOSTMAP_INIT;
 };
 
-// An open transaction of one caller. The map must not be destroyed or moved while it is open.
-class transaction {
+// The calls within an open transaction of one caller, which aborts if it is destroyed before it is
+// committed. The map must not be destroyed or moved while it is open.
+class map_calls {
 public:
-    transaction(transaction &&other) noexcept
-        : map_(std::exchange(other.map_, nullptr)), caller_(other.caller_), number_(other.number_) {}
-    transaction &operator=(transaction &&) = delete;
-    transaction(const transaction &) = delete;
-    transaction &operator=(const transaction &) = delete;
-    ~transaction() {
+    map_calls(const map_calls &) = delete;
+    map_calls &operator=(const map_calls &) = delete;
+    ~map_calls() {
         std::uint64_t word;
         if (map_) boostmap_abort(&map_->handle_, caller_, &word);
     }
@@ -138,29 +172,31 @@ public:
     std::uint64_t save() { return *call(boostmap_save); }
     void back(std::uint64_t level) { call(boostmap_back, level); }
 
-    // Commits, and returns the place in the order of commits. The transaction is then over.
-    std::uint64_t commit() {
+protected:
+    map_calls(map *owner, std::uint64_t caller) : map_(owner), caller_(caller) {
+        std::uint64_t word = 0;
+        boostmap_status status = boostmap_begin(&owner->handle_, caller, &word);
+        number_ = *detail::value_or_throw(status, word);
+    }
+    map_calls(map_calls &&other) noexcept
+        : map_(std::exchange(other.map_, nullptr)), caller_(other.caller_), number_(other.number_) {}
+
+    std::uint64_t end_by_commit() {
         std::uint64_t place = *call(boostmap_commit);
         map_ = nullptr;
         return place;
     }
-    void abort() {
+    void end_by_abort() {
         call(boostmap_abort);
         map_ = nullptr;
     }
 
 private:
-    friend class map;
-    transaction(map *owner, std::uint64_t caller) : map_(owner), caller_(caller) {
-        std::uint64_t word = 0;
-        boostmap_status status = boostmap_begin(&owner->handle_, caller, &word);
-        number_ = *detail::value_or_throw(status, word);
-    }
     template <class Call, class... Words> value call(Call function, Words... words) {
         if (!map_) throw error(BOOSTMAP_NOT_OPEN);
         std::uint64_t word = 0;
         boostmap_status status = function(&map_->handle_, caller_, words..., &word);
-        return detail::value_or_throw(status, word);
+        return detail::value_or_throw(status, word, &map_->handle_);
     }
 
     map *map_;
@@ -168,20 +204,56 @@ private:
     std::uint64_t number_ = 0;
 };
 
+// A transaction that is ended by hand.
+class transaction : public map_calls {
+public:
+    transaction(transaction &&other) noexcept = default;
+
+    // Commits, and returns the place in the order of commits. The transaction is then over.
+    std::uint64_t commit() { return end_by_commit(); }
+    void abort() { end_by_abort(); }
+
+private:
+    friend class map;
+    using map_calls::map_calls;
+};
+
+// What a job of `transact` is given.
+class map_job : public map_calls {
+public:
+    // Aborts after the job, whose result `transact` returns all the same.
+    void roll_back() { rolls_back_ = true; }
+
+private:
+    friend class map;
+    template <class Open, class Job> friend auto detail::run_and_finish(Open &, Job &);
+    using map_calls::map_calls;
+    void finish() {
+        if (rolls_back_) end_by_abort();
+        else end_by_commit();
+    }
+
+    bool rolls_back_ = false;
+};
+
 inline transaction map::begin(std::uint64_t caller) { return transaction(this, caller); }
 
 template <class Job> auto map::transact(std::uint64_t caller, Job &&job) {
-    transaction open = begin(caller);
-    if constexpr (std::is_void_v<decltype(job(open))>) {
-        job(open);
-        open.commit();
-    } else {
-        auto result = job(open);
-        open.commit();
-        return result;
-    }
+    map_job open(this, caller);
+    return detail::run_and_finish(open, job);
 }
 
+// How a striped map is opened: the number of keys for which it has room from the start, whether it keeps
+// the number of its commits, so that each commit tells its place, and the seed of the hash of keys
+// within a stripe, drawn from the system, below 2^32, unless it is given.
+struct opening {
+    std::uint64_t keys = 0;
+    bool keeps_commits = false;
+    std::uint64_t seed = std::random_device{}();
+};
+
+class caller_calls;
+class caller_job;
 class caller_transaction;
 
 // A caller of a striped map, for one thread. Callers of one map may be in calls at the same time.
@@ -202,13 +274,15 @@ public:
     // Begins a transaction, which aborts if it is destroyed before it is committed.
     [[nodiscard]] caller_transaction begin();
 
-    // Runs a job in a transaction: commits, or aborts if the job throws. If a stripe is busy, it
-    // yields and tries again, at most `tries` times. Returns the job's result.
+    // Runs a job, which is given a `caller_job`, in a transaction: commits, or aborts if the job throws
+    // or rolls back. If a call of this transaction was busy, waits and runs the job again, for ever or
+    // at most `tries` times; a busy call of another map is thrown. Returns the job's result.
+    template <class Job> auto transact(Job &&job) { return transact(UINT64_MAX, job); }
     template <class Job> auto transact(std::uint64_t tries, Job &&job);
 
 private:
-    friend class caller_transaction;
-    friend std::vector<caller> open_striped(std::uint64_t callers, std::uint64_t stripes);
+    friend class caller_calls;
+    friend std::vector<caller> open_striped(std::uint64_t callers, std::uint64_t stripes, const opening &how);
     caller() = default;
     boostmap_caller handle_ = BOOSTMAP_INIT;
     std::uint64_t number_ = 0;
@@ -216,10 +290,11 @@ private:
 
 // Opens a striped map with no keys, for 1 to 4096 callers and with 1 to 4096 stripes, and returns its
 // callers in the order of their numbers, from 1. Each thread takes one.
-inline std::vector<caller> open_striped(std::uint64_t callers, std::uint64_t stripes) {
+inline std::vector<caller> open_striped(std::uint64_t callers, std::uint64_t stripes, const opening &how = {}) {
     std::vector<caller> all;
     caller first;
-    detail::check(boostmap_striped_open(&first.handle_, callers, stripes, &first.number_));
+    std::uint32_t keep = how.keeps_commits ? BOOSTMAP_KEEP_COMMITS : BOOSTMAP_KEEP_NOTHING;
+    detail::check(boostmap_striped_open(&first.handle_, callers, stripes, how.keys, keep, how.seed, &first.number_));
     all.reserve(callers);
     for (std::uint64_t i = 1; i < callers; i++) {
         caller next;
@@ -231,15 +306,13 @@ inline std::vector<caller> open_striped(std::uint64_t callers, std::uint64_t str
     return all;
 }
 
-// An open transaction of a caller. The caller must not be destroyed or moved while it is open. A busy
-// call ends it.
-class caller_transaction {
+// The calls within an open transaction of a caller, which aborts if it is destroyed before it is
+// committed. The caller must not be destroyed or moved while it is open. A busy call ends it.
+class caller_calls {
 public:
-    caller_transaction(caller_transaction &&other) noexcept : caller_(std::exchange(other.caller_, nullptr)) {}
-    caller_transaction &operator=(caller_transaction &&) = delete;
-    caller_transaction(const caller_transaction &) = delete;
-    caller_transaction &operator=(const caller_transaction &) = delete;
-    ~caller_transaction() {
+    caller_calls(const caller_calls &) = delete;
+    caller_calls &operator=(const caller_calls &) = delete;
+    ~caller_calls() {
         if (caller_) boostmap_striped_abort(&caller_->handle_);
     }
 
@@ -261,53 +334,81 @@ public:
         return all;
     }
 
-    // Commits, and returns the place in the order of commits. The transaction is then over.
-    std::uint64_t commit() {
-        std::uint64_t place = *call(boostmap_striped_commit);
+protected:
+    explicit caller_calls(caller *owner) : caller_(owner) { detail::check(boostmap_striped_begin(&owner->handle_)); }
+    caller_calls(caller_calls &&other) noexcept : caller_(std::exchange(other.caller_, nullptr)) {}
+
+    value end_by_commit() {
+        value place = call(boostmap_striped_commit);
         caller_ = nullptr;
-        return place;
+        return *place ? place : std::nullopt;
     }
-    void abort() {
+    void end_by_abort() {
         detail::check(boostmap_striped_abort(handle()));
         caller_ = nullptr;
     }
 
 private:
-    friend class caller;
-    explicit caller_transaction(caller *owner) : caller_(owner) { detail::check(boostmap_striped_begin(&owner->handle_)); }
     boostmap_caller *handle() {
         if (!caller_) throw error(BOOSTMAP_NOT_OPEN);
         return &caller_->handle_;
     }
     template <class Call, class... Words> value call(Call function, Words... words) {
+        boostmap_caller *called = handle();
         std::uint64_t word = 0;
-        boostmap_status status = function(handle(), words..., &word);
+        boostmap_status status = function(called, words..., &word);
         if (status == BOOSTMAP_BUSY) caller_ = nullptr;
-        return detail::value_or_throw(status, word);
+        return detail::value_or_throw(status, word, called);
     }
 
     caller *caller_;
 };
 
+// A transaction that is ended by hand.
+class caller_transaction : public caller_calls {
+public:
+    caller_transaction(caller_transaction &&other) noexcept = default;
+
+    // Commits, and returns the place in the order of commits, if the map keeps its commits. The
+    // transaction is then over.
+    value commit() { return end_by_commit(); }
+    void abort() { end_by_abort(); }
+
+private:
+    friend class caller;
+    using caller_calls::caller_calls;
+};
+
+// What a job of `transact` is given.
+class caller_job : public caller_calls {
+public:
+    // Aborts after the job, whose result `transact` returns all the same.
+    void roll_back() { rolls_back_ = true; }
+
+private:
+    friend class caller;
+    template <class Open, class Job> friend auto detail::run_and_finish(Open &, Job &);
+    using caller_calls::caller_calls;
+    void finish() {
+        if (rolls_back_) end_by_abort();
+        else end_by_commit();
+    }
+
+    bool rolls_back_ = false;
+};
+
 inline caller_transaction caller::begin() { return caller_transaction(this); }
 
 template <class Job> auto caller::transact(std::uint64_t tries, Job &&job) {
+    detail::waits waits;
     for (;; tries--) {
         try {
-            caller_transaction open = begin();
-            if constexpr (std::is_void_v<decltype(job(open))>) {
-                job(open);
-                open.commit();
-                return;
-            } else {
-                auto result = job(open);
-                open.commit();
-                return result;
-            }
-        } catch (const busy &) {
-            if (tries == 0) throw;
+            caller_job open(this);
+            return detail::run_and_finish(open, job);
+        } catch (const busy &found) {
+            if (found.handle != &handle_ || tries == 0) throw;
         }
-        std::this_thread::yield();
+        waits.wait();
     }
 }
 

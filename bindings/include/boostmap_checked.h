@@ -1,26 +1,36 @@
 /* The calls of boostmap.h behind a door: instead of undefined behaviour, a null handle, array, entry
  * or verdict returns BOOSTMAP_NULL, and a handle that is in another call BOOSTMAP_IN_CALL. So any
  * thread may call at any time: the door is a seq_cst exchange, which also orders the calls. `word` may
- * be null if the number is not needed. This header needs C11 and is only tested. A door costs about
- * 20 ns a call.
+ * be null if the number is not needed. This header needs C11 or C++11 and is only tested. A door costs
+ * about 20 ns a call.
  *
  *     boostmap_door map = BOOSTMAP_DOOR_INIT;
  *     boostmap_checked_new(&map, 2, 64, 1024);
  *     boostmap_caller_door caller = BOOSTMAP_DOOR_INIT;
- *     boostmap_checked_striped_open(&caller, 2, 64, 0);
+ *     boostmap_checked_striped_open(&caller, 2, 64, 0, BOOSTMAP_KEEP_NOTHING, 0, 0);
  */
 #ifndef BOOSTMAP_CHECKED_H
 #define BOOSTMAP_CHECKED_H
 
 #include "boostmap.h"
+#ifdef __cplusplus
+#include <atomic>
+typedef std::atomic<unsigned> boostmap_flag;
+#define BOOSTMAP_DOOR_INIT { BOOSTMAP_INIT, {0} }
+#define BOOSTMAP_ENTER(FLAG) (FLAG).exchange(1)
+#define BOOSTMAP_EXIT(FLAG) (FLAG).store(0)
+#else
 #include <stdatomic.h>
+typedef atomic_uint boostmap_flag;
+#define BOOSTMAP_DOOR_INIT { BOOSTMAP_INIT, 0 }
+#define BOOSTMAP_ENTER(FLAG) atomic_exchange(&(FLAG), 1)
+#define BOOSTMAP_EXIT(FLAG) atomic_store(&(FLAG), 0)
+#endif
 
 typedef struct boostmap_door {
     boostmap map;
-    atomic_uint is_in_call;
+    boostmap_flag is_in_call;
 } boostmap_door;
-
-#define BOOSTMAP_DOOR_INIT { BOOSTMAP_INIT, 0 }
 
 /* Defines boostmap_checked_NAME by its parameters, of which the first is the door, and by the call
  * behind the door. */
@@ -28,9 +38,9 @@ typedef struct boostmap_door {
     static inline boostmap_status boostmap_checked_##NAME PARAMETERS {                             \
         boostmap_status status;                                                                    \
         if (!door) return BOOSTMAP_NULL;                                                            \
-        if (atomic_exchange(&door->is_in_call, 1)) return BOOSTMAP_IN_CALL;                         \
+        if (BOOSTMAP_ENTER(door->is_in_call)) return BOOSTMAP_IN_CALL;                              \
         status = CALL;                                                                             \
-        atomic_store(&door->is_in_call, 0);                                                         \
+        BOOSTMAP_EXIT(door->is_in_call);                                                            \
         return status;                                                                             \
     }
 
@@ -41,9 +51,9 @@ typedef struct boostmap_door {
         uint64_t unwanted = 0;                                                                     \
         if (!door) return BOOSTMAP_NULL;                                                            \
         if (!word) word = &unwanted;                                                               \
-        if (atomic_exchange(&door->is_in_call, 1)) return BOOSTMAP_IN_CALL;                         \
+        if (BOOSTMAP_ENTER(door->is_in_call)) return BOOSTMAP_IN_CALL;                              \
         status = CALL;                                                                             \
-        atomic_store(&door->is_in_call, 0);                                                         \
+        BOOSTMAP_EXIT(door->is_in_call);                                                            \
         return status;                                                                             \
     }
 
@@ -53,7 +63,7 @@ BOOSTMAP_CHECKED(free, (boostmap_door *door), boostmap_free(&door->map))
 BOOSTMAP_CHECKED(help, (boostmap_door *door, uint64_t caller, uint64_t key), boostmap_help(&door->map, caller, key))
 BOOSTMAP_CHECKED_WORD(count, (boostmap_door *door, uint64_t *word), boostmap_count(&door->map, word))
 BOOSTMAP_CHECKED_WORD(read, (boostmap_door *door, boostmap_pair *pairs, size_t places, uint64_t *word),
-                      pairs ? boostmap_read(&door->map, pairs, places, word) : BOOSTMAP_NULL)
+                      pairs ? boostmap_read(&door->map, pairs, places, word) : (boostmap_status)BOOSTMAP_NULL)
 BOOSTMAP_CHECKED_WORD(begin, (boostmap_door *door, uint64_t caller, uint64_t *word),
                       boostmap_begin(&door->map, caller, word))
 BOOSTMAP_CHECKED_WORD(commit, (boostmap_door *door, uint64_t caller, uint64_t *word),
@@ -81,11 +91,13 @@ BOOSTMAP_CHECKED_WORD(back, (boostmap_door *door, uint64_t caller, uint64_t leve
 /* A caller of a striped map behind its own door. */
 typedef struct boostmap_caller_door {
     boostmap_caller caller;
-    atomic_uint is_in_call;
+    boostmap_flag is_in_call;
 } boostmap_caller_door;
 
-BOOSTMAP_CHECKED_WORD(striped_open, (boostmap_caller_door *door, uint64_t callers, uint64_t stripes, uint64_t *word),
-                      boostmap_striped_open(&door->caller, callers, stripes, word))
+BOOSTMAP_CHECKED_WORD(striped_open,
+                      (boostmap_caller_door *door, uint64_t callers, uint64_t stripes, uint64_t keys, uint32_t keep,
+                       uint64_t seed, uint64_t *word),
+                      boostmap_striped_open(&door->caller, callers, stripes, keys, keep, seed, word))
 BOOSTMAP_CHECKED(striped_free, (boostmap_caller_door *door), boostmap_striped_free(&door->caller))
 BOOSTMAP_CHECKED(striped_begin, (boostmap_caller_door *door), boostmap_striped_begin(&door->caller))
 BOOSTMAP_CHECKED(striped_abort, (boostmap_caller_door *door), boostmap_striped_abort(&door->caller))
@@ -109,7 +121,7 @@ BOOSTMAP_CHECKED_WORD(striped_save, (boostmap_caller_door *door, uint64_t *word)
 BOOSTMAP_CHECKED_WORD(striped_count, (boostmap_caller_door *door, uint64_t *word),
                       boostmap_striped_count(&door->caller, word))
 BOOSTMAP_CHECKED_WORD(striped_read, (boostmap_caller_door *door, boostmap_pair *pairs, size_t places, uint64_t *word),
-                      pairs ? boostmap_striped_read(&door->caller, pairs, places, word) : BOOSTMAP_NULL)
+                      pairs ? boostmap_striped_read(&door->caller, pairs, places, word) : (boostmap_status)BOOSTMAP_NULL)
 
 /* The inner half of a join, behind the second door. */
 BOOSTMAP_CHECKED_WORD(striped_joined_to, (boostmap_caller_door *door, boostmap_caller *first, uint64_t *word),
@@ -120,20 +132,22 @@ BOOSTMAP_CHECKED(striped_join, (boostmap_caller_door *door, boostmap_caller_door
 /* A judge behind its own door. */
 typedef struct boostmap_judge_door {
     boostmap_judge judge;
-    atomic_uint is_in_call;
+    boostmap_flag is_in_call;
 } boostmap_judge_door;
 
 BOOSTMAP_CHECKED(judge_new, (boostmap_judge_door *door, uint64_t stripes, uint32_t rule),
                  boostmap_judge_new(&door->judge, stripes, rule))
 BOOSTMAP_CHECKED(judge_free, (boostmap_judge_door *door), boostmap_judge_free(&door->judge))
 BOOSTMAP_CHECKED(judge_feed, (boostmap_judge_door *door, const boostmap_entry *entry),
-                 entry ? boostmap_judge_feed(&door->judge, entry) : BOOSTMAP_NULL)
+                 entry ? boostmap_judge_feed(&door->judge, entry) : (boostmap_status)BOOSTMAP_NULL)
 BOOSTMAP_CHECKED_WORD(judge_feed_all,
                       (boostmap_judge_door *door, const boostmap_entry *entries, size_t count, uint64_t *word),
-                      entries ? boostmap_judge_feed_all(&door->judge, entries, count, word) : BOOSTMAP_NULL)
+                      entries ? boostmap_judge_feed_all(&door->judge, entries, count, word) : (boostmap_status)BOOSTMAP_NULL)
 BOOSTMAP_CHECKED(judge_verdict, (boostmap_judge_door *door, boostmap_verdict *verdict),
-                 verdict ? boostmap_judge_verdict(&door->judge, verdict) : BOOSTMAP_NULL)
+                 verdict ? boostmap_judge_verdict(&door->judge, verdict) : (boostmap_status)BOOSTMAP_NULL)
 
 #undef BOOSTMAP_CHECKED
 #undef BOOSTMAP_CHECKED_WORD
+#undef BOOSTMAP_ENTER
+#undef BOOSTMAP_EXIT
 #endif

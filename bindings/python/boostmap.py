@@ -15,14 +15,22 @@ A striped map is for threads: each thread has its own caller, and callers run in
 
 The library is libboostmap.so, next to this file or at the path in BOOSTMAP_SO; `bindings/install.sh` of
 the repository builds it. It is proved; this module is only tested. Threads may share a map, a caller
-or a judge: each call holds that object's lock, and releases the interpreter's lock meanwhile.
+or a judge: each call holds that object's lock. Calls of callers are made by the module _boostmap, in C,
+if install.sh has built it, and otherwise, four times as slow, by ctypes.
 """
 import collections
 import contextlib
 import ctypes
+import operator
 import os
+import random
 import threading
 import time
+
+try:
+    import _boostmap
+except ImportError:
+    _boostmap = None
 
 __all__ = [
     "Map", "Transaction", "Caller", "CallerTransaction", "open_striped", "Judge", "Entry", "Verdict",
@@ -61,7 +69,7 @@ _CALLS = {
     "new": (3, False), "free": (0, False), "count": (0, True), "help": (2, False),
     "begin": (1, True), "commit": (1, True), "abort": (1, True), "save": (1, True), "back": (2, True),
     "get": (2, True), "take": (2, True), "put": (3, True), "put_if_absent": (3, True), "put_if_equal": (4, True),
-    "striped_open": (2, True), "striped_free": (0, False), "striped_begin": (0, False),
+    "striped_open": (5, True), "striped_free": (0, False), "striped_begin": (0, False),
     "striped_commit": (0, True), "striped_abort": (0, False), "striped_save": (0, True), "striped_back": (1, False),
     "striped_get": (1, True), "striped_take": (1, True), "striped_put": (2, True),
     "striped_put_if_absent": (2, True), "striped_put_if_equal": (3, True),
@@ -153,6 +161,7 @@ def _check(status):
 
 
 def _number(value):
+    value = operator.index(value)
     if not 0 <= value < 1 << 64:
         raise OverflowError(f"{value} is not an unsigned 64-bit number")
     return value
@@ -165,7 +174,7 @@ class _Owned:
 
     def __init__(self):
         self._handle = _Handle()
-        self._lock = threading.Lock()
+        self._lock = threading.RLock()  # a signal handler may call in between
 
     def _call(self, name, *numbers):
         word = _U64(0)
@@ -204,6 +213,13 @@ class Map(_Owned):
     def __len__(self):
         return self._call("count")
 
+    def __bool__(self):
+        return True
+
+    def abort(self, caller=0):
+        """Aborts the caller's transaction, and returns whether there was one."""
+        return _aborts(self, "abort", caller)
+
     def items(self):
         """A dictionary of the map as it is now, with the changes of open transactions."""
         places, word = 0, _U64(0)
@@ -227,28 +243,50 @@ class Map(_Owned):
         return Transaction(self, caller)
 
 
+def _aborts(owner, name, *numbers):
+    try:
+        owner._call(name, *numbers)
+    except Refused:
+        return False
+    return True
+
+
 class Transaction:
     """One caller's transaction. A key without a value has None. After its `with` each further call is refused."""
 
     def __init__(self, owner, caller):
         self._map, self._caller, self._is_open = owner, caller, False
+        self._rolls_back = False
         self.number = self.commit_number = None
 
     def __enter__(self):
-        self.number = self._map._call("begin", self._caller)
-        self._is_open = True
+        try:
+            self.number = self._map._call("begin", self._caller)
+            self._is_open = True
+        except Error:
+            raise
+        except BaseException:  # an interrupt, perhaps after the begin
+            self._map.abort(self._caller)
+            raise
         return self
 
     def __exit__(self, kind, raised, trace):
         try:
-            if kind is None:
+            if kind is None and not self._rolls_back:
                 self.commit_number = self._call("commit")
                 self._is_open = False
         finally:
             # The abort is refused after a commit and on a closed map. That does not hide the exception.
-            with contextlib.suppress(Refused):
-                self._call("abort")
+            if self._is_open:
+                self._map.abort(self._caller)
             self._is_open = False
+
+    def __bool__(self):
+        return True
+
+    def roll_back(self):
+        """Lets the end of the `with` take everything back, instead of committing."""
+        self._rolls_back = True
 
     def _call(self, name, *numbers):
         if not self._is_open:
@@ -282,63 +320,75 @@ class Transaction:
         self._call("back", level)
 
 
-def open_striped(callers=1, stripes=64):
+def open_striped(callers=1, stripes=64, keys=0, keeps_commits=False, seed=None):
     """Opens a striped map with no keys, for 1 to 4096 callers and with 1 to 4096 stripes, and returns its callers, in
-    the order of their numbers from 1. The map is freed with the last of them."""
+    the order of their numbers from 1. It has room for so many keys from the start. If it keeps its commits, each
+    transaction has a commit_number, and all callers write a common word. The seed of the hash of keys within a stripe
+    is drawn from the system, below 2**32, unless it is given. The map is freed with the last of them."""
     first = Caller()
-    first.number = first._call("striped_open", callers, stripes)
-    others = []
-    for _ in range(1, callers):
-        other, word = Caller(), _U64(0)
-        with first._lock:
-            status = _library.boostmap_striped_join(first._handle, other._handle, word)
-        other.number = _value(status, word)
-        others.append(other)
+    seed = int.from_bytes(os.urandom(4), "little") if seed is None else seed
+    first._open(callers, stripes, keys, int(keeps_commits), seed)
+    others = [Caller() for _ in range(1, callers)]
+    for other in others:
+        first._join(other)
     return others[::-1] + [first]  # numbers are counted down
 
 
-class Caller(_Owned):
-    """A caller of a striped map, made by `open_striped`: one for each thread. Closing it aborts an open transaction."""
+class _CtypesCaller(_Owned):
+    """What _boostmap.Caller has, by ctypes."""
 
     _free = "striped_free"
     number = None
 
-    def transaction(self):
-        """A transaction, which begins at `with`, commits at its end, and aborts at an exception."""
-        return CallerTransaction(self)
+    def _open(self, *how):
+        self.number = self._call("striped_open", *how)
 
-    def transact(self, job, tries=100):
-        """Runs a job, which is given the transaction, and commits. If a stripe is busy, it tries again, at most `tries`
-        times. Returns the job's result."""
-        while True:
-            try:
-                with self.transaction() as t:
-                    return job(t)
-            except Busy:
-                if tries <= 0:
-                    raise
-                tries -= 1
-                time.sleep(0)  # lets another thread run
+    def _join(self, other):
+        word = _U64(0)
+        with self._lock:
+            status = _library.boostmap_striped_join(self._handle, other._handle, word)
+        other.number = _value(status, word)
+
+    def abort(self):
+        """Aborts the caller's transaction, and returns whether there was one."""
+        return _aborts(self, "striped_abort")
 
 
-class CallerTransaction:
-    """A caller's transaction. A key without a value has None. After Busy it is over: each further call is refused."""
+class _CtypesTransaction:
+    """What _boostmap.Transaction has, by ctypes. An interrupt between a call and its bookkeeping may leave the
+    transaction open, until it is collected or its caller aborts."""
+
+    _is_open = _rolls_back = was_busy = False
+    commit_number = None
 
     def __init__(self, caller):
-        self._caller, self._is_open = caller, False
-        self.commit_number = None
+        self._caller = caller
 
     def __enter__(self):
-        self._caller._call("striped_begin")
-        self._is_open = True
+        try:
+            self._caller._call("striped_begin")
+            self._is_open, self._rolls_back, self.was_busy = True, False, False
+        except Error:
+            raise
+        except BaseException:  # an interrupt, perhaps after the begin
+            self._caller.abort()
+            raise
         return self
 
     def __exit__(self, kind, raised, trace):
-        if kind is None:
-            self.commit_number = self._call("striped_commit")
-        elif self._is_open:
-            with contextlib.suppress(Refused):  # the caller is closed then
-                self._call("striped_abort")
+        try:
+            if kind is None and not (self._rolls_back and self._is_open):
+                self.commit_number = self._call("striped_commit") or None
+                self._is_open = False
+        finally:
+            self._end()
+
+    def __del__(self):
+        self._end()
+
+    def _end(self):
+        if self._is_open:
+            self._caller.abort()
         self._is_open = False
 
     def _call(self, name, *numbers):
@@ -347,8 +397,15 @@ class CallerTransaction:
         try:
             return self._caller._call(name, *numbers)
         except Busy:
-            self._is_open = False
+            self._is_open, self.was_busy = False, True
             raise
+
+    def __bool__(self):
+        return True
+
+    def roll_back(self):
+        """Lets the end of the `with` take everything back, instead of committing."""
+        self._rolls_back = True
 
     def get(self, key):
         """The value at the key."""
@@ -385,8 +442,54 @@ class CallerTransaction:
         return {pair.key: pair.value for pair in pairs[:_value(status, word)]}
 
     def __len__(self):
-        """The number of keys of the map, with the transaction's own changes. Takes every stripe."""
         return self._call("striped_count")
+
+
+if _boostmap:
+    _boostmap.set_errors(Busy, Refused)
+
+
+class Caller(_boostmap.Caller if _boostmap else _CtypesCaller):
+    """A caller of a striped map, made by `open_striped`: one for each thread. Closing it aborts an open transaction."""
+
+    __slots__ = ()
+
+    def __enter__(self):
+        return self
+
+    def __exit__(self, *raised):
+        self.close()
+
+    def transaction(self):
+        """A transaction, which begins at `with`, commits at its end, and aborts at an exception."""
+        return CallerTransaction(self)
+
+    def transact(self, job, tries=None):
+        """Runs a job, which is given the transaction, and commits. If a call of the transaction was busy, waits and tries
+        again, at most `tries` times if that is given: it yields at first, and then sleeps, each time about twice as
+        long, up to half a millisecond. Returns the job's result."""
+        done, longest = 0, 1e-6
+        while True:
+            t = self.transaction()
+            try:
+                with t:
+                    return job(t)
+            except Busy:
+                if not t.was_busy or done == tries:
+                    raise
+            done += 1
+            if done <= 4:
+                time.sleep(0)
+            else:
+                time.sleep(longest * random.uniform(0.5, 1))
+                longest = min(2 * longest, 5e-4)
+
+
+class CallerTransaction(_boostmap.Transaction if _boostmap else _CtypesTransaction):
+    """A caller's transaction. A key without a value has None. After Busy it is over: each further call is refused. Its
+    `len` is the number of keys of the map, with the transaction's own changes, and takes every stripe."""
+
+    __slots__ = ()
 
 
 _KINDS = {

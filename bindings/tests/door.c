@@ -37,7 +37,7 @@ static void at_a_caller(void) {
     boostmap_caller_door next = BOOSTMAP_DOOR_INIT;
     CHECK(boostmap_checked_striped_get(0, 1, &w) == BOOSTMAP_NULL);
     CHECK(boostmap_checked_striped_begin(&caller) == BOOSTMAP_EMPTY);
-    CHECK(boostmap_checked_striped_open(&caller, 2, 16, &w) == BOOSTMAP_DONE && w == 2);
+    CHECK(boostmap_checked_striped_open(&caller, 2, 16, 0, BOOSTMAP_KEEP_COMMITS, 0, &w) == BOOSTMAP_DONE && w == 2);
     CHECK(boostmap_checked_striped_join(&caller, 0, &w) == BOOSTMAP_NULL);
     CHECK(boostmap_checked_striped_join(&caller, &caller, &w) == BOOSTMAP_IN_CALL);
     CHECK(boostmap_checked_striped_join(&caller, &next, &w) == BOOSTMAP_DONE && w == 1);

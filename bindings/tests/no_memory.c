@@ -116,7 +116,7 @@ static void striped_round_trip(void) {
     boostmap_caller first = BOOSTMAP_INIT, next = BOOSTMAP_INIT;
     boostmap_status status;
     uint64_t w;
-    AGAIN(boostmap_striped_open(&first, 2, 16, &w));
+    AGAIN(boostmap_striped_open(&first, 2, 16, 0, BOOSTMAP_KEEP_COMMITS, 0, &w));
     CHECK(status == BOOSTMAP_DONE && w == 2);
     AGAIN(boostmap_striped_join(&first, &next, &w));
     CHECK(status == BOOSTMAP_DONE && w == 1);
@@ -161,7 +161,7 @@ static void first_calls(void) {
         CHECK(status == BOOSTMAP_DONE);
     }
     CHECK(boostmap_free(&m) == BOOSTMAP_DONE);
-    AGAIN(boostmap_striped_open(&c, 1, FEW, &w));
+    AGAIN(boostmap_striped_open(&c, 1, FEW, 0, BOOSTMAP_KEEP_COMMITS, 0, &w));
     CHECK(boostmap_striped_begin(&c) == BOOSTMAP_DONE);
     for (uint64_t k = 0; k < FEW; k++) {
         COUNTED(striped_gets, boostmap_striped_get(&c, k, &w));

@@ -47,16 +47,28 @@ static void limits(void) {
     for (size_t i = 0; i < sizeof rows / sizeof *rows; i++) {
         boostmap_caller c = BOOSTMAP_INIT;
         boostmap_status status = rows[i].status;
-        ANSWERS(boostmap_striped_open(&c, rows[i].callers, rows[i].stripes, &w), status, status ? UNTOUCHED : rows[i].callers);
+        ANSWERS(boostmap_striped_open(&c, rows[i].callers, rows[i].stripes, 0, BOOSTMAP_KEEP_COMMITS, 0, &w), status,
+                status ? UNTOUCHED : rows[i].callers);
         IS(boostmap_striped_free(&c), status ? BOOSTMAP_EMPTY : BOOSTMAP_DONE);
     }
+}
+
+/* A map that keeps nothing tells no place, and only 0 and 1 say what a map keeps. */
+static void keeping(void) {
+    boostmap_caller c = BOOSTMAP_INIT;
+    uint64_t w;
+    ANSWERS(boostmap_striped_open(&c, 1, 1, 0, 2, 0, &w), BOOSTMAP_LIMIT, UNTOUCHED);
+    ANSWERS(boostmap_striped_open(&c, 1, 1, 1000, BOOSTMAP_KEEP_NOTHING, UINT64_MAX, &w), BOOSTMAP_DONE, 1);
+    IS(boostmap_striped_begin(&c), BOOSTMAP_DONE);
+    ANSWERS(boostmap_striped_commit(&c, &w), BOOSTMAP_DONE, 0);
+    IS(boostmap_striped_free(&c), BOOSTMAP_DONE);
 }
 
 static void joining(boostmap_caller c[3]) {
     uint64_t w;
     boostmap_caller fourth = BOOSTMAP_INIT;
-    ANSWERS(boostmap_striped_open(&c[0], 3, 16, &w), BOOSTMAP_DONE, 3);
-    ANSWERS(boostmap_striped_open(&c[0], 1, 1, &w), BOOSTMAP_FULL, UNTOUCHED);
+    ANSWERS(boostmap_striped_open(&c[0], 3, 16, 0, BOOSTMAP_KEEP_COMMITS, 0, &w), BOOSTMAP_DONE, 3);
+    ANSWERS(boostmap_striped_open(&c[0], 1, 1, 0, BOOSTMAP_KEEP_COMMITS, 0, &w), BOOSTMAP_FULL, UNTOUCHED);
     ANSWERS(boostmap_striped_join(&c[0], &c[1], &w), BOOSTMAP_DONE, 2);
     ANSWERS(boostmap_striped_join(&c[0], &c[1], &w), BOOSTMAP_FULL, UNTOUCHED);
     ANSWERS(boostmap_striped_join(&c[1], &c[2], &w), BOOSTMAP_NO_SUCH_CALLER, UNTOUCHED);
@@ -185,6 +197,7 @@ int main(void) {
     boostmap_caller c[3] = {BOOSTMAP_INIT, BOOSTMAP_INIT, BOOSTMAP_INIT};
     an_empty_handle(&c[0]);
     limits();
+    keeping();
     joining(c);
     order(&c[0]);
     operations(&c[0]);

@@ -207,7 +207,7 @@ int main(int argc, char **argv) {
         CHECK(c->entries);
         c->seed = (uint64_t)i + 1;
         CHECK((i ? boostmap_striped_join(&callers[0].map, &c->map, &c->number)
-                 : boostmap_striped_open(&c->map, (uint64_t)threads, STRIPES, &c->number)) == BOOSTMAP_DONE);
+                 : boostmap_striped_open(&c->map, (uint64_t)threads, STRIPES, 0, BOOSTMAP_KEEP_COMMITS, 0, &c->number)) == BOOSTMAP_DONE);
         begin_txn(c);
         commit_txn(c);
     }

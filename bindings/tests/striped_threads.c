@@ -65,7 +65,7 @@ int main(int argc, char **argv) {
     boostmap_caller owner = BOOSTMAP_INIT;
     CHECK(0 < threads && threads <= MOST);
     CHECK(!pthread_barrier_init(&owner_holds, 0, (unsigned)threads + 1));
-    CHECK(boostmap_striped_open(&owner, threads + 1, STRIPES, &owner_number) == BOOSTMAP_DONE);
+    CHECK(boostmap_striped_open(&owner, threads + 1, STRIPES, 0, BOOSTMAP_KEEP_COMMITS, 0, &owner_number) == BOOSTMAP_DONE);
     CHECK(boostmap_striped_begin(&owner) == BOOSTMAP_DONE);
     for (uint64_t k = 0; k < KEYS; k++) CHECK(boostmap_striped_put(&owner, k, EACH, &w) == BOOSTMAP_ABSENT);
     for (uint64_t i = 0; i < threads; i++) {

@@ -1,9 +1,36 @@
+import signal
 import sys
 import threading
 import time
 import unittest
 
+import boostmap
 from boostmap import Busy, Entry, Judge, Map, NotFed, Refused, Verdict, open_striped
+
+
+class Interrupt(Exception):
+    """What a signal handler raises in these tests."""
+
+
+def interrupted(job, seconds):
+    """Runs a job again and again, and raises Interrupt in it at many moments. Returns how often it was raised."""
+
+    def handle(*_):
+        raise Interrupt
+
+    before, count, ends = signal.signal(signal.SIGALRM, handle), 0, time.monotonic() + seconds
+    try:
+        while time.monotonic() < ends:
+            try:
+                signal.setitimer(signal.ITIMER_REAL, 1e-5 + count % 97 * 1e-6)
+                while time.monotonic() < ends:  # an interrupt in a destructor is lost
+                    job()
+            except Interrupt:
+                count += 1
+    finally:
+        signal.setitimer(signal.ITIMER_REAL, 0)
+        signal.signal(signal.SIGALRM, before)
+    return count
 
 
 class Calls(unittest.TestCase):
@@ -28,6 +55,22 @@ class Calls(unittest.TestCase):
                     t.put(2, 20)
                     raise KeyError
             self.assertEqual(len(m), 0)
+            with m.transaction() as t:
+                t.put(2, 20)
+                t.roll_back()
+            self.assertEqual((len(m), bool(m), bool(t)), (0, True, True))
+            m.transaction().__enter__()
+            self.assertEqual((m.abort(), m.abort()), (True, False))
+
+    def test_an_interrupt_leaves_no_transaction_that_cannot_be_aborted(self):
+        with Map() as m:
+            def moves():
+                m.abort()  # an interrupt may come between a call and its bookkeeping
+                with m.transaction() as t:
+                    t.put(1, 1)
+
+            self.assertGreater(interrupted(moves, 0.5), 10)
+            moves()
 
     def test_a_transaction_is_over_after_its_with(self):
         with Map() as m:
@@ -118,7 +161,7 @@ class Calls(unittest.TestCase):
 
 class Callers(unittest.TestCase):
     def test_a_transaction_commits(self):
-        one, other = open_striped(callers=2, stripes=16)
+        one, other = open_striped(callers=2, stripes=16, keys=100, keeps_commits=True)
         self.assertEqual((one.number, other.number), (1, 2))
         with one.transaction() as t:
             self.assertIsNone(t.put(1, 10))
@@ -134,6 +177,94 @@ class Callers(unittest.TestCase):
                 raise KeyError
         self.assertEqual(other.transact(lambda t: (t.get(1), t.get(2))), (2**64 - 1, None))
         self.assertEqual(other.transact(lambda t: (t.items(), len(t))), ({1: 2**64 - 1}, 1))
+        plain, = open_striped()
+        with plain.transaction() as t:
+            t.put(1, 10)
+        self.assertIsNone(t.commit_number)
+
+    def test_a_job_can_roll_back_and_return(self):
+        one, other = open_striped(callers=2, stripes=16)
+
+        def puts(t):
+            t.put(1, 10)
+            t.roll_back()
+            return t.get(1)
+
+        self.assertEqual(one.transact(puts), 10)
+        self.assertIsNone(other.transact(lambda t: t.get(1)))
+        with one.transaction() as t:
+            t.put(1, 11)
+            self.assertTrue(one.abort())
+            self.assertFalse(one.abort())
+            t.roll_back()
+        self.assertIsNone(other.transact(lambda t: t.get(1)))
+
+    def test_a_transaction_is_true_and_takes_no_stripe_by_that(self):
+        one, other = open_striped(callers=2, stripes=16)
+        with one.transaction() as t, other.transaction() as u:
+            self.assertTrue(t)
+            t.put(1, 10)
+            u.put(2, 20)
+
+    def test_only_its_own_busy_is_tried_again(self):
+        one, other = open_striped(callers=2, stripes=16)
+        apart, held = open_striped(callers=2, stripes=16)
+        runs = []
+
+        def looks_elsewhere(t):
+            runs.append(t.put(1, 10))
+            with apart.transaction() as u:
+                u.get(5)
+
+        with held.transaction() as holds:
+            holds.put(5, 50)
+            with self.assertRaises(Busy):
+                one.transact(looks_elsewhere)
+        self.assertEqual(len(runs), 1)
+        self.assertIsNone(other.transact(lambda t: t.get(1)))
+
+    def test_numbers_of_other_types_are_refused(self):
+        caller, = open_striped()
+        for wrong, error in ((1.5, TypeError), ("1", TypeError), (None, TypeError), (-1, OverflowError),
+                             (2**64, OverflowError)):
+            with self.assertRaises(error):
+                caller.transact(lambda t: t.put(1, wrong))
+            with self.assertRaises(error):
+                caller.transact(lambda t: t.get(wrong))
+        self.assertEqual(caller.transact(len), 0)
+
+    def test_an_interrupt_leaves_no_stripe_held(self):
+        one, other = open_striped(callers=2, stripes=16)
+
+        def moves():
+            if not boostmap._boostmap:
+                one.abort()  # by ctypes an interrupt may come between a call and its bookkeeping
+            with one.transaction() as t:
+                t.put(1, t.get(2) or 0)
+                t.put(3, 3)
+
+        self.assertGreater(interrupted(moves, 1), 10)
+        if not boostmap._boostmap:
+            one.abort()
+        other.transact(lambda t: (len(t), t.items()), tries=0)
+        moves()
+
+    def test_a_signal_handler_may_use_the_map(self):
+        caller, = open_striped()
+        m, done = Map(), []
+
+        def handle(*_):
+            done.append((len(m), caller.abort()))
+
+        before = signal.signal(signal.SIGALRM, handle)
+        try:
+            signal.setitimer(signal.ITIMER_REAL, 1e-4, 1e-4)
+            while len(done) < 20:
+                len(m)
+                caller.abort()
+        finally:
+            signal.setitimer(signal.ITIMER_REAL, 0)
+            signal.signal(signal.SIGALRM, before)
 
     def test_busy_ends_the_transaction(self):
         one, other = open_striped(callers=2, stripes=16)

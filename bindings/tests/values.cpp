@@ -72,12 +72,12 @@ static void of_the_head() {
     });
     CHECK(accounts.transact(0, [](auto &t) { return *t.get(1) == 5 && *t.get(2) == 5; }));
     auto callers = boostmap_cpp::open_striped(4, 64);
-    callers[0].transact(100, [](auto &t) { t.put(1, 10); });
+    callers[0].transact([](auto &t) { t.put(1, 10); });
     for (std::uint64_t i = 0; i < 4; i++) CHECK(callers[i].number() == i + 1);
 }
 
 static void of_callers() {
-    auto callers = boostmap_cpp::open_striped(2, 16);
+    auto callers = boostmap_cpp::open_striped(2, 16, {100, true});
     auto &one = callers[0], &two = callers[1];
     CHECK(callers.size() == 2 && one.number() == 1 && two.number() == 2);
     one.transact(0, [](auto &t) {
@@ -110,13 +110,35 @@ static void of_callers() {
     auto other = two.begin();
     CHECK(thrown([&] { other.get(1 + 16); }) == BOOSTMAP_BUSY);
     CHECK(thrown([&] { other.get(2); }) == BOOSTMAP_NOT_OPEN);
-    CHECK(holds.commit() == 5);
+    CHECK(holds.commit() == 5u);
     CHECK(thrown([&] { two.transact(0, [](auto &t) { t.put(3, 30); throw error(99); }); }) == 99);
     CHECK(two.transact(0, [](auto &t) { return t.get(2) || t.get(3); }) == false);
     auto moved = std::move(one);
     CHECK(thrown([&] { static_cast<void>(one.begin()); }) == BOOSTMAP_EMPTY);
-    CHECK(moved.begin().commit() == 7);
+    CHECK(moved.begin().commit() == 7u);
+    CHECK(!boostmap_cpp::open_striped(1, 16)[0].begin().commit());
     CHECK(thrown([] { boostmap_cpp::open_striped(0, 16); }) == BOOSTMAP_LIMIT);
+}
+
+// A job may roll back and return a value, and only a busy call of its own transaction is tried again.
+static void of_jobs() {
+    map accounts(1, 16, 64);
+    CHECK(accounts.transact(0, [](auto &t) { t.put(1, 10); t.roll_back(); return *t.get(1); }) == 10);
+    CHECK(accounts.count() == 0);
+    auto callers = boostmap_cpp::open_striped(2, 16), others = boostmap_cpp::open_striped(2, 16);
+    CHECK(callers[0].transact([](auto &t) { t.put(1, 10); t.roll_back(); return *t.get(1); }) == 10);
+    CHECK(!callers[1].transact([](auto &t) { return t.get(1); }));
+    auto holds = others[0].begin();
+    holds.put(1, 10);
+    int runs = 0;
+    CHECK(thrown([&] {
+        callers[0].transact([&](auto &t) {
+            runs++;
+            t.put(1, 10);
+            others[1].begin().get(1);
+        });
+    }) == BOOSTMAP_BUSY);
+    CHECK(runs == 1 && !callers[1].transact([](auto &t) { return t.get(1); }));
 }
 
 // Four threads add up, each with its own caller; one that is busy tries again.
@@ -127,7 +149,7 @@ static void of_threads() {
     for (auto &caller : callers)
         threads.emplace_back([&caller] {
             for (int i = 0; i < ROUNDS; i++)
-                caller.transact(UINT64_MAX, [](auto &t) { t.put(7, t.get(7).value_or(0) + 1); });
+                caller.transact([](auto &t) { t.put(7, t.get(7).value_or(0) + 1); });
         });
     for (auto &thread : threads) thread.join();
     CHECK(callers[0].transact(0, [](auto &t) { return *t.get(7); }) == THREADS * ROUNDS);
@@ -170,6 +192,7 @@ int main() {
     of_the_head();
     of_one_owner();
     of_callers();
+    of_jobs();
     of_threads();
     of_judges();
 }

@@ -1,9 +1,7 @@
 #!/usr/bin/env bash
-# Lays out a new repository in the folder NAME, with one caller of the map for threads: the folders
-# that it needs, their lines of crates.txt, HANDLES, and the crate `counter`, in which two threads
-# count in one map. docs/LIBRARY.md describes it. `rt check` in NAME/crates/counter proves it. The
-# first time this takes some 14 processor minutes, less than two of them for `counter` itself, which
-# has no proof file.
+# Lays out a new repository in the folder NAME, with callers of the striped map: the folders that it
+# needs, their lines of crates.txt, HANDLES, and the crate `counter`, in which two threads count in
+# one map. docs/LIBRARY.md describes it. `rt check` in NAME/crates/counter proves it.
 # Usage: docs/library/new.sh NAME
 set -eu
 [ $# = 1 ] || { echo "usage: docs/library/new.sh NAME" >&2; exit 2; }
@@ -11,9 +9,8 @@ here=$(cd "$(dirname "${BASH_SOURCE[0]}")/../.." && pwd)
 there=$1
 [ ! -e "$there" ] || { echo "new.sh: $there exists already" >&2; exit 1; }
 
-# The crates that the map of threads needs, lowest first.
-below="split_key txn_words txn_trace map_answers txn_drive undo_log key_locks key_words node_list list_steps bucket_table map_ops boost_core
-core_tokens locked_map shared_transactions"
+# The crates that the striped map needs, lowest first.
+below="split_key txn_words txn_trace map_answers probe_map stripe_part striped_map"
 
 mkdir -p "$there/crates/counter/src" "$there/crates/counter/proofs" "$there/crates/counter/specs"
 for crate in $below; do
@@ -23,10 +20,8 @@ for crate in $below; do
   done
   grep "^$crate\b" "$here/crates.txt" >>"$there/crates.txt"
 done
-# may_wait is the number of the crate's functions that may wait: the last line of its check prints
-# it, and `rt verdict` compares it.
-echo "counter may_wait=4: txn_trace boost_core locked_map shared_transactions anyhow" >>"$there/crates.txt"
-echo "Handles allowed: Threads, Wait." >"$there/HANDLES"
+echo "counter: striped_map anyhow" >>"$there/crates.txt"
+echo "Handles allowed: Threads." >"$there/HANDLES"
 printf 'out/\n' >"$there/.gitignore"
 for text in counter main; do
   cp "$here/docs/library/counter/$text.rt.txt" "$there/crates/counter/src/$text.rt"

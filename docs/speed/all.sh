@@ -34,6 +34,5 @@ check 5
 hostile
 watch 10000000 5
 rising 100000 9
-retries 1000 441
 trims 10000000
 END

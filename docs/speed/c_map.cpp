@@ -101,7 +101,7 @@ public:
         for (word i = 0; i < threads; i++) {
             all.push_back(std::make_unique<striped>());
             all[0]->ok(i ? boostmap_striped_join(&all[0]->caller_, &all[i]->caller_, &w)
-                         : boostmap_striped_open(&all[0]->caller_, threads, stripes, &w));
+                         : boostmap_striped_open(&all[0]->caller_, threads, stripes, 0, BOOSTMAP_KEEP_NOTHING, 0, &w));
         }
         return all;
     }

@@ -114,7 +114,7 @@ write_run_file() {
 lay_out_maps() {
   local crate
   quietly docs/library/new.sh "$work/maps"
-  for crate in owned_map probe_map stripe_part striped_map; do
+  for crate in txn_drive undo_log key_locks node_list list_steps bucket_table map_ops boost_core owned_map; do
     mkdir "$work/maps/crates/$crate"
     cp -r crates/$crate/{src,specs,proofs} "$work/maps/crates/$crate/"
     grep "^$crate\b" crates.txt >>"$work/maps/crates.txt"
@@ -125,20 +125,13 @@ lay_out_maps() {
 }
 
 # Proves and builds the program of docs/speed/NAME.rt.txt on those crates, and runs it once: NAME, its line of crates.txt after the
-# name, and the arguments of that run. docs/speed/NAME/F.antt.txt has the invariants of its function F. It is then `NAME` in $work.
+# name, and the arguments of that run. It is then `NAME` in $work.
 build_on_maps() {
-  local there=$work/maps/crates/$1 file function
+  local there=$work/maps/crates/$1
   [ -e "$work/maps" ] || lay_out_maps
   mkdir -p "$there"/{src,specs,proofs}
   touch "$there"/{specs,proofs}/Lib.antt
   cp "docs/speed/$1.rt.txt" "$there/src/main.rt"
-  for file in docs/speed/"$1"/*.antt.txt; do
-    if [ -e "$file" ]; then
-      function=$(basename "$file" .antt.txt)
-      mkdir "$there/proofs/$function"
-      cp "$file" "$there/proofs/$function/Invariants.antt"
-    fi
-  done
   echo "$1$2" >>"$work/maps/crates.txt"
   (cd "$there" && quietly ${RT:-rt} run -- "${@:3}")
   cp "$there/out/$1" "$work/"

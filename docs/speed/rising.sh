@@ -9,15 +9,14 @@
 source "$(dirname "${BASH_SOURCE[0]}")/common.sh"
 puts=${1:-100000}
 rounds=${2:-9}
-maps="map_answers boost_core owned_map locked_map shared_transactions striped_map"
-build_on_maps rising " may_wait=4: txn_trace $maps anyhow" owned small 10
+build_on_maps rising ": txn_trace map_answers boost_core owned_map striped_map anyhow" owned small 10
 
 # Runs the program with a map, a table, and maybe `whole`, and writes a line of words; the last of them is `puts` or `whole`.
 run_one() {
   "$work/rising" "$1" "$2" "$puts" ${3:+"$3"} | sed "s/[:,]//g; s/$/ ${3:-puts}/"
 }
 
-turns=({owned,threads,striped}:{small,large} striped:{roomy,again} striped:{small,roomy}:whole)
+turns=({owned,striped}:{small,large} striped:{roomy,again} striped:{small,roomy}:whole)
 for _ in $(seq "$rounds"); do
   for turn in $(shuffled "${turns[@]}"); do
     if [ "$turn" = striped:again ]; then export MALLOC_TRIM_THRESHOLD_=1000000000; else unset MALLOC_TRIM_THRESHOLD_; fi
@@ -40,7 +39,7 @@ line() {
 
 printf '%8s  %21s  %21s\n' '' 'by the clock' 'of the processor'
 printf '%8s  %10s %10s  %10s %10s  %s\n' map small large small large ratio
-for map in owned threads striped; do
+for map in owned striped; do
   line $map "$(middle $map small 6)" "$(middle $map large 6)" "$(middle $map small 8)" "$(middle $map large 8)"
 done
 printf '%8s  %10s %10s  %10s %10s  %s\n' striped small roomy small roomy ratio

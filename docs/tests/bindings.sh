@@ -40,13 +40,31 @@ within() { timeout 600 "$@"; }
 prints_the_example() { within "$@" | cmp - bindings/examples/stdout; }
 prints_the_threads() { within "$@" | cmp - bindings/examples/threads.stdout; }
 
-# Compiles the example in C with the flags of boostmap.pc, and runs it.
+# Compiles the example in C with the flags of boostmap.pc, in a folder with a blank in its name, and runs it.
 with_pkg_config() {
-  local flags
-  flags=$(PKG_CONFIG_PATH=$work/usr/lib/pkgconfig pkg-config --cflags --libs boostmap) || return
-  # The flags are several words.
-  # shellcheck disable=SC2086
-  cc bindings/examples/transfer.c $flags -o "$work/by_pkg_config" && prints_the_example "$work/by_pkg_config"
+  local flags folder="$work/with a blank"
+  mkdir -p "$folder" && cp -r "$work/usr/include" "$work/usr/lib" "$folder" || return
+  sed "s|^prefix=.*|prefix=$folder|" "$work/usr/lib/pkgconfig/boostmap.pc" >"$folder/lib/pkgconfig/boostmap.pc"
+  flags=$(PKG_CONFIG_PATH=$folder/lib/pkgconfig pkg-config --cflags --libs boostmap) || return
+  eval "cc bindings/examples/transfer.c $flags" -o "$work/by_pkg_config" && prints_the_example "$work/by_pkg_config"
+}
+
+# Fails if a compiler accepts a job that commits.
+no_commit_in_a_job() {
+  printf '%s\n' '#include <boostmap.hpp>' 'void f(boostmap_cpp::caller &c) {' \
+    '  c.transact([](auto &t) { t.put(1, 1); });' '#ifdef COMMITS' '  c.transact([](auto &t) { t.commit(); });' '#endif' '}' \
+    >"$work/job.cpp"
+  c++ -std=c++17 "${use[@]}" -fsyntax-only "$work/job.cpp" && ! c++ -std=c++17 "${use[@]}" -DCOMMITS -fsyntax-only "$work/job.cpp"
+}
+
+# Compiles the checked header in each version of C++.
+checked_in_cpp() {
+  local version
+  printf '%s\n' '#include <boostmap_checked.h>' 'boostmap_caller_door caller = BOOSTMAP_DOOR_INIT;' \
+    'boostmap_status f() { return boostmap_checked_striped_begin(&caller); }' >"$work/checked.cpp"
+  for version in 11 14 17 20; do
+    c++ "-std=c++$version" "${strict[@]}" "${use[@]}" -fsyntax-only "$work/checked.cpp" || return
+  done
 }
 
 use=(-Ibindings/tests "-I$work/usr/include" "-L$work/usr/lib")
@@ -109,6 +127,8 @@ in_cpp() {
   if has valgrind 'values in C++ under it'; then
     try 'values in C++ under valgrind' within valgrind -q --error-exitcode=9 --leak-check=full --fair-sched=yes "$work/values"
   fi
+  try 'no commit in a job' no_commit_in_a_job
+  try 'the checked header in C++' checked_in_cpp
   try 'compile transfer.cpp' c++ -std=c++17 "${strict[@]}" "${use[@]}" bindings/examples/transfer.cpp -o "$work/transfer" -lboostmap -pthread
   try 'example in C++' prints_the_example "$work/transfer"
 }
@@ -119,11 +139,22 @@ in_rust() {
   cp -r bindings/rust "$work/rust"
   try 'tests in Rust' within "${run[@]}" test "${crate[@]}"
   try 'example in Rust' prints_the_example "${run[@]}" run "${crate[@]}" --example transfer
+  # What README shows, which puts 20 at key 1.
+  {
+    echo 'fn main() -> Result<(), boostmap::Error> {'
+    awk '/^```/ { inside = $0 == "```rust"; next } inside' README.md
+    echo 'assert_eq!(callers[0].transact(|t| t.get(1))?, Some(20)); Ok(()) }'
+  } >"$work/rust/examples/readme.rs"
+  try 'what README shows in Rust' within "${run[@]}" run "${crate[@]}" --example readme
 }
 
 in_python() {
   local run=(env "PYTHONPATH=$work/usr/share/boostmap/python" PYTHONDONTWRITEBYTECODE=1 python3)
   try 'tests in Python' within "${run[@]}" bindings/tests/test_boostmap.py
+  try 'tests in Python by ctypes' within "${run[@]}" -c 'import sys, unittest
+sys.modules["_boostmap"] = None
+sys.path.insert(0, "bindings/tests")
+unittest.main(module="test_boostmap")'
   try 'example in Python' prints_the_example "${run[@]}" bindings/examples/transfer.py
 }
 

@@ -2,7 +2,7 @@
 # Tests the examples of docs/LIBRARY.md:
 # - For each row of the table "To have", it copies exactly the folders that the row names and the caller's, with their lines
 #   of crates.txt, and runs there, without a proof, what `examples` does with the caller. The output must be the same.
-# - Each clause that the page shows must be in a caller.
+# - Each indented line that the page shows must be in a caller.
 # - docs/library/new.sh lays out a repository; its program is run, and proved with what this repository keeps in out/.
 # It takes two minutes, and for the proof three more if all crates below are proved here, else some fifteen.
 # The last line is 'library: N passed, M failed', and the status is 1 if M is not 0.
@@ -61,18 +61,15 @@ MAIN
   judge "$name does not give what it should" $?
 }
 
-kept=
-while IFS='|' read -r _ what folders line _; do
+while IFS='|' read -r _ _ folders line _; do
   folders=$(echo "$folders" | grep -o '`[a-z_]*`' | tr -d '`')
-  case $what in *threads*) folders="$kept $folders" ;; esac
-  kept=${kept:-$folders}
   runs "$(echo $folders)" "$(echo "$line" | sed 's/^ `//; s/` $//')"
 done < <(sed -n '/^| To have/,/^$/p' $page | sed 1,2d | sed '/^$/d')
 
-cat crates/{accounts,audit,bank,visits}/src/*.rt | tr -s ' \n' ' ' >"$work/code"
+cat crates/{accounts,audit,bank,visits}/src/*.rt docs/library/counter/counter.rt.txt | tr -s ' \n' ' ' >"$work/code"
 while read -r clause; do
   grep -qF -- "$clause" "$work/code"
-  judge "no such clause: $clause" $?
+  judge "no such line: $clause" $?
 done < <(sed -n 's/^    //p' $page)
 
 new=$work/new

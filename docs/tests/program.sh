@@ -56,9 +56,11 @@ in_readme() {
     inside { print substr($0, 5) }' README.md
 }
 
+# The history of examples/first_scripts.json, worked out by hand.
+first_history='{"entries":[["began",0,1],["asked",0,"put",1,10],["did",0,null],["committed",0,1],["began",0,2],["asked",0,"take",1],["did",0,10],["leave",0,null],["undone",0],["aborted",0]],"stripes":8,"version":3}'
+
 readme() {
-  wants 0 "began 1"$'\n'"$(in_readme 'began 1')" '' replay examples/first_commit.json
-  wants 0 "$(in_readme '$ ./boostmap run')" '' run examples/first_scripts.json
+  wants 0 "$first_history" '' run examples/first_scripts.json
   cp "$work/out" "$work/readme.json"
   wants 0 "$(in_readme '$ ./boostmap check')" '' check "$work/readme.json"
 }

@@ -54,7 +54,6 @@ core_tests histories::fed_with_savepoints
 thread_tests map_tests::refused::refused_memory_between_callers
 thread_tests map_tests::refused::refused_memory_in_each_call
 thread_tests map_tests::side::side_value_returns
-transaction_tests shared::transactions_and_a_restart
 thread_tests run_tests::refused_memory_for_crossing_scripts
 program_tests engines::refused::five_callers_undone_is_legal
 program_tests engines::refused::a_cursor_stands_beside_a_refusal

@@ -19,7 +19,7 @@ fn main() -> Result<(), Error> {
     accounts.transact(0, |t| t.put(1, 100).and(t.put(2, 50)))?;
     println!("moved 30: {}", yes_or_no(transfer(&mut accounts, 1, 2, 30)?));
     println!("moved 100: {}", yes_or_no(transfer(&mut accounts, 2, 1, 100)?));
-    let (one, two) = accounts.transact(0, |t| Ok((t.get(1)?, t.get(2)?)))?;
+    let (one, two) = accounts.transact(0, |t| Ok::<_, Error>((t.get(1)?, t.get(2)?)))?;
     println!("1 has {}, 2 has {}", one.unwrap_or(0), two.unwrap_or(0));
     Ok(())
 }

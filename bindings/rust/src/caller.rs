@@ -3,7 +3,10 @@
 //! caller owns it from `open_striped` to its drop.
 use crate::sys::{self, Handle};
 use crate::{answer, Error, Result};
+use std::collections::hash_map::RandomState;
+use std::hash::{BuildHasher, Hasher};
 use std::thread;
+use std::time::Duration;
 
 /// Opens a striped map with no keys, for 1 to 4096 callers and with 1 to 4096 stripes, and returns its
 /// callers, in the order of their numbers from 1. The map is freed with the last of them.
@@ -14,13 +17,13 @@ use std::thread;
 /// let mut callers = boostmap::open_striped(4, 64)?;
 /// thread::scope(|scope| {
 ///     for caller in &mut callers {
-///         scope.spawn(|| caller.transact(u64::MAX, |t| {
+///         scope.spawn(|| caller.transact(|t| {
 ///             let count = t.get(7)?.unwrap_or(0);
 ///             t.put(7, count + 1)
 ///         }));
 ///     }
 /// });
-/// assert_eq!(callers[0].transact(0, |t| t.get(7))?, Some(4));
+/// assert_eq!(callers[0].transact(|t| t.get(7))?, Some(4));
 /// # Ok::<(), boostmap::Error>(())
 /// ```
 ///
@@ -28,23 +31,62 @@ use std::thread;
 ///
 /// `Limit` and `NoMemory`.
 pub fn open_striped(callers: u64, stripes: u64) -> Result<Vec<Caller>> {
-    let mut first = Caller { handle: Handle::EMPTY, number: 0 };
-    // SAFETY: the handle is all zeros and uniquely borrowed.
-    let number =
-        answer(&mut first.handle, |at, word| unsafe { sys::boostmap_striped_open(at, callers, stripes, word) })?;
-    first.number = number.unwrap_or_default();
-    let mut all = Vec::with_capacity(callers as usize);
-    for _ in 1..callers {
-        let mut next = Caller { handle: Handle::EMPTY, number: 0 };
-        let at_next: *mut Handle = &mut next.handle;
-        // SAFETY: both handles are uniquely borrowed, and differ.
-        let number = answer(&mut first.handle, |at, word| unsafe { sys::boostmap_striped_join(at, at_next, word) })?;
-        next.number = number.unwrap_or_default();
-        all.push(next);
+    Opening { callers, stripes, ..Opening::default() }.open()
+}
+
+/// How a striped map is opened. By default it has one caller, 64 stripes and no room for keys, does not
+/// keep its commits, and has a random seed below 2^32.
+#[derive(Clone, Copy, Debug, PartialEq, Eq)]
+pub struct Opening {
+    /// The number of callers, 1 to 4096.
+    pub callers: u64,
+    /// The number of stripes, 1 to 4096.
+    pub stripes: u64,
+    /// The number of keys for which the map has room from the start.
+    pub keys: u64,
+    /// Whether the map keeps the number of its commits, so that each commit tells its place. Its callers
+    /// then write a common word.
+    pub keeps_commits: bool,
+    /// The seed of the hash of keys within a stripe. Whoever knows it can choose keys that make every
+    /// call slow. With a seed of 2^32 or more, consecutive keys may be slow.
+    pub seed: u64,
+}
+
+impl Default for Opening {
+    fn default() -> Opening {
+        let seed = RandomState::new().build_hasher().finish() >> 32;
+        Opening { callers: 1, stripes: 64, keys: 0, keeps_commits: false, seed }
     }
-    all.push(first);
-    all.sort_by_key(Caller::number);
-    Ok(all)
+}
+
+impl Opening {
+    /// Opens a striped map with no keys, and returns its callers, in the order of their numbers from 1.
+    ///
+    /// # Errors
+    ///
+    /// `Limit` and `NoMemory`.
+    pub fn open(&self) -> Result<Vec<Caller>> {
+        let Opening { callers, stripes, keys, keeps_commits, seed } = *self;
+        let mut first = Caller { handle: Handle::EMPTY, number: 0 };
+        // SAFETY: the handle is all zeros and uniquely borrowed.
+        let number = answer(&mut first.handle, |at, word| unsafe {
+            sys::boostmap_striped_open(at, callers, stripes, keys, u32::from(keeps_commits), seed, word)
+        })?;
+        first.number = number.unwrap_or_default();
+        let mut all = Vec::with_capacity(callers as usize);
+        for _ in 1..callers {
+            let mut next = Caller { handle: Handle::EMPTY, number: 0 };
+            let at_next: *mut Handle = &mut next.handle;
+            // SAFETY: both handles are uniquely borrowed, and differ.
+            let number =
+                answer(&mut first.handle, |at, word| unsafe { sys::boostmap_striped_join(at, at_next, word) })?;
+            next.number = number.unwrap_or_default();
+            all.push(next);
+        }
+        all.push(first);
+        all.sort_by_key(Caller::number);
+        Ok(all)
+    }
 }
 
 /// A caller of a striped map, for one thread. Its drop aborts an open transaction.
@@ -75,31 +117,68 @@ impl Caller {
     }
 
     /// Runs a job in a transaction: commits, or aborts if the job fails or panics. If a stripe is busy,
-    /// it yields and tries again, at most `tries` times.
+    /// it waits and runs the job again: it yields at first, and then sleeps, each time about twice as
+    /// long, up to half a millisecond. A job's error may be of any type that an [`Error`] turns into; if
+    /// the job ends in `Ok`, name the type, as in `Ok::<_, Error>(value)`.
+    ///
+    /// ```
+    /// #[derive(Debug, PartialEq)]
+    /// enum Failed {
+    ///     TooLittle,
+    ///     Map(boostmap::Error),
+    /// }
+    ///
+    /// impl From<boostmap::Error> for Failed {
+    ///     fn from(error: boostmap::Error) -> Failed {
+    ///         Failed::Map(error)
+    ///     }
+    /// }
+    ///
+    /// let mut caller = boostmap::open_striped(1, 64)?.remove(0);
+    /// let spent = caller.transact(|t| match t.put(1, 10)? {
+    ///     Some(balance) if balance >= 10 => Ok(balance - 10),
+    ///     _ => Err(Failed::TooLittle), // the put is taken back
+    /// });
+    /// assert_eq!(spent, Err(Failed::TooLittle));
+    /// assert_eq!(caller.transact(|t| t.get(1))?, None);
+    /// # Ok::<(), boostmap::Error>(())
+    /// ```
     ///
     /// # Errors
     ///
     /// The job's, those of `begin`, and `NotOpen` if the job returned `Ok` although a call was `Busy`.
-    pub fn transact<T>(
+    /// Never the `Busy` of a call of this transaction.
+    pub fn transact<T, E: From<Error>>(
         &mut self,
-        tries: u64,
-        mut job: impl FnMut(&mut CallerTransaction<'_>) -> Result<T>,
-    ) -> Result<T> {
-        let mut left = tries;
-        loop {
-            match self.attempt(&mut job) {
-                Err(Error::Busy(_)) if left > 0 => left -= 1,
-                outcome => return outcome,
-            }
-            thread::yield_now();
-        }
+        job: impl FnMut(&mut CallerTransaction<'_>) -> Result<T, E>,
+    ) -> Result<T, E> {
+        self.transact_within(u64::MAX, job)
     }
 
-    fn attempt<T>(&mut self, job: &mut impl FnMut(&mut CallerTransaction<'_>) -> Result<T>) -> Result<T> {
-        let mut transaction = self.begin()?;
-        let value = job(&mut transaction)?;
-        transaction.commit()?;
-        Ok(value)
+    /// As [`Caller::transact`], but runs the job again at most `tries` times.
+    ///
+    /// # Errors
+    ///
+    /// Those of `transact`, and the job's error after a `Busy` in the last try.
+    pub fn transact_within<T, E: From<Error>>(
+        &mut self,
+        tries: u64,
+        mut job: impl FnMut(&mut CallerTransaction<'_>) -> Result<T, E>,
+    ) -> Result<T, E> {
+        let (mut left, mut waits) = (tries, Waits::new());
+        loop {
+            let mut transaction = self.begin()?;
+            let error = match job(&mut transaction) {
+                Ok(value) => return transaction.commit().map(|_| value).map_err(E::from),
+                Err(error) => error,
+            };
+            if transaction.is_open || left == 0 {
+                return Err(error);
+            }
+            drop(transaction);
+            left -= 1;
+            waits.wait();
+        }
     }
 
     // Each job is one call of the archive. SAFETY of them all: the handle is live from `open_striped`
@@ -207,15 +286,15 @@ impl CallerTransaction<'_> {
         Ok(pairs.iter().map(|pair| (pair.key, pair.value)).collect())
     }
 
-    /// Commits, and returns the place in the order of commits.
+    /// Commits, and returns the place in the order of commits, if the map keeps its commits.
     ///
     /// # Errors
     ///
     /// `NotOpen`.
-    pub fn commit(mut self) -> Result<u64> {
+    pub fn commit(mut self) -> Result<Option<u64>> {
         let place = self.call(|at, word| unsafe { sys::boostmap_striped_commit(at, word) })?;
         self.is_open = false;
-        Ok(place.unwrap_or_default())
+        Ok(place.filter(|&place| place != 0))
     }
 
     fn call(&mut self, job: impl FnOnce(*mut Handle, *mut u64) -> u32) -> Result<Option<u64>> {
@@ -236,5 +315,33 @@ impl Drop for CallerTransaction<'_> {
             // SAFETY: see `Caller::call`.
             let _ = self.caller.call(|at, _| unsafe { sys::boostmap_striped_abort(at) });
         }
+    }
+}
+
+/// The waits between the tries of one transaction: four yields, and then sleeps, each twice as long as
+/// the one before, up to half a millisecond, and shortened by chance by up to a half.
+struct Waits {
+    tries: u64,
+    longest: u64,
+    random: u64,
+}
+
+impl Waits {
+    fn new() -> Waits {
+        Waits { tries: 0, longest: 1_000, random: 0 }
+    }
+
+    fn wait(&mut self) {
+        self.tries += 1;
+        if self.tries <= 4 {
+            return thread::yield_now();
+        }
+        if self.random == 0 {
+            self.random = RandomState::new().build_hasher().finish();
+        }
+        self.random = self.random.wrapping_mul(6_364_136_223_846_793_005).wrapping_add(1_442_695_040_888_963_407);
+        let half = self.longest / 2;
+        thread::sleep(Duration::from_nanos(half + (self.random >> 33) % half));
+        self.longest = (self.longest * 2).min(500_000);
     }
 }

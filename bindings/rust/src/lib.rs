@@ -14,7 +14,7 @@
 //!     let to = t.get(2)?.unwrap_or(0);
 //!     t.put(1, from - 30)?;
 //!     t.put(2, to + 30)?;
-//!     Ok(30)
+//!     Ok::<_, boostmap::Error>(30)
 //! })?;
 //! assert_eq!(moved, 30);
 //! # Ok::<(), boostmap::Error>(())
@@ -33,7 +33,7 @@ use std::fmt;
 mod caller;
 mod judge;
 
-pub use caller::{open_striped, Caller, CallerTransaction};
+pub use caller::{open_striped, Caller, CallerTransaction, Opening};
 pub use judge::{Entry, Holder, Judge, NotFed, Operation, Rule, Verdict};
 
 /// A map, a caller and a judge can move to another thread, and cannot be shared by threads:
@@ -143,7 +143,15 @@ mod sys {
         pub fn boostmap_save(map: *mut Handle, caller: u64, word: *mut u64) -> u32;
         pub fn boostmap_back(map: *mut Handle, caller: u64, level: u64, word: *mut u64) -> u32;
 
-        pub fn boostmap_striped_open(first: *mut Handle, callers: u64, stripes: u64, word: *mut u64) -> u32;
+        pub fn boostmap_striped_open(
+            first: *mut Handle,
+            callers: u64,
+            stripes: u64,
+            keys: u64,
+            keep: u32,
+            seed: u64,
+            word: *mut u64,
+        ) -> u32;
         pub fn boostmap_striped_join(first: *mut Handle, next: *mut Handle, word: *mut u64) -> u32;
         pub fn boostmap_striped_free(caller: *mut Handle) -> u32;
         pub fn boostmap_striped_begin(caller: *mut Handle) -> u32;
@@ -241,7 +249,7 @@ impl fmt::Display for Error {
 impl error::Error for Error {}
 
 /// The result of a call.
-pub type Result<T> = std::result::Result<T, Error>;
+pub type Result<T, E = Error> = std::result::Result<T, E>;
 
 /// A transactional map with one owner, for up to 64 callers whose transactions may be open at the same
 /// time.
@@ -307,12 +315,17 @@ impl Map {
         Ok(Transaction { map: self, caller, number, is_open: true })
     }
 
-    /// Runs a job in a transaction: commits, or aborts if the job fails or panics.
+    /// Runs a job in a transaction: commits, or aborts if the job fails or panics. The job's error may
+    /// be of any type that an [`Error`] turns into.
     ///
     /// # Errors
     ///
     /// The job's, those of `begin`, and `Leaving` if the job returned `Ok` although a call was `Busy`.
-    pub fn transact<T>(&mut self, caller: u64, job: impl FnOnce(&mut Transaction<'_>) -> Result<T>) -> Result<T> {
+    pub fn transact<T, E: From<Error>>(
+        &mut self,
+        caller: u64,
+        job: impl FnOnce(&mut Transaction<'_>) -> Result<T, E>,
+    ) -> Result<T, E> {
         let mut transaction = self.begin(caller)?;
         let value = job(&mut transaction)?;
         transaction.commit()?;

@@ -13,7 +13,7 @@ fn a_transaction_commits_or_leaves_nothing() -> Result<(), Error> {
         assert_eq!(t.put_if(1, None, 11)?, Some(10));
         assert_eq!(t.put_if(1, Some(10), 12)?, Some(10));
         assert_eq!(t.number(), 1);
-        Ok(())
+        Ok::<_, Error>(())
     })?;
     let failed = map.transact(0, |t| t.put(2, 20).and(Err::<(), _>(Error::Limit)));
     assert_eq!(failed, Err(Error::Limit));
@@ -60,7 +60,7 @@ fn a_panic_aborts() {
     let inside = map.clone();
     let panicked = thread::spawn(move || {
         let mut map = inside.lock().unwrap();
-        let _ = map.transact::<()>(0, |t| {
+        let _ = map.transact::<(), Error>(0, |t| {
             t.put(1, 1)?;
             panic!("in the job")
         });
@@ -99,6 +99,7 @@ fn threads_keep_the_sum() {
     for thread in threads {
         thread.join().unwrap();
     }
-    let sum = map.lock().unwrap().transact(0, |t| (0..KEYS).try_fold(0, |sum, k| Ok(sum + t.get(k)?.unwrap_or(0))));
+    let sum: Result<u64, Error> =
+        map.lock().unwrap().transact(0, |t| (0..KEYS).try_fold(0, |sum, k| Ok(sum + t.get(k)?.unwrap_or(0))));
     assert_eq!(sum, Ok(100 * KEYS));
 }

@@ -1,10 +1,10 @@
-use boostmap::{open_striped, Caller, Entry, Error, Holder, Judge, NotFed, Operation, Rule, Verdict};
+use boostmap::{open_striped, Caller, Entry, Error, Holder, Judge, NotFed, Opening, Operation, Rule, Verdict};
 use std::mem;
 use std::sync::mpsc;
 use std::thread;
 
 fn two() -> Result<(Caller, Caller), Error> {
-    let mut all = open_striped(2, 16)?;
+    let mut all = Opening { callers: 2, stripes: 16, keeps_commits: true, ..Opening::default() }.open()?;
     let second = all.pop().unwrap();
     Ok((all.pop().unwrap(), second))
 }
@@ -13,7 +13,7 @@ fn two() -> Result<(Caller, Caller), Error> {
 fn a_transaction_commits_or_leaves_nothing() -> Result<(), Error> {
     let (mut one, mut other) = two()?;
     assert_eq!((one.number(), other.number()), (1, 2));
-    one.transact(0, |t| {
+    one.transact(|t| {
         assert_eq!(t.put(1, 10)?, None);
         let level = t.save()?;
         assert_eq!(t.take(1)?, Some(10));
@@ -21,20 +21,22 @@ fn a_transaction_commits_or_leaves_nothing() -> Result<(), Error> {
         assert_eq!(t.back(2), Err(Error::NoSuchLevel));
         assert_eq!(t.put_if(1, None, 11)?, Some(10));
         assert_eq!(t.put_if(1, Some(10), 12)?, Some(10));
-        Ok(())
+        Ok::<_, Error>(())
     })?;
-    let failed = one.transact(0, |t| t.put(2, 20).and(Err::<(), _>(Error::Limit)));
+    let failed = one.transact(|t| t.put(2, 20).and(Err::<(), _>(Error::Limit)));
     assert_eq!(failed, Err(Error::Limit));
     one.begin()?.put(2, 20)?;
-    assert_eq!(other.transact(0, |t| Ok((t.get(1)?, t.get(2)?)))?, (Some(12), None));
-    assert_eq!(other.begin()?.commit()?, 3);
-    let pairs = other.transact(0, |t| {
+    assert_eq!(other.transact(|t| Ok::<_, Error>((t.get(1)?, t.get(2)?)))?, (Some(12), None));
+    assert_eq!(other.begin()?.commit()?, Some(3));
+    let pairs = other.transact(|t| {
         t.put(0, 9)?;
         assert_eq!(t.count()?, 2);
         t.pairs()
     })?;
     assert_eq!(pairs, [(0, 9), (1, 12)]);
-    assert_eq!(open_striped(1, 8)?[0].transact(0, |t| t.pairs())?, []);
+    let mut plain = open_striped(1, 8)?.remove(0);
+    assert_eq!(plain.transact(|t| t.pairs())?, []);
+    assert_eq!(plain.begin()?.commit()?, None);
     Ok(())
 }
 
@@ -44,7 +46,7 @@ fn busy_ends_the_transaction() -> Result<(), Error> {
     let mut holds = one.begin()?;
     holds.put(5, 50)?;
     let mut runs = 0;
-    let busy = other.transact(3, |t| {
+    let busy = other.transact_within(3, |t| {
         runs += 1;
         t.put(6, 60)?;
         t.get(5 + 16)
@@ -56,9 +58,48 @@ fn busy_ends_the_transaction() -> Result<(), Error> {
     assert_eq!(t.commit(), Err(Error::NotOpen));
     mem::forget(holds);
     drop(one);
-    assert_eq!(other.transact(0, |t| Ok((t.get(5)?, t.get(6)?)))?, (None, None));
+    assert_eq!(other.transact(|t| Ok::<_, Error>((t.get(5)?, t.get(6)?)))?, (None, None));
     assert!(matches!(open_striped(0, 1), Err(Error::Limit)));
     assert!(matches!(open_striped(1, 4097), Err(Error::Limit)));
+    Ok(())
+}
+
+#[derive(Debug, PartialEq)]
+struct Mine(u64);
+
+impl From<Error> for Mine {
+    fn from(_: Error) -> Mine {
+        Mine(0)
+    }
+}
+
+#[test]
+fn an_error_of_any_type_takes_everything_back() -> Result<(), Error> {
+    let (mut one, mut other) = two()?;
+    let failed = one.transact(|t| {
+        t.put(1, 10)?;
+        Err::<(), _>(Mine(t.get(1)?.unwrap_or(0)))
+    });
+    assert_eq!(failed, Err(Mine(10)));
+    assert_eq!(other.transact(|t| t.get(1))?, None);
+    assert_eq!(other.transact(|t| t.back(1).map_err(|_| Mine(7))), Err(Mine(7)));
+    Ok(())
+}
+
+#[test]
+fn only_its_own_busy_is_tried_again() -> Result<(), Error> {
+    let (mut one, mut other) = two()?;
+    let (mut apart, mut held) = two()?;
+    let mut holds = held.begin()?;
+    holds.put(5, 50)?;
+    let mut runs = 0;
+    let busy = one.transact(|t| {
+        runs += 1;
+        t.put(1, 10)?;
+        apart.begin()?.get(5)
+    });
+    assert_eq!((busy, runs), (Err(Error::Busy(2)), 1));
+    assert_eq!(other.transact(|t| t.get(1))?, None);
     Ok(())
 }
 
@@ -68,12 +109,12 @@ fn a_caller_may_change_threads() -> Result<(), Error> {
     let (sender, receiver) = mpsc::channel::<Caller>();
     let thread = thread::spawn(move || {
         let mut caller = receiver.recv().unwrap();
-        caller.transact(0, |t| t.put(1, 10)).unwrap();
+        caller.transact(|t| t.put(1, 10)).unwrap();
     });
-    one.transact(0, |t| t.put(1, 1))?;
+    one.transact(|t| t.put(1, 1))?;
     sender.send(one).unwrap();
     thread.join().unwrap();
-    assert_eq!(other.transact(0, |t| t.get(1))?, Some(10));
+    assert_eq!(other.transact(|t| t.get(1))?, Some(10));
     Ok(())
 }
 
@@ -81,7 +122,7 @@ fn a_caller_may_change_threads() -> Result<(), Error> {
 fn threads_keep_the_sum() -> Result<(), Error> {
     const KEYS: u64 = 16;
     let mut callers = open_striped(4, 8)?;
-    callers[0].transact(0, |t| (0..KEYS).try_for_each(|key| t.put(key, 100).map(drop)))?;
+    callers[0].transact(|t| (0..KEYS).try_for_each(|key| t.put(key, 100).map(drop)))?;
     thread::scope(|scope| {
         for caller in &mut callers {
             scope.spawn(move || {
@@ -89,7 +130,7 @@ fn threads_keep_the_sum() -> Result<(), Error> {
                 for i in 0..5000 {
                     let (from, to) = ((i * 7 + me) % KEYS, (i * 11 + 3 * me + 1) % KEYS);
                     caller
-                        .transact(u64::MAX, |t| {
+                        .transact(|t| {
                             let has = t.get(from)?.unwrap_or(0);
                             t.put(from, has.saturating_sub(1))?;
                             let had = t.get(to)?.unwrap_or(0);
@@ -100,7 +141,8 @@ fn threads_keep_the_sum() -> Result<(), Error> {
             });
         }
     });
-    let sum = callers[0].transact(0, |t| (0..KEYS).try_fold(0, |sum, key| Ok(sum + t.get(key)?.unwrap_or(0))));
+    let sum: Result<u64, Error> =
+        callers[0].transact(|t| (0..KEYS).try_fold(0, |sum, key| Ok(sum + t.get(key)?.unwrap_or(0))));
     assert_eq!(sum, Ok(100 * KEYS));
     Ok(())
 }

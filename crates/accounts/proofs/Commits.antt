@@ -77,7 +77,7 @@ prefix (x ∷ xs) ys zero e is = is
 prefix (x ∷ xs) ys (suc i) e is = prefix xs ys i e is
 
 -- If the work of a transfer was run and committed, `HasTransferred` holds.
-pub transferred : (from to sum found : ℕ) (moved : Bool) (a b t u l : Caller) → from ≢ to → IsSince a b → IsRun b t u l found → HasWorked from to sum moved t u
+pub transferred : (from to sum : ℕ) (found : Option ℕ) (moved : Bool) (a b t u l : Caller) → from ≢ to → IsSince a b → IsRun b t u l found → HasWorked from to sum moved t u
     → HasTransferred from to sum moved a l
 transferred from to sum found moved a b t u l apart since run worked =
     let c : ℕ = number a in

@@ -1,11 +1,12 @@
 -- The failed tries of a transfer. The work that is tried is a relation, and if this relation
 -- implies another one, `Fails` and `FailsBusy` also hold for the other one.
 use Rattle.std.proofs.Common.{◌≡◌, ℕ, ◌≤◌, zero, suc, Bool, subst}
+use mathlib.Core.Logic.{inl, inr}
 use Rattle.std.specs.Prelude.{Result, Ok, Err}
 use Rattle.map_answers.specs.declared.stop.Stop.{Stop}
 use Rattle.map_answers.specs.declared.stop.Stop.TheVariants.{Busy}
 use Rattle.striped_map.specs.declared.caller.Caller.{Caller}
-use Rattle.striped_map.specs.Attempts.{Fails, FailsBusy, on_callers}
+use Rattle.striped_map.specs.Attempts.{Fails, FailsBusy, FailsOrNot, on_callers}
 use Rattle.accounts.specs.Transfers.{GivesUp, HasWorked, Works}
 
 fails_so : {T : Type 0} (work wider : Caller → Result T Stop → Caller → Type 0) (a b : Caller) (stop : Stop) → ((a : Caller) (r : Result T Stop) (b : Caller) → work a r b → wider a r b) → Fails work a b stop → Fails wider a b stop
@@ -22,6 +23,10 @@ fails_so work wider a b stop is failed = record {
   back = failed.back;
 }
 
+fails_or_not_so : {T : Type 0} (work wider : Caller → Result T Stop → Caller → Type 0) (a b : Caller) (stop : Stop) → ((a : Caller) (r : Result T Stop) (b : Caller) → work a r b → wider a r b) → FailsOrNot work a b stop → FailsOrNot wider a b stop
+fails_or_not_so work wider a b stop is (inl failed) = inl (fails_so work wider a b stop is failed)
+fails_or_not_so work wider a b stop is (inr refused) = inr refused
+
 busy_so : {T : Type 0} (work wider : Caller → Result T Stop → Caller → Type 0) (n : ℕ) (a b : Caller) → ((a : Caller) (r : Result T Stop) (b : Caller) → work a r b → wider a r b) → FailsBusy work n a b → FailsBusy wider n a b
 busy_so work wider zero a b is same = same
 busy_so work wider (suc n) a c is (b, holder, so_far, failed) =
@@ -36,7 +41,7 @@ works_so caller_of did from to sum is a (Err stop) b done = tt
 -- If the work of a transfer was tried and given up, `GivesUp` holds.
 pub gives_up : {H : Type 0} (caller_of : H → Caller) (did : H → Result Bool Stop → H → Type 0) (from to sum tries : ℕ) (stop : Stop) (a b : Caller)
     → ((h : H) (moved : Bool) (k : H) → did h (Ok moved) k → HasWorked from to sum moved (caller_of h) (caller_of k))
-    → ((busy : ℕ) × (busy ≤ tries) × ((holder : ℕ) → stop ≡ Busy holder → busy ≡ tries) × (l : Caller) × FailsBusy (on_callers caller_of did) busy a l × Fails (on_callers caller_of did) l b stop)
+    → ((busy : ℕ) × (busy ≤ tries) × ((holder : ℕ) → stop ≡ Busy holder → busy ≡ tries) × (l : Caller) × FailsBusy (on_callers caller_of did) busy a l × FailsOrNot (on_callers caller_of did) l b stop)
     → GivesUp from to sum tries stop a b
 gives_up caller_of did from to sum tries stop a b is (busy, within, all, last, before, failed) = record {
   busy = busy;
@@ -44,5 +49,5 @@ gives_up caller_of did from to sum tries stop a b is (busy, within, all, last, b
   all = all;
   last = last;
   before = busy_so (on_callers caller_of did) (Works from to sum) busy a last (works_so caller_of did from to sum is) before;
-  failed = fails_so (on_callers caller_of did) (Works from to sum) last b stop (works_so caller_of did from to sum is) failed;
+  failed = fails_or_not_so (on_callers caller_of did) (Works from to sum) last b stop (works_so caller_of did from to sum is) failed;
 }

@@ -13,7 +13,7 @@ use Rattle.txn_words.specs.Shape.{own, how_many}
 use Rattle.map_answers.specs.declared.stop.Stop.{Stop}
 use Rattle.map_answers.specs.declared.stop.Stop.TheVariants.{Busy}
 use Rattle.striped_map.specs.declared.caller.Caller.{Caller}
-use Rattle.striped_map.specs.Attempts.{Fails, FailsBusy}
+use Rattle.striped_map.specs.Attempts.{FailsBusy, FailsOrNot}
 use Rattle.striped_map.specs.Callers.{number, seen, stripes_in}
 use Rattle.bank.specs.Transfers.{balance, IsTransfer}
 
@@ -89,4 +89,4 @@ pub record GivesUp (from to sum tries : ℕ) (stop : Stop) (a b : Caller) : Type
   pub all : (holder : ℕ) → stop ≡ Busy holder → busy ≡ tries
   pub last : Caller
   pub before : FailsBusy (Works from to sum) busy a last
-  pub failed : Fails (Works from to sum) last b stop
+  pub failed : FailsOrNot (Works from to sum) last b stop

@@ -14,6 +14,8 @@
 //! Proved: `flaw_in` finds no flaw exactly if `read_history` accepts the file. If it finds a flaw,
 //! this flaw is the cause of the refusal. `flaw_in` keeps the JSON value of the whole file, which
 //! takes much more memory than `read_history`. Programs call it only for files that are refused.
+//!
+//! Only tested: line and column of a fault in JSON (`docs/tests/judge_program.sh`).
 #![tactic(auto)]
 
 mod elements;

@@ -9,7 +9,7 @@ use std::sync::Wait;
 use std::thread;
 use std::thread::Threads;
 use std::time::{Clock, CpuClock, Instant};
-use striped_map::{Caller, Stop, open_map};
+use striped_map::{Caller, Opening, Stop};
 use txn_words::{Op, Reply};
 
 /// The number of stripes, if no argument gives it.
@@ -219,7 +219,8 @@ pub(crate) fn time_striped<R: Threads + Wait + Sync + AllocGlobal + Clock + CpuC
     transactions: u64,
     stripes: u64,
 ) -> Result<()> {
-    let Ok((_host, callers)) = open_map(rt.alloc(), stripes as usize, threads as usize) else {
+    let opening = Opening::new(stripes as usize, threads as usize);
+    let Ok((_host, callers)) = opening.open(rt.alloc()) else {
         return Err(anyhow!("1 to 4,096 threads and stripes"));
     };
     let mut workers = workers_of(rt.alloc(), callers)?;

@@ -27,6 +27,10 @@
 //! to go back, to link a bucket's dummy and to store the first bucket of a segment. An ask reserves
 //! all that its operation and the operation's undoing need. Calls take constant time and no memory
 //! unless they say otherwise.
+//!
+//! Only tested (`cores::limits` of `core_tests`): with enough memory no call fails, with 1 and 64
+//! callers, 1 and 4,096 stripes, up to 65,536 buckets, keys and values up to 2^64 - 1, 1,000
+//! savepoints, logs of 100,000 jobs, and a run of 100,001 steps.
 #![tactic(auto)]
 
 mod adding;
@@ -34,13 +38,11 @@ mod begun;
 mod buckets;
 mod claim;
 mod counts;
-mod history_room;
 mod into_trace;
 mod machine;
 mod operations;
 mod owner;
 mod plain;
-mod room;
 mod session;
 mod sessions;
 mod transactions;
@@ -48,5 +50,4 @@ mod words;
 
 pub use machine::Core;
 pub use owner::Owner;
-pub use room::{CallerRoom, Room};
 pub use txn_drive::{Call, Drive, End, Turn};

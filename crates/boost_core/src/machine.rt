@@ -17,7 +17,6 @@ use crate::buckets::serve;
 use crate::claim::Claim;
 use crate::counts::Counts;
 use crate::owner::{Owner, placed_after};
-use crate::room::Room;
 use crate::session::Session;
 use crate::sessions::idle_sessions;
 use key_locks::KeyLocks;
@@ -25,7 +24,7 @@ use map_ops::Table;
 use std::alloc::{AllocError, Global};
 use std::collections::BTreeMap;
 use std::marker::Model;
-use txn_trace::{Answer, Limits, Refusal, SmallEntry, Step, entry_of, make_room};
+use txn_trace::{Answer, Limits, Refusal, SmallEntry, Step, entry_of};
 
 /// A transactional map for 1 to 64 callers, with its history and the state of each caller. It runs
 /// boosted transactions (Herlihy and Koskinen, PPoPP 2008, rules 2 and 3) over a split-ordered hash
@@ -97,30 +96,22 @@ impl Core {
         ensures ok { IfOk result (λ core. core ≡ start limits) }
         ensures err { IfErr result (λ refusal. refusal ≡ Refusal.NoMemory) }
     {
-        Core::make(alloc, limits, false, Room::default())
+        Core::make(alloc, limits, false)
     }
 
-    /// A new core with this room. `words` says whether its stripes are atomic words that others
-    /// keep.
-    pub(crate) fn make(
-        alloc: Global,
-        limits: Limits,
-        words: bool,
-        room: Room<'_>,
-    ) -> Result<Core, Refusal>
+    /// A new core. `words` says whether its stripes are atomic words that others keep.
+    pub(crate) fn make(alloc: Global, limits: Limits, words: bool) -> Result<Core, Refusal>
         ensures ok { IfOk result (λ core. core ≡ record (start limits) { words = words }) }
         ensures err { IfErr result (λ refusal. refusal ≡ Refusal.NoMemory) }
     {
         let (max, callers) = (limits.buckets(), limits.callers());
-        let table = Table::with_capacity(alloc, max, callers, room.nodes, room.is_written)?;
-        let sessions = idle_sessions(alloc, callers as usize, room)?;
+        let table = Table::new(alloc, max, callers)?;
+        let sessions = idle_sessions(alloc, callers as usize)?;
         let locks = KeyLocks::new(alloc, limits.stripes() as usize)?;
         let begun = none_begun(alloc, callers as usize)?;
-        let mut history = Vec::new(alloc);
-        make_room(&mut history, room.entries, room.is_written)?;
         Ok(Core {
             limits,
-            history,
+            history: Vec::new(alloc),
             counts: Counts {
                 began: 0,
                 committed: 0,
@@ -285,9 +276,8 @@ impl Core {
     }
 
     /// Makes room in the history for this many more entries, besides those that callers owe now.
-    /// The history then need not grow until more than this many entries are added or newly owed. If
-    /// `is_written`, the room is written, so that no later entry is the first to touch a page of
-    /// it. The core is unchanged.
+    /// The history then need not grow until more than this many entries are added or newly owed.
+    /// The core is unchanged.
     ///
     /// # Errors
     ///
@@ -295,13 +285,11 @@ impl Core {
     ///
     /// # Cost
     ///
-    /// At most one allocation, with which the history is copied. If the room is written, this also
-    /// takes time in proportion to the room.
-    pub fn reserve(&mut self, entries: usize, is_written: bool) -> Result<(), AllocError>
+    /// At most one allocation, with which the history is copied.
+    pub fn reserve(&mut self, entries: usize) -> Result<(), AllocError>
         ensures { self.new ≡ self.old }
     {
-        let more = self.owed.saturating_add(entries);
-        make_room(&mut self.history, more, is_written)
+        self.history.reserve(self.owed.saturating_add(entries))
     }
 
     /// The map now: what the committed transactions left, with the standing changes of the open

@@ -1,14 +1,13 @@
 //! A caller's side of the core: seat, waiting operation, cursor and log. A cursor belongs to the
 //! waiting operation or to the newest change, so one field serves both. The steps that a side takes
 //! are in `operations.rt` and `transactions.rt`.
-ghost use Rattle.std.specs.Prelude.{◌≡◌, ◌+◌, ◌≤◌, ◌<◌, true, None, IfOk, is_some, length};
+ghost use Rattle.std.specs.Prelude.{◌≡◌, ◌+◌, ◌≤◌, ◌<◌, true, None, is_some, length};
 
 use crate::claim::Claim;
 use crate::counts::Counts;
-use crate::room::Room;
 use key_locks::KeyLocks;
 use map_ops::{Cursor, MapJob, Pending, Table};
-use std::alloc::{AllocError, Global};
+use std::alloc::Global;
 use txn_trace::{Answer, Phase, Seat, Step};
 use undo_log::UndoLog;
 
@@ -28,18 +27,16 @@ impl Session {
     ghost use Rattle.boost_core.specs.Refusals.{lacks_in};
     ghost use Rattle.map_ops.specs.TableAt.{table_changes};
 
-    /// The caller with this number, without a transaction. Its seat and its log have the caller's
-    /// part of the room.
-    pub(crate) fn new(alloc: Global, caller: usize, room: Room<'_>) -> Result<Session, AllocError>
-        ensures { IfOk result IsIdle }
+    /// A caller without a transaction.
+    pub(crate) fn new(alloc: Global) -> Session
+        ensures { IsIdle result }
     {
-        let own = room.callers.get(caller).copied().unwrap_or_default();
-        Ok(Session {
-            seat: Seat::with_capacity(alloc, own.savepoints, room.is_written)?,
+        Session {
+            seat: Seat::new(alloc),
             pending: None,
             cursor: None,
-            log: UndoLog::with_capacity(alloc, own.changes, own.savepoints, room.is_written)?,
-        })
+            log: UndoLog::new(alloc),
+        }
     }
 
     /// Returns true if this step needs a cursor that the caller does not have.

@@ -8,7 +8,6 @@ ghost use Rattle.boost_core.specs.Machine.{start_with_words};
 
 use crate::claim::Claim;
 use crate::machine::Core;
-use crate::room::Room;
 use key_locks::StripeRight;
 use std::alloc::Global;
 use txn_trace::{Answer, Limits, Op, Refusal, Step};
@@ -33,29 +32,7 @@ impl Core {
         ensures ok { IfOk result (λ core. core ≡ start_with_words limits) }
         ensures err { IfErr result (λ refusal. refusal ≡ Refusal.NoMemory) }
     {
-        Core::with_room(alloc, limits, Room::default())
-    }
-
-    /// A new core like that of `with_words`, with this room: history, list, logs and seats need not
-    /// grow as long as their entries, nodes, changes and savepoints fit in it. Spares count as
-    /// nodes. A room that is written also has memory for as many buckets as nodes, or for all
-    /// buckets if these are fewer.
-    ///
-    /// # Errors
-    ///
-    /// `Refusal::NoMemory` if memory is refused.
-    ///
-    /// # Cost
-    ///
-    /// The cost of `with_words`, and the memory for the room: 32 bytes for an entry of the history,
-    /// 40 for a node, 4 for a bucket, 16 for each savepoint of a caller, and 48 for each change of
-    /// a caller that has room for more than eight changes. If the room is written, this also takes
-    /// time in proportion to the room.
-    pub fn with_room(alloc: Global, limits: Limits, room: Room<'_>) -> Result<Core, Refusal>
-        ensures ok { IfOk result (λ core. core ≡ start_with_words limits) }
-        ensures err { IfErr result (λ refusal. refusal ≡ Refusal.NoMemory) }
-    {
-        Core::make(alloc, limits, true, room)
+        Core::make(alloc, limits, true)
     }
 
     /// Returns true if the stripes are atomic words that others keep. No step changes this.

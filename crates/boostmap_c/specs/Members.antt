@@ -1,16 +1,19 @@
 -- The effect of a striped map's call on a handle, in terms of the member that the handle owns
 -- before and after. Only `Opens` and `Joins` give a member to an empty handle. For every other
 -- call on an empty handle the status says that the handle is empty.
-use Rattle.std.specs.Prelude.{◌≡◌, ℕ, ◌+◌, ◌<◌, ◌&&◌, nat_le, Bool, true, [], ◌∷◌, ◌++◌, length, Option, Some, None, Result, if◌then◌else◌}
+use Rattle.std.specs.Prelude.{◌≡◌, ℕ, ◌&&◌, nat_eq, nat_le, is_some, Bool, true, [], ◌∷◌, ◌++◌, length, Option, Some, None, Result, if◌then◌else◌}
 use Rattle.txn_words.specs.declared.refusal.Refusal.TheVariants.{NoMemory, NoSuchCaller, Limit}
 use Rattle.striped_map.specs.declared.caller.Caller.{Caller}
 use Rattle.map_answers.specs.declared.stop.Stop.{Stop}
 use Rattle.striped_map.specs.declared.host.Host.{Host}
+use Rattle.striped_map.specs.declared.keep.Keep.{Keep}
+use Rattle.striped_map.specs.declared.keep.Keep.TheVariants.{Nothing, Commits as KeepCommits}
+use Rattle.striped_map.specs.declared.open.Opening.{Opening}
 use Rattle.striped_map.specs.Hosts.{IsOpened}
 use Rattle.boostmap_c.specs.declared.member.Member.{Member}
 use Rattle.boostmap_c.specs.Replies.{done, empty_handle, full, refused}
 use Rattle.boostmap_c.specs.Striped.{Aborts}
-use Rattle.boostmap_c.specs.Stops.{status_of_reply, word_of_reply, status_of_number, word_of_number, status_of_end}
+use Rattle.boostmap_c.specs.Stops.{status_of_reply, word_of_reply, status_of_number, word_of_number, status_of_place, word_of_place, status_of_end}
 
 -- The member's caller makes a call that returns a value or none. The status and the word report
 -- the result to C. The waiting callers are unchanged.
@@ -33,6 +36,17 @@ TellsNumber Calls (Some old) status before after (Some new) =
 TellsNumber Calls None status before after None = (status ≡ empty_handle) × (after ≡ before)
 TellsNumber Calls old status before after new = ⊥
 
+-- The member's caller commits. The status and the word report the result to C. The waiting callers
+-- are unchanged.
+abbrev pub TellsPlace : (Caller → Result (Option ℕ) Stop → Caller → Type 0) → Option Member → ℕ → ℕ
+    → ℕ → Option Member → Type 0
+TellsPlace Calls (Some old) status before after (Some new) =
+    (answer : Result (Option ℕ) Stop) × Calls old.caller answer new.caller
+    × (new.waiting ≡ old.waiting)
+    × (status ≡ status_of_place answer) × (after ≡ word_of_place before answer)
+TellsPlace Calls None status before after None = (status ≡ empty_handle) × (after ≡ before)
+TellsPlace Calls old status before after new = ⊥
+
 -- The member's caller makes a call that returns no value. The status reports the result to C. The
 -- waiting callers are unchanged.
 abbrev pub TellsEnd : (Caller → Result Unit Stop → Caller → Type 0) → Option Member → ℕ
@@ -43,33 +57,46 @@ TellsEnd Calls (Some old) status (Some new) =
 TellsEnd Calls None status None = status ≡ empty_handle
 TellsEnd Calls old status new = ⊥
 
+-- What a map keeps of its history, by its number in C.
+abbrev pub keep_at : ℕ → Option Keep
+keep_at keep =
+    if nat_eq keep 0 then Some Nothing else if nat_eq keep 1 then Some KeepCommits else None
+
 -- Whether a map can have these numbers of callers and stripes.
-abbrev pub are_striped_limits : ℕ → ℕ → Bool
-are_striped_limits callers stripes =
+abbrev pub are_numbers : ℕ → ℕ → Bool
+are_numbers callers stripes =
     (nat_le 1 callers && nat_le callers 4096) && (nat_le 1 stripes && nat_le stripes 4096)
+
+-- Whether a map can have these numbers of callers and stripes, and keep this.
+abbrev pub are_striped_limits : ℕ → ℕ → ℕ → Bool
+are_striped_limits callers stripes keep = are_numbers callers stripes && is_some (keep_at keep)
 
 -- The first member of a map that was opened (`IsOpened`): the map has no entries yet, and no
 -- callers but those of the member. The member's own caller has the largest number. The other
 -- callers wait in the member, in the order of their numbers from 1.
-pub record IsFirstMember (callers stripes : ℕ) (m : Member) : Type 0 where
+pub record IsFirstMember (callers stripes keys keep seed : ℕ) (m : Member) : Type 0 where
+  pub kept : Keep
+  pub keep_is : keep_at keep ≡ Some kept
   pub host : Host
-  pub opened : IsOpened stripes callers host (m.waiting.items ++ m.caller ∷ [])
+  pub opened : IsOpened
+      (record { stripes = stripes; callers = callers; keys = keys; keep = kept; seed = seed }) host
+      (m.waiting.items ++ m.caller ∷ [])
 
 -- The call makes the first member of a new map, unless the map's limits or memory are refused.
-abbrev pub OpensAt : ℕ → ℕ → ℕ → ℕ → ℕ → Option Member → Type 0
-OpensAt callers stripes status before after (Some new) =
-    (are_striped_limits callers stripes ≡ true) × (status ≡ done) × (after ≡ callers)
-    × IsFirstMember callers stripes new
-OpensAt callers stripes status before after None =
-    (status ≡ refused (if are_striped_limits callers stripes then NoMemory else Limit))
+abbrev pub OpensAt : ℕ → ℕ → ℕ → ℕ → ℕ → ℕ → ℕ → ℕ → Option Member → Type 0
+OpensAt callers stripes keys keep seed status before after (Some new) =
+    (are_striped_limits callers stripes keep ≡ true) × (status ≡ done) × (after ≡ callers)
+    × IsFirstMember callers stripes keys keep seed new
+OpensAt callers stripes keys keep seed status before after None =
+    (status ≡ refused (if are_striped_limits callers stripes keep then NoMemory else Limit))
     × (after ≡ before)
 
 -- An empty handle gets the first member of a new map, unless the map is refused. A handle with a
 -- member keeps its member.
-abbrev pub Opens : Option Member → ℕ → ℕ → ℕ → ℕ → ℕ → Option Member → Type 0
-Opens None callers stripes status before after new =
-    OpensAt callers stripes status before after new
-Opens (Some old) callers stripes status before after new =
+abbrev pub Opens : Option Member → ℕ → ℕ → ℕ → ℕ → ℕ → ℕ → ℕ → ℕ → Option Member → Type 0
+Opens None callers stripes keys keep seed status before after new =
+    OpensAt callers stripes keys keep seed status before after new
+Opens (Some old) callers stripes keys keep seed status before after new =
     (status ≡ full) × (after ≡ before) × (new ≡ Some old)
 
 -- The caller of the member and the callers that wait are unchanged.

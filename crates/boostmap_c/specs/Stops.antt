@@ -34,6 +34,16 @@ abbrev pub word_of_number : ℕ → Result ℕ Stop → ℕ
 word_of_number before (Ok number) = number
 word_of_number before (Err stop) = word_of_stop before stop
 
+-- The status for a commit. The word is the commit number, or 0 if the map does not tell it.
+abbrev pub status_of_place : Result (Option ℕ) Stop → ℕ
+status_of_place (Ok found) = done
+status_of_place (Err stop) = status_of_stop stop
+
+abbrev pub word_of_place : ℕ → Result (Option ℕ) Stop → ℕ
+word_of_place before (Ok None) = 0
+word_of_place before (Ok (Some place)) = place
+word_of_place before (Err stop) = word_of_stop before stop
+
 -- The status for a call that returns no value. Such a call writes no word.
 abbrev pub status_of_end : Result Unit Stop → ℕ
 status_of_end (Ok nothing) = done

@@ -59,6 +59,8 @@
 //! Crossing from C to Rattle and back takes no memory and little time: `boostmap_count`, with its
 //! caller's loop, is 23 instructions. Calls take constant time and no memory unless they say
 //! otherwise.
+//!
+//! Only tested: headers and bindings (`docs/tests/bindings.sh`).
 #![tactic(auto)]
 
 mod c_entry;

@@ -2,7 +2,7 @@
 //! calls of a striped map return a `Result` with a `Stop`, not an `Answer` of a core, so `tell` in
 //! `status` cannot report them. If a result has no word, C's word is unchanged.
 ghost use Rattle.std.specs.Prelude.{◌≡◌};
-ghost use Rattle.boostmap_c.specs.Stops.{status_of_end, status_of_number, status_of_reply, status_of_stop, word_of_number, word_of_reply, word_of_stop};
+ghost use Rattle.boostmap_c.specs.Stops.{status_of_end, status_of_number, status_of_place, status_of_reply, status_of_stop, word_of_number, word_of_place, word_of_reply, word_of_stop};
 
 use crate::status::{ABSENT, BUSY, DONE, refused};
 use striped_map::Stop;
@@ -45,6 +45,24 @@ pub(crate) fn tell_number(answer: Result<u64, Stop>, word: &mut u64) -> u32
     match answer {
         Ok(number) => {
             *word = number;
+            DONE
+        }
+        Err(stop) => tell_stop(stop, word),
+    }
+}
+
+/// Writes the commit number, or 0 if the map does not tell it, and returns the status.
+pub(crate) fn tell_place(answer: Result<Option<u64>, Stop>, word: &mut u64) -> u32
+    ensures status { result ≡ status_of_place answer }
+    ensures word { word.new ≡ word_of_place word.old answer }
+{
+    match answer {
+        Ok(None) => {
+            *word = 0;
+            DONE
+        }
+        Ok(Some(place)) => {
+            *word = place;
             DONE
         }
         Err(stop) => tell_stop(stop, word),

@@ -5,33 +5,61 @@
 ghost use Rattle.std.specs.Prelude.{◌≡◌, ◌++◌, [], ◌∷◌, IfOk, IfErr, OnOk, OnErr, true, length, nat_le, if◌then◌else◌};
 ghost use Rattle.txn_words.specs.declared.refusal.Refusal.TheVariants.{NoMemory, NoSuchCaller, Limit};
 ghost use Rattle.boostmap_c.specs.Striped.{Aborts};
-ghost use Rattle.boostmap_c.specs.Members.{IsFirstMember, IsSame, Joins, LeavesMap, Opens, are_striped_limits};
+ghost use Rattle.boostmap_c.specs.Members.{IsFirstMember, IsSame, Joins, LeavesMap, Opens, are_numbers, are_striped_limits, keep_at};
 
 use crate::member::Member;
 use crate::member_handle::{CallerHandle, put_in, take_out};
 use crate::status::{DONE, EMPTY, FULL, refused};
 use std::alloc::Global;
-use striped_map::{MOST, Stop, open_map};
+use striped_map::{Keep, MOST, Opening, Stop};
 use txn_trace::Refusal;
+
+/// What a map keeps of its history, by its number in C.
+fn keep_of(keep: u32) -> Option<Keep>
+    ensures { result ≡ keep_at keep }
+{
+    match keep {
+        0 => Some(Keep::Nothing),
+        1 => Some(Keep::Commits),
+        _ => None,
+    }
+}
 
 /// Whether a map can have these numbers of callers and stripes.
 fn are_limits(callers: u64, stripes: u64) -> bool
-    ensures { result ≡ are_striped_limits callers stripes }
+    ensures { result ≡ are_numbers callers stripes }
 {
     (1 <= callers && callers <= MOST as u64) && (1 <= stripes && stripes <= MOST as u64)
 }
 
 /// Opens a map, and returns its first member.
-fn first_member(alloc: Global, callers: u64, stripes: u64) -> Result<Box<Member, Global>, Refusal>
-    ensures limits { OnOk result (are_striped_limits callers stripes ≡ true) }
-    ensures ok { IfOk result (λ member. IsFirstMember callers stripes member.value) }
+fn first_member(
+    alloc: Global,
+    callers: u64,
+    stripes: u64,
+    keys: u64,
+    keep: u32,
+    seed: u64,
+) -> Result<Box<Member, Global>, Refusal>
+    ensures limits { OnOk result (are_striped_limits callers stripes keep ≡ true) }
+    ensures ok { IfOk result (λ member. IsFirstMember callers stripes keys keep seed member.value) }
     ensures err { IfErr result (λ refusal. refusal
-        ≡ (if are_striped_limits callers stripes then NoMemory else Limit)) }
+        ≡ (if are_striped_limits callers stripes keep then NoMemory else Limit)) }
 {
     if !are_limits(callers, stripes) {
         return Err(Refusal::Limit);
     }
-    let Ok((_host, mut waiting)) = open_map(alloc, stripes as usize, callers as usize) else {
+    let Some(kept) = keep_of(keep) else {
+        return Err(Refusal::Limit);
+    };
+    let opening = Opening {
+        stripes: stripes as usize,
+        callers: callers as usize,
+        keys: keys as usize,
+        keep: kept,
+        seed,
+    };
+    let Ok((_host, mut waiting)) = opening.open(alloc) else {
         return Err(Refusal::NoMemory);
     };
     let Some(caller) = waiting.pop() else {
@@ -70,32 +98,37 @@ fn next_member(alloc: Global, first: &mut Member) -> Result<Box<Member, Global>,
 
 /// Opens a striped map with no keys, and gives the handle to its first caller. The word is this
 /// caller's number, which is the largest one: `callers`. The other callers wait, and get their
-/// handles by `boostmap_striped_join`.
+/// handles by `boostmap_striped_join`. The map has room for so many keys, and the seed, as `Opening`
+/// says. If `keep` is 1, it counts its commits, and each commit tells its number; if it is 0, it does
+/// not.
 ///
 /// # Errors
 ///
 /// On an error the handle is unchanged. The status is 4 if the handle has a caller already, 38
-/// (`Limit`) if the number of callers or of stripes is not from 1 to 4,096, and 30 (`NoMemory`) if
-/// memory is refused.
+/// (`Limit`) if the number of callers or of stripes is not from 1 to 4,096, or `keep` not 0 or 1, and
+/// 30 (`NoMemory`) if memory is refused.
 ///
 /// # Cost
 ///
-/// Time and memory in proportion to the callers and the stripes.
+/// Time and memory in proportion to the callers, the stripes and the keys.
 #[unsafe(no_mangle)]
 pub extern "C" fn boostmap_striped_open(
     alloc: Global,
     caller: &mut CallerHandle,
     callers: u64,
     stripes: u64,
+    keys: u64,
+    keep: u32,
+    seed: u64,
     word: &mut u64,
 ) -> u32
-    ensures { Opens caller.old.held.member callers stripes result word.old word.new
+    ensures { Opens caller.old.held.member callers stripes keys keep seed result word.old word.new
         caller.new.held.member }
 {
     if caller.is_live() {
         return FULL;
     }
-    match first_member(alloc, callers, stripes) {
+    match first_member(alloc, callers, stripes, keys, keep, seed) {
         Ok(member) => {
             put_in(caller, member);
             *word = callers;

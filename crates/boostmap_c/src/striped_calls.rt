@@ -3,12 +3,12 @@
 //! of this module fills, empties or moves a handle. Passing through a handle takes constant time
 //! and no memory.
 ghost use Rattle.std.specs.Prelude.{Some, None};
-ghost use Rattle.boostmap_c.specs.Members.{TellsEnd, TellsNumber, TellsReply};
+ghost use Rattle.boostmap_c.specs.Members.{TellsEnd, TellsNumber, TellsPlace, TellsReply};
 ghost use Rattle.boostmap_c.specs.Striped.{Aborts, Begins, Commits, Operates, Returns, Saves};
 
 use crate::member_handle::CallerHandle;
 use crate::status::EMPTY;
-use crate::stops::{tell_end, tell_number, tell_reply};
+use crate::stops::{tell_end, tell_number, tell_place, tell_reply};
 use txn_trace::Op;
 
 /// Begins a transaction.
@@ -239,8 +239,8 @@ pub extern "C" fn boostmap_striped_back(caller: &mut CallerHandle, level: u64) -
     tell_end(answer)
 }
 
-/// Commits the transaction. The word is the transaction's commit number, counted from 1, modulo
-/// 2^64.
+/// Commits the transaction. If the map keeps its commits, the word is the transaction's commit
+/// number, counted from 1, modulo 2^64. Otherwise it is 0.
 ///
 /// # Errors
 ///
@@ -252,7 +252,7 @@ pub extern "C" fn boostmap_striped_back(caller: &mut CallerHandle, level: u64) -
 /// A step for each change, each savepoint and each stripe; takes no memory.
 #[unsafe(no_mangle)]
 pub extern "C" fn boostmap_striped_commit(caller: &mut CallerHandle, word: &mut u64) -> u32
-    ensures { TellsNumber Commits caller.old.held.member result word.old word.new
+    ensures { TellsPlace Commits caller.old.held.member result word.old word.new
         caller.new.held.member }
 {
     if !caller.is_live() {
@@ -260,7 +260,7 @@ pub extern "C" fn boostmap_striped_commit(caller: &mut CallerHandle, word: &mut 
     }
     let member = caller.held.get_mut();
     let answer = member.caller.commit();
-    tell_number(answer, word)
+    tell_place(answer, word)
 }
 
 /// Aborts the transaction: takes back every change, newest first, and gives back all stripes.

@@ -22,6 +22,11 @@
 //! bytes are in memory at the same time; then the bytes are dropped. A report is made as a whole
 //! before its first byte is written. A history is written in pieces, in memory that is taken before
 //! the first write.
+//!
+//! Only tested: with enough memory no call fails with 1,000,000 steps, with 1,000,000 entries, nor
+//! with a report of 100,002 keys (`docs/tests/limits.sh`); after a failed read or write nothing is
+//! tried again (`engines` of `program_tests`); `Read` is never returned if each read succeeds
+//! (`docs/tests/program.sh`).
 #![tactic(auto)]
 
 mod engine;

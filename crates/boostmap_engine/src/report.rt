@@ -89,7 +89,7 @@ fn text_of_run(alloc: Global, limits: Limits, steps: Vec<PackedStep>) -> Result<
     };
     // This makes room in the history for one entry of each step. If the room is refused, the
     // history grows while entries are added.
-    let _room = core.reserve(steps.len(), false);
+    let _room = core.reserve(steps.len());
     let mut text = String::with_capacity(alloc, steps.len().saturating_mul(ANSWER))?;
     put_answers(&mut text, &mut core, steps)?;
     put_last(&mut text, alloc, &core)?;

@@ -22,6 +22,11 @@
 //! `threaded::run` is the engine of the command `run` (`specs/Threaded.antt`): it writes a legal
 //! history of a run of the scripts in threads (`HasRunScripts`). All else is in
 //! `unthreaded_program`, which does not use threads.
+//!
+//! Only tested, of this crate and of `unthreaded_program`: if standard error fails at any byte of
+//! its line, the status does not change (`commands::writers_that_fail` of `program_tests`);
+//! `NoThread` and `OutOfStep` do not occur with 1 and 64 workers, nor with 10,000 scripts or
+//! actions (`docs/tests/limits.sh`).
 #![tactic(auto)]
 
 mod program;

@@ -70,35 +70,9 @@ impl Buckets {
         ensures ok { IfOk result (λ buckets. buckets ≡ beginning max helpers list.now.head) }
         ensures home { IfOk result (λ buckets. IsHome buckets list.now) }
     {
-        Buckets::with_capacity(alloc, max, helpers, list, 0)
-    }
-
-    /// Makes the same table as `new`. This call also takes the memory for the entries of the first
-    /// `buckets` buckets, and writes it.
-    ///
-    /// # Errors
-    ///
-    /// `AllocError` if memory is refused.
-    ///
-    /// # Cost
-    ///
-    /// The cost of `new`, and 4 bytes of memory for each of the first `buckets` buckets, rounded up
-    /// to whole segments. If `buckets` is greater than `max`, `max` counts instead.
-    pub fn with_capacity(
-        alloc: Global,
-        max: u32,
-        helpers: u32,
-        list: &NodeList,
-        buckets: usize,
-    ) -> Result<Self, AllocError>
-        requires power { IsPowerOfTwo max }
-        requires least { 2 ≤ max }
-        ensures ok { IfOk result (λ buckets. buckets ≡ beginning max helpers list.now.head) }
-        ensures home { IfOk result (λ buckets. IsHome buckets list.now) }
-    {
         Ok(Buckets {
             size: 2,
-            entries: Segments::new(alloc, max, list.head(), buckets)?,
+            entries: Segments::new(alloc, max, list.head())?,
             helpers: vec_of(alloc, helpers, Helper::Idle)?,
         })
     }

@@ -13,10 +13,9 @@
 //! The table keeps the buckets in a row of segments, each with the entries of 64 buckets. A segment
 //! exists exactly if one of its buckets is stored: the first segment exists from the beginning, and
 //! every other segment once any of its buckets is stored. The call that stores the first bucket of
-//! a segment makes the segment. It uses memory that `Buckets::with_capacity` took, as long as any
-//! is left, and otherwise takes memory. A contract sees the row as the flat array of its entries.
-//! In this example the size is 4, the keys are 1 to 5, and all buckets but bucket 2 are stored. The
-//! list is ordered by split keys (`split_key`):
+//! a segment makes the segment, and takes memory for it. A contract sees the row as the flat array
+//! of its entries. In this example the size is 4, the keys are 1 to 5, and all buckets but bucket 2
+//! are stored. The list is ordered by split keys (`split_key`):
 //!
 //! ```text
 //!     buckets            list         bucket of the key
@@ -45,11 +44,10 @@
 //! `NoMemory` (`Answers`). A refused call changes nothing, and no call changes the content of the
 //! list. A doubling changes only the size: no node moves.
 //!
-//! Calls take constant time and no memory unless they say otherwise. `Buckets::new` and
-//! `Buckets::with_capacity` take memory. `Buckets::init_link` may take memory for a new dummy, and
-//! `Buckets::init_store` for a new segment. `nearest` walks up from a bucket to its ancestors, at
-//! most one step for each 1 bit of the bucket's number. `init_seek` walks the list from the
-//! parent's dummy.
+//! Calls take constant time and no memory unless they say otherwise. `Buckets::new` takes memory.
+//! `Buckets::init_link` may take memory for a new dummy, and `Buckets::init_store` for a new
+//! segment. `nearest` walks up from a bucket to its ancestors, at most one step for each 1 bit of
+//! the bucket's number. `init_seek` walks the list from the parent's dummy.
 #![tactic(auto)]
 
 mod answer;

@@ -1,11 +1,10 @@
-//! The entries of the buckets, in segments of 64. The first store into a segment makes the segment,
-//! in memory from `spares` if any is left there, and otherwise in new memory. To `buckets.rt` the
-//! entries are one flat list. A look-up reads one entry. A store writes one entry, and the first
-//! store into a segment writes all 64.
+//! The entries of the buckets, in segments of 64. The first store into a segment makes the segment.
+//! To `buckets.rt` the entries are one flat list. A look-up reads one entry. A store writes one
+//! entry, and the first store into a segment writes all 64.
 ghost use Rattle.std.specs.Prelude.{◌≡◌, ℕ, ◌-◌, ◌*◌, ◌<◌, ◌≤◌, ◌^◌, ◌∷◌, List, Option, Some, None, length, replicate, slice_index_or, slice_set, IfOk, OnErr};
 ghost use Rattle.bucket_table.specs.Segments.{LacksSegment, Puts};
 
-use crate::fill::{fill, vec_of};
+use crate::fill::vec_of;
 use node_list::{NodeRef, PackedRef};
 use std::alloc::{AllocError, Global};
 use std::marker::Model;
@@ -31,13 +30,12 @@ impl Model for Segment {
 }
 
 impl Segment {
-    /// A segment in this memory, with this dummy at this place and no dummy at any other place.
-    fn new(memory: Vec<PackedRef>, place: usize, dummy: NodeRef) -> Result<Self, AllocError>
+    /// A segment with this dummy at this place and no dummy at any other place.
+    fn new(alloc: Global, place: usize, dummy: NodeRef) -> Result<Self, AllocError>
         requires { place < 64 }
         ensures { IfOk result (λ segment. Puts None (Some segment) place dummy) }
     {
-        let mut entries = memory;
-        fill(&mut entries, 64, PackedRef::none())?;
+        let mut entries = vec_of(alloc, 64, PackedRef::none())?;
         entries[place] = PackedRef::of(dummy);
         Ok(Segment { entries })
     }
@@ -62,7 +60,7 @@ impl Segment {
 }
 
 /// The dummies of the stored buckets, in a row of segments. A segment is there exactly if one of
-/// its buckets is stored. Memory may have been taken for segments that are not there yet.
+/// its buckets is stored.
 ///
 /// A contract sees them as the flat list of all entries.
 #[derive(Drop)]
@@ -70,7 +68,6 @@ pub(crate) struct Segments {
     alloc: Global,
     limit: u32,
     row: Vec<Option<Segment>>,
-    spares: Vec<Vec<PackedRef>>,
 }
 
 impl Model for Segments {
@@ -86,35 +83,22 @@ impl Model for Segments {
 
 impl Segments {
     /// The entries of `limit` buckets. Only bucket 0 is stored, with the dummy `first`. Takes
-    /// memory for the row, for the first segment, and for the segments of the first `room` buckets,
-    /// and writes all of it.
-    pub(crate) fn new(
-        alloc: Global,
-        limit: u32,
-        first: NodeRef,
-        room: usize,
-    ) -> Result<Self, AllocError>
+    /// memory for the row and for the first segment.
+    pub(crate) fn new(alloc: Global, limit: u32, first: NodeRef) -> Result<Self, AllocError>
         requires { 0 < limit }
         ensures { IfOk result (λ entries. entries ≡ Some first ∷ replicate (limit - 1) None) }
     {
-        let mut entries = Segments::empty(alloc, limit, room)?;
+        let mut entries = Segments::empty(alloc, limit)?;
         entries.set(0, first)?;
         Ok(entries)
     }
 
-    /// The entries of `limit` buckets, none of them stored. Takes memory for the row, and for the
-    /// segments of the first `room` buckets, and writes all of it.
-    fn empty(alloc: Global, limit: u32, room: usize) -> Result<Self, AllocError>
+    /// The entries of `limit` buckets, none of them stored. Takes memory for the row.
+    fn empty(alloc: Global, limit: u32) -> Result<Self, AllocError>
         ensures { IfOk result (λ entries. entries ≡ replicate limit None) }
     {
         let row = missing(alloc, (limit as usize).div_ceil(WIDTH))?;
-        let spares = spares_of(alloc, room.min(limit as usize).div_ceil(WIDTH))?;
-        Ok(Segments {
-            alloc,
-            limit,
-            row,
-            spares,
-        })
+        Ok(Segments { alloc, limit, row })
     }
 
     /// The number of entries.
@@ -138,7 +122,7 @@ impl Segments {
     }
 
     /// Stores a bucket with its dummy. Takes memory only if no bucket of the bucket's segment is
-    /// stored and no memory that was taken in advance is left.
+    /// stored.
     ///
     /// # Errors
     ///
@@ -150,16 +134,13 @@ impl Segments {
         ensures lacks { OnErr result (LacksSegment self.old bucket) }
     {
         let segment = &mut self.row[bucket as usize / WIDTH];
-        let place = bucket as usize % WIDTH;
-        put(self.alloc, &mut self.spares, segment, place, dummy)
+        put(self.alloc, segment, bucket as usize % WIDTH, dummy)
     }
 }
 
-/// Stores a dummy at a place of a segment. If the segment is missing, it is made first, in memory
-/// from `spares` if any is left there.
+/// Stores a dummy at a place of a segment. If the segment is missing, it is made first.
 fn put(
     alloc: Global,
-    spares: &mut Vec<Vec<PackedRef>>,
     segment: &mut Option<Segment>,
     place: usize,
     dummy: NodeRef,
@@ -173,22 +154,8 @@ fn put(
         segment.set(place, dummy);
         return Ok(());
     }
-    let memory = match spares.pop() {
-        Some(memory) => memory,
-        None => Vec::with_capacity(alloc, WIDTH)?,
-    };
-    *segment = Some(Segment::new(memory, place, dummy)?);
+    *segment = Some(Segment::new(alloc, place, dummy)?);
     Ok(())
-}
-
-/// Memory for `count` segments. The memory is written here, so that no later store is the first to
-/// touch one of its pages.
-fn spares_of(alloc: Global, count: usize) -> Result<Vec<Vec<PackedRef>>, AllocError> {
-    let mut spares = Vec::with_capacity(alloc, count)?;
-    for _ in 0..count {
-        spares.push(vec_of(alloc, WIDTH as u32, PackedRef::none())?)?;
-    }
-    Ok(spares)
 }
 
 /// A row of missing segments.

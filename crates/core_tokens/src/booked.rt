@@ -9,7 +9,7 @@ ghost use Rattle.core_tokens.specs.Tokens.{AreCounted, AreTickets};
 
 use crate::caller::Caller;
 use crate::pass::{Pass, passes_of, words_of};
-use boost_core::{Core, Room};
+use boost_core::Core;
 use std::alloc::Global;
 use std::sync::ledger::{Blank, Book, Ledger, Share};
 use txn_trace::{Limits, Refusal};
@@ -59,38 +59,9 @@ impl<L: Ledger> Booked<L> {
         ensures passes { IfOk result (λ r. AreTickets limits r.1.items) }
         ensures err { IfErr result (λ refusal. refusal ≡ Refusal.NoMemory) }
     {
-        Booked::with_room(alloc, blank, limits, Room::default())
-    }
-
-    /// Makes what `new` makes, and takes the memory for `room` at once. If this memory is refused,
-    /// no room is taken, and the history, the table and the logs grow as they are used.
-    ///
-    /// # Errors
-    ///
-    /// `NoMemory` if memory is refused for anything but the room.
-    ///
-    /// # Cost
-    ///
-    /// The cost of `new`, and the cost that `Core::with_room` states for the room.
-    pub fn with_room(
-        alloc: Global,
-        blank: Blank,
-        limits: Limits,
-        room: Room<'_>,
-    ) -> Result<(Booked<L>, Vec<Pass<L>>), Refusal>
-        requires name { blank.name ≡ L.name }
-        requires parts { blank.parts ≡ L.parts }
-        requires one_each { blank.parts ≡ limits.callers }
-        ensures core { IfOk result (λ r. r.0.core ≡ start_with_words limits) }
-        ensures passes { IfOk result (λ r. AreTickets limits r.1.items) }
-        ensures err { IfErr result (λ refusal. refusal ≡ Refusal.NoMemory) }
-    {
         let (book, mut all) = blank.open::<L>();
         let none = all.empty();
-        let core = match Core::with_room(alloc, limits, room) {
-            Ok(core) => core,
-            Err(_) => Core::with_words(alloc, limits)?,
-        };
+        let core = Core::with_words(alloc, limits)?;
         let booked = Booked { core, book, none };
         let (words, seats) = words_of(alloc, limits)?;
         let passes = passes_of(alloc, limits, words, seats, &mut all)?;

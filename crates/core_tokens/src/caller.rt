@@ -129,8 +129,7 @@ impl<L: Ledger, S: Side> Caller<L, S> {
     }
 
     /// Makes room in `seen` for `entries` more entries, so that `seen` need not grow while they are
-    /// added. If `is_written` is true, also writes the memory of the room, so that no later entry
-    /// is the first to touch a page of memory. The token is unchanged.
+    /// added. The token is unchanged.
     ///
     /// # Errors
     ///
@@ -138,12 +137,11 @@ impl<L: Ledger, S: Side> Caller<L, S> {
     ///
     /// # Cost
     ///
-    /// At most one allocation, and a copy of the entries that are there. If the room is written,
-    /// also time in proportion to the room.
-    pub fn reserve(&mut self, entries: usize, is_written: bool) -> Result<(), AllocError>
+    /// At most one allocation, and a copy of the entries that are there.
+    pub fn reserve(&mut self, entries: usize) -> Result<(), AllocError>
         ensures { self.new ≡ self.old }
     {
-        self.seen.reserve_entries(entries, is_written)
+        self.seen.reserve_entries(entries)
     }
 
     /// Returns true if the caller has no transaction open and may begin one. A broken token can
@@ -305,10 +303,6 @@ impl<L: Ledger, S: Side> Caller<L, S> {
     /// adds to the side value. For a return to a level, tests that this level exists. No step is
     /// taken, and `seen` and the side value with its levels are unchanged.
     ///
-    /// If the last `reserve` wrote its room, `make_ready` also makes and writes room in `seen` for
-    /// all entries of the call, so that no hold is the first to touch a page of this room. If
-    /// memory for this room is refused, each hold makes its own room.
-    ///
     /// # Errors
     ///
     /// The first of these that applies. In all cases but the last, the token is unchanged.
@@ -324,8 +318,7 @@ impl<L: Ledger, S: Side> Caller<L, S> {
     /// # Cost
     ///
     /// For an operation, the cost of `try_word`. Otherwise amortized constant time. Takes memory
-    /// only if there is no room for one more right or for the level of a save. If the last
-    /// `reserve` wrote its room, also takes memory if there is no room in `seen`.
+    /// only if there is no room for one more right or for the level of a save.
     pub fn make_ready(&mut self, call: Call) -> Result<(), Refusal>
         ensures free { OnOk result (refused_by self.old call ≡ None) }
         ensures same { OnOk result (IsSameSeen self.old self.new) }
@@ -338,7 +331,6 @@ impl<L: Ledger, S: Side> Caller<L, S> {
         if let Some(refusal) = self.refusal(call) {
             return Err(refusal);
         }
-        self.seen.make_call_room(call);
         match call {
             Call::Op(op) => self.try_stripe(op),
             Call::Save => match self.side.save_room() {

@@ -30,6 +30,9 @@
 //!
 //! This crate is separate since nothing in it waits. The crates that use it say how callers take
 //! turns at the core. Calls take constant time and no memory unless they say otherwise.
+//!
+//! Only tested (`docs/tests/limits.sh`): with enough memory no call fails in a script of 10,000
+//! actions on 4,096 stripes, in which a caller has more than 16 rights.
 #![tactic(auto)]
 
 mod booked;
@@ -43,7 +46,6 @@ mod seen;
 mod turns;
 
 pub use booked::Booked;
-pub use boost_core::{CallerRoom, Room};
 pub use caller::Caller;
 pub use no_side::{NoJob, NoSide};
 pub use pass::Pass;

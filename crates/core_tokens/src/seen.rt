@@ -12,18 +12,10 @@ ghost use Rattle.txn_words.specs.Seats.{refusal_in};
 ghost use Rattle.core_tokens.specs.Noted.{AddsSmall, HasRoomFor, adds_entry, began_by, last_txn};
 ghost use Rattle.core_tokens.specs.Tokens.{is_over};
 
-use boost_core::Call;
 use std::alloc::{AllocError, Global};
 use std::marker::Model;
 use std::sync::ledger::{Book, Ledger, Share};
-use txn_trace::{
-    Answer, Entry, Limits, Phase, Refusal, Seat, SmallEntry, Step, entry_of, make_room,
-};
-
-/// The number of entries for which room is made before a call, in addition to the room for the
-/// entries that its caller owes. This is enough for every call, and only the first step of a call
-/// needs it.
-const CALL: usize = 3;
+use txn_trace::{Answer, Entry, Limits, Phase, Refusal, Seat, SmallEntry, Step, entry_of};
 
 /// The entries that a caller's calls have added, in order, and the caller's seat after these
 /// entries.
@@ -36,8 +28,6 @@ pub(crate) struct Seen<L: Ledger> {
     seat: Seat,
     is_whole: bool,
     txn: u64,
-    // If true, room that is made for a call is also written.
-    is_written: bool,
     pub(crate) share: Share<L>,
 }
 
@@ -69,7 +59,6 @@ impl<L: Ledger> Seen<L> {
             seat: Seat::new(alloc),
             is_whole: true,
             txn: 0,
-            is_written: false,
             share,
         }
     }
@@ -122,42 +111,15 @@ impl<L: Ledger> Seen<L> {
         self.seat.refusal(limits, step)
     }
 
-    /// Makes room for `entries` more entries, and writes the room if `is_written`.
+    /// Makes room for `entries` more entries.
     ///
     /// # Errors
     ///
     /// `AllocError` if memory is refused.
-    pub(crate) fn reserve_entries(
-        &mut self,
-        entries: usize,
-        is_written: bool,
-    ) -> Result<(), AllocError>
+    pub(crate) fn reserve_entries(&mut self, entries: usize) -> Result<(), AllocError>
         ensures { self.new.entries ≡ self.old.entries }
     {
-        self.is_written = is_written;
-        make_room(&mut self.entries, entries, is_written)
-    }
-
-    /// If the last `reserve_entries` wrote its room, makes and writes room for all entries that the
-    /// call may add, and for the savepoint of a save. Then no hold is the first to touch a page of
-    /// this room. If the last `reserve_entries` did not write, or if memory is refused, the holds
-    /// make the room.
-    pub(crate) fn make_call_room(&mut self, call: Call)
-        requires { is_some (seat_after self.old.entries) ≡ true }
-        ensures { self.new.entries ≡ self.old.entries }
-    {
-        if !self.is_written {
-            return;
-        }
-        // By the contract of `entries`, there is room for all entries that are owed.
-        let _seen = self.entries();
-        let wanted = self.seat.owed() as usize + CALL;
-        if self.entries.capacity() - self.entries.len() < wanted {
-            let _room = make_room(&mut self.entries, wanted, true);
-        }
-        if let Call::Save = call {
-            let _room = self.seat.make_room(1, true);
-        }
+        self.entries.reserve(entries)
     }
 
     /// Makes room for the entry and the savepoint that a step may add, and for all entries that are

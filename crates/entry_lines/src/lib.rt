@@ -14,6 +14,8 @@
 //! bytes, and so is any other line in plain form with no white space before its array. The JSON
 //! reader reads all other lines. Reading a line takes no memory except that of its `Scratch`, which
 //! grows to the length of the longest line, at most 1,000 bytes.
+//!
+//! Not proved: reading the lines of a history again gives the same entries.
 #![tactic(auto)]
 
 mod entry;

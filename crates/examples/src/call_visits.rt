@@ -2,12 +2,13 @@
 //! the value that it put, as `visits` proves. The crate `visits` also starts the threads; this
 //! module only calls it. The answers are in the order of the visits, so the output is the same in
 //! each run.
-use boost_core::Core;
+use anyhow::Result;
+use std::alloc::{AllocError, Global};
+use std::collections::BTreeSet;
 use std::io;
 use std::io::Print;
-use std::sync::Wait;
 use std::thread::Threads;
-use txn_words::{Limits, Refusal};
+use txn_words::{Entry, Op};
 use visits::{Answer, Visit, visit_all};
 
 /// The values that the visitors put.
@@ -35,19 +36,22 @@ fn say_all<R: Print + AllocGlobal>(rt: &R, answers: &[Answer]) -> io::Result<()>
     Ok(())
 }
 
-/// Lets the visitors visit a new map.
-fn visit<R: Threads + Wait + Sync + AllocGlobal>(rt: &R) -> Result<(Core, Vec<Answer>), Refusal> {
-    let limits = Limits::new(4, 8, 8)?;
-    visit_all(rt, rt.alloc(), limits, VISITS.as_slice())
+/// How many keys the entries put.
+fn keys_put(alloc: Global, history: &[Entry]) -> Result<usize, AllocError> {
+    let mut keys = BTreeSet::new(alloc);
+    for entry in history {
+        if let Entry::Asked(_, Op::Put(key, _)) = *entry {
+            keys.insert(key)?;
+        }
+    }
+    Ok(keys.len())
 }
 
-/// Prints what each visitor put and got, and then the number of keys of the map.
-pub(crate) fn show<R: Threads + Wait + Sync + Print + AllocGlobal>(rt: &R) -> io::Result<()> {
-    match visit(rt) {
-        Ok((core, answers)) => {
-            say_all(rt, answers.as_slice())?;
-            println!(rt; "keys {}", core.count())
-        }
-        Err(refusal) => println!(rt; "refused {}", refusal.number()),
-    }
+/// Lets the visitors visit a new map. Prints what each visitor put and got, and then the number of
+/// keys that the history puts.
+pub(crate) fn show<R: Threads + Sync + Print + AllocGlobal>(rt: &R) -> Result<()> {
+    let (history, answers) = visit_all(rt, rt.alloc(), 8, VISITS.as_slice())?;
+    say_all(rt, answers.as_slice())?;
+    println!(rt; "keys {}", keys_put(rt.alloc(), history.as_slice())?)?;
+    Ok(())
 }

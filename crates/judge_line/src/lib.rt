@@ -13,6 +13,9 @@
 //!
 //! No contract says what `Host` reads, since the toolchain promises nothing about a process's words
 //! and files.
+//!
+//! Only tested: `Host` passes on each word of the call, and opens exactly the file that a word
+//! names, or standard input for `-` (`docs/tests/judge_program.sh`).
 #![tactic(auto)]
 
 mod failure;

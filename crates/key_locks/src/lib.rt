@@ -29,6 +29,8 @@
 //! Proved: a stripe has at most one holder. A lock is granted exactly if no other caller holds the
 //! stripe; otherwise the result names that holder. The contract of each call says which caller
 //! holds each stripe afterwards.
+//!
+//! Only tested: with enough memory, no call returns "no memory".
 #![tactic(auto)]
 
 mod key_locks;

@@ -14,6 +14,8 @@
 //! stripe. So no take reports a stripe as held if no seat has ever taken it. No call waits. It is
 //! not proved that a take ever succeeds. Calls take constant time and no memory unless they say
 //! otherwise.
+//!
+//! Only tested: eight threads take and give 64 words, 100,000 times each.
 #![tactic(auto)]
 
 mod law;

@@ -1,8 +1,7 @@
 -- A call in progress, from hold to hold.
-use Rattle.std.proofs.Common.{◌≡◌, ℕ, suc, List, [], Option, Some, None, refl, ap}
+use Rattle.std.proofs.Common.{◌≡◌, ℕ, suc, [], Option, Some, None, refl, ap}
 use Rattle.std.proofs.lemmas.List.{append-nil}
 use Rattle.std.specs.List.{filter}
-use Rattle.txn_words.specs.declared.entry.Entry.{Entry}
 use Rattle.txn_words.specs.Kinds.{is_commit}
 use Rattle.txn_words.specs.Shape.{seat_after}
 use Rattle.txn_words.specs.Sizes.{Sizes}
@@ -12,9 +11,9 @@ use Rattle.txn_drive.specs.declared.«end».End.{End}
 use Rattle.txn_drive.specs.Drives.{first_phase, new_drive}
 use Rattle.txn_drive.specs.Made.{made, CommitNothing}
 use Rattle.boost_core.specs.State.{State}
-use Rattle.core_tokens.specs.Holds.{FitsIf, GoesTo, Held, IsGoing, out_if}
-use Rattle.locked_map.specs.Calls.{HeldOnce, HoldsTo, IsHolding}
-use Rattle.core_tokens.specs.Tokens.{Token, IsSameCaller, IsSameClaims}
+use Rattle.core_tokens.specs.Holds.{FitsIf, Held, IsGoing}
+use Rattle.locked_map.specs.Calls.{IsHeld, IsHolding}
+use Rattle.core_tokens.specs.Tokens.{Token}
 
 -- A new drive has committed nothing.
 pub new_quiet : (d : Drive) → made d ≡ [] → CommitNothing (made d)
@@ -37,19 +36,11 @@ starts k call d limits number limits_are number_is drive none fits =
       holding = record { holds = 0; held = (refl, new) };
     }
 
--- After a hold that takes a turn, the call is still in progress or has ended.
-holds_to : {S : Type 0} (k between l : Token S) (call : Call) (half e : Drive) (m n : State) (r : Option End) → IsHolding k call between half → Held m between half r n l e → HoldsTo k call r l e
-holds_to k between l call half e m n None on held = record { holds = suc on.holds; held = (between, half, m, n, on.held, held) }
-holds_to k between l call half e m n (Some outcome) on held = record { between = between; half = half; holding = on; before = m; after = n; last = e; held = held }
+-- A hold after which the call goes on, and the hold that ends the call.
+pub holds_on : {S : Type 0} (k between l : Token S) (call : Call) (half e : Drive) (m n : State) (r : Option End) → IsHolding k call between half → r ≡ None → Held m between half r n l e → IsHolding k call l e
+holds_on k between l call half e m n r on none held =
+    record { holds = suc on.holds; held = (between, half, m, n, on.held, rw none at held) }
 
-pub held_once : {S : Type 0} (k l : Token S) (d e : Drive) (m n : State) (r : Option End) → Held m k d r n l e → l.side ≡ k.side → IsSameCaller k l → IsSameClaims k l → (e.caller ≡ d.caller) × (e.call ≡ d.call) → l.broken ≡ out_if r
-    → ((base : List Entry) → IsGoing base k.seen d → GoesTo base l.seen e r) → HeldOnce k d r l e
-held_once k l d e m n r held side caller claims drive broken goes = record {
-  side = side;
-  caller = caller;
-  claims = claims;
-  drive = drive;
-  broken = λ outcome is. rw is at broken;
-  goes = goes;
-  holds = λ t call on. holds_to t k l call d e m n r on held;
-}
+pub is_held : {S : Type 0} (k between l : Token S) (call : Call) (half e : Drive) (m n : State) (r : Option End) (outcome : End) → IsHolding k call between half → r ≡ Some outcome → Held m between half r n l e → IsHeld k call outcome l
+is_held k between l call half e m n r outcome on is held =
+    record { between = between; half = half; holding = on; before = m; after = n; last = e; held = rw is at held }

@@ -1,6 +1,6 @@
 -- The holds of a shared call, and the caller after the call.
 use Rattle.std.specs.Prelude.{ℕ, zero, suc, ◌≡◌, ◌≤◌, ◌⊎◌, true, false, List, ◌++◌, length}
-use Rattle.std.specs.Prelude.{Option, Some, None, is_some, Result, Ok, Err}
+use Rattle.std.specs.Prelude.{Some, None, is_some, Result, Ok, Err}
 use Rattle.txn_words.specs.declared.entry.Entry.{Entry}
 use Rattle.txn_words.specs.declared.refusal.Refusal.{Refusal}
 use Rattle.txn_words.specs.declared.refusal.Refusal.TheVariants.{NoMemory, OutOfStep}
@@ -15,11 +15,11 @@ use Rattle.txn_drive.specs.Made.{IsMade, CommitNothing}
 use Rattle.undo_log.specs.Sides.{IsSameSide}
 use Rattle.boost_core.specs.State.{State}
 use Rattle.core_tokens.specs.Claims.{Readies, claims_at}
-use Rattle.core_tokens.specs.Holds.{GoesTo, Held, IsGoing, is_out}
+use Rattle.core_tokens.specs.Holds.{Held}
 use Rattle.core_tokens.specs.Ready.{refused_by}
 use Rattle.core_tokens.specs.Sides.{MovesSide}
 use Rattle.core_tokens.specs.Suits.{may_refuse}
-use Rattle.core_tokens.specs.Tokens.{Token, IsSameCaller, IsSameClaims, IsSameSeen}
+use Rattle.core_tokens.specs.Tokens.{Token, IsSameCaller, IsSameSeen}
 use Rattle.map_answers.specs.declared.stop.Stop.{Stop}
 use Rattle.map_answers.specs.declared.stop.Stop.TheVariants as stops
 
@@ -48,24 +48,6 @@ pub record IsHeld {S : Type 0} (k : Token S) (call : Call) (outcome : End) (l : 
     pub after : State
     pub last : Drive
     pub held : Held before between half (Some outcome) after l last
-
--- A call after one more hold, which may have ended the call.
-abbrev pub HoldsTo : {S : Type 0} → Token S → Call → Option End → Token S → Drive → Type 0
-HoldsTo k call None l d = IsHolding k call l d
-HoldsTo k call (Some outcome) l d = IsHeld k call outcome l
-
--- The token `k` held the lock once, with the drive `d`. Either the drive's turn was taken, or the
--- history had no room for the turn's entries. In the second case the token and the drive are as
--- before.
-pub record HeldOnce {S : Type 0} (k : Token S) (d : Drive) (result : Option End) (l : Token S)
-    (e : Drive) : Type 0 where
-  pub side : l.side ≡ k.side
-  pub caller : IsSameCaller k l
-  pub claims : IsSameClaims k l
-  pub drive : (e.caller ≡ d.caller) × (e.call ≡ d.call)
-  pub broken : (outcome : End) → result ≡ Some outcome → l.broken ≡ is_out outcome
-  pub goes : (base : List Entry) → IsGoing base k.seen d → GoesTo base l.seen e result
-  pub holds : (t : Token S) (call : Call) → IsHolding t call k d → HoldsTo t call result l e
 
 -- The call took the lock. If the call is an operation, it first tried the word of its key's stripe,
 -- unless the token had the right to the stripe. Since then, the token has seen exactly the entries

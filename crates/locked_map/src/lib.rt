@@ -7,8 +7,7 @@
 //!   of `Call`; and `side`.
 //! - A *hold* of a token is one turn of a call, taken under one hold of the lock. So other callers
 //!   may take steps between any two turns, even while changes are taken back. The words of stripes
-//!   are tried, and rights are given back, outside the lock. Only a map that was made with written
-//!   room has further holds, without a turn, in which its history gets more room.
+//!   are tried, and rights are given back, outside the lock.
 //! - Between two holds, only the invariants of the core's type and the token's own entries are
 //!   known. If the core's answer contradicts these, the call ends with `OutOfStep`, and so does
 //!   every later call of the token.
@@ -35,21 +34,26 @@
 //! ```
 //!
 //! If a call returns `Busy`, another caller held the key's stripe when the stripe's word was tried.
-//! The transaction is aborted, and the caller may try again with a new transaction. The module
-//! `transfers` of the crate `examples` has an example with threads. Calls take constant time and no
-//! memory unless they say otherwise.
+//! The transaction is aborted, and the caller may try again with a new transaction. Calls take
+//! constant time and no memory unless they say otherwise.
+//!
+//! Only tested (`thread_tests`), since no contract sees through the lock: each hold is on the core
+//! that is under the lock and takes at most one turn (`rows`, `releases`, `step_between`); the core
+//! of a new map is a new core with the map's limits (`cores::new_core`), and `close` returns it
+//! with its marked nodes (`cores::marked_node_at_close`); `help` initialises its key's bucket
+//! (`rows::help_grows`); an observer is called once for each hold (`releases::one_release_a_hold`);
+//! with enough memory no call fails (`rows::keys_of_64_bits`, `docs/tests/limits.sh`).
 #![tactic(auto)]
 
 mod calls;
 mod close;
 mod closed;
-mod growth;
 mod receipt;
 mod shared_map;
 mod unclosed;
 
 pub use closed::Closed;
-pub use core_tokens::{Booked, Caller, CallerRoom, NoJob, NoSide, Pass, Room, laws};
+pub use core_tokens::{Booked, Caller, NoJob, NoSide, Pass, laws};
 pub use map_answers::Stop;
 pub use receipt::Receipt;
 pub use shared_map::{OnRelease, SharedMap};

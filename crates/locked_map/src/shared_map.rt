@@ -1,6 +1,5 @@
 //! The shared map: the core under its lock, and the turns of a drive, each under one hold of the
-//! lock. Between two holds only the invariants of the core's type are known. The clauses of a call
-//! cover only the holds that take a turn (`WentOn`). `growth.rt` says how the history grows.
+//! lock. Between two holds only the invariants of the core's type are known.
 ghost use Rattle.std.specs.Prelude.{◌≡◌, true, IfOk, IfErr};
 ghost use Rattle.txn_words.specs.Shape.{seat_after};
 ghost use Rattle.txn_drive.specs.Drives.{first_phase};
@@ -10,11 +9,10 @@ ghost use Rattle.locked_map.specs.Calls.{Ended, EndsCall, IsDone, IsHeld, Ran};
 ghost use Rattle.txn_words.specs.declared.holder.Holder.TheVariants.{Begun};
 ghost use Rattle.txn_trace.specs.Legal.{IsLegal};
 
-use crate::growth::{Due, Locked};
 use boost_core::{Call, Drive, End};
-use core_tokens::{Booked, Caller, Pass, Room};
+use core_tokens::{Booked, Caller, Pass};
 use map_answers::Stop;
-use std::alloc::Global;
+use std::alloc::{AllocError, Global};
 use std::sync::ledger::{Blank, Ledger};
 use std::sync::{Mutex, Wait};
 use txn_trace::{Limits, Refusal};
@@ -24,13 +22,11 @@ use undo_log::Side;
 /// which are outside the lock.
 ///
 /// A contract sees the map's limits. Each hold of the lock takes one turn of a call, which is one
-/// step or two. So other callers may take steps between any two turns. A map whose room was written
-/// also has holds without a turn, in which its history grows (`with_room`).
+/// step or two. So other callers may take steps between any two turns.
 #[derive(Drop)]
 pub struct SharedMap<L: Ledger> {
-    locked: Mutex<Locked<L>>,
+    booked: Mutex<Booked<L>>,
     limits: Limits,
-    alloc: Global,
 }
 
 /// An observer that is called after each hold of the lock.
@@ -71,48 +67,26 @@ impl<L: Ledger> SharedMap<L> {
         ensures passes { IfOk result (λ r. AreTickets limits r.1.items) }
         ensures err { IfErr result (λ refusal. refusal ≡ Refusal.NoMemory) }
     {
-        SharedMap::with_room(alloc, blank, limits, Room::default())
+        let (booked, passes) = Booked::new(alloc, blank, limits)?;
+        let booked = Mutex::new(booked);
+        Ok((SharedMap { booked, limits }, passes))
     }
 
-    /// Makes what `new` makes, and makes the given room at once. If memory for the room is refused,
-    /// no room is made, and history, table, logs and seats grow as they are used.
-    ///
-    /// If the room is written, the history takes no memory under the lock. Instead, a thread whose
-    /// hold finds little room takes memory for twice as many entries outside the lock, writes it,
-    /// and hands it over in a hold without a turn. If another thread meanwhile finds too little
-    /// room for its turn, it frees the lock, lets other threads run and tries again. Once memory is
-    /// refused, the history grows under the lock.
+    /// Makes room in the history for this many more entries, before callers share the map. The
+    /// history then need not grow under the lock until more than this many entries are added or
+    /// newly owed.
     ///
     /// # Errors
     ///
-    /// `NoMemory` if memory is refused for anything but the room.
+    /// `AllocError` if memory is refused. The map is then unchanged.
     ///
     /// # Cost
     ///
-    /// The cost of `new`, and the cost that `Core::with_room` states for the room. If the room is
-    /// written, each later growth of the history takes memory outside the lock, and copies the
-    /// history under the lock.
-    pub fn with_room(
-        alloc: Global,
-        blank: Blank,
-        limits: Limits,
-        room: Room<'_>,
-    ) -> Result<(SharedMap<L>, Vec<Pass<L>>), Refusal>
-        requires name { blank.name ≡ L.name }
-        requires parts { blank.parts ≡ L.parts }
-        requires one_each { blank.parts ≡ limits.callers }
-        ensures map { IfOk result (λ r. r.0.limits ≡ limits) }
-        ensures passes { IfOk result (λ r. AreTickets limits r.1.items) }
-        ensures err { IfErr result (λ refusal. refusal ≡ Refusal.NoMemory) }
+    /// At most one allocation, with which the history is copied.
+    pub fn reserve(&mut self, entries: usize) -> Result<(), AllocError>
+        ensures { self.new.limits ≡ self.old.limits }
     {
-        let (booked, passes) = Booked::with_room(alloc, blank, limits, room)?;
-        let locked = Mutex::new(Locked::new(booked, room.is_written));
-        let map = SharedMap {
-            locked,
-            limits,
-            alloc,
-        };
-        Ok((map, passes))
+        self.booked.get_mut().core.reserve(entries)
     }
 
     /// The map's limits.
@@ -129,8 +103,8 @@ impl<L: Ledger> SharedMap<L> {
         ensures words { result.core.words ≡ true }
         ensures legal { IsLegal Begun result.core.limits.stripes result.core.history }
     {
-        let SharedMap { locked, .. } = self;
-        let booked = locked.into_inner().into_booked();
+        let SharedMap { booked, limits: _ } = self;
+        let booked = booked.into_inner();
         // By the contract of `trace` the history is legal.
         let _legal = booked.core.trace();
         booked
@@ -156,15 +130,11 @@ impl<L: Ledger> SharedMap<L> {
         ensures held { IsHeld me.old call result me.new }
     {
         let mut drive = Drive::new(me.number(), call, me.limits());
-        let mut due = Due::Nothing;
         for _ in rt.forever() {
-            let end = (*self.locked.lock(rt)).hold(me, &mut drive, &mut due);
+            let end = me.hold(&mut *self.booked.lock(rt), &mut drive);
             hears.on_release();
             if let Some(end) = end {
                 return end;
-            }
-            if !matches!(due, Due::Nothing) {
-                due.settle(self.alloc);
             }
         }
         unreachable!()

@@ -24,8 +24,8 @@
 //! - All other calls leave the content and the list of pairs unchanged.
 //!
 //! A prepared operation owns the node that it may need, and a take passes this node on to its job.
-//! So only `new`, `with_capacity`, `prepare`, `apply`, `init_link`, `init_store`, `content` and
-//! `regular_list` take memory, and taking a change back needs none.
+//! So only `new`, `prepare`, `apply`, `init_link`, `init_store`, `content` and `regular_list` take
+//! memory, and taking a change back needs none.
 //!
 //! `place` and `place_job` walk to the key's position from the dummy of the key's bucket, or of the
 //! bucket's nearest initialised ancestor. So do `apply` and `take_back`, which contain these two
@@ -35,6 +35,8 @@
 //! `regular_list` walk the whole list (`content` also sorts its pairs), and `new` takes time in
 //! proportion to `max / 64` and `callers`. Calls take constant time and no memory unless they say
 //! otherwise.
+//!
+//! Only tested: with enough memory, no call returns "no memory".
 #![tactic(auto)]
 
 mod act;

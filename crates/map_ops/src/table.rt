@@ -71,40 +71,8 @@ impl Table {
         requires least { 2 ≤ max }
         ensures { IfOk result (λ table. IsNew table max callers) }
     {
-        Table::with_capacity(alloc, max, callers, 0, false)
-    }
-
-    /// Makes a table as `new` does, and takes memory for `nodes` nodes at once, so that the list
-    /// need not grow before it has more nodes than that. Marked nodes, dummies and spares that are
-    /// out count as nodes too.
-    ///
-    /// If `is_written`, the memory for the nodes is also written at once, so that no later node is
-    /// the first to touch a page of it. Memory for the entries of the first `nodes` buckets is then
-    /// taken too, or for all `max` entries if `nodes` is larger.
-    ///
-    /// # Errors
-    ///
-    /// `AllocError` if memory is refused.
-    ///
-    /// # Cost
-    ///
-    /// The cost of `new`, plus 40 bytes of memory for each node. If `is_written`, this also takes
-    /// time in proportion to that memory, and 4 bytes of memory for each bucket entry. Bucket
-    /// entries are taken in whole segments.
-    pub fn with_capacity(
-        alloc: Global,
-        max: u32,
-        callers: u32,
-        nodes: usize,
-        is_written: bool,
-    ) -> Result<Table, AllocError>
-        requires power { (exponent : ℕ) × (max ≡ 2 ^ exponent) }
-        requires least { 2 ≤ max }
-        ensures { IfOk result (λ table. IsNew table max callers) }
-    {
-        let list = NodeList::with_capacity(alloc, 0, nodes, is_written)?;
-        let stored = if is_written { nodes } else { 0 };
-        let buckets = Buckets::with_capacity(alloc, max, callers, &list, stored)?;
+        let list = NodeList::new(alloc, 0)?;
+        let buckets = Buckets::new(alloc, max, callers, &list)?;
         Ok(Table { list, buckets })
     }
 

@@ -13,9 +13,7 @@ ghost use Rattle.node_list.specs.Tally.{AreMarksFrom, first_marked};
 
 use crate::node::{Kind, Node, NodeRef};
 use crate::packed_ref::PackedRef;
-use crate::slots::{
-    Slot, linked_at, mark, node_at, replace_next, set_slot, set_value, slab_with_room,
-};
+use crate::slots::{Slot, linked_at, mark, node_at, replace_next, set_slot, set_value};
 use crate::spare::{Spare, SpareFault};
 use crate::tally::Tally;
 use slab::Slab;
@@ -75,36 +73,8 @@ impl NodeList {
         ensures last { IfOk result (λ list. list.last ≡ first_stamp) }
         ensures sound { IfOk result IsSound }
     {
-        NodeList::with_capacity(alloc, first_stamp, 0, false)
-    }
-
-    /// Makes a list as `new` does, but takes memory for this many nodes at once. The list need not
-    /// grow until it has more nodes than that, spares included. If `is_written`, the memory is
-    /// written, so that no later node is the first to touch a page of it.
-    ///
-    /// # Errors
-    ///
-    /// `AllocError` if memory is refused.
-    ///
-    /// # Cost
-    ///
-    /// The cost of `new`, and 40 bytes of memory for each node. If the memory is written, this also
-    /// takes time in proportion to the memory.
-    pub fn with_capacity(
-        alloc: Global,
-        first_stamp: u64,
-        nodes: usize,
-        is_written: bool,
-    ) -> Result<Self, AllocError>
-        requires { first_stamp < 2 ^ 64 - 1 }
-        ensures nodes { IfOk result (λ list. list.nodes ≡ first_dummy list.head first_stamp ∷ []) }
-        ensures out { IfOk result (λ list. (place : ℕ) → out_at list place ≡ None) }
-        ensures changes { IfOk result (λ list. list.changes ≡ 0) }
-        ensures last { IfOk result (λ list. list.last ≡ first_stamp) }
-        ensures sound { IfOk result IsSound }
-    {
         let marks = Tally::new(alloc)?;
-        let mut slab = slab_with_room(alloc, nodes, is_written)?;
+        let mut slab = Slab::new(alloc);
         let node = Node::dummy(SortKey::dummy(0), first_stamp);
         match slab.insert(Slot::of_linked(node)) {
             // The first place of a slab is 0.

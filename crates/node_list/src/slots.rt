@@ -2,7 +2,7 @@
 //! flag `is_linked` tells the two cases apart, so a slot is only as large as a node: 32 bytes. Only
 //! this module reads this flag. For the list and for each contract, a slot is one of these two
 //! cases.
-ghost use Rattle.std.specs.Prelude.{◌≡◌, [], Some, IfOk, true, option_copied};
+ghost use Rattle.std.specs.Prelude.{◌≡◌, Some, true, option_copied};
 ghost use Rattle.slab.specs.Slab.{get, with_value, ContainsKey};
 ghost use Rattle.node_list.specs.declared.node.Node.{Node};
 ghost use Rattle.node_list.specs.Slots.{Linked, Out, node_in};
@@ -10,8 +10,6 @@ ghost use Rattle.node_list.specs.Slots.{Linked, Out, node_in};
 use crate::node::Node;
 use crate::packed_ref::PackedRef;
 use slab::Slab;
-use split_key::SortKey;
-use std::alloc::{AllocError, Global};
 use std::marker::Model;
 use std::mem::size_of;
 
@@ -93,36 +91,6 @@ impl Slot {
             self.new ≡ Linked (record node { value = value }) }
     {
         self.node.value = value;
-    }
-}
-
-/// An empty slab with room for this many slots. If `is_written`, the slab is filled and emptied
-/// once, so that no later slot is the first to touch a page of its memory.
-///
-/// # Errors
-///
-/// `AllocError` if memory is refused.
-pub fn slab_with_room(
-    alloc: Global,
-    slots: usize,
-    is_written: bool,
-) -> Result<Slab<Slot>, AllocError>
-    ensures empty { IfOk result (λ slab. slab.slots ≡ []) }
-    ensures first_key { IfOk result (λ slab. slab.vacant_key ≡ 0) }
-{
-    let mut slab = Slab::with_capacity(alloc, slots)?;
-    if is_written {
-        fill(&mut slab, slots);
-        slab.clear();
-    }
-    Ok(slab)
-}
-
-/// Fills a slab with this many slots.
-fn fill(slab: &mut Slab<Slot>, slots: usize) {
-    let blank = Node::dummy(SortKey::dummy(0), 0);
-    for _ in 0..slots {
-        let _ = slab.insert(Slot::out(&blank));
     }
 }
 

@@ -44,6 +44,10 @@
 //! An operation costs what it costs on the core. If its key was absent, growth adds at most four
 //! steps of the table. The boosted transactions are those of Herlihy and Koskinen (PPoPP 2008), the
 //! growing table that of Shalev and Shavit (Journal of the ACM 53(3), 2006).
+//!
+//! Only tested (`transaction_tests`): with enough memory no call fails, with the least and greatest
+//! keys and values, 64 callers, 4,096 stripes, 65,536 buckets and 1,000 savepoints; and the table
+//! grows as far as it should.
 #![tactic(auto)]
 
 mod owned_map;

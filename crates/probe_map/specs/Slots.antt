@@ -1,5 +1,6 @@
 -- The content of a map's slots, and the conditions under which the slots are sound.
-use Rattle.std.specs.Prelude.{◌≡◌, ℕ, ◌*◌, ◌/◌, ◌%◌, ◌^◌, ◌-◌, ◌<◌, ◌≤◌, Bool, true, false, Option, Some, None, List, [], ◌∷◌, length, count_by, slice_index_or, nat_lt, if◌then◌else◌}
+use Rattle.std.specs.Prelude.{◌≡◌, ℕ, ◌*◌, ◌/◌, ◌%◌, ◌^◌, ◌-◌, ◌<◌, ◌≤◌, bit_xor, Bool, true, false, Option, Some, None, List, [], ◌∷◌, length, count_by, slice_index_or, nat_lt, if◌then◌else◌}
+use Rattle.probe_map.specs.declared.hash.Hash.{Hash}
 use Rattle.probe_map.specs.declared.slot.Slot.{Slot}
 use Rattle.probe_map.specs.declared.slot.Slot.TheVariants.{Empty, Removed, Full}
 use Rattle.probe_map.specs.Probes.{IsProbed, LeadsTo, stops}
@@ -42,10 +43,11 @@ pairs_of (Removed key ∷ slots) = pairs_of slots
 pairs_of (Full key value ∷ slots) = (key, value) ∷ pairs_of slots
 
 -- The place where the probe for a key begins. It is the number in the high bits of the product of
--- the key and a constant, or 0 if there is no place with this number.
-unfoldable pub home : ℕ → ℕ → ℕ → ℕ
-home count shift key =
-    let high = key * 0x9E37_79B9_7F4A_7C15 % 2 ^ 64 / 2 ^ (shift % 64) in
+-- the key and an odd number, which the seed gives, or 0 if there is no place with this number.
+unfoldable pub home : ℕ → Hash → ℕ → ℕ
+home count hash key =
+    let multiplier = bit_xor 0x9E37_79B9_7F4A_7C15 (hash.seed * 2 % 2 ^ 64) in
+    let high = key * multiplier % 2 ^ 64 / 2 ^ (hash.shift % 64) in
     if nat_lt high count then high else 0
 
 -- The probe for a key stops at this place.
@@ -56,8 +58,8 @@ pub record StopsAt (slots : List Slot) (start key place : ℕ) : Type 0 where
 
 -- The slots are sound. Each key is at the place where its probe stops, at least `room` slots are
 -- empty, and `len` slots have a value.
-pub record IsTable (slots : List Slot) (room len shift : ℕ) : Type 0 where
-  pub probed : IsProbed (key_at slots) (length slots) (home (length slots) shift)
+pub record IsTable (slots : List Slot) (room len : ℕ) (hash : Hash) : Type 0 where
+  pub probed : IsProbed (key_at slots) (length slots) (home (length slots) hash)
   pub room_is : room ≤ count_by is_empty slots
   pub len_is : len ≡ count_by is_full slots
 

@@ -13,8 +13,12 @@
 //!
 //! A contract sees a map as its `content`, a finite map, and `spare`, the number of new keys that
 //! it has room for. The invariant is `IsTable` in `specs/Slots.antt`.
+//!
+//! Only tested: the room of removed keys is used again; a map grows; with enough memory, no call
+//! returns "no memory".
 #![tactic(auto)]
 
+mod hash;
 mod map;
 mod probe;
 mod slot;

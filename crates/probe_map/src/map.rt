@@ -8,6 +8,7 @@ ghost use Rattle.txn_words.specs.Map.{count_of, empty, get, set_at};
 ghost use Rattle.probe_map.specs.MapAt.{map_of, nothing};
 ghost use Rattle.probe_map.specs.Slots.{most_used, pairs_of};
 
+use crate::hash::Hash;
 use crate::probe::find;
 use crate::slot::Slot;
 use std::alloc::{AllocError, Global};
@@ -35,8 +36,7 @@ pub struct ProbeMap {
     room: usize,
     // How many slots have a value.
     len: usize,
-    // How far the product of a key and `SPREAD` is shifted right to give the key's home.
-    shift: u32,
+    hash: Hash,
 }
 
 impl Model for ProbeMap {
@@ -49,7 +49,7 @@ impl Model for ProbeMap {
 
     ghost view = { λ m. record { content = map_of (pairs_of m.slots.items); spare = m.room } };
 
-    ghost invariant = { λ m. IsTable m.slots.items m.room m.len m.shift };
+    ghost invariant = { λ m. IsTable m.slots.items m.room m.len m.hash };
 }
 
 /// The number of slots in an array with room for this number of keys. With so many keys, at least
@@ -109,7 +109,7 @@ fn list(alloc: Global, slots: &[Slot], len: usize) -> Result<Vec<(u64, u64)>, Al
 }
 
 impl ProbeMap {
-    /// An empty map.
+    /// An empty map with the seed 0.
     ///
     /// # Cost
     ///
@@ -117,15 +117,43 @@ impl ProbeMap {
     pub fn new(alloc: Global) -> ProbeMap
         ensures { result ≡ nothing }
     {
+        ProbeMap::with_seed(alloc, 0)
+    }
+
+    /// An empty map whose hash has this seed. A map behaves the same with any seed: only the time
+    /// of a call depends on it.
+    ///
+    /// # Cost
+    ///
+    /// Constant time; takes no memory.
+    pub fn with_seed(alloc: Global, seed: u64) -> ProbeMap
+        ensures { result ≡ nothing }
+    {
         ProbeMap {
             slots: Vec::new(alloc),
             room: 0,
             len: 0,
-            shift: 0,
+            hash: Hash { seed, shift: 0 },
         }
     }
 
-    /// An empty map with room for this number of keys.
+    /// An empty map with the seed 0 and with room for this number of keys.
+    ///
+    /// # Errors
+    ///
+    /// Those of `with_capacity_and_seed`.
+    ///
+    /// # Cost
+    ///
+    /// That of `with_capacity_and_seed`.
+    pub fn with_capacity(alloc: Global, keys: usize) -> Result<ProbeMap, AllocError>
+        ensures empty { IfOk result (λ map. map.content ≡ empty) }
+        ensures room { IfOk result (λ map. keys ≤ map.spare) }
+    {
+        ProbeMap::with_capacity_and_seed(alloc, keys, 0)
+    }
+
+    /// An empty map with room for this number of keys, whose hash has this seed.
     ///
     /// # Errors
     ///
@@ -136,21 +164,26 @@ impl ProbeMap {
     /// Time and memory in proportion to the number of keys. For 0 keys, constant time and no
     /// memory. For one key, the array has 4 slots. For more keys, it has fewer than 3 slots for
     /// each key.
-    pub fn with_capacity(alloc: Global, keys: usize) -> Result<ProbeMap, AllocError>
+    pub fn with_capacity_and_seed(
+        alloc: Global,
+        keys: usize,
+        seed: u64,
+    ) -> Result<ProbeMap, AllocError>
         ensures empty { IfOk result (λ map. map.content ≡ empty) }
         ensures room { IfOk result (λ map. keys ≤ map.spare) }
     {
         if keys == 0 {
-            return Ok(ProbeMap::new(alloc));
+            return Ok(ProbeMap::with_seed(alloc, seed));
         }
         let Some(count) = count_for(keys) else {
             return Err(AllocError);
         };
+        let shift = count.leading_zeros().wrapping_add(1);
         Ok(ProbeMap {
             slots: vec![in alloc; Slot::Empty; count]?,
             room: count - count / 8,
             len: 0,
-            shift: count.leading_zeros().wrapping_add(1),
+            hash: Hash { seed, shift },
         })
     }
 
@@ -158,13 +191,13 @@ impl ProbeMap {
     ///
     /// # Cost
     ///
-    /// Constant time on average, unless the homes of many keys collide. The hash is fixed, so it is
-    /// possible to choose keys whose homes collide.
+    /// Constant time on average, unless the homes of many keys collide. Whoever knows the seed can
+    /// choose such keys, and without the seed it is harder.
     #[inline(always)]
     pub fn get(&self, key: u64) -> Option<u64>
         ensures { result ≡ get self.now.content key }
     {
-        let Some(place) = find(&self.slots, self.shift, key) else {
+        let Some(place) = find(&self.slots, self.hash, key) else {
             return None;
         };
         self.slots[place].value()
@@ -190,7 +223,7 @@ impl ProbeMap {
         ensures content { self.new.content ≡ set_at self.old.content key (Option.Some value) }
         ensures spare { self.old.spare ≤ self.new.spare + 1 }
     {
-        let Some(place) = find(&self.slots, self.shift, key) else {
+        let Some(place) = find(&self.slots, self.hash, key) else {
             unreachable!();
         };
         let slot = self.slots[place];
@@ -212,7 +245,7 @@ impl ProbeMap {
         ensures content { self.new.content ≡ set_at self.old.content key Option.None }
         ensures spare { self.old.spare ≤ self.new.spare }
     {
-        let Some(place) = find(&self.slots, self.shift, key) else {
+        let Some(place) = find(&self.slots, self.hash, key) else {
             return None;
         };
         let Slot::Full(_, before) = self.slots[place] else {
@@ -258,7 +291,8 @@ impl ProbeMap {
         let Some(keys) = grown(self.len, more) else {
             return Err(AllocError);
         };
-        let mut later = ProbeMap::with_capacity(*self.slots.allocator(), keys)?;
+        let alloc = *self.slots.allocator();
+        let mut later = ProbeMap::with_capacity_and_seed(alloc, keys, self.hash.seed)?;
         put_all(&mut later, &self.slots);
         *self = later;
         Ok(())

@@ -5,20 +5,23 @@ ghost use Rattle.std.specs.Prelude.{◌≡◌, ℕ, ◌<◌, ◌≤◌, Some, No
 ghost use Rattle.probe_map.specs.Probes.{stops};
 ghost use Rattle.probe_map.specs.Slots.{StopsAt, home, key_at};
 
+use crate::hash::Hash;
 use crate::slot::Slot;
 
 /// 2^64 divided by the golden ratio. If keys are multiplied by this number, the high bits of the
 /// products are spread well, even for consecutive keys.
 const SPREAD: u64 = 0x9E37_79B9_7F4A_7C15;
 
-/// The place where the probe for a key begins.
+/// The place where the probe for a key begins: a multiply-shift hash (Dietzfelbinger and others,
+/// 1997). With a seed below 2^32, the homes of consecutive keys are apart.
 #[inline(always)]
 #[tactic(auto, unfolding(crate::specs::Slots::home))]
-fn home_of(count: usize, shift: u32, key: u64) -> usize
-    ensures home { result ≡ home count shift key }
+fn home_of(count: usize, hash: Hash, key: u64) -> usize
+    ensures home { result ≡ home count hash key }
     ensures within { result ≤ count }
 {
-    let high = key.wrapping_mul(SPREAD).wrapping_shr(shift) as usize;
+    let multiplier = SPREAD ^ hash.seed.wrapping_mul(2);
+    let high = key.wrapping_mul(multiplier).wrapping_shr(hash.shift) as usize;
     if high < count { high } else { 0 }
 }
 
@@ -56,12 +59,12 @@ fn probe(slots: &[Slot], start: usize, key: u64) -> Option<usize>
 
 /// The place at which the probe for a key stops, if it stops within one round.
 #[inline(always)]
-pub(crate) fn find(slots: &Vec<Slot>, shift: u32, key: u64) -> Option<usize>
+pub(crate) fn find(slots: &Vec<Slot>, hash: Hash, key: u64) -> Option<usize>
     ensures some { IfSome result (λ place.
-        StopsAt slots.now.items (home (length slots.now.items) shift key) key place) }
+        StopsAt slots.now.items (home (length slots.now.items) hash key) key place) }
     ensures none { result ≡ None → (j : ℕ) → j < length slots.now.items
         → stops (key_at slots.now.items j) key ≡ false }
 {
     let slots = slots.as_slice();
-    probe(slots, home_of(slots.len(), shift, key), key)
+    probe(slots, home_of(slots.len(), hash, key), key)
 }

@@ -8,6 +8,9 @@
 //! which rule a word must meet that names a file, and which words are numerals. `proofs/` has
 //! lemmas about these definitions and about the result of a parse. The crates `command_line` and
 //! `judge_line` use them.
+//!
+//! Only tested: `Host` passes on each word of the call, and opens exactly the file that a word
+//! names (`docs/tests/program.sh`).
 #![tactic(auto)]
 
 mod system;

@@ -16,6 +16,8 @@
 //! the number of live workers. Memory is taken for the core and the workers at the beginning, and
 //! then only by the core's steps. The numbers of the live workers are kept in a list, so a turn
 //! costs only its steps and a look at one worker.
+//!
+//! Only tested: two runs with the same seed print the same bytes.
 #![tactic(auto)]
 
 mod crew;

@@ -1,41 +1,24 @@
 -- What the committed map and the footprints of a checker say about the entries so far.
-use Rattle.std.specs.Prelude.{◌≡◌, ◌≢◌, ◌⊎◌, ℕ, Bool, true, false, List, [], ◌∷◌, ◌++◌, None, Some, IsSome, slice_get}
-use Rattle.std.specs.Option.{IfSome}
+use Rattle.std.specs.Prelude.{◌≡◌, ◌≢◌, ◌⊎◌, ℕ, Bool, true, List, [], ◌∷◌, ◌++◌, None, Some, IsSome}
 use Rattle.txn_words.specs.declared.entry.Entry.{Entry}
 use Rattle.txn_trace.specs.Alone.{AloneRun, alone}
-use Rattle.txn_trace.specs.History.{is_open, of}
-use Rattle.txn_trace.specs.Legal.{is_running}
-use Rattle.txn_trace.specs.Log.{log_of}
+use Rattle.txn_trace.specs.History.{of}
 use Rattle.txn_words.specs.Map.{Map, get}
 use Rattle.txn_trace.specs.Serial.{serial}
-use Rattle.txn_words.specs.Shape.{seat_after, own, is_shaped}
+use Rattle.txn_words.specs.Shape.{is_shaped}
 use Rattle.history_check.specs.declared.callers.Callers.{Callers}
 use Rattle.history_check.specs.Callers.{HaveEntered}
 use Rattle.history_check.specs.Values.{Has}
-use Rattle.serial_check.specs.declared.footprint.Footprint.{Footprint}
 use Rattle.serial_check.specs.declared.commits.Commits.{Commits}
 use Rattle.serial_check.specs.declared.commits.Misread.{Misread}
-use Rattle.serial_check.specs.Serializable.{txn_in, commits_right}
-use Rattle.serial_check.specs.Footprints.{FootsIf}
-use Rattle.serial_check.specs.Kept.{IsFresh, cell_of}
-
--- If the caller has an open transaction, the footprint is that of this transaction.
-abbrev pub IsOfTxn : List Entry → ℕ → Footprint → Type 0
-IsOfTxn h c foot =
-    (t : ℕ) → txn_in h c ≡ Some t → is_open t h ≡ true
-    → FootsIf foot.is_torn (of t h) (cell_of foot) (log_of c h)
-
--- The footprint is that of the caller's open transaction. If the caller is in no transaction, the
--- footprint is empty.
-pub record IsOfCaller (h : List Entry) (c : ℕ) (foot : Footprint) : Type 0 where
-  pub idle : is_running (seat_after (own c h)) ≡ false → IsFresh foot
-  pub of_txn : IsOfTxn h c foot
+use Rattle.serial_check.specs.Serializable.{commits_right}
+use Rattle.serial_check.specs.OfCallers.{HaveFootprints}
 
 -- The values are those of the map that the committed transactions leave, and each caller has the
 -- footprint of its transaction.
 pub record ShowsSerial (h : List Entry) (commits : Commits) : Type 0 where
   pub values : Has (serial h) commits.values
-  pub footprints : (c : ℕ) → IfSome (slice_get commits.footprints.items c) (IsOfCaller h c)
+  pub footprints : HaveFootprints h commits.footprints
 
 -- If `old` shows a history (`ShowsSerial`), `new` shows this history too.
 abbrev pub Stays : Commits → Commits → Type 0

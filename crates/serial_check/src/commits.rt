@@ -2,19 +2,16 @@
 //! right if no reply of its transaction contradicts another, and the committed map has the values
 //! that the transaction's footprint needs. Only a right commit changes the map. Any other entry
 //! changes at most one footprint.
-ghost use Rattle.std.specs.Prelude.{◌≡◌, ℕ, ◌<◌, true, false, [], List, Some, IfOk, OnErr, IfSome, IsNone, vec_len};
+ghost use Rattle.std.specs.Prelude.{◌≡◌, ℕ, ◌<◌, true, false, [], List, Some, IfOk, OnErr, IfSome, IsNone};
 ghost use Rattle.txn_trace.specs.History.{is_open};
 ghost use Rattle.txn_words.specs.Kinds.{caller_of};
 ghost use Rattle.txn_words.specs.declared.entry.Entry.{Entry};
 
-use crate::footprint::Footprint;
+use crate::footprints::Footprints;
 use history_check::Callers;
 use std::alloc::{AllocError, Global};
 use std::collections::BTreeMap;
-use txn_trace::{Entry, Phase, Reply};
-
-/// The number of callers.
-const CALLERS: usize = 64;
+use txn_trace::{Entry, Reply};
 
 /// A key for which a transaction got a reply that the committed map does not give.
 #[derive(Clone, Copy, Debug, PartialEq, Eq)]
@@ -32,9 +29,8 @@ pub struct Misread {
 pub(crate) struct Commits {
     /// The committed map.
     pub(crate) values: BTreeMap<u64, u64>,
-    /// The footprint of each caller's transaction, by the caller's number.
-    pub(crate) footprints: Vec<Footprint>,
-    ghost all: { vec_len footprints ≡ 64 },
+    /// The footprint of each caller's transaction.
+    pub(crate) footprints: Footprints,
 }
 
 impl Commits {
@@ -45,13 +41,9 @@ impl Commits {
     pub(crate) fn new(alloc: Global) -> Result<Commits, AllocError>
         ensures { IfOk result (ShowsSerial []) }
     {
-        let mut footprints = Vec::with_capacity(alloc, CALLERS)?;
-        for _ in 0..CALLERS {
-            footprints.push(Footprint::new(alloc))?;
-        }
         Ok(Commits {
             values: BTreeMap::new(alloc),
-            footprints,
+            footprints: Footprints::new(alloc)?,
         })
     }
 
@@ -62,21 +54,10 @@ impl Commits {
         ensures ok { IfOk result (λ right. Judges entry.now callers.now self.old right self.new) }
         ensures err { OnErr result (Stays self.old self.new) }
     {
-        match *entry {
-            Entry::Did(caller, reply) => {
-                if let Phase::Waiting(op) = callers.phase(caller) {
-                    self.footprints[caller as usize].answer(op, reply)?;
-                }
-            }
-            Entry::Undone(caller) => {
-                if let Some((key, before)) = callers.newest_change(caller) {
-                    self.footprints[caller as usize].put_back(key, before);
-                }
-            }
-            Entry::Committed(caller, _) => return self.commit(caller),
-            Entry::Aborted(caller) => self.footprints[caller as usize].clear(),
-            _ => {}
+        if let Entry::Committed(caller, _) = *entry {
+            return self.commit(caller);
         }
+        self.footprints.take_in(callers, entry)?;
         Ok(true)
     }
 
@@ -89,12 +70,12 @@ impl Commits {
             Judges (Entry.Committed caller number) callers self.old right self.new) }
         ensures err { OnErr result (Stays self.old self.new) }
     {
-        let footprint = &mut self.footprints[caller as usize];
+        let footprint = self.footprints.of_caller(caller);
         if !footprint.fits(&self.values) {
             return Ok(false);
         }
         footprint.settle(&mut self.values)?;
-        footprint.clear();
+        self.footprints.end(caller);
         Ok(true)
     }
 
@@ -108,7 +89,7 @@ impl Commits {
         ensures none { IsNone result → (h : List Entry) (t : ℕ) → ShowsSerial h self.now →
             txn_in h caller ≡ Some t → is_open t h ≡ true → FitsOrTorn h t }
     {
-        let footprint = &self.footprints[caller as usize];
+        let footprint = self.footprints.of_caller(caller);
         if footprint.is_torn {
             return None;
         }
@@ -126,7 +107,7 @@ impl Commits {
         ensures whole { result ≡ false → (h : List Entry) (t : ℕ) → ShowsSerial h self.now →
             txn_in h caller ≡ Some t → is_open t h ≡ true → RunsSomewhere h t }
     {
-        let footprint = &self.footprints[caller as usize];
+        let footprint = self.footprints.of_caller(caller);
         footprint.is_torn
     }
 }

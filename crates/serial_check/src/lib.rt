@@ -45,11 +45,14 @@
 mod checker;
 mod commits;
 mod footprint;
+mod footprints;
 mod history;
 mod laws;
 mod state;
 
 pub use checker::Checker;
 pub use commits::Misread;
+pub use footprint::{Cell, Footprint};
+pub use footprints::Footprints;
 pub use history::{check, check_packed};
 pub use laws::serializable;

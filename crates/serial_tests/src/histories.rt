@@ -11,7 +11,7 @@ use std::test::Fail;
 use txn_words::{Entry, Holder, Op};
 
 /// Two transactions use key 1, each as if the other did not exist. The reader commits first.
-const READS_BESIDE: [Entry; 8] = [
+pub(crate) const READS_BESIDE: [Entry; 8] = [
     Entry::Began(0, 1),
     Entry::Began(1, 2),
     Entry::Asked(0, Op::Get(1)),
@@ -23,7 +23,7 @@ const READS_BESIDE: [Entry; 8] = [
 ];
 
 /// Two transactions use key 1. The writer commits first, so the value that the reader got is old.
-const READS_STALE: [Entry; 8] = [
+pub(crate) const READS_STALE: [Entry; 8] = [
     Entry::Began(0, 1),
     Entry::Began(1, 2),
     Entry::Asked(0, Op::Get(1)),
@@ -35,7 +35,7 @@ const READS_STALE: [Entry; 8] = [
 ];
 
 /// Each of two transactions reads what the other one writes.
-const WRITE_SKEW: [Entry; 16] = [
+pub(crate) const WRITE_SKEW: [Entry; 16] = [
     Entry::Began(0, 1),
     Entry::Began(1, 2),
     Entry::Asked(0, Op::Get(1)),
@@ -55,7 +55,7 @@ const WRITE_SKEW: [Entry; 16] = [
 ];
 
 /// Two transactions get a wrong reply. One of them aborts, and the other stays open.
-const WRONG_BUT_ABORTED: [Entry; 8] = [
+pub(crate) const WRONG_BUT_ABORTED: [Entry; 8] = [
     Entry::Began(0, 1),
     Entry::Asked(0, Op::Get(1)),
     Entry::Did(0, Some(99)),
@@ -68,7 +68,7 @@ const WRONG_BUT_ABORTED: [Entry; 8] = [
 
 /// A transaction reads a value that is not committed yet. By the time this transaction commits, the
 /// value has been committed.
-const RIGHT_LATER: [Entry; 8] = [
+pub(crate) const RIGHT_LATER: [Entry; 8] = [
     Entry::Began(0, 1),
     Entry::Began(1, 2),
     Entry::Asked(0, Op::Get(1)),
@@ -80,7 +80,7 @@ const RIGHT_LATER: [Entry; 8] = [
 ];
 
 /// A transaction gets a wrong reply after a savepoint, and then goes back to the savepoint.
-const WRONG_BUT_TAKEN_BACK: [Entry; 9] = [
+pub(crate) const WRONG_BUT_TAKEN_BACK: [Entry; 9] = [
     Entry::Began(0, 1),
     Entry::Asked(0, Op::Put(1, 10)),
     Entry::Did(0, None),
@@ -94,7 +94,7 @@ const WRONG_BUT_TAKEN_BACK: [Entry; 9] = [
 
 /// A transaction goes back to a savepoint and commits. Meanwhile another transaction writes and
 /// aborts.
-const BACK_TO_A_SAVEPOINT: [Entry; 20] = [
+pub(crate) const BACK_TO_A_SAVEPOINT: [Entry; 20] = [
     Entry::Began(0, 1),
     Entry::Asked(0, Op::Put(1, 10)),
     Entry::Did(0, None),
@@ -119,7 +119,7 @@ const BACK_TO_A_SAVEPOINT: [Entry; 20] = [
 
 /// One transaction puts three keys. The next transaction takes the first key, overwrites the second
 /// key and reads the third key. The last transaction reads an old value.
-const NEW_KEYS: [Entry; 22] = [
+pub(crate) const NEW_KEYS: [Entry; 22] = [
     Entry::Began(0, 1),
     Entry::Asked(0, Op::Put(1, 10)),
     Entry::Did(0, None),
@@ -145,7 +145,7 @@ const NEW_KEYS: [Entry; 22] = [
 ];
 
 /// A history whose first commit has the number 2.
-const NUMBERED_WRONG: [Entry; 2] = [Entry::Began(0, 1), Entry::Committed(0, 2)];
+pub(crate) const NUMBERED_WRONG: [Entry; 2] = [Entry::Began(0, 1), Entry::Committed(0, 2)];
 
 /// The verdict that a history is legal, with these numbers of commits and of open transactions.
 fn legal(commits: u64, running: u64) -> Verdict {

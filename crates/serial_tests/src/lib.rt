@@ -1,5 +1,5 @@
-//! Tests of the two judges of histories side by side. One judges by locks, and the other by the
-//! order of commits.
+//! Tests of the judges of histories: by locks and by the order of commits, side by side, and by any
+//! order (`order_check`).
 //!
 //! The tests are in a separate crate, since a judge with tests in its own crate would be proved
 //! twice. For each worked history, both verdicts were found by hand. A checker is fed entry by
@@ -9,6 +9,8 @@
 
 #[cfg(test)]
 mod histories;
+#[cfg(test)]
+mod orders;
 #[cfg(test)]
 mod scripts;
 #[cfg(test)]

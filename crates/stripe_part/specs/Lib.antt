@@ -1,3 +1,4 @@
 pub mod PartAt
 pub mod Calls
 pub mod Stored
+pub mod Inside

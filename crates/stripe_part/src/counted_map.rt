@@ -34,12 +34,12 @@ impl Model for CountedMap {
 }
 
 impl CountedMap {
-    /// An empty map with no change to take back. Takes no memory.
-    pub(crate) fn new(alloc: Global) -> CountedMap
+    /// An empty map with no change to take back, whose hash has this seed. Takes no memory.
+    pub(crate) fn new(alloc: Global, seed: u64) -> CountedMap
         ensures { result ≡ nothing }
     {
         CountedMap {
-            map: ProbeMap::new(alloc),
+            map: ProbeMap::with_seed(alloc, seed),
             owed: 0,
         }
     }
@@ -47,11 +47,15 @@ impl CountedMap {
     /// An empty map with no change to take back, and with room for `keys + 1` keys. The extra key
     /// is needed because `apply` reserves room for at least two keys when it puts a key: one for
     /// the key, and one for taking the change back.
-    pub(crate) fn with_capacity(alloc: Global, keys: usize) -> Result<CountedMap, AllocError>
+    pub(crate) fn with_capacity(
+        alloc: Global,
+        keys: usize,
+        seed: u64,
+    ) -> Result<CountedMap, AllocError>
         ensures { IfOk result (λ map. map ≡ nothing) }
     {
         Ok(CountedMap {
-            map: ProbeMap::with_capacity(alloc, keys.saturating_add(1))?,
+            map: ProbeMap::with_capacity_and_seed(alloc, keys.saturating_add(1), seed)?,
             owed: 0,
         })
     }

@@ -18,15 +18,20 @@
 //! - `settle` keeps all changes. It takes no memory either.
 //! - `len`, `changes` and `pairs` read the part.
 //!
-//! A part is one word. The map and its count of changes are in a box that is made at the first
+//! A part is two words. The map and its count of changes are in a box that is made at the first
 //! change. So a part takes no memory before its first change, unless it is made with room
-//! (`with_capacity`). Invariant: for each change that is owed the map has room for one more key. So
-//! a key that was taken out can be put back without memory. Each change first reserves this room,
-//! and room for one new key.
+//! (`with_capacity_and_seed`). Invariant: for each change that is owed the map has room for one
+//! more key. So a key that was taken out can be put back without memory. Each change first reserves
+//! this room, and room for one new key.
 //!
 //! A part grows by itself. `apply` and `take_back` take amortized constant time, except for keys
 //! whose hashes collide. `settle`, `len` and `changes` take constant time. `pairs` goes over all
-//! slots of the map and sorts the keys. Only `with_capacity`, `apply` and `pairs` take memory.
+//! slots of the map and sorts the keys. Only `with_capacity_and_seed`, `apply` and `pairs` take
+//! memory.
+//!
+//! Not proved: a part made by `with_capacity_and_seed` needs no memory for its first keys, since no
+//! contract shows a part's room. Not claimed: how hard it is to choose keys whose hashes collide if
+//! the seed is unknown. Only tested: a part grows, and a refused allocation leaves it unchanged.
 #![tactic(auto)]
 
 mod change;

@@ -2,9 +2,9 @@
 //! first change, or at the start if the part is to have room. A part without a box is empty, and a
 //! call on it returns what it returns for an empty map. Only this module tests whether there is a
 //! box. The content of the box and the invariant are in `counted_map.rt`.
-ghost use Rattle.std.specs.Prelude.{◌≡◌, ℕ, ◌<◌, true, Option, IfOk, IfErr, OnErr};
+ghost use Rattle.std.specs.Prelude.{◌≡◌, ℕ, ◌<◌, IfOk, IfErr, OnErr};
 ghost use Rattle.txn_words.specs.Map.{count_of};
-ghost use Rattle.txn_words.specs.Shape.{changes};
+ghost use Rattle.txn_words.specs.declared.refusal.Refusal.TheVariants.{NoMemory};
 ghost use Rattle.stripe_part.specs.PartAt.{nothing};
 ghost use Rattle.stripe_part.specs.Calls.{Does, IsRefused, TakesBack};
 
@@ -21,38 +21,44 @@ use txn_words::{Op, Refusal, Reply};
 /// # Cost
 ///
 /// A part takes no memory before its first change. The first change takes memory for a box and for
-/// the map's array. A part that has room from the start (`with_capacity`) takes both at the start.
+/// the map's array. A part that has room from the start takes both at the start.
 #[derive(Drop)]
 pub struct Part {
-    inner: Option<Box<CountedMap>>,
+    inner: Inner,
+}
+
+/// What a part is made of.
+#[derive(Drop)]
+pub(crate) enum Inner {
+    /// There was no change yet. The map will have this seed.
+    Empty(u64),
+    /// The map.
+    Made(Box<CountedMap>),
 }
 
 impl Model for Part {
-    ghost use Rattle.std.specs.Prelude.{option_map, unwrap_or};
-    ghost use Rattle.stripe_part.specs.PartAt.{PartAt, part_code, nothing};
+    ghost use Rattle.stripe_part.specs.PartAt.{PartAt, part_code};
+    ghost use Rattle.stripe_part.specs.Inside.{inside};
 
     ghost Value = { PartAt };
 
     ghost coded = { part_code };
 
-    ghost view = { λ p. unwrap_or (option_map (λ b. b.value) p.inner) nothing };
+    ghost view = { λ p. inside p.inner };
 }
 
-/// Does an operation on a new, empty map. The operation must be a change.
+/// A new, empty map with this seed.
+#[cold]
 #[inline(never)]
-#[tactic(auto, using(crate::proofs::Calls::may_be))]
-fn begin(alloc: Global, op: Op) -> Result<(Box<CountedMap>, Reply), Refusal>
-    requires { changes op Option.None ≡ true }
-    ensures ok { IfOk result (λ made. Does nothing made.0.value op made.1) }
-    ensures err { IfErr result (IsRefused op) }
+fn made(alloc: Global, seed: u64) -> Result<Box<CountedMap>, Refusal>
+    ensures ok { IfOk result (λ made. made.value ≡ nothing) }
+    ensures err { IfErr result (λ refusal. refusal ≡ NoMemory) }
 {
-    let mut made = Box::new(alloc, CountedMap::new(alloc)).map_err(|_| Refusal::NoMemory)?;
-    let reply = made.apply(op)?;
-    Ok((made, reply))
+    Box::new(alloc, CountedMap::new(alloc, seed)).map_err(|_| Refusal::NoMemory)
 }
 
 impl Part {
-    /// An empty part, with no change to take back.
+    /// An empty part with the seed 0 and no change to take back.
     ///
     /// # Cost
     ///
@@ -60,14 +66,18 @@ impl Part {
     pub fn new() -> Part
         ensures { result ≡ nothing }
     {
-        Part { inner: None }
+        Part {
+            inner: Inner::Empty(0),
+        }
     }
 
-    /// An empty part with no change to take back and with room for `keys` keys. Let `n` be the
-    /// number of keys that were put plus the number of changes that are owed. A key that was put
-    /// and later taken out still counts. As long as `n` is below `keys`, `apply` takes no memory.
-    /// For instance, if the part settles after each new key, the first `keys` new keys take no
-    /// memory.
+    /// An empty part with no change to take back and with room for `keys` keys. The hash of its keys
+    /// has this seed, on which only the time of the calls depends.
+    ///
+    /// Let `n` be the number of keys that were put plus the number of changes that are owed. A key
+    /// that was put and later taken out still counts. As long as `n` is below `keys`, `apply` takes
+    /// no memory. For instance, if the part settles after each new key, the first `keys` new keys
+    /// take no memory.
     ///
     /// # Errors
     ///
@@ -75,17 +85,21 @@ impl Part {
     ///
     /// # Cost
     ///
-    /// Time and memory in proportion to `keys`: a box, and the map's array. If `keys` is 0, the
-    /// call does the same as `new`.
-    pub fn with_capacity(alloc: Global, keys: usize) -> Result<Part, AllocError>
+    /// Time and memory in proportion to `keys`: a box, and the map's array. If `keys` is 0,
+    /// constant time and no memory.
+    pub fn with_capacity_and_seed(alloc: Global, keys: usize, seed: u64) -> Result<Part, AllocError>
         ensures { IfOk result (λ part. part ≡ nothing) }
     {
         if keys == 0 {
-            return Ok(Part::new());
+            return Ok(Part {
+                inner: Inner::Empty(seed),
+            });
         }
-        let made = CountedMap::with_capacity(alloc, keys)?;
+        let made = CountedMap::with_capacity(alloc, keys, seed)?;
         let inner = Box::new(alloc, made)?;
-        Ok(Part { inner: Some(inner) })
+        Ok(Part {
+            inner: Inner::Made(inner),
+        })
     }
 
     /// Does an operation. The reply and the new content are those of the operation on a plain map.
@@ -98,23 +112,24 @@ impl Part {
     ///
     /// # Cost
     ///
-    /// Amortized constant time, except for keys whose hashes collide: the hash is fixed. A get
-    /// takes no memory; other operations may.
+    /// Amortized constant time, except for keys whose hashes collide (`ProbeMap::get`). A get takes
+    /// no memory; other operations may.
     #[inline(always)]
     pub fn apply(&mut self, alloc: Global, op: Op) -> Result<Reply, Refusal>
         ensures ok { IfOk result (Does self.old self.new op) }
         ensures err { IfErr result (IsRefused op) }
         ensures unchanged { OnErr result (self.new ≡ self.old) }
     {
-        if let Some(inner) = &mut self.inner {
-            return inner.apply(op);
+        if let Inner::Empty(seed) = self.inner {
+            if !op.changes(None) {
+                return Ok(None);
+            }
+            self.inner = Inner::Made(made(alloc, seed)?);
         }
-        if !op.changes(None) {
-            return Ok(None);
+        match &mut self.inner {
+            Inner::Made(inner) => inner.apply(op),
+            Inner::Empty(_) => unreachable!(),
         }
-        let (made, reply) = begin(alloc, op)?;
-        self.inner = Some(made);
-        Ok(reply)
     }
 
     /// Takes a change back: the change's key gets the value that it had before, and all other keys
@@ -130,8 +145,8 @@ impl Part {
         ensures { TakesBack self.old self.new key before }
     {
         match &mut self.inner {
-            Some(inner) => inner.take_back(key, before),
-            None => unreachable!(),
+            Inner::Made(inner) => inner.take_back(key, before),
+            Inner::Empty(_) => unreachable!(),
         }
     }
 
@@ -144,7 +159,7 @@ impl Part {
         ensures content { self.new.content ≡ self.old.content }
         ensures owed { self.new.owed ≡ 0 }
     {
-        if let Some(inner) = &mut self.inner {
+        if let Inner::Made(inner) = &mut self.inner {
             inner.settle();
         }
     }
@@ -154,8 +169,8 @@ impl Part {
         ensures { result ≡ self.now.owed }
     {
         match &self.inner {
-            Some(inner) => inner.changes(),
-            None => 0,
+            Inner::Made(inner) => inner.changes(),
+            Inner::Empty(_) => 0,
         }
     }
 
@@ -164,8 +179,8 @@ impl Part {
         ensures { result ≡ count_of self.now.content }
     {
         match &self.inner {
-            Some(inner) => inner.len(),
-            None => 0,
+            Inner::Made(inner) => inner.len(),
+            Inner::Empty(_) => 0,
         }
     }
 
@@ -183,8 +198,8 @@ impl Part {
         ensures { IfOk result (λ pairs. pairs.items ≡ self.now.content.rows) }
     {
         match &self.inner {
-            Some(inner) => inner.pairs(alloc),
-            None => Ok(Vec::new(alloc)),
+            Inner::Made(inner) => inner.pairs(alloc),
+            Inner::Empty(_) => Ok(Vec::new(alloc)),
         }
     }
 }

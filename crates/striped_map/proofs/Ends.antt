@@ -23,7 +23,7 @@ use Rattle.striped_map.proofs.Hands.{extends_then, extends_none, own_same}
 use Rattle.striped_map.proofs.Sounds.{due_same}
 
 pub moved : (map : StripedMap) (a b : Hand) (es : List Entry) (left : StateAfter) → AddsIn (stripes_of map) (known a.seat) es left (known b.seat) → MovesHand map a es b
-moved map a b es left x = record { number_is = ap (λ (v : View). v.number) x.view_is; retired_is = ap (λ (v : View). v.retired) x.view_is; made_is = ap (λ (v : View). v.made) x.view_is; goes = x.goes }
+moved map a b es left x = record { number_is = ap (λ (v : View). v.number) x.view_is; retired_is = ap (λ (v : View). v.retired) x.view_is; made_is = ap (λ (v : View). v.made) x.view_is; keep_is = ap (λ (v : View). v.keep) x.view_is; goes = x.goes }
 
 -- If a hand adds entries and then gives its stripes back, both together are one step that adds
 -- these entries.
@@ -32,6 +32,7 @@ moved_idle map a b w es left x is = record {
   number_is = ap (λ (v : View). v.number) is ∙ ap (λ (v : View). v.number) x.view_is;
   retired_is = ap (λ (v : View). v.retired) is ∙ ap (λ (v : View). v.retired) x.view_is;
   made_is = ap (λ (v : View). v.made) is ∙ ap (λ (v : View). v.made) x.view_is;
+  keep_is = ap (λ (v : View). v.keep) is ∙ ap (λ (v : View). v.keep) x.view_is;
   goes = subst (Extends (stripes_of map) (known a.seat).number (known a.seat).held (known a.seat).seen es) (sym (ap (λ (v : View). v.seen) is)) x.goes;
 }
 
@@ -42,6 +43,7 @@ moved_then map a b c es on y = let x = on.moves in record {
   number_is = y.number_is ∙ x.number_is;
   retired_is = y.retired_is ∙ x.retired_is;
   made_is = y.made_is ∙ x.made_is;
+  keep_is = y.keep_is ∙ x.keep_is;
   goes = extends_then (stripes_of map) (known a.seat).number (known a.seat).held (known b.seat).held (known a.seat).seen (known b.seat).seen (es (known a.seat).number) (known c.seat).seen on.keeps x.goes
       (subst (λ (k : ℕ). Extends (stripes_of map) k (known b.seat).held (known b.seat).seen (es k) (known c.seat).seen) x.number_is y.goes);
 }
@@ -54,6 +56,16 @@ cons_at l (suc k) ne = ap (λ (i : ℕ). get_or l i 0) (omega arith)
 -- that does the operation.
 pub moved_did : (map : StripedMap) (a b c : Hand) (op : Op) (reply : Option ℕ) → GoesOn map a b → MovesHand map b (Asked (known b.seat).number op ∷ Did (known b.seat).number reply ∷ []) c → MovesHand map a (Asked (known a.seat).number op ∷ Did (known a.seat).number reply ∷ []) c
 moved_did map a b c op reply x y = moved_then map a b c (λ k. Asked k op ∷ Did k reply ∷ []) x y
+
+-- A hand that has made room for records makes the same steps as before.
+pub moved_from : (map : StripedMap) (a d c : Hand) (es : ℕ → List Entry) → d.seat.seat ≡ a.seat.seat → MovesHand map d (es (known d.seat).number) c → MovesHand map a (es (known a.seat).number) c
+moved_from map a d c es same y = record {
+  number_is = y.number_is ∙ ap (λ z. z.me.0.number) same;
+  retired_is = y.retired_is ∙ ap (λ z. z.me.0.retired) same;
+  made_is = y.made_is ∙ ap (λ z. z.me.0.made) same;
+  keep_is = y.keep_is ∙ ap (λ z. z.me.0.keep) same;
+  goes = subst (λ z. Extends (stripes_of map) z.me.0.number z.me.0.held z.me.0.seen (es z.me.0.number) (known c.seat).seen) same y.goes;
+}
 
 -- A step that adds no entry leaves the changes that can be taken back.
 pub due_kept : (map : StripedMap) (a b : Hand) → MovesHand map a [] b → due (known b.seat) ≡ due (known a.seat)
@@ -72,12 +84,17 @@ moved_known map a b es x c same = record {
   number_is = ap (λ (v : View). v.number) same ∙ x.number_is;
   retired_is = ap (λ (v : View). v.retired) same ∙ x.retired_is;
   made_is = ap (λ (v : View). v.made) same ∙ x.made_is;
+  keep_is = ap (λ (v : View). v.keep) same ∙ x.keep_is;
   goes = subst (λ (v : View). Extends (stripes_of map) (known a.seat).number (known a.seat).held (known a.seat).seen es v.seen) (sym same) x.goes;
 }
 
 -- If a hand does not change, it makes a step that adds no entry.
 pub moved_still : (map : StripedMap) (a : Hand) → IsOf a.seat map → MovesHand map a [] a
-moved_still map a of = record { number_is = refl; retired_is = refl; made_is = refl; goes = extends_none (stripes_of map) (known a.seat).number (known a.seat).held (known a.seat).seen (subst (λ z. IsLegal Begun z.slots (known a.seat).seen) of a.sound.legal) }
+moved_still map a of = record { number_is = refl; retired_is = refl; made_is = refl; keep_is = refl; goes = extends_none (stripes_of map) (known a.seat).number (known a.seat).held (known a.seat).seen (subst (λ z. IsLegal Begun z.slots (known a.seat).seen) of a.sound.legal) }
+
+-- A hand that makes room for records makes a step that adds no entry.
+pub moved_roomy : (map : StripedMap) (a d : Hand) → IsOf a.seat map → d.seat.seat ≡ a.seat.seat → MovesHand map a [] d
+moved_roomy map a d of same = moved_known map a a [] (moved_still map a of) d (ap (λ z. z.me.0) same)
 
 pub moved_on : (map : StripedMap) (a b c : Hand) → GoesOn map a b → MovesHand map b [] c → MovesHand map a [] c
 moved_on map a b c x y = moved_then map a b c (λ k. []) x y
@@ -92,6 +109,7 @@ on_from map a b c same x = record {
     number_is = subst (λ (s : MapSeat). (known c.seat).number ≡ (known s).number) same x.moves.number_is;
     retired_is = subst (λ (s : MapSeat). (known c.seat).retired ≡ (known s).retired) same x.moves.retired_is;
     made_is = subst (λ (s : MapSeat). (known c.seat).made ≡ (known s).made) same x.moves.made_is;
+    keep_is = subst (λ (s : MapSeat). (known c.seat).keep ≡ (known s).keep) same x.moves.keep_is;
     goes = subst (λ (s : MapSeat). Extends (stripes_of map) (known s).number (known s).held (known s).seen [] (known c.seat).seen) same x.moves.goes;
   };
   keeps = subst (λ (s : MapSeat). KeepsHeld (known s) (known c.seat)) same x.keeps;
@@ -106,7 +124,7 @@ holds_found n holder v w f other hold = subst (λ (u : View). Holds u other) (sy
 
 -- If a hand only sees more of the history, it makes a step that adds no entry.
 pub moved_seen : (map : StripedMap) (a b : Hand) → SeesIn (stripes_of map) (known a.seat) (known b.seat) → MovesHand map a [] b
-moved_seen map a b x = record { number_is = ap (λ (v : View). v.number) x.view_is; retired_is = ap (λ (v : View). v.retired) x.view_is; made_is = ap (λ (v : View). v.made) x.view_is; goes = x.goes }
+moved_seen map a b x = record { number_is = ap (λ (v : View). v.number) x.view_is; retired_is = ap (λ (v : View). v.retired) x.view_is; made_is = ap (λ (v : View). v.made) x.view_is; keep_is = ap (λ (v : View). v.keep) x.view_is; goes = x.goes }
 
 -- If a seat takes a stripe, it gains at most this stripe.
 pub gained_taken : (n k : ℕ) (v w : View) (part : PartAt) → GainsStripe n k v part w → GainsAtMost k v.held w.held

@@ -13,7 +13,7 @@ use Rattle.txn_words.proofs.Holding.{within}
 use Rattle.striped_map.specs.declared.view.View.{View}
 use Rattle.striped_map.specs.Rule.{Holds, HasSeen, IsKeptAt, IsKept}
 use Rattle.striped_map.specs.Steps.{SeesIn, witness, blank, heard}
-use Rattle.striped_map.proofs.Keeps.{St, board, viewed}
+use Rattle.striped_map.proofs.Keeps.{St, board, stored_views, viewed}
 use Rattle.striped_map.proofs.Moves.{nothing_at}
 
 -- The view is a witness: no caller uses it, and it has seen a beginning of the history.
@@ -71,8 +71,9 @@ module _ (n : ℕ) (s : St) (kept : IsKeptAt n s) (vs : List View)
       spent = λ i u e j r has. ⊎_elim
           (λ p. let old = o.spent i u p j r has in (old.0, λ k x at a. old.1 k x (was k x at a) a))
           (λ w. absurd (retired_none log u w j r has)) (place i u e);
+      once = λ i u e. ⊎_elim (λ p. o.once i u p) (λ w j k r r' has has' same. absurd (retired_none log u w j r has)) (place i u e);
     },
-    kept.2,
+    stored_views n s.words s.homes s.views log kept.2 vs (λ i u e a. kept.2.alike i u (was i u e a) a),
     record {
       legal = told.legal;
       owned = told.owned;
@@ -119,7 +120,7 @@ hears id other v seen acting s kept me ne at =
     let front : IsPrefix seen kept.0 = (let h = kept.3.seen other (witness seen) there in (h.rest, sym h.goes)) in
     let h = kept.3.seen id v me in
     let has : HasSeen n kept.0 w = record { rest = h.rest; goes = h.goes; others = h.others; still = h.still; spared = h.spared; met = front } in
-    let met : IsKeptAt n (board s.words s.homes (set s.views id w)) = viewed n s kept id v w me acting refl acting refl (omega arith) refl has in
+    let met : IsKeptAt n (board s.words s.homes (set s.views id w)) = viewed n s kept id v w me acting refl acting refl (omega arith) refl refl has in
     let heard_of : IsPrefix seen met.0 = (met.3.seen id w (set_here s.views id w (within s.views id v me))).met in
     forgotten n (board s.words s.homes (set s.views id w)) met other seen heard_of at
 

@@ -7,7 +7,7 @@ use Rattle.txn_trace.specs.Now.{now}
 use Rattle.striped_map.specs.declared.view.View.{View}
 use Rattle.striped_map.specs.declared.addition.Addition.{Addition}
 use Rattle.striped_map.specs.declared.addition.Addition.TheVariants.{Note, Save, Back, Abort, Yield}
-use Rattle.striped_map.specs.Steps.{StateAfter, StepEffect, added, at_end, noting, saving, returning, seat_of, rolled_back, undoing}
+use Rattle.striped_map.specs.Steps.{StateAfter, StepEffect, added, counted, at_end, noting, saving, returning, seat_of, rolled_back, undoing}
 
 -- The changes that the caller with this view can take back, the newest first.
 abbrev pub due : View → List (ℕ × Option ℕ)
@@ -39,3 +39,7 @@ left_of v (Yield op holder) = at_end (rolled_back (now v.seen) (due v))
 
 abbrev pub appended : Addition → StepEffect
 appended what st m found n = added (entries_of m.0 what) (left_of m.0 what) st m found n
+
+abbrev pub appended_counted : Addition → StepEffect
+appended_counted what st m found n =
+    counted (entries_of m.0 what) (left_of m.0 what) st m found n

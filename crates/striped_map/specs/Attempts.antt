@@ -1,12 +1,12 @@
 -- A work that is tried several times, each time in a new transaction. `work` relates the caller
 -- before the work, the result of the work, and the caller after the work.
-use Rattle.std.specs.Prelude.{◌≡◌, ℕ, zero, suc, [], ◌∷◌, Result, Ok, Err, false}
+use Rattle.std.specs.Prelude.{◌⊎◌, ◌≡◌, ℕ, zero, suc, [], ◌∷◌, Result, Ok, Err, false}
 use Rattle.txn_words.specs.declared.entry.Entry.TheVariants.{Began}
-use Rattle.txn_words.specs.declared.refusal.Refusal.TheVariants.{NotOpen}
+use Rattle.txn_words.specs.declared.refusal.Refusal.TheVariants.{NoMemory, NotOpen}
 use Rattle.striped_map.specs.declared.caller.Caller.{Caller}
 use Rattle.map_answers.specs.declared.stop.Stop.{Stop}
 use Rattle.map_answers.specs.declared.stop.Stop.TheVariants.{Busy, Refused}
-use Rattle.striped_map.specs.Callers.{number, IsStep, IsSince, IsTakenBack}
+use Rattle.striped_map.specs.Callers.{number, IsNotBegun, IsStep, IsSince, IsTakenBack}
 
 -- Turns a relation between values, each of which holds a caller, into a relation between these
 -- callers.
@@ -35,6 +35,13 @@ pub record Fails {T : Type 0} (work : Caller → Result T Stop → Caller → Ty
   pub since : IsSince a b
   pub closed : b.is_open ≡ false
   pub back : IsTakenBack left b
+
+-- An attempt failed: its transaction was taken back (`Fails`), or it was not begun because the map
+-- keeps its entries and memory was refused.
+abbrev pub FailsOrNot : {T : Type 0} → (Caller → Result T Stop → Caller → Type 0) → Caller → Caller
+    → Stop → Type 0
+FailsOrNot work a b stop =
+    Fails work a b stop ⊎ ((stop ≡ Refused NoMemory) × IsNotBegun a b (Refused NoMemory))
 
 -- The given number of attempts were made, one after another, and each failed with `Busy`.
 abbrev pub FailsBusy : {T : Type 0} → (Caller → Result T Stop → Caller → Type 0) → ℕ → Caller

@@ -1,21 +1,23 @@
 -- The entries that a caller's calls add to the history.
-use Rattle.std.specs.Prelude.{◌≡◌, ℕ, ◌-◌, ◌%◌, ◌^◌, List, [], ◌∷◌, length, None, Some, slice_get, true, false, Option}
+use Rattle.std.specs.Prelude.{◌≡◌, ℕ, ◌<◌, ◌-◌, List, [], ◌∷◌, length, None, Some, slice_get, true, false, Option}
 use Rattle.txn_words.specs.declared.entry.Entry.{Entry}
 use Rattle.txn_words.specs.declared.entry.Entry.TheVariants.{Began, Leave, Committed, Busy as BusyEntry, Aborted}
 use Rattle.txn_words.specs.declared.op.Op.{Op}
 use Rattle.txn_words.specs.declared.op.Op.TheVariants.{Get}
-use Rattle.txn_words.specs.declared.refusal.Refusal.TheVariants.{NoMemory, NotOpen}
+use Rattle.txn_words.specs.declared.refusal.Refusal.TheVariants.{AlreadyOpen, NoMemory, NoSuchLevel, NotOpen}
 use Rattle.txn_trace.specs.Locks.{stripe_of}
 use Rattle.txn_words.specs.Kinds.{is_began, is_commit}
 use Rattle.txn_words.specs.Shape.{own, how_many}
 use Rattle.striped_map.specs.declared.caller.Caller.{Caller}
+use Rattle.striped_map.specs.declared.keep.Keep.{Keep}
+use Rattle.striped_map.specs.declared.keep.Keep.TheVariants.{Entries}
 use Rattle.striped_map.specs.declared.map.StripedMap.{StripedMap}
 use Rattle.map_answers.specs.declared.stop.Stop.{Stop}
 use Rattle.map_answers.specs.declared.stop.Stop.TheVariants.{Busy, Refused}
 use Rattle.striped_map.specs.Additions.{due, above}
 use Rattle.striped_map.specs.Handling.{GainsAtMost, HoldsAllOf, KeepsHeld}
-use Rattle.striped_map.specs.Steps.{Extends, seat_of, undoing}
-use Rattle.striped_map.specs.Seats.{known, stripes_of}
+use Rattle.striped_map.specs.Steps.{Extends, seat_of, told_of, undoing}
+use Rattle.striped_map.specs.Seats.{keep_of, known, stripes_of}
 
 -- The caller's number.
 abbrev pub number : Caller → ℕ
@@ -45,6 +47,10 @@ changes_made c = due (known c.hand.seat)
 abbrev pub changes_above : ℕ → Caller → List (ℕ × Option ℕ)
 changes_above level c = above level (known c.hand.seat)
 
+-- What the caller's map keeps.
+abbrev pub keeps : Caller → Keep
+keeps c = keep_of c.map.value
+
 -- The caller holds every stripe of its map.
 abbrev pub HoldsEvery : Caller → Type 0
 HoldsEvery c = HoldsAllOf (stripes_in c) (known c.hand.seat)
@@ -65,6 +71,31 @@ pub record IsStep (a : Caller) (es : List Entry) (b : Caller) : Type 0 where
   pub map_is : b.map ≡ a.map
   pub number_is : number b ≡ number a
   pub goes : Extends (stripes_in a) (number a) (stripes_held a) (seen a) es (seen b)
+
+-- Caller `b` is the same caller as `a`, in the same state. At most the memory that it has taken for
+-- its next calls differs.
+pub record IsSame (a b : Caller) : Type 0 where
+  pub map_is : b.map ≡ a.map
+  pub open_is : b.is_open ≡ a.is_open
+  pub known_is : known b.hand.seat ≡ known a.hand.seat
+
+-- No transaction was begun, for one of these reasons.
+-- - `AlreadyOpen`: there is a transaction. Nothing changes.
+-- - `NoMemory`: the map keeps its entries, and memory was refused. The caller is the same.
+abbrev pub IsNotBegun : Caller → Caller → Stop → Type 0
+IsNotBegun a b (Refused AlreadyOpen) = (a.is_open ≡ true) × (b ≡ a)
+IsNotBegun a b (Refused NoMemory) = (keeps a ≡ Entries) × (a.is_open ≡ false) × IsSame a b
+IsNotBegun a b stop = ⊥
+
+-- The caller did not return to a level, for one of these reasons.
+-- - `NotOpen`: there is no transaction. Nothing changes.
+-- - `NoSuchLevel`: there is no such level. Nothing changes.
+-- - `NoMemory`: the map keeps its entries, and memory was refused. The caller is the same.
+abbrev pub IsNotBack : ℕ → Caller → Caller → Stop → Type 0
+IsNotBack level a b (Refused NotOpen) = (a.is_open ≡ false) × (b ≡ a)
+IsNotBack level a b (Refused NoSuchLevel) = (a.is_open ≡ true) × (levels a < level) × (b ≡ a)
+IsNotBack level a b (Refused NoMemory) = (keeps a ≡ Entries) × (a.is_open ≡ true) × IsSame a b
+IsNotBack level a b stop = ⊥
 
 -- The caller did not do the operation, for one of these reasons.
 -- - `Busy`: another caller, which has begun a transaction before, held the stripe. The transaction
@@ -112,12 +143,12 @@ pub record IsTakenBack (a b : Caller) : Type 0 where
 
 -- One transaction was run and committed. The caller is `b` before the transaction, `t` when the
 -- work begins, `u` when the work ends, and `l` after the commit.
-pub record IsRun (b t u l : Caller) (found : ℕ) : Type 0 where
+pub record IsRun (b t u l : Caller) (found : Option ℕ) : Type 0 where
   pub txn : ℕ
   pub began : IsStep b (Began (number b) txn ∷ []) t
   pub works : IsWithin t u
   pub place : ℕ
-  pub found_is : found ≡ place % 2 ^ 64
+  pub found_is : found ≡ told_of (keeps u) place
   pub committed : IsStep u (Committed (number b) place ∷ []) l
 
 -- A caller of this map, with this number, which has done nothing yet.

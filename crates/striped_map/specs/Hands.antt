@@ -1,5 +1,5 @@
 -- The outcomes of a hand's calls.
-use Rattle.std.specs.Prelude.{◌≡◌, ℕ, List, [], ◌∷◌, None}
+use Rattle.std.specs.Prelude.{◌≡◌, ◌⊎◌, ℕ, List, [], ◌∷◌, None}
 use Rattle.txn_words.specs.declared.entry.Entry.{Entry}
 use Rattle.txn_words.specs.declared.entry.Entry.TheVariants.{Began, Leave, Busy as BusyEntry, Aborted}
 use Rattle.txn_words.specs.declared.op.Op.{Op}
@@ -8,6 +8,7 @@ use Rattle.txn_words.specs.declared.refusal.Refusal.TheVariants.{NoMemory}
 use Rattle.txn_trace.specs.Now.{now}
 use Rattle.txn_words.specs.declared.seat.Phase.TheVariants.{Closed, Opened}
 use Rattle.striped_map.specs.declared.hand.Hand.{Hand}
+use Rattle.striped_map.specs.declared.keep.Keep.TheVariants.{Entries}
 use Rattle.striped_map.specs.declared.map.StripedMap.{StripedMap}
 use Rattle.striped_map.specs.Handling.{KeepsHeld}
 use Rattle.striped_map.specs.Seats.{known, stripes_of}
@@ -22,6 +23,7 @@ pub record MovesHand (map : StripedMap) (a : Hand) (es : List Entry) (b : Hand) 
   pub number_is : (known b.seat).number ≡ (known a.seat).number
   pub retired_is : (known b.seat).retired ≡ (known a.seat).retired
   pub made_is : (known b.seat).made ≡ (known a.seat).made
+  pub keep_is : (known b.seat).keep ≡ (known a.seat).keep
   pub goes : Extends (stripes_of map) (known a.seat).number (known a.seat).held
       (known a.seat).seen es (known b.seat).seen
 
@@ -69,10 +71,12 @@ pub record ReadsPairs (map : StripedMap) (a c : Hand) (pairs : List (ℕ × ℕ)
 
 -- The pairs were not read, for one of these reasons.
 -- - `Busy`: a transaction was begun to read them, and another caller held a stripe (`IsCut`).
--- - `Refused`: memory was refused. The transaction was aborted.
+-- - `Refused`: memory was refused. Either the map keeps its entries, and no transaction was begun,
+--   or the transaction was aborted.
 abbrev pub IsUnread : StripedMap → Hand → Hand → Stop → Type 0
 IsUnread map a c (Busy holder) = (txn : ℕ) × (b : Hand)
     × MovesHand map a (Began (known a.seat).number txn ∷ []) b × IsCut map b c (Busy holder)
-IsUnread map a c (Refused refusal) = (refusal ≡ NoMemory) × (txn : ℕ) × (b : Hand)
-    × MovesHand map a (Began (known a.seat).number txn ∷ []) b
-    × (left : Hand) × MovesHand map b [] left × GivesUp map left c
+IsUnread map a c (Refused refusal) = (refusal ≡ NoMemory)
+    × ((((known a.seat).keep ≡ Entries) × (known c.seat ≡ known a.seat))
+    ⊎ ((txn : ℕ) × (b : Hand) × MovesHand map a (Began (known a.seat).number txn ∷ []) b
+    × (left : Hand) × MovesHand map b [] left × GivesUp map left c))

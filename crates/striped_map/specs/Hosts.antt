@@ -1,16 +1,21 @@
 -- The facts that contracts name about a host.
-use Rattle.std.specs.Prelude.{ℕ, ◌≡◌, ◌+◌, ◌<◌, Bool, ◌&&◌, nat_le, true, false, List, [], length}
+use Rattle.std.specs.Prelude.{ℕ, ◌≡◌, ◌≢◌, ◌+◌, ◌<◌, Bool, ◌&&◌, nat_le, true, false, List, [], length, Some, slice_get}
 use Rattle.std.specs.List.{HoldsAt}
 use Rattle.txn_words.specs.declared.refusal.Refusal.{Refusal}
 use Rattle.txn_words.specs.declared.refusal.Refusal.TheVariants.{Limit, NoMemory}
 use Rattle.txn_words.specs.declared.entry.Entry.{Entry}
 use Rattle.striped_map.specs.declared.caller.Caller.{Caller}
 use Rattle.striped_map.specs.declared.host.Host.{Host}
+use Rattle.striped_map.specs.declared.keep.Keep.{Keep}
+use Rattle.striped_map.specs.declared.keep.Keep.TheVariants.{Entries}
+use Rattle.striped_map.specs.declared.no_history.NoHistory.{NoHistory}
+use Rattle.striped_map.specs.declared.no_history.NoHistory.TheVariants.{NotKept, Missing, NoMemory as NoSpace}
+use Rattle.striped_map.specs.declared.open.Opening.{Opening}
 use Rattle.striped_map.specs.Callers.{IsNew}
-use Rattle.striped_map.specs.Seats.{known}
+use Rattle.striped_map.specs.Seats.{keep_of, known}
 
--- The callers that were merged into the host, the newest first, each with its number and all its
--- entries.
+-- The callers that were merged into the host, the newest first, each with its number and the
+-- beginning of the history that it had seen. This beginning has all its entries.
 abbrev pub taken : Host → List (ℕ × List Entry)
 taken host = (known host.hand.seat).retired
 
@@ -22,22 +27,39 @@ numbers host = (known host.hand.seat).made
 abbrev pub seen_by : Host → List Entry
 seen_by host = (known host.hand.seat).seen
 
+-- What the host's map keeps of its history.
+abbrev pub kept_by : Host → Keep
+kept_by host = keep_of host.map.value
+
 -- Whether a map may have this many stripes and callers.
 abbrev pub may_open : ℕ → ℕ → Bool
 may_open stripes callers = nat_le 1 stripes && nat_le stripes 4096 && nat_le callers 4096
 
--- A map with this many stripes and callers was opened. Its host has merged no caller and has seen
--- no entry. Its callers are new, and have the numbers from 1 on. There are no other callers.
-pub record IsOpened (stripes callers : ℕ) (host : Host) (all : List Caller) : Type 0 where
-  pub within : may_open stripes callers ≡ true
-  pub numbers_are : numbers host ≡ callers + 1
+-- A map was opened with this many stripes and callers. It keeps of its history what was asked for.
+-- Its host has merged no caller and has seen no entry. Its callers are callers of the same map, are
+-- new, and have the numbers from 1 on. There are no other callers.
+pub record IsOpened (asked : Opening) (host : Host) (all : List Caller) : Type 0 where
+  pub within : may_open asked.stripes asked.callers ≡ true
+  pub keeps_are : kept_by host ≡ asked.keep
+  pub numbers_are : numbers host ≡ asked.callers + 1
   pub none : taken host ≡ []
   pub unseen : seen_by host ≡ []
-  pub count : length all ≡ callers
-  pub each : (place : ℕ) → place < callers → HoldsAt (IsNew host.map.value stripes (place + 1)) all place
+  pub count : length all ≡ asked.callers
+  pub each : (place : ℕ) → place < asked.callers
+      → HoldsAt (IsNew host.map.value asked.stripes (place + 1)) all place
 
 -- Why a map was not opened.
-abbrev pub IsNotOpened : ℕ → ℕ → Refusal → Type 0
-IsNotOpened stripes callers Limit = may_open stripes callers ≡ false
-IsNotOpened stripes callers NoMemory = Unit {0}
-IsNotOpened stripes callers refusal = ⊥
+abbrev pub IsNotOpened : Opening → Refusal → Type 0
+IsNotOpened asked Limit = may_open asked.stripes asked.callers ≡ false
+IsNotOpened asked NoMemory = Unit {0}
+IsNotOpened asked refusal = ⊥
+
+-- Why a host did not hand out the history.
+-- - `NotKept`: the map does not keep its entries.
+-- - `Missing`: the caller with this number was made, and was not merged into the host.
+-- - `NoMemory`: the map keeps its entries, and memory was refused.
+abbrev pub IsNoHistory : Host → NoHistory → Type 0
+IsNoHistory host NotKept = kept_by host ≢ Entries
+IsNoHistory host (Missing c) = (kept_by host ≡ Entries) × (0 < c) × (c < numbers host)
+    × ((j : ℕ) (r : ℕ × List Entry) → slice_get (taken host) j ≡ Some r → r.0 ≢ c)
+IsNoHistory host NoSpace = kept_by host ≡ Entries

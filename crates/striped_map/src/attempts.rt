@@ -4,7 +4,7 @@
 //! transaction open. Between two tries the caller holds no stripe.
 ghost use Rattle.std.specs.Prelude.{◌≡◌, ℕ, ◌≤◌, true, false, Ok, IfOk, IfErr, OnOk, OnErr};
 ghost use Rattle.txn_words.specs.declared.refusal.Refusal.TheVariants.{AlreadyOpen};
-ghost use Rattle.striped_map.specs.Attempts.{on_callers, Fails, FailsBusy};
+ghost use Rattle.striped_map.specs.Attempts.{FailsOrNot, on_callers, Fails, FailsBusy};
 ghost use Rattle.striped_map.specs.declared.caller.Caller.{Caller};
 ghost use Rattle.striped_map.specs.Callers.{IsSince, IsRun};
 ghost use Rattle.striped_map.specs.Keeps.{Keeps};
@@ -20,7 +20,7 @@ impl Caller {
     fn attempt<T: Drop, F: Fn(&mut Transaction<'_>) -> Result<T, Stop>>(
         &mut self,
         work: &F,
-    ) -> Result<(T, u64), Stop>
+    ) -> Result<(T, Option<u64>), Stop>
         requires callable { F.IsAlwaysCallable work.now }
         requires keeps { (t : _) (r : _) (u : _) → F.post work.now t r u → Keeps t.now u.now }
         ensures closed { OnOk result ((self.old.is_open ≡ false) × (self.new.is_open ≡ false)) }
@@ -29,7 +29,8 @@ impl Caller {
         ensures open { IfErr result (λ stop. self.old.is_open ≡ true
             → (stop ≡ Stop.Refused AlreadyOpen) × (self.new ≡ self.old)) }
         ensures err { IfErr result (λ stop. self.old.is_open ≡ false
-            → Fails (on_callers (λ t. t.now.me.now) (F.post work.now)) self.old self.new stop) }
+            → FailsOrNot (on_callers (λ t. t.now.me.now) (F.post work.now)) self.old self.new
+            stop) }
     {
         self.begin()?;
         let mut open = Transaction { me: self };
@@ -38,15 +39,18 @@ impl Caller {
         Ok((value, place))
     }
 
-    /// Runs the work in a transaction and commits. Returns the work's value and the place of the
-    /// commit, modulo 2^64. If the work fails with `Busy`, the caller yields the thread and begins
-    /// again, at most `tries` times. Whenever the work fails, all its changes are taken back.
+    /// Runs the work in a transaction and commits. Returns the work's value and what `commit`
+    /// returns: the commit's place, if the map keeps its commits. If the work fails with `Busy`, the
+    /// caller yields the thread and begins again, at most `tries` times. So the work may run several
+    /// times. Whenever the work fails, all its changes are taken back.
     ///
     /// # Errors
     ///
     /// - `Refused(AlreadyOpen)` if the caller is in a transaction. This transaction is unchanged.
     /// - Otherwise the error of the last try. The error is `Busy` only if all tries are used up. It
-    ///   is `Refused(NotOpen)` if the work continued after one of its calls was busy.
+    ///   is `Refused(NotOpen)` if the work continued after one of its calls was busy. It is
+    ///   `Refused(NoMemory)` if `begin` was refused, which only happens if the map keeps its
+    ///   entries.
     ///
     /// # Cost
     ///
@@ -56,7 +60,7 @@ impl Caller {
         &mut self,
         tries: u64,
         work: F,
-    ) -> Result<(T, u64), Stop>
+    ) -> Result<(T, Option<u64>), Stop>
         requires callable { F.IsAlwaysCallable work }
         requires keeps { (t : _) (r : _) (u : _) → F.post work t r u → Keeps t.now u.now }
         ensures closed { self.old.is_open ≡ false → self.new.is_open ≡ false }
@@ -71,7 +75,43 @@ impl Caller {
             → (busy : ℕ) × (busy ≤ tries)
             × ((holder : ℕ) → stop ≡ Stop.Busy holder → busy ≡ tries) × (b : Caller)
             × FailsBusy (on_callers (λ t. t.now.me.now) (F.post work)) busy self.old b
-            × Fails (on_callers (λ t. t.now.me.now) (F.post work)) b self.new stop) }
+            × FailsOrNot (on_callers (λ t. t.now.me.now) (F.post work)) b self.new stop) }
+    {
+        self.transact_waiting(tries, |_round: u64| thread::yield_now(), work)
+    }
+
+    /// As `transact`, but calls `wait` before each further try, in place of a yield, with the number
+    /// of tries before the failed one.
+    ///
+    /// # Errors
+    ///
+    /// Those of `transact`.
+    ///
+    /// # Cost
+    ///
+    /// That of `transact`, and of the waits.
+    pub fn transact_waiting<T: Drop, W: Fn(u64), F: Fn(&mut Transaction<'_>) -> Result<T, Stop>>(
+        &mut self,
+        tries: u64,
+        wait: W,
+        work: F,
+    ) -> Result<(T, Option<u64>), Stop>
+        requires waits { W.IsAlwaysCallable wait }
+        requires callable { F.IsAlwaysCallable work }
+        requires keeps { (t : _) (r : _) (u : _) → F.post work t r u → Keeps t.now u.now }
+        ensures closed { self.old.is_open ≡ false → self.new.is_open ≡ false }
+        ensures ok { IfOk result (λ r. (b : Caller) × (t : _) × (u : _) × F.post work t (Ok r.0) u
+            × IsSince self.old b × IsRun b t.now.me.now u.now.me.now self.new r.1
+            × (busy : ℕ) × (busy ≤ tries)
+            × FailsBusy (on_callers (λ t. t.now.me.now) (F.post work)) busy self.old b) }
+        ensures since { OnErr result (IsSince self.old self.new) }
+        ensures open { IfErr result (λ stop. self.old.is_open ≡ true
+            → (stop ≡ Stop.Refused AlreadyOpen) × (self.new ≡ self.old)) }
+        ensures err { IfErr result (λ stop. self.old.is_open ≡ false
+            → (busy : ℕ) × (busy ≤ tries)
+            × ((holder : ℕ) → stop ≡ Stop.Busy holder → busy ≡ tries) × (b : Caller)
+            × FailsBusy (on_callers (λ t. t.now.me.now) (F.post work)) busy self.old b
+            × FailsOrNot (on_callers (λ t. t.now.me.now) (F.post work)) b self.new stop) }
     {
         let mut left = tries;
         loop {
@@ -82,7 +122,7 @@ impl Caller {
                     if left == 0 {
                         return Err(Stop::Busy { holder });
                     }
-                    thread::yield_now();
+                    wait(tries - left);
                     left -= 1;
                 }
             }

@@ -16,13 +16,16 @@ ghost use Rattle.stripe_part.specs.Calls.{IsRefused};
 ghost use Rattle.striped_map.specs.Additions.{above, due, entries_of};
 ghost use Rattle.striped_map.specs.Handling.{GainsAtMost, HoldsAllOf, IsEnd, IsMiss, KeepsHeld, idle};
 ghost use Rattle.striped_map.specs.Lone.{RunsAlone};
-ghost use Rattle.striped_map.specs.Seats.{IsOf, known, part_in, stripes_of};
+ghost use Rattle.striped_map.specs.declared.keep.Keep.TheVariants.{Entries};
+ghost use Rattle.striped_map.specs.Seats.{HasRoom, IsOf, known, part_in, stripes_of};
 ghost use Rattle.striped_map.specs.Sound.{AreHeld, AreLogged, IsIndexed, IsSound, held_parts};
-ghost use Rattle.striped_map.specs.Steps.{HasAll, HasNoOther, IsAt, SeesIn, seat_of, taken_in, rolled_back, undoing};
+ghost use Rattle.striped_map.specs.Steps.{AreMade, HasAll, HasNoOther, IsAt, SeesIn, seat_of, taken_in, told_of, rolled_back, undoing};
 
 use crate::addition::Addition;
 use crate::contents;
+use crate::keep::Keep;
 use crate::map::{StripedMap, Taken};
+use crate::record::{Record, Told, told_of};
 use crate::seat::MapSeat;
 use map_answers::Stop;
 use std::alloc::{AllocError, Global};
@@ -78,6 +81,18 @@ fn widen(index: &mut Vec<u16>, stripes: usize) -> Result<(), AllocError>
     Ok(())
 }
 
+/// Makes room for one more change. Tests first whether there is room, since `reserve` is a call.
+#[inline(always)]
+fn room_for_one(order: &mut Vec<Change>) -> Result<(), AllocError>
+    ensures items { order.new.items ≡ order.old.items }
+    ensures room { OnOk result (vec_len order.new < vec_capacity order.new) }
+{
+    if order.len() < order.capacity() {
+        return Ok(());
+    }
+    order.reserve(1)
+}
+
 /// How many changes the transaction had when the savepoint of this level was set. For level 0 this
 /// is 0.
 fn mark_of(levels: &Vec<usize>, level: usize) -> usize
@@ -123,6 +138,7 @@ fn take_back(
     ensures logged { AreLogged (stripes_of map.now) (held_parts seat.new held.now.items)
         order.new.items (drop (vec_len order.old - mark) (due (known seat.old))) }
     ensures len { vec_len order.new ≡ mark }
+    ensures room { HasRoom seat.old → HasRoom seat.new }
 {
     while mark < order.len() {
         let Some((place, key, before)) = order.pop() else {
@@ -165,28 +181,33 @@ impl Hand {
         }
     }
 
-    /// Begins a transaction.
+    /// Begins a transaction. May need memory if the map keeps its entries.
     #[tactic(auto, using(crate::proofs::Ends::held_added, crate::proofs::Ends::nothing_due))]
-    pub(crate) fn begin(&mut self, map: &StripedMap)
+    pub(crate) fn begin(&mut self, map: &StripedMap) -> Result<(), AllocError>
         requires map { IsOf self.old.seat map.now }
         requires closed { IsAt Closed (known self.old.seat) }
         requires idle { (known self.old.seat).held ≡ [] }
         ensures map { IsOf self.new.seat map.now }
-        ensures open { IsAt Opened (known self.new.seat) }
-        ensures levels { self.new.levels.items ≡ [] }
-        ensures fresh { due (known self.new.seat) ≡ [] }
+        ensures open { OnOk result (IsAt Opened (known self.new.seat)) }
+        ensures levels { OnOk result (self.new.levels.items ≡ []) }
+        ensures fresh { OnOk result (due (known self.new.seat) ≡ []) }
         ensures still { (known self.new.seat).held ≡ (known self.old.seat).held }
-        ensures begun { (t : ℕ) × MovesHand map.now self.old
-            (Began (known self.old.seat).number t ∷ []) self.new }
+        ensures begun { OnOk result ((t : ℕ) × MovesHand map.now self.old
+            (Began (known self.old.seat).number t ∷ []) self.new) }
+        ensures err { OnErr result ((known self.old.seat).keep ≡ Entries) }
+        ensures unchanged { OnErr result (self.new.seat.seat ≡ self.old.seat.seat) }
     {
+        self.seat.make_room()?;
         self.order.clear();
         self.levels.clear();
         map.begin(&mut self.seat);
+        Ok(())
     }
 
     /// Takes a stripe, unless the hand holds it already. Returns the place of the stripe in the
     /// list of held stripes.
-    #[tactic(auto, using(crate::proofs::Ends::holds_taken, crate::proofs::Ends::holds_found, crate::proofs::Ends::gained_taken, crate::proofs::Ends::gained_found))]
+    #[inline(always)]
+    #[tactic(auto, using(crate::proofs::Ends::holds_found, crate::proofs::Ends::gained_found))]
     fn hold(&mut self, map: &StripedMap, stripe: usize) -> Result<usize, Stop>
         requires map { IsOf self.old.seat map.now }
         requires open { IsAt Opened (known self.old.seat) }
@@ -203,12 +224,57 @@ impl Hand {
         if let Some(place) = place_of(&self.held, &self.index, stripe) {
             return Ok(place);
         }
+        if self.held.len() < self.held.capacity() && map.stripes() <= self.index.len() {
+            return self.take(map, stripe);
+        }
+        self.take_with_room(map, stripe)
+    }
+
+    /// Takes a stripe that the hand does not hold, after it has made room for it in the lists.
+    #[cold]
+    #[inline(never)]
+    fn take_with_room(&mut self, map: &StripedMap, stripe: usize) -> Result<usize, Stop>
+        requires map { IsOf self.old.seat map.now }
+        requires open { IsAt Opened (known self.old.seat) }
+        requires stripe { stripe < stripes_of map.now }
+        requires away { (place : ℕ) → slice_get self.old.held.items place ≢ Some stripe }
+        ensures map { IsOf self.new.seat map.now }
+        ensures open { IsAt Opened (known self.new.seat) }
+        ensures goes_on { GoesOn map.now self.old self.new }
+        ensures held { IfOk result (λ place. slice_get self.new.held.items place ≡ Some stripe) }
+        ensures gained { GainsAtMost stripe (known self.old.seat).held (known self.new.seat).held }
+        ensures order { self.new.order ≡ self.old.order }
+        ensures levels { self.new.levels ≡ self.old.levels }
+        ensures miss { IfErr result (IsMiss (known self.new.seat)) }
+    {
         if self.held.reserve(1).is_err() {
             return Err(Stop::Refused(Refusal::NoMemory));
         }
         let Ok(()) = widen(&mut self.index, map.stripes()) else {
             return Err(Stop::Refused(Refusal::NoMemory));
         };
+        self.take(map, stripe)
+    }
+
+    /// Takes a stripe that the hand does not hold. The lists must have room for it.
+    #[inline(always)]
+    #[tactic(auto, using(crate::proofs::Ends::holds_taken, crate::proofs::Ends::gained_taken))]
+    fn take(&mut self, map: &StripedMap, stripe: usize) -> Result<usize, Stop>
+        requires map { IsOf self.old.seat map.now }
+        requires open { IsAt Opened (known self.old.seat) }
+        requires stripe { stripe < stripes_of map.now }
+        requires away { (place : ℕ) → slice_get self.old.held.items place ≢ Some stripe }
+        requires room { vec_len self.old.held < vec_capacity self.old.held }
+        requires index { stripe < vec_len self.old.index }
+        ensures map { IsOf self.new.seat map.now }
+        ensures open { IsAt Opened (known self.new.seat) }
+        ensures goes_on { GoesOn map.now self.old self.new }
+        ensures held { IfOk result (λ place. slice_get self.new.held.items place ≡ Some stripe) }
+        ensures gained { GainsAtMost stripe (known self.old.seat).held (known self.new.seat).held }
+        ensures order { self.new.order ≡ self.old.order }
+        ensures levels { self.new.levels ≡ self.old.levels }
+        ensures miss { IfErr result (IsMiss (known self.new.seat)) }
+    {
         match map.take(&mut self.seat, stripe) {
             Taken::Granted => {
                 let place = self.held.len();
@@ -322,8 +388,8 @@ impl Hand {
     }
 
     /// Merges another seat, which holds no stripe, into this hand's seat. The other seat then acts
-    /// no more.
-    pub(crate) fn take_in(&mut self, map: &StripedMap, other: MapSeat)
+    /// no more. Returns its records.
+    pub(crate) fn take_in(&mut self, map: &StripedMap, other: MapSeat) -> Vec<Record>
         requires map { IsOf self.old.seat map.now }
         requires other { IsOf other map.now }
         requires first { (known self.old.seat).number ≡ 0 }
@@ -331,8 +397,11 @@ impl Hand {
         requires plain { (known other).retired ≡ [] }
         ensures map { IsOf self.new.seat map.now }
         ensures taken { known self.new.seat ≡ taken_in (known self.old.seat) (known other) }
+        ensures made { AreMade (known self.new.seat) }
+        ensures own { self.new.seat.records ≡ self.old.seat.records }
+        ensures records { result ≡ other.records }
     {
-        map.take_in(&mut self.seat, other);
+        map.take_in(&mut self.seat, other)
     }
 
     /// Returns the pairs of the map. The hand reads them in a separate transaction, which it then
@@ -351,7 +420,9 @@ impl Hand {
         ensures ok { IfOk result (λ pairs. ReadsPairs map.now self.old self.new pairs.items) }
         ensures err { IfErr result (IsUnread map.now self.old self.new) }
     {
-        self.begin(map);
+        let Ok(()) = self.begin(map) else {
+            return Err(Stop::Refused(Refusal::NoMemory));
+        };
         match self.pairs(map, alloc) {
             Ok(pairs) => {
                 self.gather(map);
@@ -373,6 +444,51 @@ impl Hand {
     #[tactic(auto, using(crate::proofs::Ends::held_added))]
     fn apply(
         &mut self,
+        keep: Keep,
+        map: &StripedMap,
+        alloc: Global,
+        place: usize,
+        op: Op,
+        sub_key: u64,
+    ) -> Result<Reply, Refusal>
+        requires keep { keep ≡ self.old.seat.keep }
+        requires map { IsOf self.old.seat map.now }
+        requires open { IsAt Opened (known self.old.seat) }
+        requires place { slice_get self.old.held.items place
+            ≡ Some (stripe_of (stripes_of map.now) (key_of op)) }
+        requires sub_key { sub_key ≡ key_of op / stripes_of map.now }
+        requires room { may_change op ≡ true
+            → vec_len self.old.order < vec_capacity self.old.order }
+        requires records { HasRoom self.old.seat }
+        ensures map { IsOf self.new.seat map.now }
+        ensures open { IsAt Opened (known self.new.seat) }
+        ensures levels { self.new.levels ≡ self.old.levels }
+        ensures done { IfOk result (λ reply. MovesHand map.now self.old
+            (Asked (known self.old.seat).number op ∷ Did (known self.old.seat).number reply ∷ [])
+            self.new) }
+        ensures refused { IfErr result (IsRefused op) }
+        ensures unmoved { OnErr result (MovesHand map.now self.old [] self.new) }
+        ensures still { (known self.new.seat).held ≡ (known self.old.seat).held }
+    {
+        let stripe = self.held[place];
+        let reply = map.apply(&mut self.seat, alloc, stripe, under(op, sub_key))?;
+        map.add(
+            &mut self.seat,
+            keep,
+            map.quiet(),
+            Addition::Note(op, reply),
+            Told::TellNote(op, reply),
+        );
+        if op.changes(reply) {
+            self.order.push_reserved((place, sub_key, reply));
+        }
+        Ok(reply)
+    }
+
+    /// Makes room for a record, and does an operation on the part of the stripe at this place.
+    #[inline(always)]
+    fn work(
+        &mut self,
         map: &StripedMap,
         alloc: Global,
         place: usize,
@@ -392,17 +508,22 @@ impl Hand {
         ensures done { IfOk result (λ reply. MovesHand map.now self.old
             (Asked (known self.old.seat).number op ∷ Did (known self.old.seat).number reply ∷ [])
             self.new) }
-        ensures refused { IfErr result (IsRefused op) }
+        ensures refused { IfErr result (λ refusal. refusal ≡ NoMemory) }
         ensures unmoved { OnErr result (MovesHand map.now self.old [] self.new) }
         ensures still { (known self.new.seat).held ≡ (known self.old.seat).held }
     {
-        let stripe = self.held[place];
-        let reply = map.apply(&mut self.seat, alloc, stripe, under(op, sub_key))?;
-        map.add(&mut self.seat, map.quiet(), Addition::Note(op, reply));
-        if op.changes(reply) {
-            self.order.push_reserved((place, sub_key, reply));
+        match self.seat.keep {
+            Keep::Entries => {
+                if self.make_room().is_err() {
+                    return Err(Refusal::NoMemory);
+                }
+                match self.apply(Keep::Entries, map, alloc, place, op, sub_key) {
+                    Ok(reply) => Ok(reply),
+                    Err(refusal) => Err(refusal),
+                }
+            }
+            keep => self.apply(keep, map, alloc, place, op, sub_key),
         }
-        Ok(reply)
     }
 
     /// Does an operation.
@@ -421,14 +542,14 @@ impl Hand {
             (known self.new.seat).held }
         ensures err { IfErr result (IsStopped map.now self.old op self.new) }
     {
-        if op.may_change() && self.order.reserve(1).is_err() {
+        if op.may_change() && room_for_one(&mut self.order).is_err() {
             return Err(Stop::Refused(Refusal::NoMemory));
         }
         let stripes = map.stripes() as u64;
         let stripe = (op.key() % stripes) as usize;
         let sub_key = op.key() / stripes;
         match self.hold(map, stripe) {
-            Ok(place) => match self.apply(map, alloc, place, op, sub_key) {
+            Ok(place) => match self.work(map, alloc, place, op, sub_key) {
                 Ok(reply) => Ok(reply),
                 Err(refusal) => Err(Stop::Refused(refusal)),
             },
@@ -452,10 +573,36 @@ impl Hand {
             × MovesHand map.now self.old (Saved (known self.old.seat).number ∷ []) self.new) }
         ensures refused { IfErr result (λ refusal. refusal ≡ NoMemory) }
         ensures still { (known self.new.seat).held ≡ (known self.old.seat).held }
+        ensures unchanged { OnErr result (self.new.seat.seat ≡ self.old.seat.seat) }
+    {
+        self.make_room()?;
+        self.set_level(map)
+    }
+
+    /// Sets a savepoint, and returns its level. There must be room for the record.
+    #[tactic(auto, using(crate::proofs::Ends::held_added))]
+    fn set_level(&mut self, map: &StripedMap) -> Result<u64, Refusal>
+        requires map { IsOf self.old.seat map.now }
+        requires open { IsAt Opened (known self.old.seat) }
+        requires records { HasRoom self.old.seat }
+        ensures map { IsOf self.new.seat map.now }
+        ensures open { IsAt Opened (known self.new.seat) }
+        ensures levels { OnOk result (vec_len self.new.levels ≡ vec_len self.old.levels + 1) }
+        ensures ok { IfOk result (λ level. (level + 1 ≡ length (seat_of (known self.new.seat)).kept)
+            × MovesHand map.now self.old (Saved (known self.old.seat).number ∷ []) self.new) }
+        ensures refused { IfErr result (λ refusal. refusal ≡ NoMemory) }
+        ensures still { (known self.new.seat).held ≡ (known self.old.seat).held }
         ensures unchanged { OnErr result (self.new.seat ≡ self.old.seat) }
     {
         self.levels.reserve(1)?;
-        map.add(&mut self.seat, map.quiet(), Addition::Save);
+        let keep = self.seat.keep;
+        map.add(
+            &mut self.seat,
+            keep,
+            map.quiet(),
+            Addition::Save,
+            Told::TellSave,
+        );
         self.levels.push_reserved(self.order.len());
         Ok(self.levels.len() as u64)
     }
@@ -468,12 +615,34 @@ impl Hand {
     }
 
     /// Takes back the changes since a level's savepoint. Level 0 is the beginning of the
-    /// transaction.
-    #[tactic(auto, using(crate::proofs::Ends::held_added))]
-    pub(crate) fn back(&mut self, map: &StripedMap, level: usize)
+    /// transaction. May need memory if the map keeps its entries.
+    pub(crate) fn back(&mut self, map: &StripedMap, level: usize) -> Result<(), AllocError>
         requires map { IsOf self.old.seat map.now }
         requires open { IsAt Opened (known self.old.seat) }
         requires level { level < length (seat_of (known self.old.seat)).kept }
+        ensures map { IsOf self.new.seat map.now }
+        ensures open { IsAt Opened (known self.new.seat) }
+        ensures levels { OnOk result (vec_len self.new.levels ≡ level) }
+        ensures still { (known self.new.seat).held ≡ (known self.old.seat).held }
+        ensures moves { OnOk result (MovesHand map.now self.old
+            (Leave (known self.old.seat).number (Some level) ∷ undoing (known self.old.seat).number
+            (above level (known self.old.seat)) (Returned (known self.old.seat).number level))
+            self.new) }
+        ensures err { OnErr result ((known self.old.seat).keep ≡ Entries) }
+        ensures unchanged { OnErr result (self.new.seat.seat ≡ self.old.seat.seat) }
+    {
+        self.make_room()?;
+        self.return_to(map, level);
+        Ok(())
+    }
+
+    /// Takes back the changes since a level's savepoint. There must be room for the record.
+    #[tactic(auto, using(crate::proofs::Ends::held_added))]
+    fn return_to(&mut self, map: &StripedMap, level: usize)
+        requires map { IsOf self.old.seat map.now }
+        requires open { IsAt Opened (known self.old.seat) }
+        requires level { level < length (seat_of (known self.old.seat)).kept }
+        requires records { HasRoom self.old.seat }
         ensures map { IsOf self.new.seat map.now }
         ensures open { IsAt Opened (known self.new.seat) }
         ensures levels { vec_len self.new.levels ≡ level }
@@ -486,23 +655,39 @@ impl Hand {
         let mark = mark_of(&self.levels, level);
         let count = self.order.len() - mark;
         take_back(map, &mut self.seat, &self.held, &mut self.order, mark);
+        let keep = self.seat.keep;
         map.add(
             &mut self.seat,
+            keep,
             map.quiet(),
             Addition::Back(level as u64, count),
+            Told::TellBack(level as u64, count),
         );
         self.levels.truncate(level);
     }
 
-    /// Commits the transaction and gives the stripes back. Returns the place of the commit, modulo
-    /// 2^64.
-    pub(crate) fn commit(&mut self, map: &StripedMap) -> u64
+    /// If the map keeps its entries, makes room for two more records.
+    fn make_room(&mut self) -> Result<(), AllocError>
+        ensures seat { self.new.seat.seat ≡ self.old.seat.seat }
+        ensures held { self.new.held ≡ self.old.held }
+        ensures order { self.new.order ≡ self.old.order }
+        ensures levels { self.new.levels ≡ self.old.levels }
+        ensures keep { self.new.seat.keep ≡ self.old.seat.keep }
+        ensures ok { OnOk result (HasRoom self.new.seat) }
+        ensures err { OnErr result ((known self.old.seat).keep ≡ Entries) }
+    {
+        self.seat.make_room()
+    }
+
+    /// Commits the transaction and gives the stripes back. If the map keeps the number of commits,
+    /// returns the place of the commit, modulo 2^64.
+    pub(crate) fn commit(&mut self, map: &StripedMap) -> Option<u64>
         requires map { IsOf self.old.seat map.now }
         requires open { IsAt Opened (known self.old.seat) }
         ensures map { IsOf self.new.seat map.now }
         ensures closed { IsAt Closed (known self.new.seat) }
         ensures idle { (known self.new.seat).held ≡ [] }
-        ensures committed { (place : ℕ) × (result ≡ place % 2 ^ 64)
+        ensures committed { (place : ℕ) × (result ≡ told_of (known self.old.seat).keep place)
             × MovesHand map.now self.old (Committed (known self.old.seat).number place ∷ [])
             self.new × RunsAlone (known self.old.seat).number place (known self.new.seat).seen }
     {
@@ -525,8 +710,10 @@ impl Hand {
         ensures moves { MovesHand map.now self.old
             (entries_of (known self.old.seat) what) self.new }
     {
+        let told = told_of(what, self.order.len());
         take_back(map, &mut self.seat, &self.held, &mut self.order, 0);
-        map.add(&mut self.seat, map.quiet(), what);
+        let keep = self.seat.keep;
+        map.add(&mut self.seat, keep, map.quiet(), what, told);
         self.order.clear();
         self.levels.clear();
         give_all(map, &mut self.seat, &mut self.held);

@@ -1,19 +1,43 @@
-//! The functions that open a striped map. They use `map`, `host` and `caller`, so they do not
-//! belong to any of these modules. Each caller gets a seat that is split off the first seat, which
-//! the host keeps. Only this module makes callers, so a map gets no more callers after it is
-//! opened.
-ghost use Rattle.std.specs.Prelude.{◌≡◌, IfOk, IfErr};
+//! Opens striped maps. This uses `map`, `host` and `caller`, so it belongs to none of these
+//! modules. Each caller gets a seat that is split off the first seat, which the host keeps. Only
+//! this module makes callers, so a map gets no more callers after it is opened.
+ghost use Rattle.std.specs.Prelude.{◌≡◌, ℕ, IfOk, IfErr, None, replicate};
+ghost use Rattle.striped_map.specs.declared.keep.Keep.TheVariants.{Nothing, Entries};
 ghost use Rattle.striped_map.specs.Hosts.{IsNotOpened, IsOpened, may_open};
 
 use crate::caller::Caller;
 use crate::host::Host;
+use crate::keep::Keep;
 use crate::map::StripedMap;
-use std::alloc::Global;
+use crate::record::Record;
+use std::alloc::{AllocError, Global};
 use std::sync::Arc;
 use txn_trace::Refusal;
 
 /// The largest number of stripes that a map may have, and also the largest number of callers.
 pub const MOST: usize = 4096;
+
+/// How to open a striped map.
+#[derive(Clone, Copy, Debug, PartialEq, Eq)]
+pub struct Opening {
+    /// How many stripes the map has, at least one and at most 4,096. Callers that use different
+    /// stripes do not meet.
+    pub stripes: usize,
+    /// How many callers the map has, at most 4,096.
+    pub callers: usize,
+    /// For how many keys the stripes have room. The stripes take no memory for the first keys, up
+    /// to this number, if two conditions hold. The keys must be spread evenly over the stripes,
+    /// which is so for consecutive keys. And each transaction must do at most one operation in each
+    /// stripe, not counting gets.
+    pub keys: usize,
+    /// What the map keeps of its history.
+    pub keep: Keep,
+    /// The seed of the hash that the stripes' maps use. Only the time of the calls depends on it.
+    /// If a user can choose keys, a random seed makes it harder to choose keys that collide. With a
+    /// seed of 2^32 or more, the homes of consecutive keys may be close.
+    /// The stripe of a key does not depend on the seed.
+    pub seed: u64,
+}
 
 /// Whether a map may have this many stripes and callers.
 fn may_open(stripes: usize, callers: usize) -> bool
@@ -22,65 +46,89 @@ fn may_open(stripes: usize, callers: usize) -> bool
     1 <= stripes && stripes <= MOST && callers <= MOST
 }
 
-/// Opens a map with no keys. Returns its host, and its callers, numbered from 1.
-///
-/// # Errors
-///
-/// - `Limit` if there are no stripes, more than 4,096 stripes, or more than 4,096 callers.
-/// - `NoMemory` if memory is refused.
-///
-/// # Cost
-///
-/// Time and memory in proportion to the stripes and the callers. The part of a stripe takes memory
-/// with its first change.
-pub fn open_map(
-    alloc: Global,
-    stripes: usize,
-    callers: usize,
-) -> Result<(Host, Vec<Caller>), Refusal>
-    ensures ok { IfOk result (λ made. IsOpened stripes callers made.0 made.1.items) }
-    ensures err { IfErr result (IsNotOpened stripes callers) }
+/// `count` empty places for records.
+fn empty_parts(alloc: Global, count: usize) -> Result<Vec<Option<Vec<Record>>>, AllocError>
+    ensures { IfOk result (λ parts. parts.items ≡ replicate count None) }
 {
-    open_map_with_capacity(alloc, stripes, callers, 0)
+    let mut parts = Vec::with_capacity(alloc, count)?;
+    for _ in 0..count {
+        parts.push(None)?;
+    }
+    Ok(parts)
 }
 
-/// Opens a map like `open_map`, and gives each stripe room for its share of `keys` keys, rounded
-/// up. The stripes then take no memory for the first `keys` keys if two conditions hold. The keys
-/// must be spread evenly over the stripes, which is so for consecutive keys. And each transaction
-/// must do at most one operation in each stripe, not counting gets.
-///
-/// # Errors
-///
-/// - `Limit` if there are no stripes, more than 4,096 stripes, or more than 4,096 callers.
-/// - `NoMemory` if memory is refused, or if no memory can have room for the keys.
-///
-/// # Cost
-///
-/// Time and memory in proportion to the stripes, the callers and the keys. This call takes all of
-/// the memory.
-pub fn open_map_with_capacity(
+/// A place for the records of each caller, if the map keeps its entries.
+fn no_parts(
     alloc: Global,
-    stripes: usize,
+    keep: Keep,
     callers: usize,
-    keys: usize,
-) -> Result<(Host, Vec<Caller>), Refusal>
-    ensures ok { IfOk result (λ made. IsOpened stripes callers made.0 made.1.items) }
-    ensures err { IfErr result (IsNotOpened stripes callers) }
+) -> Result<Vec<Option<Vec<Record>>>, AllocError>
+    ensures { IfOk result (λ parts. (count : ℕ) × (parts.items ≡ replicate count None)
+        × (keep ≡ Entries → count ≡ callers)) }
 {
-    if !may_open(stripes, callers) {
-        return Err(Refusal::Limit);
+    match keep {
+        Keep::Entries => empty_parts(alloc, callers),
+        _ => empty_parts(alloc, 0),
     }
-    let (map, mut first) = StripedMap::new(alloc, stripes, keys)?;
-    let Ok(map) = Arc::new(alloc, map) else {
-        return Err(Refusal::NoMemory);
-    };
-    let mut all = Vec::with_capacity(alloc, callers)?;
-    for place in 0..callers {
-        let Ok(owned) = Arc::try_clone(&map) else {
+}
+
+impl Opening {
+    /// A map with this many stripes and callers, which has no room for keys from the start, keeps
+    /// nothing of its history, and has the seed 0.
+    pub fn new(stripes: usize, callers: usize) -> Opening
+        ensures stripes { result.stripes ≡ stripes }
+        ensures callers { result.callers ≡ callers }
+        ensures keys { result.keys ≡ 0 }
+        ensures keep { result.keep ≡ Nothing }
+        ensures seed { result.seed ≡ 0 }
+    {
+        Opening {
+            stripes,
+            callers,
+            keys: 0,
+            keep: Keep::Nothing,
+            seed: 0,
+        }
+    }
+
+    /// Opens a map with no keys. Returns its host, and its callers, numbered from 1.
+    ///
+    /// # Errors
+    ///
+    /// - `Limit` if there are no stripes, more than 4,096 stripes, or more than 4,096 callers.
+    /// - `NoMemory` if memory is refused, or if no memory can have room for the keys.
+    ///
+    /// # Cost
+    ///
+    /// Time and memory in proportion to the stripes, the callers and the keys. Without room for
+    /// keys, the part of a stripe takes memory with its first change.
+    pub fn open(&self, alloc: Global) -> Result<(Host, Vec<Caller>), Refusal>
+        ensures ok { IfOk result (λ made. IsOpened self.now made.0 made.1.items) }
+        ensures err { IfErr result (IsNotOpened self.now) }
+    {
+        let Opening {
+            stripes,
+            callers,
+            keys,
+            keep,
+            seed,
+        } = *self;
+        if !may_open(stripes, callers) {
+            return Err(Refusal::Limit);
+        }
+        let (map, mut first) = StripedMap::new(alloc, keep, stripes, keys, seed)?;
+        let Ok(map) = Arc::new(alloc, map) else {
             return Err(Refusal::NoMemory);
         };
-        let seat = map.seat(&mut first, place + 1);
-        all.push_reserved(Caller::new(alloc, owned, seat));
+        let mut all = Vec::with_capacity(alloc, callers)?;
+        for place in 0..callers {
+            let Ok(owned) = Arc::try_clone(&map) else {
+                return Err(Refusal::NoMemory);
+            };
+            let seat = map.seat(alloc, &mut first, place + 1);
+            all.push_reserved(Caller::new(alloc, owned, seat));
+        }
+        let parts = no_parts(alloc, keep, callers)?;
+        Ok((Host::new(alloc, map, first, parts), all))
     }
-    Ok((Host::new(alloc, map, first), all))
 }

@@ -3,7 +3,7 @@
 //! functions have no contracts, so a test that plays a table is proved within seconds.
 use std::alloc::Global;
 use std::process::Abort;
-use striped_map::{Caller, Host, Stop, open_map};
+use striped_map::{Caller, Host, Keep, Opening, Stop};
 use txn_words::{Op, Refusal, Reply};
 
 /// A request to a caller.
@@ -19,7 +19,8 @@ pub(crate) enum Ask {
 }
 
 /// The answer to a request: nothing, a reply, a number (a level, a count or a place), or the reason
-/// why the request was not carried out.
+/// why the request was not carried out. A commit is answered by its place, if the map keeps its
+/// commits.
 #[derive(Clone, Copy, PartialEq, Eq)]
 pub(crate) enum Told {
     Done,
@@ -54,7 +55,7 @@ fn call(caller: &mut Caller, what: Ask) -> Result<Told, Stop> {
         Ask::Save => return Ok(Told::Number(caller.save()?)),
         Ask::Back(level) => caller.back(level)?,
         Ask::Len => return Ok(Told::Number(caller.len()?)),
-        Ask::Commit => return Ok(Told::Number(caller.commit()?)),
+        Ask::Commit => return Ok(caller.commit()?.map_or(Told::Done, Told::Number)),
         Ask::Abort => caller.abort()?,
     }
     Ok(Told::Done)
@@ -76,10 +77,22 @@ pub(crate) struct Home {
     pub(crate) callers: Vec<Caller>,
 }
 
-/// Opens a new map with these numbers of stripes and callers.
-pub(crate) fn open<R: Abort>(rt: &R, alloc: Global, stripes: usize, callers: usize) -> Home {
-    let (host, callers) = open_map(alloc, stripes, callers).expect(rt, "a map");
+/// How to open a map with these numbers of stripes and callers, which keeps its commits.
+pub(crate) fn counted(stripes: usize, callers: usize) -> Opening {
+    let mut opening = Opening::new(stripes, callers);
+    opening.keep = Keep::Commits;
+    opening
+}
+
+/// Opens a map.
+pub(crate) fn open_as<R: Abort>(rt: &R, alloc: Global, opening: Opening) -> Home {
+    let (host, callers) = opening.open(alloc).expect(rt, "a map");
     Home { host, callers }
+}
+
+/// Opens a new map with these numbers of stripes and callers, which keeps its commits.
+pub(crate) fn open<R: Abort>(rt: &R, alloc: Global, stripes: usize, callers: usize) -> Home {
+    open_as(rt, alloc, counted(stripes, callers))
 }
 
 /// Fails the test with the number of the row if `is_so` is false. It is a separate function, since

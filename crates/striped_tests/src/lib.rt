@@ -7,11 +7,15 @@
 #![tactic(auto)]
 
 #[cfg(test)]
+mod at_once;
+#[cfg(test)]
 mod calls;
 #[cfg(test)]
 mod drops;
 #[cfg(test)]
 mod histories;
+#[cfg(test)]
+mod kept;
 #[cfg(test)]
 mod limits;
 #[cfg(test)]

@@ -3,18 +3,19 @@
 //! By the contracts, any call may be refused memory. Here a call is refused only if its row says
 //! so.
 use crate::calls::{
-    Ask, Home, NEW, Row, Told, Worked, has_left, leaves, must, open, play, play_worked,
+    Ask, Home, NEW, Row, Told, Worked, counted, has_left, leaves, must, open, open_as, play,
+    play_worked,
 };
 use std::alloc::{AllocError, Global};
 use std::process::Abort;
 use std::test::Fail;
-use striped_map::{open_map, open_map_with_capacity};
+use striped_map::Opening;
 use txn_words::{Op, Refusal};
 
 /// Opens a map with these numbers of stripes and callers, and returns how many callers it has.
 /// Returns `None` if the numbers are refused with `Limit`.
 fn callers_in(alloc: Global, stripes: usize, callers: usize) -> Result<Option<usize>, AllocError> {
-    match open_map(alloc, stripes, callers) {
+    match Opening::new(stripes, callers).open(alloc) {
         Ok((_host, made)) => Ok(Some(made.len())),
         Err(Refusal::Limit) => Ok(None),
         Err(_) => Err(AllocError),
@@ -50,7 +51,9 @@ fn stripes_and_callers(rt: HostRuntime) -> Result<(), Fail> {
 /// Opens a map with these numbers of stripes and callers, and room for this number of keys. Returns
 /// the refusal, or `None` if the map is opened.
 fn why_not(alloc: Global, stripes: usize, callers: usize, keys: usize) -> Option<Refusal> {
-    open_map_with_capacity(alloc, stripes, callers, keys).err()
+    let mut opening = Opening::new(stripes, callers);
+    opening.keys = keys;
+    opening.open(alloc).err()
 }
 
 /// Each row has the numbers of stripes, callers and keys. The last part is the refusal that a map
@@ -79,8 +82,9 @@ fn room_for_keys(rt: HostRuntime) {
 
 /// A map with one caller and room for a thousand keys.
 fn open_roomy<R: Abort>(rt: &R, alloc: Global, stripes: usize) -> Home {
-    let (host, callers) = open_map_with_capacity(alloc, stripes, 1, 1_000).expect(rt, "a map");
-    Home { host, callers }
+    let mut opening = counted(stripes, 1);
+    opening.keys = 1_000;
+    open_as(rt, alloc, opening)
 }
 
 /// Calls that find no key in the map.

@@ -2,7 +2,7 @@
 //! merged into the host. `catch_up` and `take_in` require that both sides belong to the same map,
 //! so the functions of this module have clauses that say so. The balances and the commit numbers
 //! were worked out by hand, and do not depend on the order of the threads.
-ghost use Rattle.std.specs.Prelude.{◌≡◌};
+ghost use Rattle.std.specs.Prelude.{◌≡◌, ◌<◌, ℕ, length, HoldsAt};
 
 use crate::calls::{Ask, Home, NEW, Told, ask_row, has_left, leaves, play};
 use crate::transfers::FILLED;
@@ -11,17 +11,43 @@ use std::alloc::Global;
 use std::process::Abort;
 use std::thread;
 use std::thread::Threads;
-use striped_map::{Caller, Host, Stop, open_map};
+use striped_map::{Caller, Host, Keep, Opening, Stop};
 use txn_words::Op;
+
+/// Opens a map with four stripes and three callers, which keeps this.
+fn opened<R: Abort>(rt: &R, alloc: Global, keep: Keep) -> (Host, Vec<Caller>)
+    ensures of { (place : ℕ) → place < length result.1.items
+        → HoldsAt (λ c. c.map.value ≡ result.0.map.value) result.1.items place }
+{
+    let opening = Opening {
+        stripes: 4,
+        callers: 3,
+        keys: 0,
+        keep,
+        seed: 0,
+    };
+    opening.open(alloc).expect(rt, "a map")
+}
+
+/// Takes the last of the callers, which are callers of the host's map.
+fn last_of<R: Abort>(rt: &R, host: &Host, callers: &mut Vec<Caller>) -> Caller
+    requires of { (place : ℕ) → place < length callers.old.items
+        → HoldsAt (λ c. c.map.value ≡ host.now.map.value) callers.old.items place }
+    ensures map { result.map.value ≡ host.now.map.value }
+    ensures of { (place : ℕ) → place < length callers.new.items
+        → HoldsAt (λ c. c.map.value ≡ host.now.map.value) callers.new.items place }
+{
+    callers.pop().expect(rt, "a caller")
+}
 
 /// Opens a map with three callers. Returns the map with its first caller, then the other two
 /// callers.
 pub(crate) fn three<R: Abort>(rt: &R, alloc: Global) -> (Home, Caller, Caller)
     ensures same_map { result.1.map.value ≡ result.2.map.value }
 {
-    let (host, mut callers) = open_map(alloc, 4, 3).expect(rt, "a map");
-    let third = callers.pop().expect(rt, "a caller");
-    let second = callers.pop().expect(rt, "a caller");
+    let (host, mut callers) = opened(rt, alloc, Keep::Commits);
+    let third = last_of(rt, &host, &mut callers);
+    let second = last_of(rt, &host, &mut callers);
     (Home { host, callers }, second, third)
 }
 
@@ -57,7 +83,7 @@ fn a_commit_is_seen(rt: HostRuntime) {
 }
 
 /// Moves 3 from account 1 to account 2, with as many tries as it takes. Returns the caller.
-fn moves_three(mut caller: Caller) -> Caller
+pub(crate) fn moves_three(mut caller: Caller) -> Caller
     ensures same_map { result.map.value ≡ caller.map.value }
 {
     let _ = transfer(&mut caller, u64::MAX, 1, 2, 3);
@@ -106,15 +132,20 @@ fn callers_from_threads_meet(rt: HostRuntime) {
     leaves(&rt, &mut home, &[(1, 6), (2, 4), (3, u64::MAX)]);
 }
 
-/// Opens a map with four stripes and three callers. Returns its host and its callers.
-fn with_host<R: Abort>(rt: &R, alloc: Global) -> (Host, Caller, Caller, Caller)
+/// Opens a map with four stripes and three callers, which keeps this. Returns its host and its callers.
+pub(crate) fn with_host<R: Abort>(
+    rt: &R,
+    alloc: Global,
+    keep: Keep,
+) -> (Host, Caller, Caller, Caller)
     ensures first { result.1.map.value ≡ result.0.map.value }
     ensures second { result.2.map.value ≡ result.0.map.value }
+    ensures third { result.3.map.value ≡ result.0.map.value }
 {
-    let (host, mut callers) = open_map(alloc, 4, 3).expect(rt, "a map");
-    let third = callers.pop().expect(rt, "a caller");
-    let second = callers.pop().expect(rt, "a caller");
-    let first = callers.pop().expect(rt, "a caller");
+    let (host, mut callers) = opened(rt, alloc, keep);
+    let third = last_of(rt, &host, &mut callers);
+    let second = last_of(rt, &host, &mut callers);
+    let first = last_of(rt, &host, &mut callers);
     (host, first, second, third)
 }
 
@@ -126,7 +157,7 @@ fn asks<R: Abort>(rt: &R, caller: &mut Caller, rows: &[(Ask, Told)]) {
 }
 
 /// Merges a caller, which must be in no transaction.
-fn merge<R: Abort>(rt: &R, host: &mut Host, caller: Caller)
+pub(crate) fn merge<R: Abort>(rt: &R, host: &mut Host, caller: Caller)
     requires same_map { caller.map.value ≡ host.old.map.value }
     ensures map { host.new.map ≡ host.old.map }
 {
@@ -206,7 +237,7 @@ const COMMITS_FIFTH: &[(Ask, Told)] = &[
 
 #[test]
 fn merged_callers_are_gathered(rt: HostRuntime) {
-    let (mut host, first, second, mut third) = with_host(&rt, rt.alloc());
+    let (mut host, first, second, mut third) = with_host(&rt, rt.alloc(), Keep::Commits);
     merges_first(&rt, &mut host, first, &mut third);
     merges_second(&rt, &mut host, second, &mut third);
     reads_nothing(&rt, &mut host);
@@ -231,7 +262,7 @@ fn merges_when_idle<R: Abort>(rt: &R, host: &mut Host, mut caller: Caller)
 
 #[test]
 fn an_open_caller_is_not_merged(rt: HostRuntime) {
-    let (mut host, first, _second, mut third) = with_host(&rt, rt.alloc());
+    let (mut host, first, _second, mut third) = with_host(&rt, rt.alloc(), Keep::Commits);
     asks(&rt, &mut third, FILLS);
     merges_when_idle(&rt, &mut host, first);
     host.gather();

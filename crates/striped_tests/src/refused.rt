@@ -2,18 +2,17 @@
 //! answer as if nothing had been refused. A call that is refused twice ends the test with that
 //! error. `docs/tests/refused.sh` refuses the memory. Without this script, the tests are plain
 //! worked runs.
-use crate::calls::{Ask, Home, NEW, Row, Told, answer, must, reads};
+use crate::calls::{Ask, Home, NEW, Row, Told, answer, counted, must, reads};
 use std::alloc::Global;
 use std::process::Abort;
 use std::test::Fail;
-use striped_map::{Caller, Host, Stop, open_map_with_capacity};
+use striped_map::{Caller, Host, Opening, Stop};
 use txn_words::{Op, Refusal};
 
-/// Opens a map with one stripe, one caller, and room for this number of keys. Tries once more if
-/// memory is refused.
-fn open_again(alloc: Global, keys: usize) -> Result<Home, Refusal> {
+/// Opens a map. Tries once more if memory is refused.
+fn open_again(alloc: Global, opening: Opening) -> Result<Home, Refusal> {
     for _ in 0..2u64 {
-        match open_map_with_capacity(alloc, 1, 1, keys) {
+        match opening.open(alloc) {
             Ok((host, callers)) => return Ok(Home { host, callers }),
             Err(Refusal::NoMemory) => {}
             Err(refusal) => return Err(refusal),
@@ -119,9 +118,11 @@ fn call_and_grow<R: Abort>(rt: &R, home: &mut Home) -> Result<(), Refusal> {
     has_left_again(rt, &mut home.host, &[(1, 10)])
 }
 
-/// Does `call_and_grow` in a map with room for this number of keys.
+/// Does `call_and_grow` in a map with one stripe, one caller and room for this number of keys.
 fn play_with_room<R: Abort>(rt: &R, alloc: Global, keys: usize) -> Result<(), Refusal> {
-    call_and_grow(rt, &mut open_again(alloc, keys)?)
+    let mut opening = counted(1, 1);
+    opening.keys = keys;
+    call_and_grow(rt, &mut open_again(alloc, opening)?)
 }
 
 /// This test is also run with each allocation refused in turn.

@@ -118,7 +118,7 @@ fn ask_all<R: Abort>(rt: &R, t: &mut Transaction<'_>, lines: &[Line]) {
 /// dropped.
 fn end_so(t: Transaction<'_>, end: End) -> Result<u64, Stop> {
     match end {
-        End::Commits => return t.commit(),
+        End::Commits => return Ok(t.commit()?.unwrap_or(0)),
         End::Aborts => t.abort(),
         End::IsDropped => drop(t),
     }
@@ -269,7 +269,7 @@ fn goes_too_far(caller: &mut Caller) -> Result<u64, Stop> {
     let mut t = Transaction::begin(caller)?;
     t.put(1, 10)?;
     t.back(1)?;
-    t.commit()
+    Ok(t.commit()?.unwrap_or(0))
 }
 
 /// Each caller calls `goes_too_far`, which must return early.

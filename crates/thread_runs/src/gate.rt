@@ -1,8 +1,7 @@
 //! The trait of gates. A run calls its gate when a worker reaches certain points, and the gate may
 //! make this worker wait. Gates are for tests that need an order between threads. The gate `Open`
-//! makes no worker wait. No gate is called under the lock. But in a run of several workers, a worker
-//! that waits in `freed` may be the one that makes room for the history: the others stop when the
-//! remaining room is used up. The contract of a run is the same with every gate.
+//! makes no worker wait. No gate is called under the lock, so a worker that waits in its gate keeps
+//! no other worker from the map. The contract of a run is the same with every gate.
 /// An observer of workers in threads. Each call may make its worker wait.
 pub trait Gate: Sync {
     /// Called when a worker is about to do an action of a script. The commit counts as one more

@@ -11,6 +11,11 @@
 //! may name any other worker that has begun a transaction; each entry of the history belongs to one
 //! of the workers; and the outcome of each script is true of the history. It is not proved that a
 //! run ends, or that a script ever commits.
+//!
+//! Only tested: a `Gate` is called once for each action, outcome and release, in order, with the
+//! numbers of worker and script (`gate_tests` of `thread_tests`; by its contract the private
+//! `run_script` could pass another number); two workers run at once; with enough memory no call
+//! fails with 64 workers and 10,000 scripts (`docs/tests/limits.sh`).
 #![tactic(auto)]
 
 mod gate;

@@ -65,7 +65,7 @@ impl<L: Ledger, G: Gate, T: Terms> Orders<'_, L, G, T> {
     {
         let mut caller = pass.caller(alloc, NoSide);
         // If room for all entries is refused, each call makes room for its own entries.
-        let _room = caller.reserve(self.entries, self.workers > 1);
+        let _room = caller.reserve(self.entries);
         let outcomes = self.outcomes(rt, alloc, &mut caller)?;
         Ok(WorkerReport { caller, outcomes })
     }

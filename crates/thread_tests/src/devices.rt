@@ -7,9 +7,7 @@ ghost use Rattle.txn_words.specs.Kinds.{caller_of};
 
 use boost_core::{Call, Core, End};
 use history_check::{Verdict, check};
-use locked_map::{
-    Caller, Closed, NoSide, OnRelease, Pass, Receipt, Room, SharedMap, Stop, Unclosed,
-};
+use locked_map::{Caller, Closed, NoSide, OnRelease, Pass, Receipt, SharedMap, Stop, Unclosed};
 use std::alloc::{AllocError, Global};
 use std::marker::{Brand, PhantomData};
 use std::process::Abort;
@@ -44,25 +42,11 @@ pub(crate) fn open<L: Ledger>(
     requires parts { blank.parts ≡ L.parts }
     requires one_each { blank.parts ≡ limits.callers }
 {
-    open_with::<L>(alloc, blank, limits, Room::default())
-}
-
-/// Like `open`, but with the room `room`.
-fn open_with<L: Ledger>(
-    alloc: Global,
-    blank: Blank,
-    limits: Limits,
-    room: Room<'_>,
-) -> Option<(Shared<L>, Vec<Pass<L>>)>
-    requires name { blank.name ≡ L.name }
-    requires parts { blank.parts ≡ L.parts }
-    requires one_each { blank.parts ≡ limits.callers }
-{
     let parts = Parts {
         count: u64::from(limits.callers()),
         of: PhantomData,
     };
-    match SharedMap::<L>::with_room(alloc, blank, limits, room) {
+    match SharedMap::<L>::new(alloc, blank, limits) {
         Ok((map, passes)) => Some((Shared { map, parts }, passes)),
         Err(_) => None,
     }
@@ -87,18 +71,7 @@ pub(crate) fn play_with<P: Play, R: Wait + Abort>(
     callers: u64,
     what: &P,
 ) -> Result<(), Fail> {
-    play_with_room(rt, alloc, callers, Room::default(), what)
-}
-
-/// Like `play_with`, but with the room `room`.
-pub(crate) fn play_with_room<P: Play, R: Wait + Abort>(
-    rt: &R,
-    alloc: Global,
-    callers: u64,
-    room: Room<'_>,
-    what: &P,
-) -> Result<(), Fail> {
-    if is_played(rt, alloc, callers, room, what)? {
+    if is_played(rt, alloc, callers, what)? {
         return Ok(());
     }
     Err("no memory for a map".into())
@@ -113,7 +86,7 @@ pub(crate) fn play_where_made<P: Play, R: Wait + Abort>(
     what: &P,
 ) -> Result<(), Fail> {
     for _ in 0..TRIES {
-        if is_played(rt, alloc, callers, Room::default(), what)? {
+        if is_played(rt, alloc, callers, what)? {
             return Ok(());
         }
     }
@@ -127,12 +100,11 @@ fn is_played<P: Play, R: Wait + Abort>(
     rt: &R,
     alloc: Global,
     callers: u64,
-    room: Room<'_>,
     what: &P,
 ) -> Result<bool, Fail> {
     let limits = Limits::new(callers, 8, 8)?;
     let blank = Blank::new(u64::from(limits.callers()));
-    play_under::<Brand, P, R>(rt, alloc, blank, limits, room, what)
+    play_under::<Brand, P, R>(rt, alloc, blank, limits, what)
 }
 
 fn play_under<L: Ledger, P: Play, R: Wait + Abort>(
@@ -140,14 +112,13 @@ fn play_under<L: Ledger, P: Play, R: Wait + Abort>(
     alloc: Global,
     blank: Blank,
     limits: Limits,
-    room: Room<'_>,
     what: &P,
 ) -> Result<bool, Fail>
     requires name { blank.name ≡ L.name }
     requires parts { blank.parts ≡ L.parts }
     requires one_each { blank.parts ≡ limits.callers }
 {
-    let Some((shared, passes)) = open_with::<L>(alloc, blank, limits, room) else {
+    let Some((shared, passes)) = open::<L>(alloc, blank, limits) else {
         return Ok(false);
     };
     what.play(rt, alloc, shared, passes)?;

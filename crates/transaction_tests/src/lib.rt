@@ -1,6 +1,6 @@
-//! Tests of transactions as values, on the map with one owner and on the map that threads share. No
-//! contract says that a work succeeds if there is memory for it, how far a table grows, or what
-//! remains if memory is refused. These tests check it, also at the limits.
+//! Tests of transactions as values on the map with one owner. No contract says that a work succeeds
+//! if there is memory for it, how far a table grows, or what remains if memory is refused. These
+//! tests check it, also at the limits.
 //!
 //! The tests are a separate crate, because a crate with tests is proved twice.
 #![tactic(auto)]
@@ -8,14 +8,6 @@
 #[cfg(test)]
 mod lines;
 #[cfg(test)]
-mod looks;
-#[cfg(test)]
 mod owned;
 #[cfg(test)]
 mod owned_limits;
-#[cfg(test)]
-mod restarts;
-#[cfg(test)]
-mod shared;
-#[cfg(test)]
-mod shared_limits;

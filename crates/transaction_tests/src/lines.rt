@@ -1,6 +1,6 @@
-//! Calls of a transaction as values, and tables of calls at the limits, for both maps.
-//! `owned_limits` and `shared_limits` play the tables. This module has no tests. The answers are
-//! those of a plain map with savepoints, and were worked out by hand.
+//! Calls of a transaction as values, and tables of calls at the limits. `owned_limits` plays the
+//! tables. This module has no tests. The answers are those of a plain map with savepoints, and were
+//! worked out by hand.
 use owned_map::Stop;
 use std::alloc::{AllocError, Global};
 use txn_words::{Op, Refusal, Reply};

@@ -20,6 +20,8 @@
 //! read once, any other file at most twice. A reader keeps at most as many steps, entries or
 //! scripts as a file may have. But it keeps all actions of a script, even if they are more than a
 //! script may have.
+//!
+//! Only tested: reading the text of a history again gives the same entries.
 #![tactic(auto)]
 
 mod history_file;

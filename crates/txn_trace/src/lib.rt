@@ -26,5 +26,4 @@ pub mod laws;
 pub use txn_words::{
     Action, Answer, Entry, Holder, Limits, Op, PackedAction, PackedEntry, PackedStep, Phase,
     Refusal, Reply, Script, Scripts, Seat, SmallEntry, Step, Unpacked, answer_text, entry_of,
-    make_room,
 };

@@ -3,7 +3,7 @@
 //!
 //! The tests of the seat are inlined into the code of each step (`inline(always)`). The kind of
 //! step is known there, so most tests take no instruction.
-ghost use Rattle.std.specs.Prelude.{◌≡◌, ℕ, ◌+◌, ◌-◌, ◌<◌, ◌≤◌, ◌^◌, true, false, is_some, length, slice_get, slice_index, Some, IfOk, OnOk, OnErr};
+ghost use Rattle.std.specs.Prelude.{◌≡◌, ℕ, ◌+◌, ◌-◌, ◌<◌, ◌≤◌, ◌^◌, true, false, is_some, length, slice_get, slice_index, Some, OnOk, OnErr};
 ghost use Rattle.txn_words.specs.declared.seat.Phase.TheVariants.{Opened};
 ghost use Rattle.txn_words.specs.Shape.{row, capacity, closed_seat};
 ghost use Rattle.txn_words.specs.Seats.{first_of, has_job, has_target, is_saved, refusal_in, unready_tests};
@@ -13,7 +13,6 @@ use crate::entry::Entry;
 use crate::limits::Limits;
 use crate::op::{Op, Reply};
 use crate::refusal::Refusal;
-use crate::room::make_room_of;
 use crate::step::Step;
 use std::alloc::{AllocError, Global};
 use std::marker::Model;
@@ -68,31 +67,6 @@ impl Seat {
             standing: 0,
             savepoints: Vec::new(alloc),
         }
-    }
-
-    /// The seat of a caller without a transaction, with room for this many savepoints. If
-    /// `is_written`, the room is written, so that no later savepoint is the first to touch a page
-    /// of the room.
-    ///
-    /// # Errors
-    ///
-    /// `AllocError` if memory is refused. This never happens if `savepoints` is 0.
-    ///
-    /// # Cost
-    ///
-    /// One allocation, or none if `savepoints` is 0. If the room is written, this also takes time
-    /// in proportion to the room.
-    pub fn with_capacity(
-        alloc: Global,
-        savepoints: usize,
-        is_written: bool,
-    ) -> Result<Seat, AllocError>
-        ensures seat { IfOk result (λ seat. seat.seat ≡ closed_seat) }
-        ensures room { IfOk result (λ seat. savepoints ≤ seat.room) }
-    {
-        let mut seat = Seat::new(alloc);
-        seat.make_room(savepoints, is_written)?;
-        Ok(seat)
     }
 
     /// The caller's phase.
@@ -248,30 +222,6 @@ impl Seat {
         ensures err { OnErr result (self.old.room ≡ 0) }
     {
         self.savepoints.reserve(1)
-    }
-
-    /// Makes room for this many more savepoints, unless there is room already. If `is_written`, the
-    /// new room is also written, so that no later savepoint is the first to touch a page of it. The
-    /// seat is unchanged, and the room never shrinks.
-    ///
-    /// # Errors
-    ///
-    /// `AllocError` if there is too little room and memory is refused.
-    ///
-    /// # Cost
-    ///
-    /// At most one allocation, with a copy of the savepoints. If the room is written, this also
-    /// takes time in proportion to the room.
-    pub fn make_room(&mut self, savepoints: usize, is_written: bool) -> Result<(), AllocError>
-        ensures seat { self.new.seat ≡ self.old.seat }
-        ensures room { self.old.room ≤ self.new.room }
-        ensures ok { OnOk result (savepoints ≤ self.new.room) }
-        ensures err { OnErr result (self.old.room < savepoints) }
-    {
-        if savepoints <= self.savepoints.capacity() - self.savepoints.len() {
-            return Ok(());
-        }
-        make_room_of(&mut self.savepoints, savepoints, is_written, || 0)
     }
 
     /// Returns true if the rule of shape allows this entry as the caller's next one.

@@ -30,30 +30,6 @@ impl<J: UndoJob, const INLINE: usize> Model for InlineJobs<J, INLINE> {
     ghost invariant = { λ store. IsSound INLINE store.places };
 }
 
-impl<J: UndoJob, const INLINE: usize> InlineJobs<J, INLINE> {
-    ghost use Rattle.std.specs.Prelude.{◌≡◌, ◌≤◌, [], IfOk, IsOk};
-
-    /// An empty store, with room for this many jobs. If `is_written` is true, the memory of the
-    /// room is written now, so that a later push is never the first access to one of its pages.
-    pub(crate) fn with_capacity(
-        alloc: Global,
-        jobs: usize,
-        is_written: bool,
-    ) -> Result<InlineJobs<J, INLINE>, AllocError>
-        ensures jobs { IfOk result (λ store. store.jobs ≡ []) }
-        ensures room { IfOk result (λ store. jobs ≤ store.room) }
-        ensures inline { jobs ≤ INLINE → IsOk result }
-    {
-        let mut places = SmallVec::with_capacity(alloc, jobs)?;
-        if is_written {
-            let room = places.capacity();
-            places.resize_with(room, || None)?;
-            places.clear();
-        }
-        Ok(InlineJobs { places })
-    }
-}
-
 impl<J: UndoJob, const INLINE: usize> JobStore for InlineJobs<J, INLINE> {
     type Job = J;
 

@@ -15,12 +15,15 @@
 //!   exactly these words, for every side type and every list of changes.
 //!
 //! Room is reserved before a change is made, so that a log needs no memory when the change is taken
-//! back. Apart from a side type's code, only `with_capacity`, `reserve_one`, `save`, `save_room`
-//! and `change` take memory, and `reserve_one` takes none for the first eight jobs of an `UndoLog`.
-//! A savepoint costs one word. Calls take constant time and no memory unless they say otherwise.
+//! back. Apart from a side type's code, only `reserve_one`, `save`, `save_room` and `change` take
+//! memory, and `reserve_one` takes none for the first eight jobs of an `UndoLog`. A savepoint costs
+//! one word. Calls take constant time and no memory unless they say otherwise.
 //!
 //! An `UndoLog` and the log of a `SideValue` are each a `JobLog` (`log.rt`), but have different
 //! stores. A side value's jobs are all in a `Vec`, since the caller chooses their size.
+//!
+//! Not proved, only read in the code: `back` runs each side job, newest first, also between two
+//! levels whose words are equal.
 #![tactic(auto)]
 
 mod inline_jobs;

@@ -5,7 +5,6 @@ ghost use Rattle.std.specs.Prelude.{◌≡◌, ◌+◌, ◌-◌, ◌<◌, ◌≤
 ghost use Rattle.undo_log.specs.UndoLog.{kept_at, newest_above};
 
 use crate::inline_jobs::InlineJobs;
-use crate::job::UndoJob;
 use crate::store::JobStore;
 use std::alloc::{AllocError, Global};
 use std::marker::Model;
@@ -45,43 +44,6 @@ impl<S: JobStore> Model for JobLog<S> {
       room = S.room_of log.jobs;
       save_room = vec_capacity log.kept - vec_len log.kept;
     } };
-}
-
-impl<J: UndoJob, const INLINE: usize> JobLog<InlineJobs<J, INLINE>> {
-    /// An empty log at level 0, with room for this many jobs and savepoints. If `is_written` is
-    /// true, the memory of the room is written now, so that adding a job or a savepoint later is
-    /// never the first access to one of its pages.
-    ///
-    /// # Errors
-    ///
-    /// `AllocError` if memory is refused. This never happens if `jobs` is at most `INLINE` and
-    /// `savepoints` is 0.
-    ///
-    /// # Cost
-    ///
-    /// One allocation if `jobs` is above `INLINE`, and one if `savepoints` is above 0. If the room
-    /// is written, the call also takes time in proportion to the room.
-    pub fn with_capacity(
-        alloc: Global,
-        jobs: usize,
-        savepoints: usize,
-        is_written: bool,
-    ) -> Result<JobLog<InlineJobs<J, INLINE>>, AllocError>
-        ensures jobs { IfOk result (λ log. log.jobs ≡ []) }
-        ensures kept { IfOk result (λ log. log.kept ≡ []) }
-        ensures room { IfOk result (λ log. jobs ≤ log.room) }
-        ensures save_room { IfOk result (λ log. savepoints ≤ log.save_room) }
-        ensures inline { savepoints ≡ 0 → jobs ≤ INLINE → IsOk result }
-    {
-        let jobs = InlineJobs::with_capacity(alloc, jobs, is_written)?;
-        let mut kept = Vec::with_capacity(alloc, savepoints)?;
-        if is_written {
-            let room = kept.capacity();
-            kept.resize(room, 0)?;
-            kept.clear();
-        }
-        Ok(JobLog { jobs, kept })
-    }
 }
 
 impl<S: JobStore> JobLog<S> {

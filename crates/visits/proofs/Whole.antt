@@ -1,35 +1,31 @@
 -- Which replies visitors got, given their entries in a legal history.
-use Rattle.std.proofs.Common.{◌≡◌, ℕ, Bool, true, false, cond, List, [], ◌∷◌, ◌++◌, Option, Some, None, IsSome, IfOk, refl, sym, ap, ◌∙◌}
-use Rattle.std.specs.Prelude.{nat_eq, Result, Ok}
+use Rattle.std.proofs.Common.{◌≡◌, ℕ, Bool, true, false, cond, List, [], ◌∷◌, ◌++◌, Option, Some, None, IsSome, IfOk, refl, sym, ap, subst, ◌∙◌, append_assoc, append-nil, eq-eqb}
+use Rattle.std.specs.Prelude.{nat_eq, Result, Ok, Err}
 use Rattle.std.specs.Option.{option_eq, option_and_then}
 use Rattle.std.specs.List.{fold}
 use Rattle.std.proofs.lemmas.Bool.{false≢true}
-use Rattle.std.proofs.lemmas.List.{append-nil}
 use Rattle.txn_words.specs.declared.entry.Entry.{Entry}
+use Rattle.txn_words.specs.declared.entry.Entry.TheVariants.{Began, Asked, Did, Committed}
 use Rattle.txn_words.specs.declared.holder.Holder.TheVariants.{Begun}
-use Rattle.txn_words.specs.declared.entry.Entry.TheVariants.{Asked, Did, Committed}
+use Rattle.txn_words.specs.declared.op.Op.{Op}
 use Rattle.txn_words.specs.declared.op.Op.TheVariants.{Put, Get}
-use Rattle.std.proofs.Common.{append_assoc}
-use Rattle.std.specs.Prelude.{Err}
-use Rattle.txn_words.specs.declared.entry.Entry.TheVariants.{Began}
-use Rattle.map_answers.specs.declared.stop.Stop.{Stop}
-use Rattle.std.specs.Borrow.{MutBor}
-use Rattle.shared_transactions.specs.Keeps.{Keeps}
-use Rattle.shared_transactions.specs.Within.{IsRun}
-use Rattle.shared_transactions.specs.Works.{AreDone}
+use Rattle.txn_words.specs.Kinds.{caller_of}
 use Rattle.txn_words.specs.Map.{Map, get, insert}
-use Rattle.txn_trace.specs.Alone.{AloneRun, act, alone}
-use Rattle.txn_trace.specs.Serial.{serial}
-use Rattle.txn_trace.specs.Legal.{IsLegal}
+use Rattle.txn_words.specs.Shape.{own}
 use Rattle.txn_words.proofs.Maps.{get-insert-here}
-use Rattle.txn_trace.proofs.Now.{same_option}
+use Rattle.txn_trace.specs.Alone.{AloneRun, act, alone}
+use Rattle.txn_trace.specs.Legal.{IsLegal}
+use Rattle.txn_trace.specs.Serial.{serial}
 use Rattle.txn_trace.proofs.Committing.{has_committed}
-use Rattle.txn_words.specs.Sizes.{Sizes}
-use Rattle.boost_core.specs.State.{State}
-use Rattle.core_tokens.specs.Tokens.{Token}
-use Rattle.locked_map.specs.Closes.{IsOwn}
+use Rattle.txn_trace.proofs.Now.{same_option}
+use Rattle.map_answers.specs.declared.stop.Stop.{Stop}
+use Rattle.striped_map.specs.declared.caller.Caller.{Caller}
+use Rattle.striped_map.specs.Callers.{number, seen, IsRun, IsSince, IsStep}
+use Rattle.striped_map.specs.Rule.{HasEnded}
+use Rattle.striped_map.proofs.Hands.{own_extends}
+use Rattle.striped_map.proofs.Lands.{own-append}
 use Rattle.visits.specs.declared.visit.Visit.{Visit}
-use Rattle.visits.specs.Visits.{visiting, HasDone, HasVisited, IsAnswered, AreAnswered}
+use Rattle.visits.specs.Visits.{visiting, working, HasDone, HasMade, HasVisited, IsAnswered}
 
 -- If a run reaches its commit, the operation before it had the right reply.
 tested : (c place : ℕ) (b : Bool) (run : AloneRun) → IsSome (option_and_then (λ r. act r (Committed c place)) (cond b (Some run) None)) → b ≡ true
@@ -46,16 +42,17 @@ got_alone m c visit txn before reply place =
       | false ↦ λ there. absurd (false≢true there)
     ]
 
--- In every legal history that has the visitor's entries, the visit got the value that it had put,
--- whatever the other callers do.
-pub got_at_close : {S : Type 0} (visit : Visit) (reply : Option ℕ) (me : Token S) (stripes : ℕ) (h : List Entry) → HasVisited visit reply me → IsLegal Begun stripes h → IsOwn h me → IsAnswered h visit reply
-got_at_close visit reply me stripes h visited legal own_is =
-    let c : ℕ = me.number in
-    let committed = has_committed c visited.txn visited.place h visited.earlier
-    (Asked c (Put visit.key visit.value) ∷ Did c visited.before ∷ Asked c (Get visit.key) ∷ Did c reply ∷ []) [] legal.shape legal.replies
-    (own_is ∙ visited.seen ∙ ap (λ es. visited.earlier ++ es) (sym (append-nil (visiting c visit visited.txn visited.before reply visited.place)))) refl in
+-- In every legal history that begins with what a visitor has seen and has no more entries of it,
+-- the visit got the value that it had put, whatever the other callers do.
+pub got_at_end : (visit : Visit) (reply : Option ℕ) (me : Caller) (stripes : ℕ) (h : List Entry) → HasVisited visit reply me → IsLegal Begun stripes h → HasEnded (number me) (seen me) h → IsAnswered h (number me) visit reply
+got_at_end visit reply me stripes h visited legal ended =
+    let c : ℕ = number me in
+    let all : List Entry = visiting c visit visited.txn visited.before reply visited.place in
+    let own_is : own c h ≡ own c (seen me) =
+    ap (own c) ended.goes ∙ own-append c (seen me) ended.rest ∙ ap (λ es. own c (seen me) ++ es) ended.others ∙ append-nil (own c (seen me)) in
+    let committed = has_committed c visited.txn visited.place h visited.earlier (working c visit visited.before reply) [] legal.shape legal.replies
+    (own_is ∙ visited.own_is ∙ ap (λ es. visited.earlier ++ es) (sym (append-nil all))) refl in
     record {
-      caller = c;
       txn = visited.txn;
       before = visited.before;
       place = visited.place;
@@ -63,48 +60,72 @@ got_at_close visit reply me stripes h visited legal own_is =
       got = got_alone (serial committed.before) c visit visited.txn visited.before reply visited.place committed.replied;
     }
 
--- If all visits are done (`AreDone`), all of them are answered (`AreAnswered`).
-pub all_answered : {S : Type 0} (limits : Sizes) (callers : ℕ) (visits : List Visit) (core : State) (answers : List (Result (Option ℕ) Stop))
-    → AreDone {S = S} (λ visit answer me. IfOk answer (λ reply. HasVisited visit reply me)) limits callers visits core answers → AreAnswered core.history visits answers
-all_answered limits callers visits core answers done = record {
-  count = done.count;
-  each = λ i visit reply at_visit at_answer.
-      let its = done.each i visit (Ok reply) at_visit at_answer in
-      got_at_close visit reply its.me core.limits.stripes core.history its.promised done.legal its.own;
-}
+-- A step adds exactly its entries to the caller's own ones.
+adds : (a b : Caller) (es : List Entry) → IsStep a es b → own (number a) es ≡ es → own (number a) (seen b) ≡ own (number a) (seen a) ++ es
+adds a b es step whole = own_extends _ _ _ _ _ _ step.goes whole
+
+own_one : (c : ℕ) (e : Entry) → caller_of e ≡ c → own c (e ∷ []) ≡ e ∷ []
+own_one c e is = ap (λ b. cond b (e ∷ []) []) (eq-eqb (caller_of e) c is)
+
+own_did : (c : ℕ) (op : Op) (reply : Option ℕ) → own c (Asked c op ∷ Did c reply ∷ []) ≡ Asked c op ∷ Did c reply ∷ []
+own_did c op reply =
+    ap (λ b. cond b (Asked c op ∷ cond b (Did c reply ∷ []) []) (cond b (Did c reply ∷ []) [])) (eq-eqb c c refl)
 
 -- If the visitor has put the value and has then got the value at the key, `HasDone` holds.
-pub has_done : {S E : Type 0} (visit : Visit) (before : Option ℕ) (k m l : MutBor (Token S)) (result : Result (Option ℕ) E)
-    → m.now.seen ≡ k.now.seen ++ Asked k.now.number (Put visit.key visit.value) ∷ Did k.now.number before ∷ [] → Keeps k m
-    → IfOk result (λ reply. l.now.seen ≡ m.now.seen ++ Asked m.now.number (Get visit.key) ∷ Did m.now.number reply ∷ []) → Keeps m l
-    → IfOk result (λ reply. HasDone visit reply k.now l.now)
-has_done visit before k m l (Ok reply) put first got second =
-    let one = first.goes_on.whose in
-    let two = second.goes_on.whose in
+pub has_done : {E : Type 0} (visit : Visit) (before : Option ℕ) (a b c : Caller) (result : Result (Option ℕ) E)
+    → IsStep a (Asked (number a) (Put visit.key visit.value) ∷ Did (number a) before ∷ []) b
+    → IfOk result (λ reply. IsStep b (Asked (number b) (Get visit.key) ∷ Did (number b) reply ∷ []) c)
+    → IfOk result (λ reply. HasDone visit reply a c)
+has_done visit before a b c (Ok reply) put got =
+    let n : ℕ = number a in
+    let first : own n (seen b) ≡ own n (seen a) ++ Asked n (Put visit.key visit.value) ∷ Did n before ∷ [] = adds a b _ put (own_did n (Put visit.key visit.value) before) in
+    let second : own n (seen c) ≡ own n (seen b) ++ Asked n (Get visit.key) ∷ Did n reply ∷ [] =
+    subst (λ (k : ℕ). own k (seen c) ≡ own k (seen b) ++ Asked k (Get visit.key) ∷ Did k reply ∷ []) put.number_is (adds b c _ got (own_did (number b) (Get visit.key) reply)) in
     record {
       before = before;
-      seen = got ∙ ap (λ n. m.now.seen ++ Asked n (Get visit.key) ∷ Did n reply ∷ []) one.number
-          ∙ ap (λ es. es ++ Asked k.now.number (Get visit.key) ∷ Did k.now.number reply ∷ []) put
-          ∙ append_assoc k.now.seen (Asked k.now.number (Put visit.key visit.value) ∷ Did k.now.number before ∷ []) (Asked k.now.number (Get visit.key) ∷ Did k.now.number reply ∷ []);
-      whose = record { number = two.number ∙ one.number; limits = two.limits ∙ one.limits };
+      number_is = got.number_is ∙ put.number_is;
+      own_is = second ∙ ap (λ es. es ++ Asked n (Get visit.key) ∷ Did n reply ∷ []) first
+          ∙ append_assoc (own n (seen a)) (Asked n (Put visit.key visit.value) ∷ Did n before ∷ []) (Asked n (Get visit.key) ∷ Did n reply ∷ []);
     }
-has_done visit before k m l (Err e) put first got second = got
+has_done visit before a b c (Err e) put got = got
 
 -- If the visit was made in a transaction, and this transaction was committed, `HasVisited` holds.
-pub has_visited : {S : Type 0} (visit : Visit) (reply : Option ℕ) (base opened done l : Token S) (txn place : ℕ) → IsRun base opened done l txn place → HasDone visit reply opened done → HasVisited visit reply l
-has_visited visit reply base opened done l txn place run work =
-    let c : ℕ = base.number in
-    let opened_is : opened.number ≡ c = run.began.whose.number in
-    let done_is : done.number ≡ c = work.whose.number ∙ opened_is in
-    let rest : ℕ → List Entry = λ n. Asked n (Put visit.key visit.value) ∷ Did n work.before ∷ Asked n (Get visit.key) ∷ Did n reply ∷ [] in
+pub has_visited : (visit : Visit) (reply : Option ℕ) (found : Option ℕ) (b t u l : Caller) → IsRun b t u l found → HasDone visit reply t u → HasVisited visit reply l
+has_visited visit reply found b t u l run work =
+    let c : ℕ = number b in
+    let begin : Entry = Began c run.txn in
+    let end : Entry = Committed c run.place in
+    let inner : List Entry = working c visit work.before reply in
+    let t_is : number t ≡ c = run.began.number_is in
+    let u_is : number u ≡ c = work.number_is ∙ t_is in
+    let begun : own c (seen t) ≡ own c (seen b) ++ begin ∷ [] = adds b t _ run.began (own_one c begin refl) in
+    let worked : own c (seen u) ≡ own c (seen t) ++ inner = subst (λ (k : ℕ). own k (seen u) ≡ own k (seen t) ++ working k visit work.before reply) t_is work.own_is in
+    let ended : own c (seen l) ≡ own c (seen u) ++ end ∷ [] = subst (λ (k : ℕ). own k (seen l) ≡ own k (seen u) ++ end ∷ []) u_is (adds u l _ run.committed (own_one (number u) end (sym u_is))) in
+    let whole : own c (seen l) ≡ own c (seen b) ++ visiting c visit run.txn work.before reply run.place =
+    ended ∙ ap (λ es. es ++ end ∷ []) (worked ∙ ap (λ es. es ++ inner) begun ∙ append_assoc (own c (seen b)) (begin ∷ []) inner)
+    ∙ append_assoc (own c (seen b)) (begin ∷ inner) (end ∷ []) in
     record {
-      earlier = base.seen;
-      txn = txn;
+      earlier = own c (seen b);
+      txn = run.txn;
       before = work.before;
-      place = place;
-      seen = run.committed
-          ∙ ap (λ n. done.seen ++ Committed n place ∷ []) done_is
-          ∙ ap (λ es. es ++ Committed c place ∷ []) (work.seen ∙ ap (λ n. opened.seen ++ rest n) opened_is ∙ ap (λ es. es ++ rest c) run.began.seen ∙ append_assoc base.seen (Began c txn ∷ []) (rest c))
-          ∙ append_assoc base.seen (Began c txn ∷ rest c) (Committed c place ∷ [])
-          ∙ sym (ap (λ n. base.seen ++ visiting n visit txn work.before reply place) (run.whose.number ∙ done_is));
+      place = run.place;
+      own_is = subst (λ (k : ℕ). own k (seen l) ≡ own c (seen b) ++ visiting k visit run.txn work.before reply run.place) (sym (run.committed.number_is ∙ u_is)) whole;
     }
+
+-- If the visit was made and committed, `HasMade` holds.
+pub has_made : (visit : Visit) (reply : Option ℕ) (found : Option ℕ) (a b t u l : Caller) → IsSince a b → IsRun b t u l found → HasDone visit reply t u → (a.is_open ≡ false → l.is_open ≡ false) → HasMade visit (Ok reply) a l
+has_made visit reply found a b t u l since run work closed = record {
+  map_is = ap (λ m. m.value) (run.committed.map_is ∙ run.works.since.map_is ∙ run.began.map_is ∙ since.map_is);
+  number_is = run.committed.number_is ∙ work.number_is ∙ run.began.number_is ∙ since.number_is;
+  closed = closed;
+  visited = has_visited visit reply found b t u l run work;
+}
+
+-- If the visit was given up, `HasMade` holds too.
+pub not_made : (visit : Visit) (stop : Stop) (a b : Caller) → IsSince a b → (a.is_open ≡ false → b.is_open ≡ false) → HasMade visit (Err stop) a b
+not_made visit stop a b since closed = record {
+  map_is = ap (λ m. m.value) since.map_is;
+  number_is = since.number_is;
+  closed = closed;
+  visited = tt;
+}

@@ -282,40 +282,12 @@ fn makes_room(rt: &impl Abort, core: &mut Core) -> Result<(), Fail> {
     Ok(())
 }
 
-/// Asks for room for 0, 1,000 and 2,000 entries, which succeeds, and for 2^64 - 1 entries, which is
-/// refused. All calls except the one for 1,000 entries also ask that the room be written.
+/// Asks for room for 0 and for 1,000 entries, which succeeds, and for 2^64 - 1 entries, which is
+/// refused.
 fn has_room(rt: &impl Abort, core: &mut Core) {
-    assert!(rt; core.reserve(0, true).is_ok());
-    assert!(rt; core.reserve(1_000, false).is_ok());
-    assert!(rt; core.reserve(2_000, true).is_ok());
-    assert!(rt; core.reserve(usize::MAX, true).is_err());
-}
-
-/// During a transaction, the history is moved into a larger vector. The core works as usual after
-/// the move.
-#[test]
-fn moved_history(rt: HostRuntime) -> Result<(), Fail> {
-    let alloc = rt.alloc();
-    let mut core = small_core(&rt, alloc);
-    begin(&rt, &mut core)?;
-    moves_history(&rt, alloc, &mut core)?;
-    fill_and_count(&rt, &mut core)
-}
-
-/// The history has one entry, and caller 0 owes two more. A vector with room for two entries is too
-/// small, so the call returns this vector. A vector with room for 1,000 entries becomes the
-/// history, and the call returns the history's old vector. The old vector has less room than the
-/// new one, so it is also returned if it is offered.
-fn moves_history(rt: &impl Abort, alloc: Global, core: &mut Core) -> Result<(), Fail> {
-    let small = core.move_history(Vec::with_capacity(alloc, 2)?);
-    assert_eq!(rt; small.capacity(), 2);
-    let old = core.move_history(Vec::with_capacity(alloc, 1_000)?);
-    assert!(rt; old.is_empty());
-    assert_eq!(rt; core.history_room(), 997);
-    let capacity = old.capacity();
-    assert_eq!(rt; core.move_history(old).capacity(), capacity);
-    assert_eq!(rt; core.history_room(), 997);
-    Ok(())
+    assert!(rt; core.reserve(0).is_ok());
+    assert!(rt; core.reserve(1_000).is_ok());
+    assert!(rt; core.reserve(usize::MAX).is_err());
 }
 
 /// Puts a key and commits. The history then has four entries: one for the begin, two for the put,

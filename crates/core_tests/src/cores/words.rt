@@ -1,8 +1,8 @@
-//! Operations on cores whose stripes are words. Such cores are made by `Core::with_words` and
-//! `Core::with_room`. The step `Ask` is not allowed on them, so this module asks with the right to
-//! a stripe or with the stripe's word. The answers and the history were worked out by hand.
+//! Operations on a core whose stripes are words. The step `Ask` is not allowed on it, so this module
+//! asks with the right to a stripe or with the stripe's word. The answers and the history were
+//! worked out by hand.
 use crate::devices::{core_of, is_history, limits_of, take_step};
-use boost_core::{CallerRoom, Core, Room};
+use boost_core::Core;
 use key_locks::StripeRight;
 use std::alloc::{AllocError, Global};
 use std::process::Abort;
@@ -12,34 +12,6 @@ use txn_words::{Answer, Entry, Op, Refusal, Step};
 /// A core for 3 callers, with 8 stripes that are words.
 fn core_with_words(rt: &impl Abort, alloc: Global) -> Core {
     Core::with_words(alloc, limits_of(rt, 3, 8, 8)).expect(rt, "a core")
-}
-
-/// Room for this many entries, for this many nodes, and for what the callers need.
-fn room_for(entries: usize, nodes: usize, callers: &[CallerRoom], is_written: bool) -> Room<'_> {
-    Room {
-        entries,
-        nodes,
-        callers,
-        is_written,
-    }
-}
-
-/// Room for this many changes and savepoints of a caller.
-fn need(changes: usize, savepoints: usize) -> CallerRoom {
-    CallerRoom {
-        changes,
-        savepoints,
-    }
-}
-
-/// A core like that of `core_with_words`, made with this room.
-fn core_with_room(rt: &impl Abort, alloc: Global, room: Room<'_>) -> Core {
-    Core::with_room(alloc, limits_of(rt, 3, 8, 8), room).expect(rt, "a core")
-}
-
-/// Returns true if a core with this room is refused.
-fn refuses(rt: &impl Abort, alloc: Global, room: Room<'_>) -> bool {
-    Core::with_room(alloc, limits_of(rt, 3, 8, 8), room).is_err()
 }
 
 /// Returns true if the stripes of this core are words.
@@ -165,37 +137,4 @@ fn rights_and_words(rt: HostRuntime) -> Result<(), Fail> {
     let alloc = rt.alloc();
     is_ordinary(&rt, alloc);
     play(&rt, alloc, &mut core_with_words(&rt, alloc))
-}
-
-/// A core that was made with less room than it needs gives the same answers as a core that was made
-/// with more room. The answers also do not depend on whether the room was written.
-#[test]
-fn cores_with_room(rt: HostRuntime) -> Result<(), Fail> {
-    let alloc = rt.alloc();
-    for is_written in [false, true] {
-        let one = [need(1, 1)];
-        let little = room_for(1, 1, &one, is_written);
-        play(&rt, alloc, &mut core_with_room(&rt, alloc, little))?;
-        let needs = [need(8, 0), need(9, 1), need(1_000, 1_000), need(5, 5)];
-        let much = room_for(1_000, 1_000, &needs, is_written);
-        play(&rt, alloc, &mut core_with_room(&rt, alloc, much))?;
-    }
-    Ok(())
-}
-
-/// Room for more entries, nodes, changes or savepoints than memory can hold is refused. The room of
-/// a caller that the core does not have is ignored.
-#[test]
-fn refused_room(rt: HostRuntime) {
-    let alloc = rt.alloc();
-    let max = usize::MAX;
-    assert!(rt; refuses(&rt, alloc, room_for(max, 0, &[], true)));
-    assert!(rt; refuses(&rt, alloc, room_for(0, max, &[], true)));
-    let none = need(0, 0);
-    for most in [need(max, 0), need(0, max)] {
-        let third = [none, none, most];
-        assert!(rt; refuses(&rt, alloc, room_for(0, 0, &third, true)));
-        let fourth = [none, none, none, most];
-        assert!(rt; !refuses(&rt, alloc, room_for(0, 0, &fourth, true)));
-    }
 }

@@ -1,9 +1,9 @@
 //! An observer of releases is notified exactly once for each hold of the lock. The observer's type
 //! is the caller's own, so no contract can count the calls of the observer. The counts in the
 //! tables were worked out by hand from the steps of each call.
-use crate::devices::{Play, Shared, callers_in, play_with, play_with_room, run_heard};
+use crate::devices::{Play, Shared, callers_in, play_with, run_heard};
 use boost_core::Call;
-use locked_map::{Caller, NoSide, OnRelease, Pass, Room};
+use locked_map::{Caller, NoSide, OnRelease, Pass};
 use std::alloc::Global;
 use std::process::Abort;
 use std::sync::Wait;
@@ -61,36 +61,31 @@ static RELEASES: [(Call, u64); 16] = [
     (Call::Abort, 5),
 ];
 
-/// Each row has a call, and the number of times that the call releases the lock. The map's `Room`
-/// has `is_written: true` and `entries: 0`. The history of such a map may not grow under the lock,
-/// so the first hold of the lock takes no turn. The second hold passes in room for entries, and
-/// takes a turn. Each later hold takes a turn.
-static GROWN: [(Call, u64); 3] = [
-    (Call::Begin, 2),
-    (Call::Op(Op::Put(1, 10)), 3),
-    (Call::Commit, 1),
-];
+/// Makes room for 1,000 entries. Room for more entries than memory can hold is refused.
+fn make_room<L: Ledger>(rt: &impl Abort, shared: &mut Shared<L>, me: &mut Caller<L, NoSide>) {
+    assert!(rt; shared.map.reserve(1_000).is_ok());
+    assert!(rt; shared.map.reserve(usize::MAX).is_err());
+    assert!(rt; me.reserve(1_000).is_ok());
+    assert!(rt; me.reserve(usize::MAX).is_err());
+}
 
-/// Makes the calls, and checks how often each one releases the lock.
+/// Makes the calls of `RELEASES`, and checks how often each one releases the lock.
 fn releases_are<L: Ledger, R: Wait + Abort>(
     rt: &R,
     shared: &Shared<L>,
     me: &mut Caller<L, NoSide>,
-    rows: &[(Call, u64)],
 ) {
-    for &(call, wanted) in rows {
+    for &(call, wanted) in &RELEASES {
         let releases = releases_of(rt, shared, me, call);
         assert!(rt; releases == wanted, "{call:?}");
     }
 }
 
-/// One caller makes these calls.
+/// One caller makes room, and then the calls.
 #[derive(Drop)]
-struct OneEach<'a> {
-    rows: &'a [(Call, u64)],
-}
+struct OneEach;
 
-impl Play for OneEach<'_> {
+impl Play for OneEach {
     fn play<L: Ledger, R: Wait + Abort>(
         &self,
         rt: &R,
@@ -98,27 +93,18 @@ impl Play for OneEach<'_> {
         shared: Shared<L>,
         passes: Vec<Pass<L>>,
     ) -> Result<(), Fail> {
+        let mut shared = shared;
         let mut callers = callers_in(rt, alloc, passes);
-        match callers.first_mut() {
-            Some(me) => releases_are(rt, &shared, me, self.rows),
-            None => panic!(rt; "caller 0"),
-        }
+        let Some(me) = callers.first_mut() else {
+            panic!(rt; "caller 0");
+        };
+        make_room(rt, &mut shared, me);
+        releases_are(rt, &shared, me);
         Ok(())
     }
 }
 
 #[test]
 fn one_release_a_hold(rt: HostRuntime) -> Result<(), Fail> {
-    let calls = OneEach { rows: &RELEASES };
-    play_with(&rt, rt.alloc(), 1, &calls)
-}
-
-#[test]
-fn releases_of_a_history_that_grows(rt: HostRuntime) -> Result<(), Fail> {
-    let calls = OneEach { rows: &GROWN };
-    let room = Room {
-        is_written: true,
-        ..Room::default()
-    };
-    play_with_room(&rt, rt.alloc(), 1, room, &calls)
+    play_with(&rt, rt.alloc(), 1, &OneEach)
 }

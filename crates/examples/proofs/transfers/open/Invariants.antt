@@ -1,5 +1,5 @@
-use Rattle.shared_transactions.specs.Keeps.{Keeps}
+use Rattle.striped_map.specs.Keeps.{Keeps}
 use Rattle.examples.proofs.transfers.open.Given as goal
 
 abbrev pub invariant-loop-account : goal.invariant-loop-account
-invariant-loop-account g l = Keeps l.fn.t.me l.t.me
+invariant-loop-account l = Keeps l.fn.t l.t

@@ -15,7 +15,7 @@ use Rattle.striped_map.proofs.hand.take_back.Goals as goal
 
 pub loop-order-init : goal.loop-order-init
 loop-order-init c = let v = known c.args.seat.now in let m = c.requires.mark in
-    (now v.seen, due v, vec_len c.args.order.now - c.args.mark, omega arith, c.requires.parts, c.requires.logged, refl, refl, c.requires.map, refl)
+    (now v.seen, due v, vec_len c.args.order.now - c.args.mark, omega arith, c.requires.parts, c.requires.logged, refl, refl, c.requires.map, refl, λ room. room)
 
 pub index-requires : goal.index-requires
 index-requires c = let inv = c.loop-order.invariant in let n = c.args.map.now.table.shared.table_id.slots in let v = known c.args.seat.now in let a = c.loop-order.seat in let ks = c.args.held.now.items in
@@ -75,6 +75,7 @@ loop-order-preserved c = let inv = c.loop-order.invariant in let n = c.args.map.
       step.1 ∙ inv.7,
       c.take_back.ensures.seat,
       c.take_back.ensures.known ∙ inv.9,
+      λ room. c.take_back.ensures.room (inv.10 room),
     )
 
 pub returns-clause-parts : goal.returns-clause-parts

@@ -2,7 +2,7 @@ use Rattle.std.specs.Prelude.{◌≡◌, ℕ, ◌+◌, ◌-◌, List, Option, ta
 use Rattle.txn_words.specs.Map.{Map}
 use Rattle.txn_trace.specs.Now.{now}
 use Rattle.striped_map.specs.Additions.{due}
-use Rattle.striped_map.specs.Seats.{IsOf, known, stripes_of}
+use Rattle.striped_map.specs.Seats.{HasRoom, IsOf, known, stripes_of}
 use Rattle.striped_map.specs.Sound.{AreHeld, AreLogged, held_parts}
 use Rattle.striped_map.specs.Steps.{rolled_back}
 use Rattle.striped_map.proofs.hand.take_back.Given as goal
@@ -14,6 +14,7 @@ invariant-loop-order l = let v = known l.initial.seat in let n = stripes_of l.ma
     × AreHeld n v held m × AreLogged n held l.order.items jobs
     × (rolled_back m (take left jobs) ≡ rolled_back (now v.seen) (take all (due v)))
     × (drop left jobs ≡ drop all (due v)) × (IsOf l.seat l.map) × (known l.seat ≡ v)
+    × (HasRoom l.initial.seat → HasRoom l.seat)
 
 abbrev pub decreases-loop-order : goal.decreases-loop-order
 decreases-loop-order l = vec_len l.order

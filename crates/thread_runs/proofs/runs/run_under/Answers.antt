@@ -25,4 +25,4 @@ returns-clause-ran g c =
     let some : 0 < c.args.workers = search rules in
     run_true (λ row. row.items) c.args.limits c.in-Ok.closed.core.limits c.args.workers c.args.tries c.args.scripts.now reports c.in_ok-callers.callers.items c.in_ok-callers.rows.items c.in_ok-outcomes.outcomes.items
     c.into_trace-trace.result.items c.in-Ok.closed.core.history some as_many each c.in_ok-callers.ensures.callers c.in_ok-callers.ensures.rows c.in_ok-outcomes.ensures.len c.in_ok-outcomes.ensures.order
-    c.into_trace-trace.ensures.value (c.in-Ok.ensures.limits ∙ c.in_ok-map.ensures.map) (sym c.requires.workers ∙ c.requires.callers) c.in-Ok.ensures.legal c.into_trace-trace.ensures.callers c.in-Ok.ensures.own
+    c.into_trace-trace.ensures.value (c.in-Ok.ensures.limits ∙ c.reserve-room.ensures ∙ c.in_ok-map.ensures.map) (sym c.requires.workers ∙ c.requires.callers) c.in-Ok.ensures.legal c.into_trace-trace.ensures.callers c.in-Ok.ensures.own

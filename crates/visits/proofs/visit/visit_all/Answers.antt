@@ -1,12 +1,24 @@
-use Rattle.std.proofs.Common.{subst, List}
-use Rattle.visits.specs.declared.visit.Visit.{Visit}
-use Rattle.visits.specs.Visits.{AreAnswered}
-use Rattle.visits.proofs.Whole.{all_answered}
+use Rattle.visits.proofs.Merging.{all_same, all_closed, none_missing, legal_here, all_answered}
 use Rattle.visits.proofs.visit.visit_all.Goals as goal
+
+pub merge_all-requires-clause-same_map : goal.merge_all-requires-clause-same_map
+merge_all-requires-clause-same_map g c = all_same _ _ _ _ _ c.in_ok-host.ensures.ok c.in_ok-visitors.ensures.callers c.in_ok-done.ensures.len c.in_ok-done.ensures.each
+
+pub merge_all-requires-clause-closed : goal.merge_all-requires-clause-closed
+merge_all-requires-clause-closed g c = all_closed _ _ _ _ _ c.in_ok-host.ensures.ok c.in_ok-visitors.ensures.callers c.in_ok-done.ensures.len c.in_ok-done.ensures.each
+
+pub hand_out-requires-clause-all : goal.hand_out-requires-clause-all
+hand_out-requires-clause-all g c =
+    let m = c.in_ok-answers.ensures in
+    none_missing _ _ _ _ _ c.in_ok-host.ensures.ok c.in_ok-visitors.ensures.callers c.in_ok-done.ensures.len c.in_ok-done.ensures.each c.merge_all.new.host m.map m.numbers m.seen m.taken
+
+pub returns-clause-legal : goal.returns-clause-legal
+returns-clause-legal g c =
+    let m = c.in_ok-answers.ensures in
+    legal_here _ _ _ _ _ c.in_ok-host.ensures.ok c.in_ok-visitors.ensures.callers c.in_ok-done.ensures.len c.in_ok-done.ensures.each c.merge_all.new.host m.map m.numbers m.seen m.taken _ c.in_ok-history.ensures.ok
 
 pub returns-clause-answered : goal.returns-clause-answered
 returns-clause-answered g c =
-    let core = c.in_ok-core.field-0.core in
-    let answers = c.in_ok-core.field-0.outcomes.items in
-    let visits = c.in_ok-visits.visits.items in
-    subst (λ (vs : List Visit). AreAnswered core.history vs answers) c.in_ok-visits.ensures.items (all_answered c.args.limits _ visits core answers c.in_ok-core.ensures.ok)
+    let m = c.in_ok-answers.ensures in
+    all_answered _ _ _ _ _ c.in_ok-host.ensures.ok c.in_ok-visitors.ensures.callers c.in_ok-done.ensures.len c.in_ok-done.ensures.each c.merge_all.new.host m.map m.numbers m.seen m.taken
+    _ _ _ c.in_ok-visitors.ensures.visits m.answers c.in_ok-history.ensures.ok

@@ -1,7 +1,6 @@
 use Rattle.std.proofs.Common.{refl, subst, ◌∙◌}
 use Rattle.core_tokens.specs.Holds.{GoesTo}
-use Rattle.locked_map.specs.Calls.{HoldsTo}
-use Rattle.locked_map.proofs.Driving.{starts}
+use Rattle.locked_map.proofs.Driving.{starts, holds_on, is_held}
 use Rattle.locked_map.proofs.shared_map.SharedMap.drive.Goals as goal
 
 pub loop-init : goal.loop-init
@@ -15,14 +14,13 @@ loop-preserved g c =
     let held = c.hold-end.ensures in record {
       number = held.caller.number ∙ inv.number;
       limits = held.caller.limits ∙ inv.limits;
-      side = held.side ∙ inv.side;
+      side = held.same ∙ inv.side;
       claims = held.claims ∙ inv.claims;
-      going = subst (GoesTo c.args.me.now.seen c.hold-end.new.me.seen c.hold-end.new.drive) c.in_default.is (held.goes c.args.me.now.seen inv.going);
+      going = subst (GoesTo c.args.me.now.seen c.hold-end.new.self.seen c.hold-end.new.drive) c.in_default.is (held.goes c.args.me.now.seen inv.going);
       caller = held.drive.0 ∙ inv.caller;
       call = held.drive.1 ∙ inv.call;
-      holding = subst (λ r. HoldsTo c.args.me.now c.args.call r c.hold-end.new.me c.hold-end.new.drive) c.in_default.is (held.holds c.args.me.now c.args.call inv.holding);
+      holding = holds_on _ _ _ _ _ _ _ _ _ inv.holding c.in_default.is held.held;
     }
 
 pub returns-in-Some-end-clause-held : goal.returns-in-Some-end-clause-held
-returns-in-Some-end-clause-held g c =
-    subst (λ r. HoldsTo c.args.me.now c.args.call r c.hold-end.new.me c.hold-end.new.drive) c.in-Some-end.is (c.hold-end.ensures.holds c.args.me.now c.args.call c.loop.invariant.holding)
+returns-in-Some-end-clause-held g c = is_held _ _ _ _ _ _ _ _ _ _ c.loop.invariant.holding c.in-Some-end.is c.hold-end.ensures.held

@@ -9,5 +9,5 @@ returns-in_default c = let m = c.self.inside in sym (get_nowhere m.slots.items c
 
 pub returns : goal.returns
 returns c = let m = c.self.inside in c.value.ensures
-    ∙ get_read m.slots.items m.room m.len m.shift c.args.key c.in-Some.place c.index.result.now c.self.invariant c.in-Some.ensures.some c.index.ensures
+    ∙ get_read m.slots.items m.room m.len m.hash c.args.key c.in-Some.place c.index.result.now c.self.invariant c.in-Some.ensures.some c.index.ensures
     ∙ ap (λ (p : MapAt). get p.content c.args.key) c.self.view_is

@@ -5,4 +5,4 @@ use Rattle.probe_map.proofs.Tables.{count_content}
 use Rattle.probe_map.proofs.map.ProbeMap.len.Goals as goal
 
 pub returns : goal.returns
-returns c = let m = c.self.inside in count_content m.slots.items m.room m.len m.shift c.self.invariant ∙ ap (λ (p : MapAt). count_of p.content) c.self.view_is
+returns c = let m = c.self.inside in count_content m.slots.items m.room m.len m.hash c.self.invariant ∙ ap (λ (p : MapAt). count_of p.content) c.self.view_is

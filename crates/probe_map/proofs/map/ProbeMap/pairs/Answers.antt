@@ -13,5 +13,5 @@ pub returns : goal.returns
 returns c = let m = c.self.inside in
     permuted c.list.result (λ v. v.items) c.args.self.now.content.rows (pairs_of c.deref.result.now)
     (subst (IsPermutation c.args.self.now.content.rows) (ap pairs_of (sym c.deref.ensures.value))
-    (subst (λ (p : MapAt). IsPermutation p.content.rows (pairs_of m.slots.items)) c.self.view_is (rows_content m.slots.items m.room m.len m.shift c.self.invariant)))
+    (subst (λ (p : MapAt). IsPermutation p.content.rows (pairs_of m.slots.items)) c.self.view_is (rows_content m.slots.items m.room m.len m.hash c.self.invariant)))
     c.list.ensures

@@ -1,20 +1,5 @@
-use Rattle.std.proofs.Common.{arith}
-use Rattle.std.proofs.lemmas.List.Elements.{All-nil, All-push}
-use Rattle.serial_check.specs.Kept.{IsFresh}
 use Rattle.serial_check.proofs.Starts.{keeps-none}
 use Rattle.serial_check.proofs.commits.Commits.new.Goals as goal
 
-pub loop-init : goal.loop-init
-loop-init c = record { count = c.in_ok-footprints.ensures.len; fresh = rw c.in_ok-footprints.ensures.items (All-nil IsFresh) }
-
-pub loop-preserved : goal.loop-preserved
-loop-preserved c = record {
-  count = omega (arith, c.loop.invariant.count, c.in_ok-push.ensures.len);
-  fresh = rw c.in_ok-push.ensures.items (All-push IsFresh c.loop.footprints.items c.new.result c.loop.invariant.fresh c.new.ensures);
-}
-
-pub invariant_of-result : goal.invariant_of-result
-invariant_of-result c = record { all = omega (arith, c.loop.invariant.count, c.loop-test.false) }
-
 pub returns : goal.returns
-returns c = keeps-none _ c.new-2.ensures.empty c.loop.invariant.fresh
+returns c = keeps-none _ c.new.ensures.empty c.in_ok-new.ensures

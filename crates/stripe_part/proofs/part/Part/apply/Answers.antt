@@ -6,6 +6,5 @@ use Rattle.stripe_part.proofs.part.Part.apply.Goals as goal
 
 pub returns-then-not-changes-clause-ok : goal.returns-then-not-changes-clause-ok
 returns-then-not-changes-clause-ok c =
-    let same : nothing ≡ c.args.self.now = rw c.in_default.is at c.self.view_is in
-    let done : Does c.args.self.now c.args.self.now c.args.op None = subst (λ (p : PartAt). Does p p c.args.op None) same (nothing_done c.args.op (sym c.changes.ensures ∙ c.if-not-changes.true)) in
-    subst (λ (p : PartAt). Does c.args.self.now p c.args.op None) (sym c.self.view_is) done
+    let same : nothing ≡ c.args.self.now = rw c.in-Empty.is at c.self.view_is in
+    subst (λ (p : PartAt). Does p p c.args.op None) same (nothing_done c.args.op (sym c.changes.ensures ∙ c.if-not-changes.true))

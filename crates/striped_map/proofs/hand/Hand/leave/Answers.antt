@@ -1,6 +1,6 @@
 use Rattle.std.specs.Prelude.{vec_len}
-use Rattle.std.proofs.Common.{◌≡◌, ℕ, ◌-◌, List, map, take, sym, ap, subst, arith}
-use Rattle.txn_words.specs.declared.seat.Phase.TheVariants.{Closed}
+use Rattle.std.proofs.Common.{◌≡◌, ℕ, ◌^◌, ◌<◌, ◌∙◌, length, ◌-◌, List, map, take, sym, ap, subst, arith}
+use Rattle.txn_words.specs.declared.seat.Phase.TheVariants.{Closed, Opened}
 use Rattle.txn_trace.specs.Now.{now}
 use Rattle.stripe_part.specs.PartAt.{PartAt}
 use Rattle.striped_map.specs.declared.view.View.{View}
@@ -8,7 +8,12 @@ use Rattle.striped_map.specs.Adding.{MayAdd}
 use Rattle.striped_map.specs.Additions.{due, entries_of, left_of}
 use Rattle.striped_map.specs.Seats.{known}
 use Rattle.striped_map.specs.Sound.{AreHeld, IsSound, held_parts, with_part}
-use Rattle.striped_map.specs.Steps.{StateAfter, AddsIn, at_end, rolled_back}
+use Rattle.striped_map.specs.declared.record.Told.{Told}
+use Rattle.striped_map.specs.Handling.{IsEnd}
+use Rattle.striped_map.specs.Records.{told_by}
+use Rattle.striped_map.proofs.Recording.{end_told, end_few}
+use Rattle.striped_map.proofs.Rooms.{end_roomy}
+use Rattle.striped_map.specs.Steps.{IsAt, StateAfter, AddsIn, at_end, rolled_back}
 use Rattle.striped_map.proofs.Ends.{moved_idle}
 use Rattle.striped_map.proofs.Hands.{Job, parts_on}
 use Rattle.striped_map.proofs.Index.{indexed_none}
@@ -57,3 +62,20 @@ returns-clause-idle c = ap (λ (v : View). v.held) c.give_all.ensures.idle
 pub returns-clause-moves : goal.returns-clause-moves
 returns-clause-moves c = let n = c.args.map.now.table.shared.table_id.slots in
     moved_idle _ _ _ (known c.add.new.seat) _ _ (added_as n (known c.args.self.now.seat) (known c.take_back.new.seat) (known c.add.new.seat) c.args.what c.take_back.ensures.known c.add.ensures.added) c.give_all.ensures.idle
+
+pub add-requires-clause-told : goal.add-requires-clause-told
+add-requires-clause-told c all = let me = c.args.self.now in let v = known me.seat in let b = c.take_back.new.seat in
+    let many = order_length _ (held_parts me.seat me.held.items) me.order.items (due v) me.sound.logged in let o = me.order.ok.0 in let l = c.len.ensures in
+    subst (λ (t : Told). entries_of (known b) c.args.what ≡ told_by b.number t) (sym c.told_of-told.ensures)
+    (end_told (known b) c.args.what b.number c.len.result (subst (λ (u : View). IsEnd u c.args.what) (sym c.take_back.ensures.known) c.requires.may) b.numbered
+    (ap (λ (u : View). length (due u)) c.take_back.ensures.known ∙ (omega arith)))
+
+pub add-requires-clause-few : goal.add-requires-clause-few
+add-requires-clause-few c = let me = c.args.self.now in let l = c.len.ensures in
+    subst (λ (t : Told). length (told_by 0 t) < 2 ^ 64) (sym c.told_of-told.ensures) (end_few c.args.what c.len.result (let o = me.order.ok in let s = me.order.small in omega (arith, o.0, o.1)))
+
+pub add-requires-clause-open : goal.add-requires-clause-open
+add-requires-clause-open c = subst (IsAt Opened) (sym c.take_back.ensures.known) c.requires.open
+
+pub add-requires-clause-room : goal.add-requires-clause-room
+add-requires-clause-room c = end_roomy (known c.args.self.now.seat) c.args.what c.take_back.new.seat c.requires.may

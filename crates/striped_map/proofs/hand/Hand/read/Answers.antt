@@ -1,23 +1,23 @@
-use Rattle.std.proofs.Common.{◌≡◌, ℕ, ◌≤◌, List, Some, slice_get, sym, ap, subst, ◌∙◌, append_assoc, mod-lt}
+use Rattle.std.proofs.Common.{inl, inr, refl, ◌≡◌, ℕ, ◌≤◌, List, Some, slice_get, sym, ap, subst, ◌∙◌, mod-lt}
 use Rattle.txn_words.specs.declared.entry.Entry.{Entry}
 use Rattle.txn_trace.specs.Locks.{stripe_of}
 use Rattle.txn_words.specs.Map.{Map}
 use Rattle.txn_trace.specs.Now.{now}
-use Rattle.txn_words.specs.Shape.{own}
 use Rattle.txn_words.proofs.Maps.{same_map}
 use Rattle.map_answers.specs.declared.stop.Stop.TheVariants.{Refused}
 use Rattle.striped_map.specs.Hands.{IsCut}
+use Rattle.striped_map.specs.Rule.{HasEnded}
 use Rattle.striped_map.specs.Seats.{known}
 use Rattle.striped_map.proofs.Ends.{due_kept, moved_back, moved_seen, moved_on}
 use Rattle.striped_map.proofs.hand.Hand.read.Goals as goal
 
-pub returns-in-Ok-clause-ok : goal.returns-in-Ok-clause-ok
-returns-in-Ok-clause-ok c = let map = c.args.map.now in let n = map.table.shared.table_id.slots in
-    let begun = c.begin.ensures.begun in let done = c.in-Ok.ensures.ok in let sees = c.gather.ensures.sees in let ended = c.leave.ensures.moves in
+pub returns-in-Ok-pairs-clause-ok : goal.returns-in-Ok-pairs-clause-ok
+returns-in-Ok-pairs-clause-ok c = let map = c.args.map.now in let n = map.table.shared.table_id.slots in
+    let begun = c.in-Ok.ensures.begun in let done = c.in-Ok-pairs.ensures.ok in let sees = c.gather.ensures.sees in let ended = c.leave.ensures.moves in
     let a = known c.args.self.now.seat in let v = known c.pairs.new.self.seat in let w = known c.gather.new.self.seat in
-    let same : now w.seen ≡ now v.seen = same_map (now w.seen) (now v.seen) (λ key. sees.still key (c.in-Ok.ensures.all (stripe_of n key) (mod-lt key map.some))) in
+    let same : now w.seen ≡ now v.seen = same_map (now w.seen) (now v.seen) (λ key. sees.still key (c.in-Ok-pairs.ensures.all (stripe_of n key) (mod-lt key map.some))) in
     let retired : v.retired ≡ a.retired = done.1.retired_is ∙ begun.1.retired_is in
-    let goes = moved_on map c.begin.new.self c.pairs.new.self c.gather.new.self (record { moves = done.1; keeps = c.in-Ok.ensures.keeps done.0 }) (moved_seen map c.pairs.new.self c.gather.new.self sees) in
+    let goes = moved_on map c.begin.new.self c.pairs.new.self c.gather.new.self (record { moves = done.1; keeps = c.in-Ok-pairs.ensures.keeps done.0 }) (moved_seen map c.pairs.new.self c.gather.new.self sees) in
     let unchanged = due_kept map c.begin.new.self c.gather.new.self goes in
     record {
       txn = begun.0;
@@ -25,25 +25,30 @@ returns-in-Ok-clause-ok c = let map = c.args.map.now in let n = map.table.shared
       begun = begun.1;
       left = c.gather.new.self;
       goes = goes;
-      all = subst (λ (rs : List (ℕ × List Entry)). (j : ℕ) (r : ℕ × List Entry) → slice_get rs j ≡ Some r → own r.0 w.seen ≡ r.1) retired c.gather.ensures.all;
+      all = subst (λ (rs : List (ℕ × List Entry)). (j : ℕ) (r : ℕ × List Entry) → slice_get rs j ≡ Some r → HasEnded r.0 r.1 w.seen) retired c.gather.ensures.all;
       others = λ k low. c.gather.ensures.others (done.1.number_is ∙ begun.1.number_is ∙ c.requires.first) k (subst (λ (x : ℕ). x ≤ k) (sym (done.1.made_is ∙ begun.1.made_is)) low);
       pairs_are = done.2 ∙ ap (λ (m : Map). m.rows) (sym same);
-      ended = moved_back map c.gather.new.self c.leave.new.self (unchanged ∙ c.begin.ensures.fresh) ended;
+      ended = moved_back map c.gather.new.self c.leave.new.self (unchanged ∙ c.in-Ok.ensures.fresh) ended;
     }
 
 pub returns-in-Err-Busy-clause-err : goal.returns-in-Err-Busy-clause-err
-returns-in-Err-Busy-clause-err c = let begun = c.begin.ensures.begun in
+returns-in-Err-Busy-clause-err c = let begun = c.in-Ok.ensures.begun in
     (begun.0, c.begin.new.self, begun.1, subst (λ stop. IsCut c.args.map.now c.begin.new.self c.pairs.new.self stop) c.in-Err-Busy.field-0-is c.in-Err-Busy.ensures.err)
 
 pub returns-in-Err-Refused-clause-err : goal.returns-in-Err-Refused-clause-err
-returns-in-Err-Refused-clause-err c = let map = c.args.map.now in let begun = c.begin.ensures.begun in
+returns-in-Err-Refused-clause-err c = let map = c.args.map.now in let begun = c.in-Ok.ensures.begun in
     let cut : IsCut map c.begin.new.self c.pairs.new.self (Refused c.in-Err-Refused.refusal) = subst (λ stop. IsCut map c.begin.new.self c.pairs.new.self stop) c.in-Err-Refused.field-0-is c.in-Err-Refused.ensures.err in
     let left = cut.1 in (
       left.0,
-      begun.0,
-      c.begin.new.self,
-      begun.1,
-      c.pairs.new.self,
-      left.2,
-      moved_back map c.pairs.new.self c.leave-in-Err-Refused.new.self (due_kept map c.begin.new.self c.pairs.new.self left.2 ∙ c.begin.ensures.fresh) c.leave-in-Err-Refused.ensures.moves,
+      inr (
+        begun.0,
+        c.begin.new.self,
+        begun.1,
+        c.pairs.new.self,
+        left.2,
+        moved_back map c.pairs.new.self c.leave-in-Err-Refused.new.self (due_kept map c.begin.new.self c.pairs.new.self left.2 ∙ c.in-Ok.ensures.fresh) c.leave-in-Err-Refused.ensures.moves,
+      ),
     )
+
+pub returns-in_default-clause-err : goal.returns-in_default-clause-err
+returns-in_default-clause-err c = let e = c.in_default.ensures in (refl, inl (e.err, ap (λ z. z.me.0) e.unchanged))

@@ -1,8 +1,9 @@
 use Rattle.std.proofs.Common.{refl, ◌<◌, ◌∙◌, sym, ap, subst, arith}
 use Rattle.striped_map.specs.declared.view.View.{View}
 use Rattle.striped_map.specs.Rule.{Holds}
-use Rattle.striped_map.specs.Steps.{Sat}
+use Rattle.striped_map.specs.Steps.{IsAt, Sat, marks}
 use Rattle.striped_map.proofs.Moves.{Slotted, brings, slotted_front}
+use Rattle.txn_words.specs.declared.seat.Phase.TheVariants.{Opened}
 use Rattle.striped_map.proofs.map.StripedMap.bring.Goals as goal
 
 pub load-requires : goal.load-requires
@@ -16,6 +17,9 @@ invariant_of-seat c = let k = c.args.stripe in let seat = c.args.seat.now in let
     record {
       low = seat.low;
       acting = ap (λ (v : View). v.acts) view ∙ seat.acting;
+      moded = ap (λ (v : View). v.keep) view ∙ seat.moded;
+      marked = λ all. ap (λ (v : View). marks seat.number 0 v.seen) view ∙ seat.marked all;
+      roomy = λ all at. seat.roomy all (subst (IsAt Opened) view at);
       numbered = ap (λ (v : View). v.number) view ∙ seat.numbered;
       inside = λ s h. subst (λ z. s < z.slots) (sym e.0) (seat.inside s (subst (λ (v : View). Holds v s) view h));
       slotted = subst Slotted (sym is) (slotted_front k seat.seat.me seat.slotted c.requires.held);

@@ -1,10 +1,15 @@
-use Rattle.std.proofs.Common.{ap, arith, ◌∙◌, sym, subst}
+use Rattle.std.proofs.Common.{ℕ, ◌<◌, List, ap, arith, ◌∙◌, sym, subst}
+use Rattle.stripe_part.specs.PartAt.{PartAt}
+use Rattle.txn_words.specs.Held.{times}
+use Rattle.striped_map.proofs.Recording.{still_marked}
 use Rattle.atomic_table.specs.Table.{Joins}
 use Rattle.striped_map.specs.declared.view.View.{View}
-use Rattle.striped_map.specs.Rule.{IsKept}
-use Rattle.striped_map.specs.Steps.{Sat, blank, heard}
+use Rattle.striped_map.specs.Rule.{Holds, IsKept}
+use Rattle.striped_map.specs.Steps.{Sat, SeesIn, blank, heard, places}
 use Rattle.striped_map.proofs.Meets.{witnesses, hears, sees_met}
 use Rattle.striped_map.proofs.Retires.{gathers}
+use Rattle.txn_words.specs.declared.seat.Phase.TheVariants.{Opened}
+use Rattle.striped_map.proofs.Rooms.{at_between}
 use Rattle.striped_map.proofs.map.StripedMap.catch_up.Goals as goal
 
 pub split_seat-witness-requires : goal.split_seat-witness-requires
@@ -26,3 +31,18 @@ load-requires c = let me = c.args.seat.now in let s = c.args.self.now.sized in
 pub returns-clause-sees : goal.returns-clause-sees
 returns-clause-sees c = let v : View = c.args.seat.now.seat.me.0 in let heard_view = ap (λ (m : Sat). m.0) c.join_seat.ensures.2 in
     sees_met _ v c.join_seat.new.seat.me.0 c.load.new.seat.me.0 c.split_seat-witness.result.me.0.seen heard_view c.load.ensures.2.1
+
+pub invariant_of-seat : goal.invariant_of-seat
+invariant_of-seat c = let seat = c.args.seat.now in let w = c.load.new.seat.me.0 in
+    let sees : SeesIn c.args.self.now.table.shared.table_id.slots seat.seat.me.0 w = sees_met _ seat.seat.me.0 c.join_seat.new.seat.me.0 w c.split_seat-witness.result.me.0.seen (ap (λ (m : Sat). m.0) c.join_seat.ensures.2) c.load.ensures.2.1 in
+    let is = sees.view_is in
+    record {
+      low = seat.low;
+      acting = ap (λ (v : View). v.acts) is ∙ seat.acting;
+      moded = ap (λ (v : View). v.keep) is ∙ seat.moded;
+      marked = λ all. still_marked _ seat.number seat.seat.me.0 w seat.records.items seat.numbered sees.goes (seat.marked all);
+      roomy = λ all at. seat.roomy all (at_between Opened _ seat.seat.me.0 w (ap (λ (v : View). v.number) is) sees.goes at);
+      numbered = ap (λ (v : View). v.number) is ∙ seat.numbered;
+      inside = λ s h. subst (λ z. s < z.slots) (sym (c.load.ensures.0 ∙ c.join_seat.ensures.0)) (seat.inside s (subst (λ (v : View). Holds v s) is h));
+      slotted = λ s. ap (λ (c : List (ℕ × PartAt)). times s (places c)) (c.load.ensures.2.0 ∙ ap (λ (m : Sat). m.1) c.join_seat.ensures.2) ∙ seat.slotted s ∙ ap (λ (v : View). times s v.held) (sym is);
+    }

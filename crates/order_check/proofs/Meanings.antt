@@ -1,0 +1,270 @@
+-- Accesses and footprints.
+use Rattle.std.proofs.Common.{◌≡◌, ◌≢◌, ◌==◌, ℕ, ◌<◌, Bool, true, false, cond, ◌&&◌, Option, Some, None, is_some, List, [], ◌∷◌, length, refl, ap, sym, ◌∙◌, subst, arith}
+use Rattle.std.specs.HashMap.{HashMap, get as told_at}
+use Rattle.std.specs.List.{All}
+use Rattle.std.proofs.lemmas.Bool.{false≢true, and_parts, and_cases, and_from, eqb-true, eq-eqb, cases_eq}
+use Rattle.std.proofs.lemmas.List.Elements.{All-head, All-tail}
+use mathlib.Core.Logic.{inl, inr}
+use Rattle.order_check.specs.declared.access.Access.{Access}
+use Rattle.order_check.specs.declared.edge.Kind.{Kind}
+use Rattle.order_check.specs.declared.edge.Kind.TheVariants.{Read, Replaced}
+use Rattle.order_check.specs.declared.edge.Edge.{Edge}
+use Rattle.order_check.specs.declared.table.Doer.{Doer}
+use Rattle.order_check.specs.Lists.{IsIn, place, HasEachOnce}
+use Rattle.order_check.specs.Footprints.{Cell}
+use Rattle.order_check.specs.Dependencies.{Needs, Writes, Replaces, ComesOnce}
+use Rattle.order_check.specs.Forces.{dependency_of, Forces, OnlyThese}
+use Rattle.order_check.specs.Graphs.{Graph, HasEdge, AreInRange, KeepsEdges, IsWay, IsCycle}
+use Rattle.order_check.specs.Orders.{IsOrderOf, HasNoOrder}
+use Rattle.order_check.specs.Tables.{Version, version_eq, DoesWrite, DoesReplace, ReplacesValue, IsAmong, ToldOf, Told, AreTold, AreBelow}
+use Rattle.order_check.specs.Joined.{NeedsAt, DoesAt, SourceIs, AreDistinct, meaning_of, AreMeant, IsEdge, IsJoined}
+use Rattle.order_check.specs.Outcomes.{cell_of, footprints_of, sources_of, AreAccesses, IsTxn, comes_once, IsOnce, IsRepeated}
+use Rattle.order_check.proofs.Joining.{told_some}
+use Rattle.order_check.specs.Sources.{Gives}
+use Rattle.order_check.proofs.Versions.{runs_by_sources}
+use Rattle.order_check.proofs.Cycles.{cycle_no_order}
+
+-- The access that a cell comes from.
+pub record ComesFrom (accesses : List Access) (t k : ℕ) (cell : Cell) : Type 0 where
+  pub by : Access
+  pub is_among : IsAmong by accesses
+  pub txn_is : by.txn ≡ t
+  pub key_is : by.key ≡ k
+  pub cell_is : cell_of by ≡ cell
+
+pub comes_from : (accesses : List Access) (t k : ℕ) (cell : Cell) → footprints_of accesses t k ≡ Some cell → ComesFrom accesses t k cell
+comes_from [] t k cell there = absurd (cc there)
+comes_from (a ∷ rest) t k cell there = at ((a.txn == t) && (a.key == k)) refl (λ is. comes_from rest t k cell is) there
+  where
+    at : (b : Bool) → ((a.txn == t) && (a.key == k)) ≡ b → (footprints_of rest t k ≡ Some cell → ComesFrom rest t k cell) → cond b (Some (cell_of a)) (footprints_of rest t k) ≡ Some cell → ComesFrom (a ∷ rest) t k cell
+    at true is later found =
+        let parts = and_parts (a.txn == t) (a.key == k) is in
+        record { by = a; is_among = inl refl; txn_is = eqb-true a.txn t parts.0; key_is = eqb-true a.key k parts.1; cell_is = cc found }
+    at false is later found =
+        let f = later found in
+        record { by = f.by; is_among = inr f.is_among; txn_is = f.txn_is; key_is = f.key_is; cell_is = f.cell_is }
+
+pub foot_there : (accesses : List Access) (a : Access) → AreDistinct accesses → IsAmong a accesses → footprints_of accesses a.txn a.key ≡ Some (cell_of a)
+foot_there [] a distinct is_in = absurd is_in
+foot_there (x ∷ xs) a distinct is_in = elim is_in [
+  | inl same ↦
+      ap (λ b. cond b (Some (cell_of x)) (footprints_of xs a.txn a.key)) (and_from (x.txn == a.txn) (x.key == a.key) (eq-eqb x.txn a.txn (ap (λ (y : Access). y.txn) same)) (eq-eqb x.key a.key (ap (λ (y : Access). y.key) same)))
+      ∙ ap (λ y. Some (cell_of y)) same
+  | inr rest ↦ at ((x.txn == a.txn) && (x.key == a.key)) refl rest (foot_there xs a distinct.1 rest)
+]
+  where
+    at : (b : Bool) → ((x.txn == a.txn) && (x.key == a.key)) ≡ b → IsAmong a xs → footprints_of xs a.txn a.key ≡ Some (cell_of a) → cond b (Some (cell_of x)) (footprints_of xs a.txn a.key) ≡ Some (cell_of a)
+    at true is rest later =
+        let parts = and_parts (x.txn == a.txn) (x.key == a.key) is in
+        absurd (distinct.0 a rest (eqb-true x.txn a.txn parts.0) (eqb-true x.key a.key parts.1))
+    at false is rest later = later
+
+-- The source that is found for an access is its own.
+pub source_there : (accesses : List Access) (a : Access) → AreDistinct accesses → IsAmong a accesses → sources_of accesses a.txn a.key ≡ a.source
+source_there [] a distinct is_in = absurd is_in
+source_there (x ∷ xs) a distinct is_in = elim is_in [
+  | inl same ↦
+      ap (λ b. cond b x.source (sources_of xs a.txn a.key)) (and_from (x.txn == a.txn) (x.key == a.key) (eq-eqb x.txn a.txn (ap (λ (y : Access). y.txn) same)) (eq-eqb x.key a.key (ap (λ (y : Access). y.key) same)))
+      ∙ ap (λ (y : Access). y.source) same
+  | inr rest ↦ at ((x.txn == a.txn) && (x.key == a.key)) refl rest (source_there xs a distinct.1 rest)
+]
+  where
+    at : (b : Bool) → ((x.txn == a.txn) && (x.key == a.key)) ≡ b → IsAmong a xs → sources_of xs a.txn a.key ≡ a.source → cond b x.source (sources_of xs a.txn a.key) ≡ a.source
+    at true is rest later =
+        let parts = and_parts (x.txn == a.txn) (x.key == a.key) is in
+        absurd (distinct.0 a rest (eqb-true x.txn a.txn parts.0) (eqb-true x.key a.key parts.1))
+    at false is rest later = later
+
+module _ (count : ℕ) (accesses : List Access) (are : AreAccesses count accesses) where
+  foot_at : (a : Access) (t k : ℕ) → IsAmong a accesses → a.txn ≡ t → a.key ≡ k → footprints_of accesses t k ≡ Some (cell_of a)
+  foot_at a t k is_in txn_is key_is = (λ i. footprints_of accesses (sym txn_is i) (sym key_is i)) ∙ foot_there accesses a are.distinct is_in
+
+  needs_of : (t : ℕ) (q : Version) → NeedsAt accesses t q → Needs (footprints_of accesses t) q.0 q.1
+  needs_of t q n = record { cell = cell_of n.by; there = foot_at n.by t q.0 n.is_among n.txn_is n.key_is; need_is = n.need_is }
+
+  writes_of : (t : ℕ) (q : Version) → DoesAt (DoesWrite q) accesses t → Writes (footprints_of accesses t) q.0 q.1
+  writes_of t q w = record {
+    cell = cell_of w.by;
+    there = foot_at w.by t q.0 w.is_among w.txn_is w.does_it.0;
+    now_is = w.does_it.1;
+    changed = λ same. w.does_it.2 (same ∙ sym w.does_it.1);
+  }
+
+  replaces_of : (t : ℕ) (q : Version) → DoesAt (ReplacesValue q) accesses t → Replaces (footprints_of accesses t) q.0 q.1
+  replaces_of t q r = record {
+    cell = cell_of r.by;
+    there = foot_at r.by t q.0 r.is_among r.txn_is r.does_it.0;
+    need_is = r.does_it.1;
+    changed = λ same. r.does_it.2 (r.does_it.1 ∙ sym same);
+  }
+
+  -- The way back.
+  needs_back : (t k : ℕ) (v : Option ℕ) → Needs (footprints_of accesses t) k v → NeedsAt accesses t (k, v)
+  needs_back t k v n =
+      let f = comes_from accesses t k n.cell n.there in
+      record { by = f.by; is_among = f.is_among; txn_is = f.txn_is; key_is = f.key_is; need_is = ap (λ (c : Cell). c.need) f.cell_is ∙ n.need_is }
+
+  writes_back : (t k : ℕ) (v : Option ℕ) → Writes (footprints_of accesses t) k v → DoesAt (DoesWrite (k, v)) accesses t
+  writes_back t k v w =
+      let f = comes_from accesses t k w.cell w.there in
+      let left_is : f.by.left ≡ v = ap (λ (c : Cell). c.now) f.cell_is ∙ w.now_is in
+      record { by = f.by; is_among = f.is_among; does_it = (f.key_is, left_is, λ same. w.changed (sym (ap (λ (c : Cell). c.need) f.cell_is) ∙ same ∙ left_is)); txn_is = f.txn_is }
+
+  only_these : OnlyThese (IsTxn count) (footprints_of accesses)
+  only_these t k cell there =
+      let f = comes_from accesses t k cell there in
+      subst (IsTxn count) f.txn_is (are.below f.by f.is_among)
+
+  module _ {S R : Type 0} (writers : HashMap Version Doer S) (replacers : HashMap Version Doer R) (told : AreTold accesses writers replacers) where
+    below_of : (does : Access → Type 0) (d : Doer) → ToldOf does accesses d → d.txn < count
+    below_of does d t = subst (IsTxn count) t.txn_is (are.below t.by t.is_among)
+
+    pub tables_below : (n : ℕ) → n ≡ count → AreBelow writers replacers n
+    tables_below n same = record {
+      writes = λ q d is. subst (λ m. d.txn < m) (sym same) (below_of (DoesWrite q) d (told_some (DoesWrite q) accesses (told_at version_eq writers q) d is (told.writes q)));
+      replaces = λ q d is. subst (λ m. d.txn < m) (sym same) (below_of (DoesReplace q) d (told_some (DoesReplace q) accesses (told_at version_eq replacers q) d is (told.replaces q)));
+    }
+
+    -- A value that comes only once by the tables does so by the footprints.
+    once_of : (k : ℕ) (v : Option ℕ) (o : Option Doer) → Told (DoesWrite (k, v)) accesses o → comes_once o v ≡ true → ComesOnce (footprints_of accesses) k v
+    once_of k v None none once = record {
+      one = λ x y wx wy. let w = writes_back x k v wx in absurd (none w.by w.is_among w.does_it);
+      fresh = λ is x wx. let w = writes_back x k v wx in none w.by w.is_among w.does_it;
+    }
+    once_of k v (Some d) known once =
+        let parts = and_parts (is_some v) d.is_only once in
+        record {
+          one = λ x y wx wy.
+              let w = writes_back x k v wx in
+              let z = writes_back y k v wy in
+              sym w.txn_is ∙ known.only parts.1 w.by w.is_among w.does_it ∙ sym (known.only parts.1 z.by z.is_among z.does_it) ∙ z.txn_is;
+          fresh = λ is x wx. absurd (false≢true (sym (ap is_some is) ∙ parts.0));
+        }
+
+    forces_of : (kind : Kind) (t k : ℕ) (v : Option ℕ) (u : ℕ) → meaning_of accesses kind t (k, v) u → ComesOnce (footprints_of accesses) k v → dependency_of kind (footprints_of accesses) t u k v
+    forces_of Read t k v u means once = record { once = once; writes = writes_of t (k, v) means.0; needs = needs_of u (k, v) means.1 }
+    forces_of Replaced t k v u means once = record { once = once; apart = means.2; needs = needs_of t (k, v) means.0; replaces = replaces_of u (k, v) means.1 }
+
+    module _ (graph : Graph) (meant : AreMeant accesses graph) where
+      edge_forces : (l : Edge) (u : ℕ) → HasEdge graph l u → IsOnce writers l → Forces (footprints_of accesses) l u
+      edge_forces l u has once =
+          forces_of l.kind l.from l.key l.value u (meant u l has) (once_of l.key l.value (told_at version_eq writers (l.key, l.value)) (told.writes (l.key, l.value)) once)
+
+      way_forces : (l : Edge) (ls : List Edge) (end : ℕ) → IsWay (HasEdge graph) l ls end → All (IsOnce writers) (l ∷ ls) → IsWay (Forces (footprints_of accesses)) l ls end
+      way_forces l [] end way all = edge_forces l end way (All-head (IsOnce writers) l [] all)
+      way_forces l (m ∷ ms) end way all = (edge_forces l m.from way.0 (All-head (IsOnce writers) l (m ∷ ms) all), way_forces m ms end way.1 (All-tail (IsOnce writers) l (m ∷ ms) all))
+
+      cycle_forces : (ls : List Edge) → IsCycle (HasEdge graph) ls → All (IsOnce writers) ls → IsCycle (Forces (footprints_of accesses)) ls
+      cycle_forces [] cycle all = cycle
+      cycle_forces (l ∷ ls) cycle all = way_forces l ls l.from cycle all
+
+      pub cycle_found : (ls : List Edge) → IsCycle (HasEdge graph) ls → All (IsOnce writers) ls → IsCycle (Forces (footprints_of accesses)) ls × HasNoOrder (IsTxn count) (footprints_of accesses)
+      cycle_found ls cycle all =
+          let forced = cycle_forces ls cycle all in
+          (forced, cycle_no_order (IsTxn count) (footprints_of accesses) only_these ls forced)
+
+      certain_way : ((u : ℕ) (l : Edge) → HasEdge graph l u → IsOnce writers l) → (l : Edge) (ls : List Edge) (end : ℕ) → IsWay (HasEdge graph) l ls end → IsWay (Forces (footprints_of accesses)) l ls end
+      certain_way once l [] end way = edge_forces l end way (once end l way)
+      certain_way once l (m ∷ ms) end way = (edge_forces l m.from way.0 (once m.from l way.0), certain_way once m ms end way.1)
+
+      certain_cycle : ((u : ℕ) (l : Edge) → HasEdge graph l u → IsOnce writers l) → (ls : List Edge) → IsCycle (HasEdge graph) ls → IsCycle (Forces (footprints_of accesses)) ls
+      certain_cycle once [] cycle = cycle
+      certain_cycle once (l ∷ ls) cycle = certain_way once l ls l.from cycle
+
+      pub certain_found : ((u : ℕ) (l : Edge) → HasEdge graph l u → IsOnce writers l) → (ls : List Edge) → IsCycle (HasEdge graph) ls → IsCycle (Forces (footprints_of accesses)) ls × HasNoOrder (IsTxn count) (footprints_of accesses)
+      certain_found once ls cycle =
+          let forced = certain_cycle once ls cycle in
+          (forced, cycle_no_order (IsTxn count) (footprints_of accesses) only_these ls forced)
+
+      from_below : (kind : Kind) (t : ℕ) (q : Version) (u : ℕ) → meaning_of accesses kind t q u → t < count
+      from_below Read t q u means = subst (IsTxn count) means.0.txn_is (are.below means.0.by means.0.is_among)
+      from_below Replaced t q u means = subst (IsTxn count) means.0.txn_is (are.below means.0.by means.0.is_among)
+
+      pub in_range : length graph ≡ count → AreInRange graph
+      in_range len u l has = subst (λ n. l.from < n) (sym len) (from_below l.kind l.from (l.key, l.value) u (meant u l has))
+
+    -- If all accesses have their edges, an order that keeps the edges is one of the footprints.
+    module _ (graph : Graph) (joined : (a : Access) → IsAmong a accesses → IsJoined replacers graph a) (ts : List ℕ) (keeps : KeepsEdges graph ts) where
+      before : (t u : ℕ) → IsEdge graph t u → place t ts < place u ts
+      before t u l = subst (λ x. place x ts < place u ts) l.from_is (keeps u l.edge l.there)
+
+      source_at : (u k : ℕ) (cell : Cell) (f : ComesFrom accesses u k cell) → sources_of accesses u k ≡ f.by.source
+      source_at u k cell f = (λ i. sources_of accesses (sym f.txn_is i) (sym f.key_is i)) ∙ source_there accesses f.by are.distinct f.is_among
+
+      gives_at : (a : Access) (k : ℕ) (s : Option ℕ) → a.key ≡ k → SourceIs accesses a s → Gives (footprints_of accesses) k a.need s
+      gives_at a k None key_is is = is
+      gives_at a k (Some t) key_is is = subst (λ q. Writes (footprints_of accesses t) q a.need) key_is (writes_of t (a.key, a.need) is)
+
+      kept_gives : (u k : ℕ) (cell : Cell) → IsIn u ts → footprints_of accesses u k ≡ Some cell → Gives (footprints_of accesses) k cell.need (sources_of accesses u k)
+      kept_gives u k cell is_in there =
+          let f = comes_from accesses u k cell there in
+          subst (Gives (footprints_of accesses) k cell.need) (sym (source_at u k cell f))
+          (subst (λ (c : Cell). Gives (footprints_of accesses) k c.need f.by.source) f.cell_is (gives_at f.by k f.by.source f.key_is (are.sourced f.by f.is_among)))
+
+      kept_reads : (u k t : ℕ) (cell : Cell) → IsIn u ts → footprints_of accesses u k ≡ Some cell → sources_of accesses u k ≡ Some t → place t ts < place u ts
+      kept_reads u k t cell is_in there source_is =
+          let f = comes_from accesses u k cell there in
+          subst (λ x. place t ts < place x ts) f.txn_is (before t f.by.txn ((joined f.by f.is_among).reads t (sym (source_at u k cell f) ∙ source_is)))
+
+      kept_replaces : (t u k : ℕ) (one other : Cell) → t ≢ u → IsIn t ts → IsIn u ts → footprints_of accesses t k ≡ Some one → footprints_of accesses u k ≡ Some other → sources_of accesses t k ≡ sources_of accesses u k → other.need ≢ other.now → place t ts < place u ts
+      kept_replaces t u k one other differ in_t in_u there_t there_u same changed = at (told_at version_eq replacers (k, a.by.source)) refl (told.replaces (k, a.by.source))
+        where
+          a : ComesFrom accesses t k one
+          a = comes_from accesses t k one there_t
+
+          b : ComesFrom accesses u k other
+          b = comes_from accesses u k other there_u
+
+          b_source : b.by.source ≡ a.by.source
+          b_source = sym (source_at u k other b) ∙ sym same ∙ source_at t k one a
+
+          b_changes : b.by.need ≢ b.by.left
+          b_changes = λ equal. changed (sym (ap (λ (c : Cell). c.need) b.cell_is) ∙ equal ∙ ap (λ (c : Cell). c.now) b.cell_is)
+
+          a_same : ◌≡◌ {A = Version} (a.by.key, a.by.source) (k, a.by.source)
+          a_same = λ i. (a.key_is i, a.by.source)
+
+          b_same : ◌≡◌ {A = Version} (b.by.key, b.by.source) (k, a.by.source)
+          b_same = λ i. (b.key_is i, b_source i)
+
+          first_other : (f : Doer) → told_at version_eq replacers (k, a.by.source) ≡ Some f → (f.txn ≡ u → ⊥) → ⊥
+          first_other f is apart_u =
+              let at_b : told_at version_eq replacers (b.by.key, b.by.source) ≡ Some f = ap (told_at version_eq replacers) b_same ∙ is in
+              let apart : b.by.txn ≢ f.txn = λ equal. apart_u (sym equal ∙ b.txn_is) in
+              let forth = before b.by.txn f.txn ((joined b.by b.is_among).replaces f at_b apart) in
+              let back = before f.txn b.by.txn ((joined b.by b.is_among).twice f at_b apart b_changes) in
+              omega arith
+
+          at : (o : Option Doer) → told_at version_eq replacers (k, a.by.source) ≡ o → Told (DoesReplace (k, a.by.source)) accesses o → place t ts < place u ts
+          at None is none = absurd (none b.by b.is_among (b.key_is, b_source, b_changes))
+          at (Some f) is known = elim (cases_eq f.txn u) [
+            | inl here ↦
+                let at_a : told_at version_eq replacers (a.by.key, a.by.source) ≡ Some f = ap (told_at version_eq replacers) a_same ∙ is in
+                let l = (joined a.by a.is_among).replaces f at_a (λ equal. differ (sym a.txn_is ∙ equal ∙ here)) in
+                subst (λ x. place x ts < place u ts) a.txn_is (subst (λ x. place a.by.txn ts < place x ts) here (before a.by.txn f.txn l))
+            | inr apart_u ↦ absurd (first_other f is apart_u)
+          ]
+
+      pub order_found : (n : ℕ) → n ≡ count → HasEachOnce (λ t. t < n) ts → IsOrderOf (IsTxn count) (footprints_of accesses) ts
+      order_found n same each =
+          let there : HasEachOnce (IsTxn count) ts = subst (λ m. HasEachOnce (λ t. t < m) ts) same each in
+          record { each = there; runs = runs_by_sources (footprints_of accesses) (sources_of accesses) ts there.apart (record { gives = kept_gives; reads = kept_reads; replaces = kept_replaces }) }
+
+    -- A value that comes more than once by the tables does so.
+    pub repeated_of : (k : ℕ) (v : Option ℕ) (o : Option Doer) → Told (DoesWrite (k, v)) accesses o → comes_once o v ≡ false → IsRepeated accesses (k, v)
+    repeated_of k v None none often = absurd (false≢true (sym often))
+    repeated_of k v (Some d) known often = (
+      d.txn,
+      record { by = known.by; is_among = known.is_among; does_it = known.does_it; txn_is = known.txn_is },
+      elim (and_cases (is_some v) d.is_only often) [
+        | inl absent ↦ inl (absent_is v absent)
+        | inr second ↦ inr (known.second second)
+      ],
+    )
+      where
+        absent_is : (v : Option ℕ) → is_some v ≡ false → v ≡ None
+        absent_is None is = refl
+        absent_is (Some n) is = absurd (false≢true (sym is))
+
+    pub repeated : (l : Edge) → comes_once (told_at version_eq writers (l.key, l.value)) l.value ≡ false → IsRepeated accesses (l.key, l.value)
+    repeated l often = repeated_of l.key l.value (told_at version_eq writers (l.key, l.value)) (told.writes (l.key, l.value)) often

@@ -1,0 +1,74 @@
+-- The edges that accesses give.
+use Rattle.std.specs.Prelude.{ℕ, ◌≡◌, ◌≢◌, Option, Some, None, List, [], ◌∷◌, length}
+use Rattle.std.specs.HashMap.{HashMap, get as told_at}
+use Rattle.order_check.specs.declared.access.Access.{Access}
+use Rattle.order_check.specs.declared.edge.Kind.{Kind}
+use Rattle.order_check.specs.declared.edge.Kind.TheVariants.{Read, Replaced}
+use Rattle.order_check.specs.declared.edge.Edge.{Edge}
+use Rattle.order_check.specs.declared.table.Doer.{Doer}
+use Rattle.order_check.specs.Graphs.{Graph, HasEdge}
+use Rattle.order_check.specs.Tables.{Version, version_eq, DoesWrite, ReplacesValue, IsAmong}
+
+-- The transaction has an access that needs this value at the key.
+pub record NeedsAt (accesses : List Access) (t : ℕ) (q : Version) : Type 0 where
+  pub by : Access
+  pub is_among : IsAmong by accesses
+  pub txn_is : by.txn ≡ t
+  pub key_is : by.key ≡ q.0
+  pub need_is : by.need ≡ q.1
+
+-- The transaction has an access that does it.
+pub record DoesAt (does : Access → Type 0) (accesses : List Access) (t : ℕ) : Type 0 where
+  pub by : Access
+  pub is_among : IsAmong by accesses
+  pub does_it : does by
+  pub txn_is : by.txn ≡ t
+
+-- The source gives what the access needs.
+abbrev pub SourceIs : List Access → Access → Option ℕ → Type 0
+SourceIs accesses a None = a.need ≡ None
+SourceIs accesses a (Some t) = DoesAt (DoesWrite (a.key, a.need)) accesses t
+
+abbrev pub AreSourced : List Access → Type 0
+AreSourced accesses = (a : Access) → IsAmong a accesses → SourceIs accesses a a.source
+
+-- No transaction has two accesses at one key.
+abbrev pub AreDistinct : List Access → Type 0
+AreDistinct [] = Unit {0}
+AreDistinct (x ∷ xs) = ((a : Access) → IsAmong a xs → x.txn ≡ a.txn → x.key ≡ a.key → ⊥) × AreDistinct xs
+
+-- What an edge to `u` says of the accesses.
+abbrev pub meaning_of : List Access → Kind → ℕ → Version → ℕ → Type 0
+meaning_of accesses Read t q u = DoesAt (DoesWrite q) accesses t × NeedsAt accesses u q
+meaning_of accesses Replaced t q u = NeedsAt accesses t q × DoesAt (ReplacesValue q) accesses u × (t ≢ u)
+
+abbrev pub Means : List Access → Edge → ℕ → Type 0
+Means accesses l u = meaning_of accesses l.kind l.from (l.key, l.value) u
+
+-- Each edge has its meaning.
+abbrev pub AreMeant : List Access → Graph → Type 0
+AreMeant accesses graph = (u : ℕ) (l : Edge) → HasEdge graph l u → Means accesses l u
+
+-- There is an edge from one transaction to the other.
+pub record IsEdge (graph : Graph) (t u : ℕ) : Type 0 where
+  pub edge : Edge
+  pub there : HasEdge graph edge u
+  pub from_is : edge.from ≡ t
+
+-- The access has its edges: from the source of what it needs, and to the replacer of what it needs.
+-- If it replaces this too, there is an edge from the first replacer as well.
+pub record IsJoined {R : Type 0} (replacers : HashMap Version Doer R) (graph : Graph) (a : Access) : Type 0 where
+  pub reads : (t : ℕ) → a.source ≡ Some t → IsEdge graph t a.txn
+  pub replaces : (f : Doer) → told_at version_eq replacers (a.key, a.source) ≡ Some f → a.txn ≢ f.txn → IsEdge graph a.txn f.txn
+  pub twice : (f : Doer) → told_at version_eq replacers (a.key, a.source) ≡ Some f → a.txn ≢ f.txn → a.need ≢ a.left → IsEdge graph f.txn a.txn
+
+-- All edges of `old` are edges of `new`.
+abbrev pub Keeps : Graph → Graph → Type 0
+Keeps old new = (u : ℕ) (l : Edge) → HasEdge old l u → HasEdge new l u
+
+-- The edges of one more access were added.
+pub record EdgesOne {R : Type 0} (accesses : List Access) (replacers : HashMap Version Doer R) (a : Access) (old new : Graph) : Type 0 where
+  pub len : length new ≡ length old
+  pub keeps : Keeps old new
+  pub joined : IsJoined replacers new a
+  pub meant : AreMeant accesses old → AreMeant accesses new

@@ -1,0 +1,85 @@
+-- What the outcome of the judge means.
+use Rattle.std.specs.Prelude.{ℕ, ◌≡◌, ◌==◌, ◌<◌, ◌&&◌, Bool, true, Option, Some, None, is_some, List, [], ◌∷◌, length, slice_get, if◌then◌else◌}
+use Rattle.std.specs.HashMap.{HashMap, get as told_at}
+use Rattle.order_check.specs.declared.access.Access.{Access}
+use Rattle.order_check.specs.declared.outcome.Outcome.{Outcome}
+use Rattle.order_check.specs.declared.outcome.Outcome.TheVariants.{Order, Unwritten, Cycle, Ambiguous}
+use Rattle.order_check.specs.declared.edge.Edge.{Edge}
+use Rattle.order_check.specs.declared.table.Doer.{Doer}
+use Rattle.order_check.specs.Footprints.{Cell, Footprint}
+use Rattle.order_check.specs.Forces.{Forces}
+use Rattle.order_check.specs.Graphs.{IsCycle, Graph, HasEdge}
+use Rattle.order_check.specs.Orders.{IsOrderOf, HasNoOrder}
+use Rattle.order_check.specs.Tables.{Version, version_eq, IsAmong, DoesWrite, DoesBeside}
+use Rattle.order_check.specs.Joined.{DoesAt, AreDistinct, AreSourced}
+use Rattle.std.specs.List.{range_with_len}
+use Rattle.order_check.specs.Choices.{IsUnwritten}
+use Rattle.order_check.specs.InTurn.{AreRising}
+use mathlib.Core.Logic.{◌⊎◌}
+
+abbrev pub cell_of : Access → Cell
+cell_of a = record { need = a.need; now = a.left }
+
+-- The footprint of each transaction.
+abbrev pub footprints_of : List Access → ℕ → Footprint
+footprints_of [] t k = None
+footprints_of (a ∷ rest) t k = if (a.txn == t) && (a.key == k) then Some (cell_of a) else footprints_of rest t k
+
+-- The source of each need.
+abbrev pub sources_of : List Access → ℕ → ℕ → Option ℕ
+sources_of [] t k = None
+sources_of (a ∷ rest) t k = if (a.txn == t) && (a.key == k) then a.source else sources_of rest t k
+
+-- The accesses of so many transactions, one transaction after the other. Their sources mean nothing.
+pub record ArePlain (count : ℕ) (accesses : List Access) : Type 0 where
+  pub below : (a : Access) → IsAmong a accesses → a.txn < count
+  pub distinct : AreDistinct accesses
+  pub rising : AreRising 0 accesses
+
+-- The accesses of so many transactions.
+pub record AreAccesses (count : ℕ) (accesses : List Access) : Type 0 where
+  pub below : (a : Access) → IsAmong a accesses → a.txn < count
+  pub distinct : AreDistinct accesses
+  pub sourced : AreSourced accesses
+
+abbrev pub IsTxn : ℕ → ℕ → Type 0
+IsTxn count t = t < count
+
+-- Whether the value comes only once, if this is what is known of its writers.
+abbrev pub comes_once : Option Doer → Option ℕ → Bool
+comes_once None v = true
+comes_once (Some d) v = is_some v && d.is_only
+
+abbrev pub IsOnce : {S : Type 0} → HashMap Version Doer S → Edge → Type 0
+IsOnce writers l = comes_once (told_at version_eq writers (l.key, l.value)) l.value ≡ true
+
+-- These edges are some of the others, and the value of each comes only once.
+abbrev pub AreOnce : {S : Type 0} → HashMap Version Doer S → List Edge → List Edge → Type 0
+AreOnce writers all kept =
+    (n : ℕ) (l : Edge) → slice_get kept n ≡ Some l → (m : ℕ) × (slice_get all m ≡ Some l) × IsOnce writers l
+
+-- The same for all transactions.
+pub record AreCertain {S : Type 0} (writers : HashMap Version Doer S) (all kept : Graph) : Type 0 where
+  pub len : length kept ≡ length all
+  pub certain : (u : ℕ) (l : Edge) → HasEdge kept l u → HasEdge all l u × IsOnce writers l
+
+-- The value comes more than once: two transactions write it, or a transaction makes the key absent,
+-- as it was at the beginning.
+abbrev pub IsRepeated : List Access → Version → Type 0
+IsRepeated accesses q =
+    (t : ℕ) × DoesAt (DoesWrite q) accesses t
+    × ((q.1 ≡ None) ⊎ DoesBeside (DoesWrite q) accesses t)
+
+-- The outcome on the accesses of so many transactions.
+abbrev pub IsOutcome : ℕ → List Access → Outcome → Type 0
+IsOutcome count accesses (Order ts) = IsOrderOf (IsTxn count) (footprints_of accesses) ts.items
+IsOutcome count accesses (Unwritten a) =
+    IsUnwritten accesses a × HasNoOrder (IsTxn count) (footprints_of accesses)
+IsOutcome count accesses (Cycle ls) =
+    IsCycle (Forces (footprints_of accesses)) ls.items × HasNoOrder (IsTxn count) (footprints_of accesses)
+IsOutcome count accesses (Ambiguous l) = IsRepeated accesses (l.key, l.value)
+
+-- The outcome is the order of the transactions' numbers.
+abbrev pub IsInTurn : ℕ → Outcome → Type 0
+IsInTurn count (Order ts) = ts.items ≡ range_with_len 0 count
+IsInTurn count _ = ⊥

@@ -1,0 +1,82 @@
+//! Chooses the source of each access, in the order of the list.
+ghost use Rattle.std.specs.Prelude.{◌≡◌, IfOk, List};
+ghost use Rattle.order_check.specs.Choices.{IsChoice, LatestWrite, IsSourcing};
+ghost use Rattle.order_check.specs.declared.access.Access.{Access};
+ghost use Rattle.order_check.specs.Tables.{AreTold};
+
+use crate::access::Access;
+use crate::table::{Tables, Version, make_tables};
+use std::alloc::{AllocError, Global};
+use std::collections::HashMap;
+
+/// The accesses with their sources.
+#[derive(Drop)]
+pub(crate) enum Choice {
+    /// The same accesses, each with a source that gives what it needs.
+    Sourced(Vec<Access>),
+    /// No transaction writes the value that this access needs.
+    Unwritten(Access),
+}
+
+/// Where a value comes from.
+#[derive(Clone, Copy)]
+pub(crate) enum Source {
+    /// The key is as it was at the beginning.
+    Beginning,
+    /// This transaction writes it.
+    Txn(u64),
+    /// Nobody writes it.
+    Nobody,
+}
+
+/// Chooses the source of each access: the last transaction before it in the list that writes the
+/// value. If there is none, the first one after it, or the beginning if the key must be absent.
+pub(crate) fn choose_sources(alloc: Global, accesses: &[Access]) -> Result<Choice, AllocError>
+    ensures { IfOk result (IsChoice accesses.now) }
+{
+    let tables = make_tables(alloc, accesses)?;
+    let mut latest = HashMap::new(alloc);
+    let mut sourced = Vec::new(alloc);
+    for access in accesses {
+        let source = match source_of(&tables, &latest, access) {
+            Source::Beginning => None,
+            Source::Txn(txn) => Some(txn),
+            Source::Nobody => return Ok(Choice::Unwritten(*access)),
+        };
+        sourced.push(with_source(*access, source))?;
+        if access.need != access.left {
+            latest.insert((access.key, access.left), access.txn as u64)?;
+        }
+    }
+    Ok(Choice::Sourced(sourced))
+}
+
+/// The access with this source.
+fn with_source(access: Access, source: Option<u64>) -> Access
+    ensures { result ≡ record access { source = source } }
+{
+    Access {
+        txn: access.txn,
+        key: access.key,
+        need: access.need,
+        left: access.left,
+        source,
+    }
+}
+
+/// The source of an access.
+fn source_of(tables: &Tables, latest: &HashMap<Version, u64>, access: &Access) -> Source
+    ensures { (accesses : List Access) → AreTold accesses tables.now.writers tables.now.replacers
+        → LatestWrite accesses latest.now → IsSourcing accesses access.now result }
+{
+    if let Some(txn) = latest.get(&(access.key, access.need)) {
+        return Source::Txn(*txn);
+    }
+    if access.need.is_none() {
+        return Source::Beginning;
+    }
+    match tables.writers.get(&(access.key, access.need)) {
+        Some(doer) => Source::Txn(doer.txn as u64),
+        None => Source::Nobody,
+    }
+}

@@ -1,0 +1,26 @@
+//! The edges of each transaction.
+ghost use Rattle.std.specs.Prelude.{◌≡◌, ◌<◌, length, vec_len, OnOk, IfOk, true};
+ghost use Rattle.order_check.specs.Growth.{Adds, AreEmpty};
+
+use crate::edge::Edge;
+use std::alloc::{AllocError, Global};
+
+/// No edges for each of so many transactions.
+pub(crate) fn no_edges(alloc: Global, count: usize) -> Result<Vec<Vec<Edge>>, AllocError>
+    ensures { IfOk result (λ graph. AreEmpty count graph.items) }
+{
+    let mut graph = Vec::new(alloc);
+    for _ in 0..count {
+        graph.push(Vec::new(alloc))?;
+    }
+    Ok(graph)
+}
+
+/// Adds an edge to a transaction.
+pub(crate) fn add(graph: &mut Vec<Vec<Edge>>, to: usize, edge: Edge) -> Result<(), AllocError>
+    requires { to < vec_len graph.old }
+    ensures { OnOk result (Adds edge to graph.old.items graph.new.items) }
+{
+    graph[to].push(edge)?;
+    Ok(())
+}

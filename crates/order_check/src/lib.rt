@@ -1,0 +1,49 @@
+//! A judge of histories by any order of their transactions.
+//!
+//! A history is a list of `txn_trace`'s entries. It is serializable (`IsSerializable`) if it has
+//! the right shape and a serial order. A serial order has each committed transaction once. Each of
+//! them has the same replies as if it ran alone after those before it, from the empty map
+//! (Papadimitriou, "The Serializability of Concurrent Database Updates", JACM 1979). Transactions
+//! that abort or stay open may have read anything.
+//!
+//! Until a transaction commits, the checker keeps its footprint (`serial_check`). From then on it
+//! keeps an access for each key: the value that the transaction needs, and the one that it leaves.
+//! Each value that is needed gets a source. A transaction comes after its sources, and before
+//! those that replace what it needs. These are the dependencies of Adya, "Weak Consistency"
+//! (1999). An order that keeps them is serial.
+//!
+//! Proved of each verdict:
+//! - Its order is a serial order.
+//! - Its reason holds, and the history is not serializable.
+//! - If it is undecided, the value that it names comes more than once.
+//! - If the order of the commits is a serial order, the verdict names this order.
+//!
+//! By the law `by_commits`, a history that is legal by locks is serializable.
+//!
+//! A verdict takes time and memory in proportion to the accesses (not measured). Only tested: that
+//! few verdicts are undecided. Missing: a search among several sources, the entries of an edge,
+//! real time, and a command of the program `judge`.
+#![tactic(auto)]
+
+mod access;
+mod checker;
+mod choice;
+mod edge;
+mod edges;
+mod gather;
+mod graph;
+mod history;
+mod in_turn;
+mod laws;
+mod naming;
+mod outcome;
+mod search;
+mod table;
+mod transactions;
+mod verdict;
+
+pub use checker::Checker;
+pub use edge::{Edge, Kind};
+pub use history::{check, check_packed};
+pub use laws::{by_commits, edges_forced, no_order, sources_suffice};
+pub use verdict::{Reason, Verdict};

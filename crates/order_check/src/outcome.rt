@@ -1,0 +1,146 @@
+//! The judge: finds an order of transactions, or shows why there is none.
+ghost use Rattle.std.specs.Prelude.{◌≡◌, IfOk, IfSome, IsNone, true, false};
+ghost use Rattle.std.specs.HashMap.{get as told_at};
+ghost use Rattle.std.specs.List.{All};
+ghost use Rattle.order_check.specs.Outcomes.{AreAccesses, AreCertain, AreOnce, ArePlain, IsInTurn, IsOutcome, IsOnce, comes_once};
+ghost use Rattle.std.specs.List.{range_with_len};
+ghost use Rattle.order_check.specs.Footprints.{no_values};
+ghost use Rattle.order_check.specs.InTurn.{RunInTurn};
+ghost use Rattle.order_check.specs.Tables.{version_eq};
+
+use crate::access::Access;
+use crate::choice::{Choice, choose_sources};
+use crate::edge::Edge;
+use crate::edges::add_edges;
+use crate::graph::no_edges;
+use crate::in_turn::run_in_turn;
+use crate::search::{Found, find_order};
+use crate::table::{Tables, make_tables};
+use std::alloc::{AllocError, Global};
+
+/// What the judge found.
+#[derive(Drop)]
+pub(crate) enum Outcome {
+    /// In this order each transaction finds what it needs.
+    Order(Vec<usize>),
+    /// There is no order: no transaction writes the value that this access needs.
+    Unwritten(Access),
+    /// There is no order: in each order these edges would go forward, and they form a circle.
+    Cycle(Vec<Edge>),
+    /// The judge does not know. It found a circle with this edge, but the value of the edge comes
+    /// more than once.
+    Ambiguous(Edge),
+}
+
+/// Judges the accesses of so many transactions. Their sources mean nothing, and are chosen. If the
+/// transactions find what they need in the order of their numbers, this order is the outcome.
+pub(crate) fn judge(alloc: Global, count: usize, accesses: &[Access]) -> Result<Outcome, AllocError>
+    requires { ArePlain count accesses.now }
+    ensures outcome { IfOk result (IsOutcome count accesses.now) }
+    ensures in_turn { RunInTurn no_values accesses.now → IfOk result (IsInTurn count) }
+{
+    if run_in_turn(alloc, accesses)? {
+        return Ok(Outcome::Order(places(alloc, count)?));
+    }
+    judge_plain(alloc, count, accesses)
+}
+
+/// The numbers of so many transactions, in rising order.
+fn places(alloc: Global, count: usize) -> Result<Vec<usize>, AllocError>
+    ensures { IfOk result (λ order. order.items ≡ range_with_len 0 count) }
+{
+    let mut order = Vec::new(alloc);
+    for place in 0..count {
+        order.push(place)?;
+    }
+    Ok(order)
+}
+
+/// Judges the accesses by a graph.
+fn judge_plain(alloc: Global, count: usize, accesses: &[Access]) -> Result<Outcome, AllocError>
+    requires { ArePlain count accesses.now }
+    ensures { IfOk result (IsOutcome count accesses.now) }
+{
+    match choose_sources(alloc, accesses)? {
+        Choice::Sourced(sourced) => judge_sourced(alloc, count, &sourced),
+        Choice::Unwritten(access) => Ok(Outcome::Unwritten(access)),
+    }
+}
+
+/// Judges accesses with their sources.
+fn judge_sourced(alloc: Global, count: usize, accesses: &[Access]) -> Result<Outcome, AllocError>
+    requires { AreAccesses count accesses.now }
+    ensures { IfOk result (IsOutcome count accesses.now) }
+{
+    let tables = make_tables(alloc, accesses)?;
+    let mut graph = no_edges(alloc, count)?;
+    for access in accesses {
+        add_edges(&mut graph, &tables, access)?;
+    }
+    match find_order(alloc, &graph)? {
+        Found::Order(order) => Ok(Outcome::Order(order)),
+        Found::Cycle(edges) => match first_repeated(&tables, &edges) {
+            Some(edge) => {
+                let certain = keep_once(alloc, &tables, &graph)?;
+                match find_order(alloc, &certain)? {
+                    Found::Cycle(edges) => Ok(Outcome::Cycle(edges)),
+                    Found::Order(_) => Ok(Outcome::Ambiguous(edge)),
+                }
+            }
+            None => Ok(Outcome::Cycle(edges)),
+        },
+    }
+}
+
+/// The edges whose values come only once.
+fn keep_once(
+    alloc: Global,
+    tables: &Tables,
+    graph: &[Vec<Edge>],
+) -> Result<Vec<Vec<Edge>>, AllocError>
+    ensures { IfOk result (λ kept. AreCertain tables.now.writers graph.now kept.items) }
+{
+    let mut kept = Vec::new(alloc);
+    for row in graph {
+        kept.push(keep_in(alloc, tables, row)?)?;
+    }
+    Ok(kept)
+}
+
+/// The edges of one transaction whose values come only once.
+fn keep_in(alloc: Global, tables: &Tables, row: &[Edge]) -> Result<Vec<Edge>, AllocError>
+    ensures { IfOk result (λ kept. AreOnce tables.now.writers row.now kept.items) }
+{
+    let mut kept = Vec::new(alloc);
+    for edge in row {
+        if is_once(tables, edge) {
+            kept.push(*edge)?;
+        }
+    }
+    Ok(kept)
+}
+
+/// The first edge whose value comes more than once.
+fn first_repeated(tables: &Tables, edges: &[Edge]) -> Option<Edge>
+    ensures none { IsNone result → All (IsOnce tables.now.writers) edges.now }
+    ensures some { IfSome result (λ l.
+        comes_once (told_at version_eq tables.now.writers (l.key, l.value)) l.value ≡ false) }
+{
+    for edge in edges {
+        if !is_once(tables, edge) {
+            return Some(*edge);
+        }
+    }
+    None
+}
+
+/// Whether the value of an edge comes only once.
+fn is_once(tables: &Tables, edge: &Edge) -> bool
+    ensures { result
+        ≡ comes_once (told_at version_eq tables.now.writers (edge.now.key, edge.now.value)) edge.now.value }
+{
+    match tables.writers.get(&(edge.key, edge.value)) {
+        Some(doer) => edge.value.is_some() && doer.is_only,
+        None => true,
+    }
+}

@@ -1,4 +1,0 @@
-use Rattle.shared_transactions.proofs.session.run_session.Given as goal
-
-abbrev pub ghosts-run_under : goal.ghosts-run_under
-ghosts-run_under g a = record { name = a.blank.name; parts = a.blank.parts }

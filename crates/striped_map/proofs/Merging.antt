@@ -1,0 +1,96 @@
+-- If the records of all callers stand for their entries in a history, they are the history.
+use Rattle.std.proofs.Common.{◌≡◌, ℕ, zero, suc, ◌+◌, ◌-◌, ◌^◌, ◌<◌, ◌≤◌, List, [], ◌∷◌, ◌++◌, Vec, Global, Option, None, Some, slice_get, get_or, take, take-suc, length, replicate, sym, refl, ap, subst, ◌∙◌, arith, length-append, true, cond, ne_eqb}
+use Rattle.std.proofs.lemmas.Bool.{false≢true}
+use mathlib.Core.Logic.{dite}
+use native.Mathlib.Decide.{ℕ_discrete}
+use Rattle.std.proofs.lemmas.List.{take_all, length-take-le, length-replicate}
+use Rattle.txn_words.specs.declared.entry.Entry.{Entry}
+use Rattle.txn_words.specs.declared.holder.Holder.TheVariants.{Begun}
+use Rattle.txn_words.specs.Shape.{own, IsShaped}
+use Rattle.txn_trace.specs.Legal.{IsLegal}
+use Rattle.striped_map.specs.declared.record.Record.{Record}
+use Rattle.striped_map.specs.declared.view.View.{View}
+use Rattle.striped_map.specs.Steps.{HasAll, HasNoOther, marks, placed}
+use Rattle.striped_map.specs.Rule.{HasEnded}
+use Rattle.striped_map.specs.Records.{spread, told_by}
+use Rattle.striped_map.specs.Gathered.{HasParts, is_taken, entries_in, entries_to, merged, numbered, records_of, written, written_from, written_to}
+use Rattle.striped_map.proofs.Marks.{marks_seen}
+use Rattle.striped_map.proofs.Gathering.{gathered_all}
+use Rattle.striped_map.proofs.Recording.{length-placed, length-told, parts_more, written_more}
+
+abbrev pub Parts : Type 0
+Parts = List (Option (Vec Record Global))
+
+-- The records at each place of a list stand for the entries that the caller with this number has in
+-- the history.
+abbrev AreParts : Parts → List Entry → Type 0
+AreParts parts log = (c : ℕ) → c < length parts → marks c 0 log ≡ spread c (records_of (get_or parts c None))
+
+length-spread : (c d : ℕ) (rs : List Record) → length (spread c rs) ≡ length (spread d rs)
+length-spread c d [] = refl
+length-spread c d (r ∷ rs) =
+    let a = length-append (placed r.at (told_by c r.what)) (spread c rs) in let b = length-append (placed r.at (told_by d r.what)) (spread d rs) in
+    let p = length-placed r.at (told_by c r.what) in let q = length-placed r.at (told_by d r.what) in
+    let t = length-told c d r.what in let more = length-spread c d rs in omega arith
+
+-- The records of the first `n` callers.
+module _ (parts : Parts) (log : List Entry) (are : AreParts parts log) where
+  written_first : (t : List Entry) (n : ℕ) → n ≤ length parts → written_from 0 t (take n parts) ≡ written_to n t log
+  written_first t zero le = refl
+  written_first t (suc n) le =
+      let part = get_or parts n None in let long = length-take-le n parts (omega arith) in
+      ap (written_from 0 t) (take-suc parts n None (omega arith))
+      ∙ written_more 0 t (take n parts) part
+      ∙ ap (λ (k : ℕ). written (written_from 0 t (take n parts)) (spread k (records_of part))) (let more : 0 + length (take n parts) ≡ n = omega arith in more)
+      ∙ ap (λ (l : List Entry). written l (spread n (records_of part))) (written_first t n (omega arith))
+      ∙ ap (written (written_to n t log)) (sym (are n (omega arith)))
+
+  entries_first : (n : ℕ) → n ≤ length parts → entries_in (take n parts) ≡ entries_to n log
+  entries_first zero le = refl
+  entries_first (suc n) le =
+      let part = get_or parts n None in
+      let one : entries_in (take (suc n) parts) ≡ entries_in (take n parts ++ part ∷ []) = ap entries_in (take-suc parts n None (omega arith)) in
+      let two = parts_more (take n parts) part in let three = entries_first n (omega arith) in
+      let four = ap length (are n (omega arith)) in let five = length-spread 0 n (records_of part) in
+      omega arith
+
+  merged_is : (blank : Entry) → IsShaped log → ((c : ℕ) → length parts ≤ c → own c log ≡ []) → entries_in parts < 2 ^ 64 → merged blank parts ≡ log
+  merged_is blank shape others small =
+      let n : ℕ = length parts in let t : List Entry = replicate (entries_in parts) blank in
+      let whole : take n parts ≡ parts = take_all n parts (omega arith) in
+      let long : length t ≡ entries_in parts = length-replicate (entries_in parts) blank in
+      let same : entries_in parts ≡ entries_to n log = ap entries_in (sym whole) ∙ entries_first n (omega arith) in
+      ap (λ (ps : Parts). numbered 0 0 (written_from 0 t ps)) (sym whole) ∙ ap (numbered 0 0) (written_first t n (omega arith))
+      ∙ gathered_all n t log shape others (long ∙ same) (omega arith)
+
+-- A merged caller's records stand for its entries in the whole history.
+ended_marked : (c : ℕ) (seen log : List Entry) (rs : List Record) → HasEnded c seen log → marks c 0 seen ≡ spread c rs → marks c 0 log ≡ spread c rs
+ended_marked c seen log rs ended marked = ap (marks c 0) ended.goes ∙ marks_seen c seen ended.rest ended.others ∙ marked
+
+-- A caller that was merged is in the list.
+taken_at : (c : ℕ) (rs : List (ℕ × List Entry)) → is_taken c rs ≡ true → (j : ℕ) × (r : ℕ × List Entry) × (slice_get rs j ≡ Some r) × (r.0 ≡ c)
+taken_at c [] is = absurd (false≢true is)
+taken_at c (r ∷ rs) is = dite (ℕ_discrete r.0 c)
+    (λ (same : r.0 ≡ c). (0, r, refl, same))
+    (λ ne. let more = taken_at c rs (sym (ap (λ b. cond b true (is_taken c rs)) (ne_eqb r.0 c ne)) ∙ is) in (suc more.0, more.1, more.2, more.3))
+
+-- If the host has merged each caller and then looks at the history, the records of all callers,
+-- merged by their positions, are the history.
+module _ (v : View) (mine : Vec Record Global) (parts : Parts) (has : HasParts v.retired parts) (all : HasAll v v.seen) where
+  part_marked : (c : ℕ) (part : Option (Vec Record Global)) → get_or parts c None ≡ part → (part ≡ None → ⊥) → marks (c + 1) 0 v.seen ≡ spread (c + 1) (records_of part)
+  part_marked c None is some = absurd (some refl)
+  part_marked c (Some rs) is some =
+      let one = taken_at (c + 1) v.retired (has.made c (λ none. some (sym is ∙ none))) in let r = one.1 in
+      let same : r.0 ≡ c + 1 = one.3 in
+      let at : get_or parts (r.0 - 1) None ≡ Some rs = ap (λ (k : ℕ). get_or parts k None) (omega arith) ∙ is in
+      subst (λ (k : ℕ). marks k 0 v.seen ≡ spread k rs.items) same (ended_marked r.0 r.1 v.seen rs.items (all one.0 r one.2) (has.marked one.0 r one.2 rs at))
+
+  are_parts : marks 0 0 v.seen ≡ spread 0 mine.items → ((c : ℕ) → c < length parts → get_or parts c None ≡ None → ⊥) → AreParts (Some mine ∷ parts) v.seen
+  are_parts marked some zero lt = marked
+  are_parts marked some (suc c) lt =
+      let next : c + 1 ≡ suc c = omega arith in
+      subst (λ (k : ℕ). marks k 0 v.seen ≡ spread k (records_of (get_or parts c None))) next (part_marked c (get_or parts c None) refl (some c (omega arith)))
+
+  pub host_history : (n : ℕ) (blank : Entry) → marks 0 0 v.seen ≡ spread 0 mine.items → ((c : ℕ) → c < length parts → get_or parts c None ≡ None → ⊥) → v.made ≡ length parts + 1
+      → HasNoOther v v.seen → IsLegal Begun n v.seen → entries_in (Some mine ∷ parts) < 2 ^ 64 → merged blank (Some mine ∷ parts) ≡ v.seen
+  host_history n blank marked some made others legal small = merged_is (Some mine ∷ parts) v.seen (are_parts marked some) blank legal.shape (λ c low. others c (omega arith)) small

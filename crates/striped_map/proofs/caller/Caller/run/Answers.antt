@@ -1,0 +1,21 @@
+use Rattle.std.proofs.Common.{inr}
+use Rattle.striped_map.proofs.Ran.{runs_all}
+use Rattle.striped_map.proofs.Within.{taken_back_by}
+use Rattle.striped_map.proofs.caller.Caller.run.Goals as goal
+
+pub returns-in-Ok-clause-ok : goal.returns-in-Ok-clause-ok
+returns-in-Ok-clause-ok c =
+    let begun = c.in_ok-begin.ensures.ok in
+    runs_all c.args.self.now c.begin.new.self c.do_all.new.self c.commit.new.self c.args.ops.now c.do_all.new.replies.items begun.2 c.commit.result begun.3 c.in-Ok.ensures.ok c.commit.ensures.ok
+
+pub returns-in-Err-clause-err : goal.returns-in-Err-clause-err
+returns-in-Err-clause-err c =
+    let begun = c.in_ok-begin.ensures.ok in
+    inr (inr (record {
+      txn = begun.2;
+      b = c.begin.new.self;
+      began = begun.3;
+      c = c.do_all.new.self;
+      does = c.in-Err.ensures.err;
+      back = taken_back_by c.do_all.new.self c.abort.new.self c.abort.result c.abort.ensures.closed c.abort.ensures.ok c.abort.ensures.err;
+    }))

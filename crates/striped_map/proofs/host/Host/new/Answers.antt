@@ -1,0 +1,28 @@
+use Rattle.std.proofs.Common.{◌≡◌, length, Option, None, Vec, Global, [], ◌∙◌, sym, ap, subst, arith}
+use Rattle.std.proofs.lemmas.List.{length-replicate}
+use Rattle.striped_map.specs.declared.record.Record.{Record}
+use Rattle.striped_map.specs.declared.seat.MapSeat.{MapSeat}
+use Rattle.striped_map.specs.declared.view.View.{View}
+use Rattle.striped_map.specs.Gathered.{HasParts}
+use Rattle.striped_map.specs.Rule.{view}
+use Rattle.striped_map.specs.Seats.{keep_of, known}
+use Rattle.striped_map.specs.Steps.{Sat}
+use Rattle.striped_map.proofs.Hosting.{none_merged}
+use Rattle.striped_map.proofs.Sounds.{at_new}
+use Rattle.striped_map.proofs.host.Host.new.Goals as goal
+
+pub invariant_of-result : goal.invariant_of-result
+invariant_of-result c = let seat = c.new.result.seat in
+    let same : seat.seat ≡ c.args.first = ap (λ (s : MapSeat). s.seat) c.new.ensures ∙ c.fresh.ensures in
+    let first = c.requires.first in let parts = c.requires.parts in
+    let is : known seat ≡ view (keep_of c.args.map.value) 0 first.0 [] [] = ap (λ z. z.me.0) same ∙ ap (λ (m : Sat). m.0) first.1 in
+    record {
+      of = ap (λ z. z.table_id) same ∙ c.requires.table;
+      alike = ap (λ (v : View). v.keep) is;
+      first = ap (λ (v : View). v.number) is;
+      closed = at_new (known seat) (ap (λ (v : View). v.seen) is);
+      idle = ap (λ (v : View). v.held) is;
+      sized = λ all. ap (λ z. z.me.0.made) same ∙ parts.2 (sym (ap (λ (v : View). v.keep) is) ∙ all)
+          ∙ (let long = ap length parts.1 ∙ length-replicate parts.0 (let p : Option (Vec Record Global) = None in p) in let o = c.args.parts.ok.0 in omega arith);
+      parted = λ all. subst (λ (v : View). HasParts v.retired c.args.parts.items) (sym is) (none_merged parts.0 c.args.parts.items parts.1);
+    }

@@ -1,0 +1,15 @@
+//! What a map keeps of its history.
+
+/// What a map keeps of its history. This is fixed when the map is opened (`Opening`). One word of
+/// the map counts what is kept, modulo 2^64 (`measure` in `specs/Rule.antt`).
+#[derive(Clone, Copy, Debug, Default, PartialEq, Eq)]
+pub enum Keep {
+    /// Nothing. Callers that use different stripes then write no common word.
+    #[default]
+    Nothing,
+    /// The number of commits. A commit then returns its place among all commits.
+    Commits,
+    /// Each caller's own entries, each with its position in the history. If all callers are merged,
+    /// the host hands the history out (`Host::history`).
+    Entries,
+}

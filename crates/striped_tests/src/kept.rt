@@ -1,0 +1,212 @@
+//! What maps keep: nothing, their commits, or their entries. The history that a host hands out is
+//! judged by `history_check`. How many transactions it commits was worked out by hand.
+ghost use Rattle.std.specs.Prelude.{◌≡◌};
+
+use crate::calls::{Ask, NEW, Row, Told, open_as, play};
+use crate::meets::{merge, moves_three, with_host};
+use history_check::{Checker, Verdict};
+use std::alloc::{AllocError, Global};
+use std::process::Abort;
+use std::thread;
+use std::thread::Threads;
+use striped_map::{Caller, Host, Keep, NoHistory, Opening};
+use txn_words::{Entry, Holder, Op};
+
+/// A commit in a map that keeps nothing, or its entries, has no place.
+const NO_PLACE: &[Row] = &[
+    (0, Ask::Begin, Told::Done),
+    (0, Ask::Do(Op::Put(1, 10)), NEW),
+    (0, Ask::Commit, Told::Done),
+];
+
+#[test]
+fn only_counted_commits_have_a_place(rt: HostRuntime) {
+    for keep in [Keep::Nothing, Keep::Entries] {
+        let mut opening = Opening::new(4, 1);
+        opening.keep = keep;
+        play(&rt, &mut open_as(&rt, rt.alloc(), opening), NO_PLACE);
+    }
+}
+
+/// Makes a call, whatever its answer. The call's map stays.
+fn begins(caller: &mut Caller)
+    ensures map { caller.new.map ≡ caller.old.map }
+{
+    let _begun = caller.begin();
+}
+
+/// The same for a put.
+fn puts(caller: &mut Caller, key: u64, value: u64)
+    ensures map { caller.new.map ≡ caller.old.map }
+{
+    let _put = caller.put(key, value);
+}
+
+/// The same for a take.
+fn takes(caller: &mut Caller, key: u64)
+    ensures map { caller.new.map ≡ caller.old.map }
+{
+    let _taken = caller.take(key);
+}
+
+/// The same for a savepoint.
+fn saves(caller: &mut Caller)
+    ensures map { caller.new.map ≡ caller.old.map }
+{
+    let _saved = caller.save();
+}
+
+/// The same for a return to a level.
+fn goes_back(caller: &mut Caller, level: u64)
+    ensures map { caller.new.map ≡ caller.old.map }
+{
+    let _gone = caller.back(level);
+}
+
+/// The same for a commit.
+fn commits(caller: &mut Caller)
+    ensures map { caller.new.map ≡ caller.old.map }
+{
+    let _committed = caller.commit();
+}
+
+/// The same for an abort.
+fn aborts(caller: &mut Caller)
+    ensures map { caller.new.map ≡ caller.old.map }
+{
+    let _aborted = caller.abort();
+}
+
+/// Fills account 1 and commits. Then changes a key twice, goes back, changes it again, and aborts.
+/// Returns the caller.
+fn takes_part(mut caller: Caller) -> Caller
+    ensures same_map { result.map.value ≡ caller.map.value }
+{
+    let one = &mut caller;
+    begins(one);
+    puts(one, 1, 100);
+    commits(one);
+    begins(one);
+    puts(one, 9, 1);
+    saves(one);
+    takes(one, 9);
+    goes_back(one, 1);
+    puts(one, 9, 2);
+    aborts(one);
+    caller
+}
+
+/// Makes nine transfers, one after the other. Returns the caller.
+fn moves_nine(caller: Caller) -> Caller
+    ensures same_map { result.map.value ≡ caller.map.value }
+{
+    let caller = moves_three(moves_three(moves_three(caller)));
+    let caller = moves_three(moves_three(moves_three(caller)));
+    moves_three(moves_three(moves_three(caller)))
+}
+
+/// Two callers make nine transfers each, in threads. Returns both.
+fn from_threads<R: Threads>(rt: &R, one: Caller, other: Caller) -> (Caller, Caller)
+    ensures one { result.0.map.value ≡ one.map.value }
+    ensures other { result.1.map.value ≡ other.map.value }
+{
+    thread::join(
+        rt,
+        move || -> Caller
+            ensures same_map { result.map.value ≡ one.map.value }
+        { moves_nine(one) },
+        move || -> Caller
+            ensures same_map { result.map.value ≡ other.map.value }
+        { moves_nine(other) },
+    )
+}
+
+/// How many transactions a history commits, if it is legal and no transaction is open at its end.
+fn commits_in(alloc: Global, entries: &[Entry]) -> Result<Option<u64>, AllocError> {
+    let mut checker = Checker::new(alloc, 4, Holder::Begun)?;
+    for entry in entries {
+        if entry.caller() >= 64 {
+            return Ok(None);
+        }
+        checker.feed(entry)?;
+    }
+    match checker.verdict() {
+        Verdict::Legal {
+            commits,
+            running: 0,
+        } => Ok(Some(commits)),
+        _ => Ok(None),
+    }
+}
+
+/// The host hands out a legal history with this number of commits.
+fn hands_out<R: Abort>(rt: &R, alloc: Global, host: &mut Host, wanted: u64) {
+    let history = host.history();
+    assert!(rt; history.is_ok());
+    if let Ok(entries) = history {
+        let commits = commits_in(alloc, entries.as_slice());
+        assert!(rt; commits == Ok(Some(wanted)));
+    }
+}
+
+/// The host hands out no history, for this reason.
+fn hands_out_nothing<R: Abort>(rt: &R, host: &mut Host, why: NoHistory) {
+    let history = host.history();
+    assert!(rt; matches!(history, Err(found) if found == why));
+}
+
+/// Two callers make nine transfers each in threads, and are merged.
+fn moves_and_merges<R: Abort + Threads>(rt: &R, host: &mut Host, one: Caller, other: Caller)
+    requires one { one.map.value ≡ host.old.map.value }
+    requires other { other.map.value ≡ host.old.map.value }
+    ensures map { host.new.map ≡ host.old.map }
+{
+    let (one, other) = from_threads(rt, one, other);
+    merge(rt, host, one);
+    merge(rt, host, other);
+}
+
+/// The history is handed out once each caller was merged, and as often as it is asked for.
+fn merges_all<R: Abort + Threads>(
+    rt: &R,
+    alloc: Global,
+    host: &mut Host,
+    one: Caller,
+    other: Caller,
+    third: Caller,
+)
+    requires one { one.map.value ≡ host.old.map.value }
+    requires other { other.map.value ≡ host.old.map.value }
+    requires third { third.map.value ≡ host.old.map.value }
+{
+    let third = takes_part(third);
+    moves_and_merges(rt, host, one, other);
+    merge(rt, host, third);
+    hands_out(rt, alloc, host, 19);
+    hands_out(rt, alloc, host, 19);
+}
+
+#[test]
+fn a_kept_history_is_legal(rt: HostRuntime) {
+    let (mut host, one, other, third) = with_host(&rt, rt.alloc(), Keep::Entries);
+    merges_all(&rt, rt.alloc(), &mut host, one, other, third);
+}
+
+/// Without the third caller there is no history, also after it is dropped.
+#[test]
+fn a_caller_is_missing(rt: HostRuntime) {
+    let (mut host, one, other, third) = with_host(&rt, rt.alloc(), Keep::Entries);
+    moves_and_merges(&rt, &mut host, one, other);
+    hands_out_nothing(&rt, &mut host, NoHistory::Missing(3));
+    drop(third);
+    hands_out_nothing(&rt, &mut host, NoHistory::Missing(3));
+}
+
+/// A map that does not keep its entries hands out no history.
+#[test]
+fn nothing_is_kept(rt: HostRuntime) {
+    for keep in [Keep::Nothing, Keep::Commits] {
+        let (mut host, _one, _other, _third) = with_host(&rt, rt.alloc(), keep);
+        hands_out_nothing(&rt, &mut host, NoHistory::NotKept);
+    }
+}
