@@ -15,7 +15,7 @@
 //! this flaw is the cause of the refusal. `flaw_in` keeps the JSON value of the whole file, which
 //! takes much more memory than `read_history`. Programs call it only for files that are refused.
 //!
-//! Only tested: line and column of a fault in JSON (`docs/tests/judge_program.sh`).
+//! Only tested: line and column of a fault in JSON (`tests/judge_program.sh`).
 #![tactic(auto)]
 
 mod elements;

@@ -1,6 +1,6 @@
 //! The keys in a fixed mixed order, so that keys that are used one after the other are not
 //! neighbours in the list. A key is computed from its position and not stored.
-//! `docs/speed/split.rs` computes the same keys, so the sums that this program and plain Rust print
+//! `speed/split.rs` computes the same keys, so the sums that this program and plain Rust print
 //! must agree.
 use split_key::Key;
 

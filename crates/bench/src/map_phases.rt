@@ -1,6 +1,6 @@
 //! Times the table beside the sorted map and the hash map of std: each is filled with the keys, and
 //! then does a mix of operations. The table is timed twice, with different largest sizes, since a
-//! table stops growing at its largest size. `docs/speed/growth.sh` compares the times with plain
+//! table stops growing at its largest size. `speed/growth.sh` compares the times with plain
 //! Rust.
 use crate::any_map::{AnyMap, store_bucket};
 use crate::keys::number_at;

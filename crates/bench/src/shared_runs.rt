@@ -1,6 +1,6 @@
 //! Times `run_scripts`, which runs scripts on a shared map, each worker in its own thread. Only the
 //! library is timed: the scripts are made or read before the clock starts, and the history is not
-//! printed. `docs/speed/run.sh` compares the times with plain Rust.
+//! printed. `speed/run.sh` compares the times with plain Rust.
 use crate::keys::number_at;
 use crate::stopwatch::Stopwatch;
 use anyhow::{Context, Result, anyhow, ensure};

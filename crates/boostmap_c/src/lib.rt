@@ -60,7 +60,7 @@
 //! caller's loop, is 23 instructions. Calls take constant time and no memory unless they say
 //! otherwise.
 //!
-//! Only tested: headers and bindings (`docs/tests/bindings.sh`).
+//! Only tested: headers and bindings (`tests/bindings.sh`).
 #![tactic(auto)]
 
 mod c_entry;

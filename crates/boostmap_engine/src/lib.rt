@@ -24,9 +24,9 @@
 //! the first write.
 //!
 //! Only tested: with enough memory no call fails with 1,000,000 steps, with 1,000,000 entries, nor
-//! with a report of 100,002 keys (`docs/tests/limits.sh`); after a failed read or write nothing is
+//! with a report of 100,002 keys (`tests/limits.sh`); after a failed read or write nothing is
 //! tried again (`engines` of `program_tests`); `Read` is never returned if each read succeeds
-//! (`docs/tests/program.sh`).
+//! (`tests/program.sh`).
 #![tactic(auto)]
 
 mod engine;

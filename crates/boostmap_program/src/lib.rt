@@ -26,7 +26,7 @@
 //! Only tested, of this crate and of `unthreaded_program`: if standard error fails at any byte of
 //! its line, the status does not change (`commands::writers_that_fail` of `program_tests`);
 //! `NoThread` and `OutOfStep` do not occur with 1 and 64 workers, nor with 10,000 scripts or
-//! actions (`docs/tests/limits.sh`).
+//! actions (`tests/limits.sh`).
 #![tactic(auto)]
 
 mod program;

@@ -31,7 +31,7 @@
 //! This crate is separate since nothing in it waits. The crates that use it say how callers take
 //! turns at the core. Calls take constant time and no memory unless they say otherwise.
 //!
-//! Only tested (`docs/tests/limits.sh`): with enough memory no call fails in a script of 10,000
+//! Only tested (`tests/limits.sh`): with enough memory no call fails in a script of 10,000
 //! actions on 4,096 stripes, in which a caller has more than 16 rights.
 #![tactic(auto)]
 

@@ -15,7 +15,7 @@
 //! and files.
 //!
 //! Only tested: `Host` passes on each word of the call, and opens exactly the file that a word
-//! names, or standard input for `-` (`docs/tests/judge_program.sh`).
+//! names, or standard input for `-` (`tests/judge_program.sh`).
 #![tactic(auto)]
 
 mod failure;

@@ -42,7 +42,7 @@
 //! of a new map is a new core with the map's limits (`cores::new_core`), and `close` returns it
 //! with its marked nodes (`cores::marked_node_at_close`); `help` initialises its key's bucket
 //! (`rows::help_grows`); an observer is called once for each hold (`releases::one_release_a_hold`);
-//! with enough memory no call fails (`rows::keys_of_64_bits`, `docs/tests/limits.sh`).
+//! with enough memory no call fails (`rows::keys_of_64_bits`, `tests/limits.sh`).
 #![tactic(auto)]
 
 mod calls;

@@ -10,7 +10,7 @@
 //! `judge_line` use them.
 //!
 //! Only tested: `Host` passes on each word of the call, and opens exactly the file that a word
-//! names (`docs/tests/program.sh`).
+//! names (`tests/program.sh`).
 #![tactic(auto)]
 
 mod system;

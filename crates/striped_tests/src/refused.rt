@@ -1,6 +1,6 @@
 //! In these tests memory is refused to calls. A refused call is made once more, and must then
 //! answer as if nothing had been refused. A call that is refused twice ends the test with that
-//! error. `docs/tests/refused.sh` refuses the memory. Without this script, the tests are plain
+//! error. `tests/refused.sh` refuses the memory. Without this script, the tests are plain
 //! worked runs.
 use crate::calls::{Ask, Home, NEW, Row, Told, answer, counted, must, reads};
 use std::alloc::Global;

@@ -264,7 +264,7 @@ fn put_and_remove(rt: &impl Abort, map: &mut ProbeMap) -> Result<(), Fail> {
 }
 
 /// The map reuses the room of removed keys. The test puts 100,000 keys, but at most eleven of them
-/// are in the map at a time. docs/tests/refused.py checks that the largest allocation is one for 64
+/// are in the map at a time. tests/refused.py checks that the largest allocation is one for 64
 /// slots.
 #[test]
 fn removed_keys(rt: HostRuntime) -> Result<(), Fail> {

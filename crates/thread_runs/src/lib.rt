@@ -15,7 +15,7 @@
 //! Only tested: a `Gate` is called once for each action, outcome and release, in order, with the
 //! numbers of worker and script (`gate_tests` of `thread_tests`; by its contract the private
 //! `run_script` could pass another number); two workers run at once; with enough memory no call
-//! fails with 64 workers and 10,000 scripts (`docs/tests/limits.sh`).
+//! fails with 64 workers and 10,000 scripts (`tests/limits.sh`).
 #![tactic(auto)]
 
 mod gate;

@@ -125,7 +125,7 @@ fn play_under<L: Ledger, P: Play, R: Wait + Abort>(
     Ok(true)
 }
 
-/// How often a test asks for memory before it gives up. `docs/tests/refused.py` refuses at most
+/// How often a test asks for memory before it gives up. `tests/refused.py` refuses at most
 /// eight allocations in a row, or one allocation and all later ones. So if all of these attempts
 /// are refused memory, memory is refused permanently.
 pub(crate) const TRIES: u64 = 9;

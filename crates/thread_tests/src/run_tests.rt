@@ -385,7 +385,7 @@ fn is_whole<R: Abort>(rt: &R, alloc: Global, ran: &Ran) -> bool {
     done == 2
 }
 
-/// Tests the state after a run that is refused memory by `docs/tests/refused.sh`. One worker runs
+/// Tests the state after a run that is refused memory by `tests/refused.sh`. One worker runs
 /// the scripts again and again, until both are committed. `refused.sh` refuses at most eight
 /// allocations in a row, or all allocations after some point. Eight refusals make at most eight
 /// runs fail. So if the ninth run also fails, every allocation is refused.

@@ -49,7 +49,7 @@ pub enum Refusal {
     OutOfStep,
     /// 16: no stamp below 2^64 - 1 is left.
     StampsUsedUp,
-    /// 17: the map has too few callers for the works that it is to run.
+    /// 17: callers of the map are missing: it is closed with one caller of each number.
     CallersMissing,
     /// 18: a worker could not be started.
     NoThread,
@@ -133,14 +133,14 @@ impl Refusal {
                 "the helper has no cursor to link at, or no dummy to store"
             }
             Refusal::NoMemory => "memory was refused",
-            Refusal::OutOfStep => "the map answered what the state of the caller excludes",
+            Refusal::OutOfStep => "the map and a caller disagree about what has happened",
             Refusal::StampsUsedUp => "no stamp is left for another node",
-            Refusal::CallersMissing => "the map has not one caller of each number",
+            Refusal::CallersMissing => "callers of the map are missing",
             Refusal::NoThread => "a thread could not be started",
-            Refusal::StaleWord => "the word of a stripe names a transaction that is over",
+            Refusal::StaleWord => "the claim to the stripe is stale",
             Refusal::NotJson => "the file is not JSON",
             Refusal::WrongShape => "the file has a piece of another shape than it should have",
-            Refusal::Limit => "the file, or a number in it, is out of range",
+            Refusal::Limit => "a size or a number is out of range",
         }
     }
 }

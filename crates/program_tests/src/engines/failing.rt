@@ -1,6 +1,6 @@
 //! Tests with readers and writers that fail at each call in turn, tests with refused memory, and
 //! tests of the lines of faults. No contract counts the calls of a reader or a writer. The tests
-//! check that no call is made after one has failed. If `docs/tests/refused.sh` refuses memory, the
+//! check that no call is made after one has failed. If `tests/refused.sh` refuses memory, the
 //! output must be empty or one of a few outputs that were worked out by hand.
 
 use super::checks::{CHECKED, LEGAL};

@@ -12,7 +12,7 @@ use std::process::Abort;
 use std::test::Fail;
 use txn_words::{Answer, Entry, Holder, Limits, Op, Refusal, SmallEntry, Step, Unpacked};
 
-/// How often a call is tried before memory counts as refused permanently. `docs/tests/refused.py`
+/// How often a call is tried before memory counts as refused permanently. `tests/refused.py`
 /// refuses either all allocations, or fewer than this number in a row.
 const TRIES: usize = 9;
 

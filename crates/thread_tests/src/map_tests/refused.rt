@@ -1,4 +1,4 @@
-//! Tests of the state after calls that are refused memory. `docs/tests/refused.sh` refuses the
+//! Tests of the state after calls that are refused memory. `tests/refused.sh` refuses the
 //! memory. Without this script, the tests are plain worked runs, whose ends were worked out by
 //! hand. No contract says that a refused call leaves its caller unchanged, or that a call gets
 //! memory as long as memory is free.

@@ -249,7 +249,7 @@ impl Play for SideReturns {
     }
 }
 
-/// `docs/tests/refused.sh` may refuse memory to every try of a call. The caller then aborts.
+/// `tests/refused.sh` may refuse memory to every try of a call. The caller then aborts.
 #[test]
 fn side_value_returns(rt: HostRuntime) -> Result<(), Fail> {
     play_where_made(&rt, rt.alloc(), 1, &SideReturns)

@@ -1,7 +1,0 @@
-#!/usr/bin/env bash
-# Judges drawn histories by `judge check --serializable` and by a plain judge
-# (docs/tests/forged_serial.py): 100,000 of seed 1. It needs python3.
-# Usage: docs/tests/forged_serial.sh [HISTORIES [SEED [PROGRAM]]]
-set -euo pipefail
-cd "$(dirname "${BASH_SOURCE[0]}")/../.."
-exec docs/tests/forged_serial.py "${3:-crates/judge/out/judge}" "${1:-100000}" "${2:-1}"

@@ -1,0 +1,277 @@
+#!/usr/bin/env python3
+"""bodies.py [CRATE..]: tries each wrong body of crates/NAME/must-fail/bodies.md, of all crates by default.
+
+A wrong body passes if the prover refuses the function that it changes, with this body alone in this
+function. One check of a crate, in a copy, tries bodies of different functions: the contract of a function
+hides its body from all others. Bodies of one function are tried in further checks (rounds). Refused means
+that a goal stays open. If the prover could not tell, or if it has no proof to look at, the body fails.
+
+A body may be refused only because a proof names a goal that the edit has renamed. That shows little of the
+contract. The script lists these bodies. It allows at most MOST_BY_NAME of them, and none that
+docs/PROMISES.md names.
+
+The libraries below a crate must be built (`rt ci` leaves them in out/; `rt lib` builds them too). Prints a
+line for each crate, with its processor seconds, and ends with the number of bodies that passed and failed.
+"""
+import os
+import re
+import shutil
+import subprocess
+import sys
+import tempfile
+import time
+from concurrent.futures import ThreadPoolExecutor
+from pathlib import Path
+
+ROOT = Path(__file__).resolve().parents[1]
+MOST_BY_NAME = 30
+HEAD = re.compile(r"(\s*)(?:pub(?:\([a-z]+\))?\s+)?(?:unsafe\s+)?(?:extern\s+\"C\"\s+)?fn\s+(\w+)")
+OWNER = re.compile(r"(?:pub\s+)?(?:impl|trait)\b.*")
+VERDICT = re.compile(r"fn (\S+): (proved|not proved|no proof|could not tell|assumed)(.*)")
+# What the prover says of a proof that names what an edit has renamed or taken away.
+NAMES = re.compile(r"is not in scope|has no field|has no `|exports no such name|was not admitted|is no name|cannot be named|no goal")
+ERROR = re.compile(r"(?:\./)?proofs/(\S+)\.antt:\d+:\d+: error: (.*)")
+OPEN = re.compile(r"(?:note: )?src/\S+: (it is not proved .*)")
+
+
+class Body:
+    """A wrong body: its name, its edits (file, old text, new text), the functions that it changes, and those
+    that must be refused: the same, or the one that a line `fn: NAME` names. An edit outside of functions
+    can change all of them, so such a body is tried alone."""
+
+    def __init__(self, name):
+        self.name, self.edits, self.named = name, [], set()
+
+    def find_functions(self, crate):
+        self.changed = {function_at(crate, file, old) for file, old, _ in self.edits}
+        self.is_alone = "" in self.changed
+        self.refused = self.named or self.changed
+        if "" in self.refused:
+            sys.exit(f"{crate.name}: {self.name} changes what is outside of functions: a line `fn: NAME` says which is refused")
+
+
+def bodies_of(crate):
+    """The bodies of a crate's page. A body begins with a line `# name`."""
+    bodies, file, old = [], "", ""
+    for line in (crate / "must-fail/bodies.md").read_text(encoding="utf-8").splitlines():
+        if re.fullmatch(r"# [a-z0-9_]+", line):
+            bodies.append(Body(line[2:]))
+        elif line.startswith("fn: "):
+            bodies[-1].named.add(line.removeprefix("fn: "))
+        elif line.startswith("file: "):
+            file = line.removeprefix("file: ")
+        elif line.startswith("old: "):
+            old = line.removeprefix("old: ")
+        elif line.startswith("new:"):
+            bodies[-1].edits.append((file, old, line.removeprefix("new:").removeprefix(" ")))
+    for body in bodies:
+        body.find_functions(crate)
+    return bodies
+
+
+def function_at(crate, file, old):
+    """The end of the name by which the prover calls the function around a text: `Type::function` or
+    `module::function`, or nothing if the text is outside of functions."""
+    text = (crate / file).read_text(encoding="utf-8")
+    place = text.find(old)
+    lines = text[: place + len(old.rstrip())].splitlines()
+    heads = [(number, HEAD.match(line)) for number, line in enumerate(lines) if HEAD.match(line)]
+    if place < 0 or not heads or file.startswith("specs/"):
+        return ""
+    number, head = heads[-1]
+    if any(line.startswith("}") or head[1] and line.startswith("    }") for line in lines[number:-1]):
+        return ""
+    if head[1]:
+        owner = next(line for line in reversed(lines[:number]) if OWNER.match(line))
+        return f"{name_of(owner)}::{head[2]}"
+    module = Path(file).stem
+    return head[2] if module in ("lib", "main") else f"{module}::{head[2]}"
+
+
+def name_of(owner):
+    """The prover's name of an `impl` or a trait: the type, followed by the trait that it implements."""
+    head = re.sub(r"^(?:pub\s+)?(?:impl|trait)\b|\s*(?:\{|\bwhere\b).*|&(?:'\w+ )?(?:mut )?", "", owner)
+    parameters = set()
+    if head.startswith("<"):
+        depths = [head[: place + 1].count("<") - head[: place + 1].count(">") for place in range(len(head))]
+        end = depths.index(0)
+        parameters = set(re.findall(r"[<,]\s*(?:const\s+)?(\w+)", head[:end]))
+        head = head[end + 1 :]
+    trait, _, kind = head.strip().partition(" for ")
+    last = lambda path: re.sub(r"<.*", "", path).split("::")[-1].split(":")[0].strip()
+    if not kind:
+        return last(trait)
+    of = "".join(word for word in re.findall(r"\w+", re.sub(r"^[^<]*", "", trait)) if word not in parameters)
+    return last(kind) + ("" if last(trait) == "Drop" else last(trait) + of)
+
+
+def edited(crate, texts, edits):
+    """The texts with these edits, or None if an old text does not stand exactly once."""
+    texts = dict(texts)
+    for file, old, new in edits:
+        text = texts.get(file) or (crate / file).read_text(encoding="utf-8")
+        if text.count(old) != 1:
+            return None
+        texts[file] = text.replace(old, new)
+    return texts
+
+
+def rounds_of(crate, bodies):
+    """Divides the bodies into rounds: in a round each function is changed once, and all texts apply."""
+    rounds = []
+    for body in bodies:
+        functions = body.changed | body.refused
+        for taken in rounds:
+            texts = edited(crate, taken["texts"], body.edits)
+            if texts is not None and not functions & taken["functions"] and not body.is_alone | taken["is_alone"]:
+                break
+        else:
+            texts = edited(crate, {}, body.edits)
+            if texts is None:
+                sys.exit(f"{crate.name}: {body.name}: an old text does not stand exactly once")
+            taken = {"bodies": [], "functions": set(), "is_alone": body.is_alone}
+            rounds.append(taken)
+        taken["texts"] = texts
+        taken["bodies"].append(body)
+        taken["functions"] |= functions
+    return rounds
+
+
+class Libraries:
+    """The crates of crates.txt, and the arguments with which the prover checks one over the libraries below it."""
+
+    def __init__(self):
+        self.kit = Path(subprocess.run([os.environ.get("RT", "rt"), "doc"], capture_output=True, text=True, check=True).stdout.strip()).parent
+        self.below = {}
+        for line in (ROOT / "crates.txt").read_text(encoding="utf-8").splitlines():
+            head, colon, libraries = line.partition(":")
+            if colon and not line.startswith("#"):
+                self.below[head.split()[0]] = (libraries.split(), "staticlib" in head.split())
+
+    def all_below(self, name):
+        found = []
+        for library in self.below[name][0]:
+            if library in self.below:
+                found += [library, *self.all_below(library)]
+        return list(dict.fromkeys(found))
+
+    def command(self, name):
+        kit, (libraries, is_archive) = self.kit, self.below[name]
+        folder = lambda library: ROOT / "crates" / library / "out/rlib" if library in self.below else kit / "rlibs"
+        words = [kit / "bin/rattle", "check", "--crate-name", name, "--links", f"{name}=", "--jobs", "1",
+                 "--extern", f"std={kit}/rlibs/std.rlib", "--logic-built", kit / "logic_built",
+                 "--antt-project", kit / "rattle/logic/antt-project.json", "--incremental", "proved"]
+        for library in [*self.all_below(name), "std"]:
+            words += ["-L", f"dependency={folder(library)}"]
+        for library in libraries:
+            words += ["--extern", f"{library}={folder(library)}/{library}.rlib"]
+        return [str(word) for word in words + ["--crate-type", "staticlib"] * is_archive]
+
+
+def outcomes_in(output):
+    """What a check says of each function, by the name with which the prover calls it: `refused`, `by name` or
+    `failed`, and the prover's words for it."""
+    found, notes, errors = {}, [], {}
+    for line in output:
+        error, note, verdict = ERROR.match(line), OPEN.match(line), VERDICT.match(line)
+        if error:
+            errors.setdefault(error[1].rpartition("/")[0].replace("/", "::"), []).append(error[2])
+        elif note:
+            notes.append(note[1])
+        elif verdict:
+            path, said, rest = verdict[1].partition("::")[2], verdict[2], verdict[3]
+            notes += re.findall(r"`search` did not prove (.*)", rest)
+            by_name = [error for error in errors.get(path, []) if NAMES.search(error)]
+            meant = [error for error in errors.get(path, []) if not NAMES.search(error)]
+            # A lemma of proofs/ that a changed definition has made false.
+            meant += [error for error in errors.get("", []) if by_name and not NAMES.search(error)]
+            is_open = said == "not proved" or "`search` did not prove" in rest
+            if is_open and (meant or notes and not by_name):
+                found[path] = ("refused", (meant or notes)[0])
+            elif is_open and by_name:
+                found[path] = ("by name", by_name[0])
+            else:
+                found[path] = ("failed", said + rest)
+            notes = []
+    return found
+
+
+def outcome_of(body, outcomes):
+    """The worst of the outcomes of the functions that a body must have refused. A function's outcome is the
+    best of its own and those of its closures."""
+    rank = lambda outcome: ("refused", "by name", "failed").index(outcome[0])
+    own = lambda function: [outcome for path, outcome in outcomes.items()
+                            if f"::{path}".endswith(f"::{function}") or f"fn::{function}::" in path]
+    best = [min(own(function), key=rank, default=("failed", f"no line about {function}")) for function in body.refused]
+    return max(best, key=rank)
+
+
+def try_round(command, crate, room, taken):
+    """Checks the functions of a round. Gives the outcome of each body, and the processor seconds."""
+    for file, text in taken["texts"].items():
+        Path(room, file).write_text(text, encoding="utf-8")
+    functions = sorted({function for body in taken["bodies"] for function in body.refused})
+    only = [word for function in functions for word in ("--only", function)]
+    ran = subprocess.Popen([*command, *only], cwd=room, stdout=subprocess.PIPE, stderr=subprocess.STDOUT, text=True, errors="replace")
+    output = ran.stdout.read()
+    _, status, used = os.wait4(ran.pid, 0)
+    for file in taken["texts"]:
+        shutil.copy(crate / file, Path(room, file))
+    if not re.search(r"^only=", output, re.M):
+        print(f"{crate.name}: no verdict, status {os.waitstatus_to_exitcode(status)}: {output.strip()[-1500:]}")
+    outcomes = outcomes_in(output.splitlines())
+    return {body: outcome_of(body, outcomes) for body in taken["bodies"]}, used.ru_utime + used.ru_stime
+
+
+def try_crate(libraries, crate):
+    """Tries the bodies of a crate. Gives them with their outcomes, the number of rounds, and the processor seconds."""
+    bodies, results, seconds, number = bodies_of(crate), {}, 0.0, 0
+    with tempfile.TemporaryDirectory(prefix="bodies-") as room:
+        for part in ("src", "specs", "proofs"):
+            if (crate / part).is_dir():
+                shutil.copytree(crate / part, Path(room, part))
+        os.mkdir(f"{room}/proved")
+        root = "src/main.rt" if (crate / "src/main.rt").is_file() else "src/lib.rt"
+        rounds = rounds_of(crate, bodies)
+        while rounds:
+            found, used = try_round([*libraries.command(crate.name), root], crate, room, rounds.pop(0))
+            results |= found
+            seconds, number = seconds + used, number + 1
+            # Of a function that calls one that this round has changed too, the prover may say only that.
+            calls = re.compile("it calls|a call of")
+            again = [body for body, (what, why) in found.items() if what == "failed" and calls.search(why) and len(found) > 1]
+            rounds += [round_ for body in again for round_ in rounds_of(crate, [body])]
+    return bodies, results, number, seconds
+
+
+def main(names):
+    libraries, promises = Libraries(), (ROOT / "docs/PROMISES.md").read_text(encoding="utf-8")
+    crates = [page.parents[1] for page in sorted((ROOT / "crates").glob("*/must-fail/bodies.md"))]
+    crates = [crate for crate in crates if not names or crate.name in names]
+    size = lambda crate: sum(file.stat().st_size for part in ("src", "proofs") for file in crate.glob(f"{part}/**/*.*t"))
+    passed, failed, by_name, seconds, begun = 0, 0, [], 0.0, time.time()
+    with ThreadPoolExecutor(os.cpu_count()) as workers:
+        runs = {crate: workers.submit(try_crate, libraries, crate) for crate in sorted(crates, key=size, reverse=True)}
+        for crate in crates:
+            bodies, results, rounds, used = runs[crate].result()
+            seconds += used
+            for body in bodies:
+                what, why = results[body]
+                passed, failed = passed + (what != "failed"), failed + (what == "failed")
+                if what == "by name":
+                    by_name.append(body)
+                    print(f"{crate.name}: {body.name}: refused only because a proof names what the edit changes: {why[:160]}")
+                elif what == "failed":
+                    print(f"{crate.name}: {body.name}: NOT REFUSED: {why}")
+            print(f"{crate.name}: {len(bodies)} bodies in {rounds} rounds, {used:.0f} processor seconds", flush=True)
+    promised = [body.name for body in by_name if f"`{body.name}`" in promises]
+    if promised:
+        print(f"docs/PROMISES.md names bodies that are refused only by name: {' '.join(promised)}")
+    failed += len(promised) + (len(by_name) > MOST_BY_NAME)
+    print(f"{len(by_name)} refused only by name (at most {MOST_BY_NAME} may be), {(time.time() - begun) / 60:.0f} minutes by the clock, {seconds / 60:.0f} processor minutes")
+    print(f"bodies: {passed} passed, {failed} failed")
+    return failed > 0
+
+
+if __name__ == "__main__":
+    sys.exit(main(sys.argv[1:]))

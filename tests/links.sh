@@ -1,0 +1,42 @@
+#!/bin/sh
+# Prints each link of the documents that leads to no file, or to no heading of one, and each wrong body
+# that docs/PROMISES.md names but its crate lacks. Fails if there is any.
+cd "$(dirname "$0")/.." || exit 1
+
+# The headings of a page, in the form in which links name them.
+headings() {
+    sed -n 's/^##* //p' "$1" | tr '[:upper:]' '[:lower:]' | LC_ALL=C sed 's/[^a-z0-9_ -]//g; s/ /-/g'
+}
+
+links() {
+    for document in *.md docs/*.md bindings/*.md; do
+        folder=$(dirname "$document")
+        grep -o '](\([^):]*\))' "$document" | sed 's/](//; s/)$//' | while read -r link; do
+            file=${link%%#*}
+            page=$folder/$file
+            [ -n "$file" ] || page=$document
+            heading=
+            case $link in *'#'*) heading=${link#*#} ;; esac
+            if [ ! -e "$page" ]; then
+                echo "$document: $link"
+            elif [ -n "$heading" ] && ! headings "$page" | grep -qxF -e "$heading"; then
+                echo "$document: $link"
+            fi
+        done
+    done
+}
+
+# The files of must-fail/ have the wrong bodies, each below a line "# NAME".
+bodies() {
+    grep '^- Refused: ' docs/PROMISES.md | tr ';' '\n' | while read -r part; do
+        folder=$(echo "$part" | sed -n 's|.*(\.\./\(crates/[a-z_]*/must-fail\)).*|\1|p')
+        for name in $(echo "$part" | grep -o '`[a-z0-9_]*`' | tr -d '`'); do
+            if ! grep -qxF -e "# $name" "$folder"/*; then
+                echo "docs/PROMISES.md: $name is not in $folder"
+            fi
+        done
+    done
+}
+
+missing=$(links; bodies)
+[ -z "$missing" ] || { echo "$missing"; exit 1; }
