@@ -8,11 +8,12 @@
 //! up to the first line that is refused, and that line's number and fault. `txn_files` defines the
 //! array of each entry, for the newest version of history files. `piece_files` defines JSON.
 //!
-//! Proved: the Rust function `entry_on` computes the definition with the same name, or reports that
-//! memory was refused. `history_lines` writes a history as `text_of_lines` says. Both take time in
-//! proportion to the text. A line in plain form with no white space before its array is read
-//! straight from its bytes, the JSON reader reads all others. Reading a line takes no memory except
-//! that of its `Scratch`, which grows to the length of the longest line, at most 1,000 bytes.
+//! Promised: the Rust function `entry_on` computes the definition with the same name, or reports
+//! that memory was refused. `history_lines` writes a history as `text_of_lines` says. Both take
+//! time in proportion to the text. A line in plain form with no white space before its array is
+//! read straight from its bytes, the JSON reader reads all others. Reading a line takes no memory
+//! except that of its `Scratch`, which grows to the length of the longest line, at most 1,000
+//! bytes.
 //!
 //! Not proved: reading the lines of a history again gives the same entries.
 #![tactic(auto)]

@@ -27,7 +27,7 @@
 //!
 //! Only tested (`transaction_tests`): with enough memory no call fails, with the least and greatest
 //! keys and values, 64 callers, 4,096 stripes, 65,536 buckets and 1,000 savepoints; and the table
-//! grows when it should.
+//! grows as far as it should. No contract says when.
 #![tactic(auto)]
 
 mod owned_map;

@@ -14,9 +14,11 @@
 //! stand wherever JSON allows it. The reader of JSON reads any other file again from its start.
 //! `specs/PlainBytes.antt` says into which tokens it turns bytes in plain form.
 //!
-//! Proved: `read_file` computes `contents`, or reports that memory was refused. A text is read at
-//! most twice, in time in proportion to its length. Skipped values are tested to be JSON, and not
-//! kept. No more pieces are kept than a file may have; further ones are only counted.
+//! Proved: `read_file` computes `contents`, or reports that memory was refused.
+//!
+//! A text is read at most twice, in time in proportion to its length. Skipped values are tested to
+//! be JSON, and not kept. No more pieces are kept than a file may have; further ones are only
+//! counted.
 #![tactic(auto)]
 
 mod elements;

@@ -20,8 +20,8 @@
 //!
 //! Only tested: each script that aborts itself in a run has the outcome aborted.
 //!
-//! The history is read once. No contract promises that no script is compared with two commits or
-//! with two aborts.
+//! The history is read once. No script is compared with two commits or with two aborts, but no
+//! contract promises this.
 #![tactic(auto)]
 
 mod assigning;
