@@ -13,8 +13,8 @@
 //!   says which callers it may name. Each entry has the right shape.
 //!
 //! The definition of legal histories follows the "serialisable" of Herlihy and Koskinen,
-//! "Transactional Boosting" (2008). The locks of a history are its abstract locks, and its undoing
-//! runs inverses.
+//! "Transactional Boosting" (2008). The locks of a history are the abstract locks of that paper,
+//! and its undoing runs that paper's inverses.
 //!
 //! Proved: the laws of histories in `proofs/`, for each kind of entry. The crates that use this one
 //! cite them. By `laws::erased`, aborted transactions leave nothing behind.
