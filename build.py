@@ -38,6 +38,7 @@ OUT = ROOT / "out"
 PROVED = OUT / "proved"
 RT = os.environ.get("RT") or "rt"
 BUILDS_KEPT = 3
+PROCESSORS = len(os.sched_getaffinity(0))
 MEMORY_OF_A_PROVER = 4_000_000  # kB
 
 
@@ -107,7 +108,7 @@ class Build:
         self.order = sorted(every, key=lambda it: -chains[it])
         self.sums, self.keys, self.running, self.proved = {}, {}, {}, []
         free = int(re.search(r"^MemAvailable: *(\d+)", Path("/proc/meminfo").read_text(encoding="utf-8"), re.M)[1])
-        self.most = max(1, min(os.cpu_count(), free // MEMORY_OF_A_PROVER))
+        self.most = max(1, min(PROCESSORS, free // MEMORY_OF_A_PROVER))
 
     def missing(self):
         return [crate for crate in self.order if crate.name not in self.sums]
@@ -161,7 +162,7 @@ class Build:
             if crate in ready and len(self.running) < self.most:
                 for low in crate.below:
                     self.unpack(low)
-                jobs = 1 if has_first else max(1, os.cpu_count() - beside)
+                jobs = 1 if has_first else max(1, PROCESSORS - beside)
                 self.running[pool.submit(self.prove, crate, jobs)] = crate, not has_first
                 has_first = True
             has_first = has_first or begun.get(crate, False)
@@ -202,7 +203,7 @@ class Build:
 
     def show(self):
         """Shows what was proved last, how many crates are left, for how long this has run and will run."""
-        left, seconds, processors = self.missing(), time.monotonic() - self.begun, min(4, os.cpu_count())
+        left, seconds, processors = self.missing(), time.monotonic() - self.begun, min(4, PROCESSORS)
         work = lambda crates: sum(self.seconds[crate] for crate in crates)
         # The first estimate is that of a machine whose processors do as much as `seconds` says.
         more = work(left) * (seconds + 60) / (work(self.proved) + 60 * processors) / 60
@@ -214,20 +215,29 @@ class Build:
             print(start + line, end=end, file=sys.stderr, flush=True)
 
 
-def main(words):
+def crates():
+    """The crates of crates.txt, by name and in its order."""
     known = {}
     for line in (ROOT / "crates.txt").read_text(encoding="utf-8").splitlines():
         head, colon, libraries = line.partition(":")
         if colon and not line.startswith("#"):
             name, *kind = head.split()
             known[name] = Crate(name, "staticlib" in kind, libraries.split(), known)
-    after_ci, names = "--after-ci" in words, [word for word in words if word != "--after-ci"]
+    return known
+
+
+def need(script, tool, use):
+    """Ends as `need` of tools.sh does if a tool is missing."""
+    if subprocess.run(["bash", "-c", '. "$0/tools.sh" && need "$@"', ROOT, script, tool, use], check=False).returncode:
+        sys.exit(125)
+
+
+def main(words):
+    after_ci, names, known = "--after-ci" in words, [word for word in words if word != "--after-ci"], crates()
     if not names or not all(name in known for name in names):
         print("usage: build.py [--after-ci] TARGET..; a TARGET is a crate of crates.txt", file=sys.stderr)
         return 2
-    need = '. "$0/tools.sh" && need build.py "$1" "prove and build $2"'
-    if subprocess.run(["bash", "-c", need, ROOT, RT, " ".join(names)], check=False).returncode:
-        return 125
+    need("build.py", RT, f"prove and build {' '.join(names)}")
     for number in (signal.SIGTERM, signal.SIGHUP, signal.SIGINT):
         signal.signal(number, lambda number, _: sys.exit(128 + number))
     PROVED.mkdir(parents=True, exist_ok=True)
