@@ -1,7 +1,7 @@
 #!/usr/bin/env bash
-# Tests build.py and the launchers in a small repository, with a toolchain that proves at once and writes down which crates it
-# was asked to prove: that each crate is proved once, and again exactly if what it is built from has changed. It takes some
-# seconds.
+# Tests build.py, the launchers and .ci/quick in a small repository, with a toolchain that proves at once and writes down which
+# crates it was asked to prove: that each crate is proved once, and again exactly if what it is built from has changed. It needs
+# git and python3, and takes half a minute.
 # The last line is 'builder: N passed, M failed', and the status is 1 if M is not 0.
 set -u
 cd "$(dirname "${BASH_SOURCE[0]}")/.." || exit
@@ -10,7 +10,7 @@ trap 'rm -rf "$work"' EXIT
 passed=0 failed=0
 repository=$work/"a repository"
 mkdir -p "$work/kit/bin" "$work/kit/c" "$repository"
-cp build.py launcher.sh tools.sh boostmap judge VERSION "$repository"
+cp -r build.py launcher.sh tools.sh boostmap judge VERSION .ci "$repository"
 
 # The toolchain. What it builds has the crate's sources without comments, and what was built of the libraries. A source with the
 # word FAILS is not proved, and one with the word SLEEPS takes long.
@@ -19,6 +19,9 @@ cat >"$work/kit/bin/rt" <<'RT'
 case $1 in
   version) cat "$KIT/version" ;;
   doc) echo "$KIT/START.md" ;;
+  ci)
+    sed -n 's/^\([a-z][a-z]*\).*:.*/ci_\1/p' crates.txt >>"$KIT/log"
+    ! grep -q FAILS -r crates ;;
 esac
 RT
 cat >"$work/kit/bin/rattle" <<'RATTLE'
@@ -158,6 +161,37 @@ expect 'a call of the part after an edit above it' 0 '' ./boostmap replay file
 holds 'the part answers' prints out "unthreaded $repository/out/unthreaded replay file"
 expect 'a call after an edit, without rt' 125 '' env RT=no_rt ./boostmap run file
 expect 'a call of the whole after an edit' 0 'boostmap high' ./boostmap run file
+
+# .ci/quick, with parts that write down how they are called.
+mkdir tests crates/low/must-fail
+cat >tests/bodies.py <<'PART'
+#!/bin/bash
+printf 'bodies_%s\n' "$@" >>"$KIT/log"
+PART
+cat >tests/program.sh <<'PART'
+#!/bin/bash
+printf 'on_%s\n' "${@##*/quick-*/crates/}" >>"$KIT/log"
+PART
+chmod +x tests/*
+echo out/ >.gitignore
+git init -q -b main . && git config user.name builder && git config user.email builder@localhost
+git add -A && git commit -qm first
+expect 'quick, nothing has changed' 0 'on_out/boostmap on_out/unthreaded' .ci/quick
+echo 'pub edit' >>crates/mid/src/lib.rt
+expect 'quick, an edit' 0 'ci_archive ci_boostmap ci_high ci_judge ci_low ci_mid on_boostmap/out/boostmap on_out/unthreaded' .ci/quick
+git checkout -qb branch && git commit -qam second
+echo 'pub edit' >>crates/low/must-fail/bodies.md
+all='ci_archive ci_boostmap ci_high ci_judge ci_low ci_mid ci_unthreaded on_boostmap/out/boostmap on_unthreaded/out/unthreaded'
+expect 'quick, a commit and a new file' 0 "bodies_low bodies_mid $all" .ci/quick
+holds 'it says which' grep -qx 'quick: changed: low mid; 7 of 7 crates are tried' "$work/out"
+holds 'it says how long the whole takes' grep -qE 'The whole gate, .ci/run, takes about [0-9]+ minutes' "$work/out"
+git add -A && git commit -qm third
+expect 'quick, compared with this revision' 0 'boostmap mid on_out/boostmap on_out/unthreaded' .ci/quick HEAD
+echo 'new: mid' >>crates.txt && mkdir -p crates/new/src && echo 'pub new' >crates/new/src/lib.rt
+expect 'quick, a new crate' 0 'ci_low ci_mid ci_new on_out/boostmap on_out/unthreaded' .ci/quick HEAD
+echo 'pub FAILS' >>crates/new/src/lib.rt
+expect 'quick, a failure' 1 'ci_low ci_mid ci_new' .ci/quick HEAD
+expect 'quick, no such revision' 2 '' .ci/quick nothing
 
 echo "builder: $passed passed, $failed failed"
 [ "$failed" = 0 ]

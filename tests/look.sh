@@ -11,21 +11,22 @@ root=$PWD
 program=$(readlink -f "${1:-crates/boostmap/out/boostmap}")
 judge=$(readlink -f "${2:-crates/judge/out/judge}")
 . tests/common.sh
-cp -r boostmap judge look launcher.sh tools.sh VERSION crates.txt crates "$work" && rm -rf "$work"/crates/*/out
-cp -r examples/. samples/judge/example.json "$work"
-cd "$work" || exit 1
+mkdir "$work/copy"
+tar c --exclude 'crates/*/out' boostmap judge look launcher.sh tools.sh VERSION crates.txt crates | tar x -C "$work/copy"
+cp -r examples/. samples/judge/example.json "$work/copy"
+cd "$work/copy" || exit 1
 
 # The note that a call ends with on standard error, by the script that proves the program.
 note() { echo "look: this run is not proved; ./$1 proves the program before it runs it"; }
 
 # like SCRIPT PROGRAM WORD..: runs a call by ./look and by the proved program, and compares them.
 like() {
-  local script=$1 proved=$2 input=$work/input words=(./look)
+  local script=$1 proved=$2 words=(./look)
   shift 2
   [ "$script" = boostmap ] || words+=("$script")
-  "$proved" "$@" >"$work/out.wanted" 2>"$work/err.wanted" <"$input"
+  "$proved" "$@" >"$work/out.wanted" 2>"$work/err.wanted" <input
   local wanted=$?
-  timeout 10 "${words[@]}" "$@" >"$work/out" 2>"$work/err" <"$input"
+  timeout 10 "${words[@]}" "$@" >"$work/out" 2>"$work/err" <input
   echo $? >"$work/status"
   judge "$script $*" $wanted "$(<"$work/out.wanted")" "$(note "$script")$(sed '1s/^/\n/' "$work/err.wanted")"
 }
@@ -49,7 +50,6 @@ for words in 'replay first_commit.json' 'replay many_callers.json' 'mix --seed 7
   like boostmap "$program" $words
 done
 "$program" run first_scripts.json >history.json
-"$judge" why example.json >/dev/null
 printf '%s\n' '["began",0,1]' '["asked",0,"get",1]' '["did",0,5]' >input
 for words in 'check checked.json' 'why example.json' 'watch --stripes 8' 'outcomes first_scripts.json history.json' 'check nothing.json' \
   --help --version check; do
@@ -58,17 +58,17 @@ for words in 'check checked.json' 'why example.json' 'watch --stripes 8' 'outcom
 done
 touch crates/*/src/*.rt
 like boostmap "$program" replay first_commit.json
-(cd / && "$work/look" judge check "$work/checked.json") >out 2>err
-echo $? >status
+(cd / && "$work/copy/look" judge check "$work/copy/checked.json") >"$work/out" 2>"$work/err"
+echo $? >"$work/status"
 judge 'from another folder' 0 'legal 2 commits 0 open' "$(note judge)"
 echo '//' >>crates/judge/src/main.rt
-RT=no_rt ./look judge check checked.json >out 2>err
-echo $? >status
+RT=no_rt ./look judge check checked.json >"$work/out" 2>"$work/err"
+echo $? >"$work/status"
 judge 'a source has changed' 125 '' "look: there is no no_rt, which is needed to compile the program: put the Rattle toolchain on the path, or the path of its rt into RT"
 echo nonsense >>crates/judge/src/main.rt
-./look judge check checked.json >out 2>/dev/null
-echo $? >status
-: >err
+./look judge check checked.json >"$work/out" 2>/dev/null
+echo $? >"$work/status"
+: >"$work/err"
 judge 'a program that does not compile' 125 '' ''
 cd "$root" || exit 1
 conclude
