@@ -98,7 +98,7 @@ class Build:
     def __init__(self, targets, after_ci, room):
         said = lambda word: subprocess.run([RT, word], capture_output=True, text=True, check=True).stdout.strip()
         self.toolchain, self.kit, self.after_ci, self.room = said("version"), Path(said("doc")).parent, after_ci, room
-        self.targets, self.begun, self.processes = targets, time.monotonic(), set()
+        self.targets, self.begun, self.processes, self.packing = targets, time.monotonic(), set(), []
         every = list(dict.fromkeys(crate for target in targets for crate in (*target.below, target)))
         self.seconds = {crate: crate.seconds() for crate in every}
         chains = dict(self.seconds)
@@ -131,7 +131,7 @@ class Build:
     def run(self):
         """Proves and builds what is not kept, and puts the targets into out/."""
         self.find_kept()
-        with ThreadPoolExecutor(self.most) as pool:
+        with ThreadPoolExecutor(1) as self.packer, ThreadPoolExecutor(self.most) as pool:
             try:
                 while self.missing():
                     self.show()
@@ -145,6 +145,8 @@ class Build:
                 for process in list(self.processes):
                     with contextlib.suppress(ProcessLookupError):
                         os.killpg(process.pid, signal.SIGKILL)
+        for packed in self.packing:
+            packed.result()
         self.show()
         for crate in self.targets:
             if not crate.is_library:
@@ -160,8 +162,8 @@ class Build:
         has_first = False
         for crate in self.missing():
             if crate in ready and len(self.running) < self.most:
-                for low in crate.below:
-                    self.unpack(low)
+                with ThreadPoolExecutor(PROCESSORS) as unpacker:
+                    list(unpacker.map(self.unpack, crate.below))
                 jobs = 1 if has_first else max(1, PROCESSORS - beside)
                 self.running[pool.submit(self.prove, crate, jobs)] = crate, not has_first
                 has_first = True
@@ -172,22 +174,26 @@ class Build:
             shutil.unpack_archive(self.kept(crate), self.room, "gztar")
 
     def prove(self, crate, jobs):
-        """Proves and builds a crate, and keeps the build. Gives the build's sum."""
+        """Proves and builds a crate, and has the build kept. Gives the build's sum."""
         made = self.room / crate.made
         by_ci = crate.folder / "out" / ("rlib" if crate.is_library else "") / crate.made
         if self.after_ci and by_ci.exists():
-            (shutil.copytree if crate.is_library else shutil.copy2)(by_ci, made)
+            made.symlink_to(by_ci)
         else:
             self.call(crate, jobs)
         # The format of a library has the sums of its files, and of the libraries below.
         sum = hashlib.sha256((made / "format" if crate.is_library else made).read_bytes()).hexdigest()[:24]
+        self.packing.append(self.packer.submit(self.pack, crate, sum))
+        return sum
+
+    def pack(self, crate, sum):
+        """Keeps a build, and removes the oldest of the crate."""
         part = PROVED / f"{crate.name}.part"
         with tarfile.open(part, "w:gz", compresslevel=1) as file:
-            file.add(made, crate.made)
+            file.add((self.room / crate.made).resolve(), crate.made)
         part.rename(PROVED / f"{crate.name}-{self.keys[crate]}-{sum}.tgz")
         for old in sorted(PROVED.glob(f"{crate.name}-*.tgz"), key=lambda it: it.stat().st_mtime)[:-BUILDS_KEPT]:
             old.unlink()
-        return sum
 
     def call(self, crate, jobs):
         """Calls the prover and the linker."""

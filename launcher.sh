@@ -7,21 +7,21 @@
 #   commands  the program's commands, each between blanks
 #   usage     the source file that has the program's usage
 #
-# If the program is not built, or a source has changed since, build.py proves and builds it first. A call
-# that `part` can answer waits only for `part`. A call without a command or a file builds nothing. If a
-# tool is missing or the build fails, the status is 125, which no other call returns.
+# If the program is not built, or a source has been touched since, build.py proves and builds it first. If it
+# was never built here, a call that `part` can answer waits only for `part`. A call without a command or a file
+# builds nothing. If a tool is missing or the build fails, the status is 125, which no other call returns.
 # shellcheck shell=bash disable=SC2154
 
-# What a program is built of: the sources of all crates, and the toolchain on the path. If there is none,
-# any counts as the same.
-now="$(sum_of_sources) $(stat -Lc '%n %Z' -- "$(command -v -- "${RT:-rt}")" 2>/dev/null)"
+# When each source was last touched, and which toolchain is on the path; if there is none, any counts as the
+# same. If that differs from what it was after a program's last build, build.py looks at what has changed.
+now="$(find "$root"/crates.txt "$root"/crates/*/{src,specs,proofs} -type f -printf '%p %C@\n' 2>/dev/null | sha256sum)"
+now+=" $(stat -Lc '%n %Z' -- "$(command -v -- "${RT:-rt}")" 2>/dev/null)"
 
-# Whether a program is built of what is here.
 is_built() {
-    [ -x "$root/out/$1" ] && [[ $(<"$root/out/$1.seen") = "$now"* ]]
+    [ -x "$root/out/$1" ] && [ -f "$root/out/$1.seen" ] && [[ $(<"$root/out/$1.seen") = "$now"* ]]
 }
 
-if [ -n "$part" ] && ! is_built "$program"; then program=$part; fi
+if [ -n "$part" ] && [ ! -x "$root/out/$program" ]; then program=$part; fi
 if ! is_built "$program"; then
     if [[ $commands != *" ${1-} "* || $# = 1 && $1 != watch ]]; then
         usage "$usage" >&2

@@ -157,10 +157,12 @@ expect 'without rt' 0 '' env RT=no_rt ./boostmap replay file
 expect 'the version' 0 '' ./judge --version
 holds 'it is that of the file' prints out "judge $(<VERSION)"
 echo 'pub more' >>crates/high/src/lib.rt
-expect 'a call of the part after an edit above it' 0 '' ./boostmap replay file
-holds 'the part answers' prints out "unthreaded $repository/out/unthreaded replay file"
-expect 'a call after an edit, without rt' 125 '' env RT=no_rt ./boostmap run file
-expect 'a call of the whole after an edit' 0 'boostmap high' ./boostmap run file
+expect 'a call after an edit, without rt' 125 '' env RT=no_rt ./boostmap replay file
+expect 'a call after an edit' 0 'boostmap high' ./boostmap replay file
+holds 'the whole answers again' prints out "boostmap $repository/out/boostmap replay file"
+find crates -name '*.rt' -exec touch {} +
+expect 'a call after newer files' 0 '' ./boostmap replay file
+holds 'nothing is said again' prints err ''
 
 # .ci/quick, with parts that write down how they are called.
 mkdir tests crates/low/must-fail
