@@ -14,7 +14,7 @@ waiting crates gets all processors but one, and others run beside it with one pr
 with a lower one the others would take only what the first leaves, and at the end the last would wait for them.
 
 With --after-ci, what `rt ci` has just proved and built in this checkout is taken from crates/*/out and not proved
-again. Only the gate may say so: nothing shows which sources those files were made from.
+again. Only the gate says so, in a clean clone: nothing shows which sources those files were made from.
 
 Standard error shows how far it is. The status is 125 if a tool is missing or a crate is not proved.
 """
