@@ -94,6 +94,9 @@
 #ifndef BOOSTMAP_H
 #define BOOSTMAP_H
 
+/* The version of the library. */
+#define BOOSTMAP_VERSION "1.0.0"
+
 #include <stddef.h>
 #include <stdint.h>
 

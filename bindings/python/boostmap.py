@@ -37,6 +37,8 @@ __all__ = [
     "Error", "Busy", "Refused", "NotFed",
 ]
 
+__version__ = "1.0.0"
+
 _U64 = ctypes.c_uint64
 
 
