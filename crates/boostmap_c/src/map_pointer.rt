@@ -1,55 +1,69 @@
-//! The half of a handle that owns the core: a pointer whose type is erased, since C may see no
-//! pointer to a type that holds a `Vec`. Only the three functions of this module touch the pointer.
-//! Each of them costs nothing.
+//! The pointer in the handle of a map with one owner. Its type is erased, since no type that holds a
+//! `Vec` may be named behind a pointer that C sees. Only this module touches its address, so the
+//! ghost field `map` says what the pointer owns: a map on the heap, or nothing.
 ghost use Rattle.std.specs.Prelude.{◌≡◌, Option, Some, None, IsSome};
-ghost use Rattle.boost_core.specs.State.{State};
+ghost use Rattle.std.specs.Coded.{coded_option};
+ghost use Rattle.boostmap_c.specs.contracts.held_map.HeldMap.{the_row};
+ghost use Rattle.boostmap_c.specs.declared.held_map.HeldMap.{HeldMap};
 
-use boost_core::Core;
+use crate::held_map::HeldMap;
 use owned_pointer::OwnedPointer;
 use std::marker::Model;
 use std::ptr;
 
-/// A pointer that owns a core on the heap, or nothing.
+/// A pointer that owns a map on the heap, or nothing.
 #[repr(C)]
 #[derive(Drop)]
-pub struct CorePointer {
+pub struct MapPointer {
     at: *mut (),
-    pub(crate) ghost core: { Option State },
+    pub(crate) ghost map: { Option HeldMap } by { coded_option the_row.coded },
 }
 
-impl Model for CorePointer {
-    ghost use Rattle.boost_core.specs.State.{State};
-    ghost use Rattle.boostmap_c.specs.Held.{owns_core};
+impl Model for MapPointer {
+    ghost use Rattle.boostmap_c.specs.Held.{owns_map};
+    ghost use Rattle.boostmap_c.specs.declared.held_map.HeldMap.{HeldMap};
 
-    ghost also_owns = { λ p. owns_core p.at p.core };
+    ghost also_owns = { λ p. owns_map p.at p.map };
 }
 
-impl CorePointer {
-    /// A pointer to no core.
-    pub(crate) fn null() -> CorePointer
-        ensures { result.core ≡ None }
+impl MapPointer {
+    ghost use types.Logic.{sem};
+    ghost use Rattle.boostmap_c.specs.Lends.{LendsMap};
+
+    /// A pointer to no map.
+    pub(crate) fn null() -> MapPointer
+        ensures { result.map ≡ None }
     {
-        CorePointer {
+        MapPointer {
             at: ptr::null_mut(),
         }
     }
 
     /// Erases the type of a pointer.
-    pub(crate) fn erase(core: OwnedPointer<Core>) -> CorePointer
-        ensures { result.core ≡ Some core.value }
+    pub(crate) fn erase(map: OwnedPointer<HeldMap>) -> MapPointer
+        ensures { result.map ≡ Some map.value }
     {
-        let OwnedPointer { at } = core;
-        CorePointer { at: at as *mut () }
+        let OwnedPointer { at } = map;
+        MapPointer { at: at as *mut () }
     }
 
     /// Gives the pointer its type back.
-    pub(crate) fn restore(self) -> OwnedPointer<Core>
-        requires { IsSome self.core }
-        ensures { self.core ≡ Some result.value }
+    pub(crate) fn restore(self) -> OwnedPointer<HeldMap>
+        requires { IsSome self.map }
+        ensures { self.map ≡ Some result.value }
     {
-        let CorePointer { at } = self;
+        let MapPointer { at } = self;
         OwnedPointer {
-            at: at as *mut Core,
+            at: at as *mut HeldMap,
         }
+    }
+
+    /// The map, to be read and changed in place.
+    pub(crate) fn get_mut(&mut self) -> &mut HeldMap
+        requires { IsSome self.old.map }
+        ensures* writes_back { sem 𝓛 (LendsMap self.entry result) }
+        ensures value { self.old.map ≡ Some result.now }
+    {
+        unsafe { &mut *(self.at as *mut HeldMap) }
     }
 }
