@@ -141,9 +141,10 @@ static long gets, put_ifs, helps, striped_gets;
 #define COUNTED(counter, call) \
     while ((status = (call)) == BOOSTMAP_NO_MEMORY) refusals++, counter++
 
-/* Calls on keys that no other call has touched, so that they take the memory themselves. */
+/* Calls on keys that no other call has touched, so that they take the memory themselves. With MANY keys the
+ * map's nodes almost fill their block when it has grown by itself, so the help needs another one. */
 static void first_calls(void) {
-    enum { FEW = 64, MANY = 200 };
+    enum { FEW = 64, MANY = 165 };
     boostmap m = BOOSTMAP_INIT;
     boostmap_caller c = BOOSTMAP_INIT;
     boostmap_status status;
