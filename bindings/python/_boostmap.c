@@ -1,7 +1,7 @@
 /* The striped map's callers and transactions for Python, in C: a call costs a fifth of what it costs by
  * ctypes, and no signal handler runs between a call and its bookkeeping. boostmap.py has the same classes
  * by ctypes, for machines without Python's headers, and their documentation. Short calls hold the
- * interpreter's lock; `items` and `len` release it. */
+ * interpreter's lock; `items`, `len` and waits release it. */
 #define PY_SSIZE_T_CLEAN
 #include <Python.h>
 #include <boostmap.h>
@@ -45,7 +45,9 @@ static void leave(Caller *caller) { PyThread_release_lock(caller->lock); }
 static PyObject *raise_status(boostmap_status status, uint64_t word) {
     int is_busy = status == BOOSTMAP_BUSY;
     unsigned long long number = is_busy ? word : status;
-    PyObject *type = is_busy ? busy_type : refused_type, *raised = PyObject_CallFunction(type, "K", number);
+    PyObject *type = is_busy ? busy_type : refused_type, *raised;
+    if (status == BOOSTMAP_OVERFLOW) return PyErr_Format(PyExc_OverflowError, "%s", boostmap_text(status));
+    raised = PyObject_CallFunction(type, "K", number);
     if (raised) PyErr_SetObject(type, raised);
     Py_XDECREF(raised);
     return NULL;
@@ -67,6 +69,115 @@ static int read_number(PyObject *from, uint64_t *number) {
         PyErr_Format(PyExc_OverflowError, "%S is not an unsigned 64-bit number", index);
     Py_DECREF(index);
     return PyErr_Occurred() ? -1 : 0;
+}
+
+/* ---- operations ---- */
+
+enum { GET, TAKE, PUT, PUT_IF, PUT_IF_EQUAL, ADD, GET_OR_PUT };
+
+/* The names by which `run` knows the operations. */
+static const struct {
+    const char *name;
+    int kind;
+} operations[] = {{"get", GET},       {"put", PUT}, {"take", TAKE},
+                  {"put_if", PUT_IF}, {"add", ADD}, {"get_or_put", GET_OR_PUT}};
+
+/* An operation with its numbers. */
+typedef struct {
+    int kind;
+    uint64_t key, value, expected;
+    int64_t delta;
+} Operation;
+
+/* Reads a signed number of 64 bits: 0, or -1 with an exception. */
+static int read_delta(PyObject *from, int64_t *delta) {
+    PyObject *index = PyNumber_Index(from);
+    if (!index) return -1;
+    *delta = PyLong_AsLongLong(index);
+    if (PyErr_Occurred() && PyErr_ExceptionMatches(PyExc_OverflowError))
+        PyErr_Format(PyExc_OverflowError, "%S is not a signed 64-bit number", index);
+    Py_DECREF(index);
+    return PyErr_Occurred() ? -1 : 0;
+}
+
+/* Reads the arguments of an operation: 0, or -1 with an exception. */
+static int read_operation(Operation *op, int kind, PyObject *const *given, Py_ssize_t count) {
+    Py_ssize_t wanted = kind == PUT_IF ? 3 : kind == GET || kind == TAKE ? 1 : 2;
+    op->kind = kind;
+    if (count != wanted) {
+        PyErr_Format(PyExc_TypeError, "the operation takes %zd arguments, and not %zd", wanted, count);
+        return -1;
+    }
+    if (read_number(given[0], &op->key)) return -1;
+    if (kind == ADD) return read_delta(given[1], &op->delta);
+    if (wanted > 1 && read_number(given[wanted - 1], &op->value)) return -1;
+    if (kind != PUT_IF || given[1] == Py_None) return 0;
+    op->kind = PUT_IF_EQUAL;
+    return read_number(given[1], &op->expected);
+}
+
+/* Reads an operation that is given by its name and its arguments: 0, or -1 with an exception. */
+static int read_named(Operation *op, PyObject *given) {
+    PyObject *words = PySequence_Fast(given, "an operation is a name with its arguments");
+    int found = -2, last = sizeof operations / sizeof *operations;
+    if (!words) return -1;
+    if (PySequence_Fast_GET_SIZE(words) > 0 && PyUnicode_Check(PySequence_Fast_GET_ITEM(words, 0)))
+        for (int i = 0; i < last && found == -2; i++)
+            if (!PyUnicode_CompareWithASCIIString(PySequence_Fast_GET_ITEM(words, 0), operations[i].name))
+                found = read_operation(op, operations[i].kind, PySequence_Fast_ITEMS(words) + 1,
+                                       PySequence_Fast_GET_SIZE(words) - 1);
+    if (found == -2) PyErr_Format(PyExc_ValueError, "%R is no operation", given);
+    Py_DECREF(words);
+    return found ? -1 : 0;
+}
+
+static boostmap_status perform(boostmap_caller *handle, const Operation *op, uint64_t *word) {
+    boostmap_status status;
+    switch (op->kind) {
+    case GET: return boostmap_striped_get(handle, op->key, word);
+    case TAKE: return boostmap_striped_take(handle, op->key, word);
+    case PUT: return boostmap_striped_put(handle, op->key, op->value, word);
+    case PUT_IF: return boostmap_striped_put_if_absent(handle, op->key, op->value, word);
+    case PUT_IF_EQUAL: return boostmap_striped_put_if_equal(handle, op->key, op->expected, op->value, word);
+    case ADD: return boostmap_striped_add(handle, op->key, op->delta, word);
+    default:
+        status = boostmap_striped_get_or_put(handle, op->key, op->value, word);
+        return status == BOOSTMAP_ABSENT ? BOOSTMAP_DONE : status; /* it always answers a value */
+    }
+}
+
+/* What an operation came to. */
+typedef struct {
+    boostmap_status status;
+    uint64_t word;
+} Reply;
+
+/* Performs operations in a transaction of their own, again and again until it is not busy. Returns 0 and
+ * the replies, or -1 with an exception. */
+static int perform_all(Caller *caller, const Operation *ops, Reply *replies, Py_ssize_t count) {
+    uint64_t waits = 0, place = 0, word = 0;
+    for (;;) {
+        int is_over = 1;
+        boostmap_status status;
+        enter(caller);
+        status = boostmap_striped_begin(caller->handle);
+        if (status == BOOSTMAP_DONE) {
+            for (Py_ssize_t i = 0; i < count && status <= BOOSTMAP_ABSENT; i++) {
+                status = replies[i].status = perform(caller->handle, &ops[i], &word);
+                replies[i].word = word;
+            }
+            is_over = boostmap_caller_ends(caller->handle, &status, &place);
+        }
+        leave(caller);
+        if (is_over) {
+            if (status > BOOSTMAP_ABSENT) raise_status(status, word);
+            return status > BOOSTMAP_ABSENT ? -1 : 0;
+        }
+        Py_BEGIN_ALLOW_THREADS
+        boostmap_wait(&waits);
+        Py_END_ALLOW_THREADS
+        if (PyErr_CheckSignals()) return -1;
+    }
 }
 
 /* ---- callers ---- */
@@ -127,6 +238,7 @@ static PyObject *caller_abort(PyObject *self, PyObject *none) {
     (void)none;
     enter((Caller *)self);
     status = boostmap_striped_abort(((Caller *)self)->handle);
+    ((Caller *)self)->handle->aborts += status == BOOSTMAP_DONE;
     leave((Caller *)self);
     return PyBool_FromLong(status == BOOSTMAP_DONE);
 }
@@ -144,9 +256,79 @@ static PyObject *caller_number(PyObject *self, void *none) {
     return PyLong_FromUnsignedLongLong(((Caller *)self)->number);
 }
 
+static PyObject *caller_counts(PyObject *self, PyObject *none) {
+    boostmap_counts counts = boostmap_caller_counts(((Caller *)self)->handle);
+    (void)none;
+    return Py_BuildValue("KKK", (unsigned long long)counts.commits, (unsigned long long)counts.aborts,
+                         (unsigned long long)counts.busy);
+}
+
+/* One operation in a transaction of its own. */
+static PyObject *at_once(PyObject *self, int kind, PyObject *const *given, Py_ssize_t count) {
+    Operation op;
+    Reply reply;
+    if (read_operation(&op, kind, given, count) || perform_all((Caller *)self, &op, &reply, 1)) return NULL;
+    return answer(reply.status, reply.word);
+}
+
+/* Performs the operations of a sequence, and returns a list of their replies. */
+static PyObject *run_all(Caller *caller, PyObject *sequence, Operation *ops, Reply *replies) {
+    Py_ssize_t count = PySequence_Fast_GET_SIZE(sequence);
+    PyObject *all, *reply;
+    for (Py_ssize_t i = 0; i < count; i++)
+        if (read_named(&ops[i], PySequence_Fast_GET_ITEM(sequence, i))) return NULL;
+    if (perform_all(caller, ops, replies, count)) return NULL;
+    all = PyList_New(count);
+    for (Py_ssize_t i = 0; all && i < count; i++) {
+        reply = answer(replies[i].status, replies[i].word);
+        if (reply) PyList_SET_ITEM(all, i, reply);
+        else Py_CLEAR(all);
+    }
+    return all;
+}
+
+static PyObject *caller_run(PyObject *self, PyObject *given) {
+    PyObject *sequence = PySequence_Tuple(given), *all;
+    Operation *ops;
+    Reply *replies;
+    if (!sequence) return NULL;
+    ops = PyMem_New(Operation, PyTuple_GET_SIZE(sequence) + 1);
+    replies = PyMem_New(Reply, PyTuple_GET_SIZE(sequence) + 1);
+    all = ops && replies ? run_all((Caller *)self, sequence, ops, replies) : PyErr_NoMemory();
+    PyMem_Free(ops);
+    PyMem_Free(replies);
+    Py_DECREF(sequence);
+    return all;
+}
+
+#define AT_ONCE(NAME, KIND)                                                                        \
+    static PyObject *caller_##NAME(PyObject *self, PyObject *const *given, Py_ssize_t count) {     \
+        return at_once(self, KIND, given, count);                                                  \
+    }
+AT_ONCE(get, GET)
+AT_ONCE(take, TAKE)
+AT_ONCE(put, PUT)
+AT_ONCE(put_if, PUT_IF)
+AT_ONCE(add, ADD)
+AT_ONCE(get_or_put, GET_OR_PUT)
+
+/* A method that takes its arguments as an array. */
+#define FAST(NAME, FUNCTION, TEXT) {NAME, (PyCFunction)(void (*)(void))FUNCTION, METH_FASTCALL, TEXT}
+
 static PyMethodDef caller_methods[] = {
     {"_open", caller_open, METH_VARARGS, NULL},
     {"_join", caller_join, METH_O, NULL},
+    {"_counts", caller_counts, METH_NOARGS, NULL},
+    FAST("get", caller_get, "The value at the key, in a transaction of its own, as are all operations of a caller."),
+    FAST("take", caller_take, "Takes the key out, and returns the value that it had."),
+    FAST("put", caller_put, "Puts the value at the key, and returns the value before."),
+    FAST("put_if", caller_put_if,
+         "Puts the value if the key has the expected one (None: if it is absent), and returns the value before."),
+    FAST("add", caller_add, "Adds to the value of the key, 0 if it has none, and returns the value before. A sum "
+                            "beyond 64 bits raises OverflowError, and changes nothing."),
+    FAST("get_or_put", caller_get_or_put, "Puts only if the key has no value; returns the value that it has now."),
+    {"run", caller_run, METH_O,
+     "Runs operations in one transaction, such as [(\"get\", 1), (\"put\", 2, 20)], and returns their replies."},
     {"abort", caller_abort, METH_NOARGS, "Aborts the caller's transaction, and returns whether there was one."},
     {"close", caller_close, METH_NOARGS, "Frees the caller. An open transaction is aborted."},
     {0},
@@ -188,7 +370,7 @@ static void end(Transaction *t) {
     if (!t->is_open) return;
     t->is_open = 0;
     enter(t->caller);
-    boostmap_striped_abort(t->caller->handle);
+    t->caller->handle->aborts += boostmap_striped_abort(t->caller->handle) == BOOSTMAP_DONE;
     leave(t->caller);
 }
 
@@ -204,6 +386,7 @@ static void transaction_dealloc(PyObject *self) {
 static void note_busy(Transaction *t) {
     t->is_open = 0;
     t->was_busy = 1;
+    t->caller->handle->busy++;
 }
 
 /* Makes a call on the handle of an open transaction; after a busy one the transaction is over. */
@@ -241,54 +424,34 @@ static PyObject *transaction_exit(PyObject *self, PyObject *const *raised, Py_ss
     CALL(t, status, boostmap_striped_commit(t->caller->handle, &place));
     if (status != BOOSTMAP_DONE) return raise_status(status, 0);
     t->is_open = 0;
+    t->caller->handle->commits++;
     number = place ? PyLong_FromUnsignedLongLong(place) : Py_NewRef(Py_None);
     if (!number) return NULL;
     Py_SETREF(t->commit_number, number);
     Py_RETURN_NONE;
 }
 
-static PyObject *transaction_get(PyObject *self, PyObject *key_given) {
+/* An operation of the open transaction. */
+static PyObject *in_transaction(PyObject *self, int kind, PyObject *const *given, Py_ssize_t count) {
     Transaction *t = (Transaction *)self;
     boostmap_status status;
-    uint64_t key, word = 0;
-    if (read_number(key_given, &key)) return NULL;
-    CALL(t, status, boostmap_striped_get(t->caller->handle, key, &word));
+    uint64_t word = 0;
+    Operation op;
+    if (read_operation(&op, kind, given, count)) return NULL;
+    CALL(t, status, perform(t->caller->handle, &op, &word));
     return answer(status, word);
 }
 
-static PyObject *transaction_take(PyObject *self, PyObject *key_given) {
-    Transaction *t = (Transaction *)self;
-    boostmap_status status;
-    uint64_t key, word = 0;
-    if (read_number(key_given, &key)) return NULL;
-    CALL(t, status, boostmap_striped_take(t->caller->handle, key, &word));
-    return answer(status, word);
-}
-
-static PyObject *transaction_put(PyObject *self, PyObject *const *given, Py_ssize_t count) {
-    Transaction *t = (Transaction *)self;
-    boostmap_status status;
-    uint64_t key, value, word = 0;
-    if (count != 2) return PyErr_Format(PyExc_TypeError, "put takes a key and a value");
-    if (read_number(given[0], &key) || read_number(given[1], &value)) return NULL;
-    CALL(t, status, boostmap_striped_put(t->caller->handle, key, value, &word));
-    return answer(status, word);
-}
-
-static PyObject *transaction_put_if(PyObject *self, PyObject *const *given, Py_ssize_t count) {
-    Transaction *t = (Transaction *)self;
-    boostmap_status status;
-    uint64_t key, expected = 0, value, word = 0;
-    if (count != 3) return PyErr_Format(PyExc_TypeError, "put_if takes a key, the expected value and a value");
-    if (read_number(given[0], &key) || read_number(given[2], &value)) return NULL;
-    if (given[1] == Py_None) {
-        CALL(t, status, boostmap_striped_put_if_absent(t->caller->handle, key, value, &word));
-    } else {
-        if (read_number(given[1], &expected)) return NULL;
-        CALL(t, status, boostmap_striped_put_if_equal(t->caller->handle, key, expected, value, &word));
+#define IN_TRANSACTION(NAME, KIND)                                                                 \
+    static PyObject *transaction_##NAME(PyObject *self, PyObject *const *given, Py_ssize_t count) { \
+        return in_transaction(self, KIND, given, count);                                           \
     }
-    return answer(status, word);
-}
+IN_TRANSACTION(get, GET)
+IN_TRANSACTION(take, TAKE)
+IN_TRANSACTION(put, PUT)
+IN_TRANSACTION(put_if, PUT_IF)
+IN_TRANSACTION(add, ADD)
+IN_TRANSACTION(get_or_put, GET_OR_PUT)
 
 static PyObject *transaction_save(PyObject *self, PyObject *none) {
     Transaction *t = (Transaction *)self;
@@ -385,16 +548,18 @@ static PyObject *transaction_commit_number(PyObject *self, void *none) {
 
 static PyMethodDef transaction_methods[] = {
     {"__enter__", transaction_enter, METH_NOARGS, NULL},
-    {"__exit__", (PyCFunction)(void (*)(void))transaction_exit, METH_FASTCALL, NULL},
-    {"get", transaction_get, METH_O, "The value at the key."},
-    {"take", transaction_take, METH_O, "Takes the key out, and returns the value that it had."},
-    {"put", (PyCFunction)(void (*)(void))transaction_put, METH_FASTCALL,
-     "Puts the value at the key, and returns the value before."},
-    {"put_if", (PyCFunction)(void (*)(void))transaction_put_if, METH_FASTCALL,
-     "Puts the value if the key has the expected one (None: if it is absent), and returns the value before."},
+    FAST("__exit__", transaction_exit, NULL),
+    FAST("get", transaction_get, "The value at the key."),
+    FAST("take", transaction_take, "Takes the key out, and returns the value that it had."),
+    FAST("put", transaction_put, "Puts the value at the key, and returns the value before."),
+    FAST("put_if", transaction_put_if,
+         "Puts the value if the key has the expected one (None: if it is absent), and returns the value before."),
+    FAST("add", transaction_add, "Adds to the value of the key, 0 if it has none, and returns the value before. A sum "
+                                 "beyond 64 bits raises OverflowError, and changes nothing."),
+    FAST("get_or_put", transaction_get_or_put, "Puts only if the key has no value; returns the value that it has now."),
     {"save", transaction_save, METH_NOARGS, "Sets a savepoint, and returns its level."},
-    {"back", (PyCFunction)(void (*)(void))transaction_back, METH_FASTCALL,
-     "Takes back every change since the level was set; 0 is the beginning of the transaction."},
+    FAST("back", transaction_back,
+         "Takes back every change since the level was set; 0 is the beginning of the transaction."),
     {"roll_back", transaction_roll_back, METH_NOARGS,
      "Lets the end of the `with` take everything back, instead of committing."},
     {"items", transaction_items, METH_NOARGS,
@@ -403,7 +568,8 @@ static PyMethodDef transaction_methods[] = {
 };
 
 static PyGetSetDef transaction_members[] = {
-    {"commit_number", transaction_commit_number, NULL, "After the commit, its place in the order of commits, if the map keeps its commits.", NULL},
+    {"commit_number", transaction_commit_number, NULL,
+     "After the commit, its place in the order of commits, if the map keeps its commits.", NULL},
     {"was_busy", transaction_was_busy, NULL, "Whether a call was busy, which has ended the transaction.", NULL},
     {0},
 };
