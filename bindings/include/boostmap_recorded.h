@@ -2,7 +2,7 @@
  * its own run judged: whether each transaction had the replies of running alone, in the order of the
  * commits.
  *
- *     boostmap_recorded callers[2] = {BOOSTMAP_INIT};
+ *     boostmap_recorded callers[2] = {0};           all zeros
  *     boostmap_recorded_open(&callers[0], 2, 64, 0, 0, &word);
  *     boostmap_recorded_join(&callers[0], &callers[1], &word);
  *     ..                                            threads use boostmap_recorded_put and so on
