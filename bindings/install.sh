@@ -2,7 +2,7 @@
 # Installs the library in a folder: bindings/install.sh PREFIX
 #   PREFIX/lib/libboostmap.a             the proved archive, with the toolchain's allocator
 #   PREFIX/lib/pkgconfig/boostmap.pc
-#   PREFIX/include/boostmap.h, boostmap_checked.h, boostmap.hpp
+#   PREFIX/include/boostmap.h, boostmap_checked.h, boostmap_recorded.h, boostmap.hpp
 #   PREFIX/share/boostmap/python/        boostmap.py, the shared object that it loads, and _boostmap, which
 #                                        makes its calls faster, if python3-config is there
 # If the archive is not built yet, or a source is newer, archive.sh proves and builds it first, in a quarter
@@ -35,7 +35,8 @@ cp "$glue" "$merged/glue.a"
 (cd "$merged" && printf '%s\n' 'create merged.a' 'addlib proved.a' 'addlib glue.a' save end | ar -M && [ -s merged.a ])
 cp "$merged/merged.a" "$prefix/lib/libboostmap.a"
 cc -shared -o "$python/libboostmap.so" -Wl,--whole-archive "$proved" -Wl,--no-whole-archive "$glue"
-cp bindings/include/boostmap.h bindings/include/boostmap_checked.h bindings/include/boostmap.hpp "$prefix/include/"
+cp bindings/include/boostmap.h bindings/include/boostmap_checked.h bindings/include/boostmap_recorded.h \
+  bindings/include/boostmap.hpp "$prefix/include/"
 cp bindings/python/boostmap.py "$python/"
 if command -v python3-config >/dev/null; then
   # The flags are several words.
