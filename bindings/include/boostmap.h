@@ -88,8 +88,8 @@
  *     level or a limit out of range, calls out of order, and memory that is refused.
  *
  * SEE ALSO
- *     boostmap_checked.h (null and overlapping calls become statuses), boostmap.hpp (C++),
- *     docs/C.md
+ *     boostmap_checked.h (null and overlapping calls become statuses), boostmap_recorded.h (a program
+ *     has its own run judged), boostmap.hpp (C++), docs/C.md
  */
 #ifndef BOOSTMAP_H
 #define BOOSTMAP_H
@@ -228,7 +228,11 @@ boostmap_status boostmap_back(boostmap *map, uint64_t caller, uint64_t level, ui
 /* ---- the striped map ----------------------------------------------------------------------------
  *
  * One handle is one caller. Its calls need no lock: give each thread its own caller. A caller may move
- * to another thread between any two calls, also within a transaction. */
+ * to another thread between any two calls, also within a transaction.
+ *
+ * A key belongs to the stripe key % stripes, and a transaction excludes all others from its stripes. So
+ * take several times as many stripes as keys are in open transactions at a time, and not a number that
+ * divides all your keys. After BOOSTMAP_BUSY wait before you try again, as boostmap_wait does. */
 
 /* Aligns a handle to a line of the processor's cache. */
 #if defined __cplusplus
@@ -256,7 +260,8 @@ enum { BOOSTMAP_KEEP_NOTHING = 0, BOOSTMAP_KEEP_COMMITS = 1 };
 
 /* Opens a map with no keys, for 1 to 4096 callers and with 1 to 4096 stripes, with room for `keys`
  * keys, and makes `first` its first caller; *word: the caller's number, which is the number of
- * callers. The others wait until they are joined. `seed` is that of the hash of keys within a stripe:
+ * callers. The others wait until they are joined. The map grows by itself; memory that it has for keys is
+ * kept for later keys until the map is freed. `seed` is that of the hash of keys within a stripe:
  * if strangers choose the keys, draw it at random below 2^32, or they can make every call slow. With
  * larger seeds, consecutive keys may be slow.
  * 0; 4; 38; 30 */
@@ -264,7 +269,9 @@ boostmap_status boostmap_striped_open(boostmap_caller *first, uint64_t callers, 
                                       uint32_t keep, uint64_t seed, uint64_t *word);
 
 /* Makes `next` the handle of the next caller that waits; *word: its number, counted down to 1. Both
- * handles are in this call.    0; 4: `next` is in use; 3: `first` is empty; 18: nobody waits; 30 */
+ * handles are in this call. A caller that is freed does not wait again: if threads come and go, keep the
+ * handles of those that went for those that come.
+ * 0; 4: `next` is in use; 3: `first` is empty; 18: nobody waits; 30 */
 boostmap_status boostmap_striped_join(boostmap_caller *first, boostmap_caller *next, uint64_t *word);
 
 /* Frees the caller, and the callers that still wait to be joined through its handle; an open
@@ -298,13 +305,15 @@ boostmap_status boostmap_striped_save(boostmap_caller *caller, uint64_t *word);
 boostmap_status boostmap_striped_back(boostmap_caller *caller, uint64_t level);
 
 /* Takes every stripe; *word: the number of keys that the map has, with the transaction's own changes.
- * The stripes stay held to the transaction's end; after 30 it may hold some of them.
+ * The stripes stay held to the transaction's end; after 30 it may hold some of them. While other callers
+ * seldom rest, most of these calls are busy: if the whole map is often read, exclude them by a lock of
+ * your own.
  * 0; 2, after which the transaction has been aborted; 3; 19; 30 */
 boostmap_status boostmap_striped_count(boostmap_caller *caller, uint64_t *word);
 
 /* Takes every stripe as boostmap_striped_count does, and writes the pairs of the map, by rising keys,
  * to the front of an array of `places` elements; *word: the number of pairs. After 7 the array is
- * unchanged, and *word is the number of places that it needs.
+ * unchanged, and *word is the number of places that it needs; the call took as long as a full one.
  * 0; 2, after which the transaction has been aborted; 3; 7; 19; 30 */
 boostmap_status boostmap_striped_read(boostmap_caller *caller, boostmap_pair *pairs, size_t places, uint64_t *word);
 
@@ -329,8 +338,9 @@ boostmap_status boostmap_striped_read(boostmap_caller *caller, boostmap_pair *pa
  *                      transaction aborts
  *     ABORTED          all changes are taken back
  *
- * docs/JUDGE.md has the rules in full. It is proved that the verdict is legal exactly if the history
- * is. */
+ * docs/FORMATS.md has the rules in full ("The checker's rules"), and docs/JUDGE.md says how to record a
+ * history; boostmap_recorded.h records this map's. It is proved that the verdict is legal exactly if the
+ * history is. */
 
 typedef struct boostmap_judge {
     uint64_t tag;
@@ -376,8 +386,8 @@ typedef struct boostmap_verdict {
  * transaction had a wrong reply (rule 1), or an entry out of the order of a transaction (rule 3). */
 enum { BOOSTMAP_HOLDER_NOW = 0, BOOSTMAP_HOLDER_BEGUN = 1, BOOSTMAP_BY_COMMITS = 2 };
 
-/* Begins to judge the history of a map with `stripes` stripes, at least one; by the order of commits
- * the number is ignored.    0; 4; 38; 30 */
+/* Begins to judge the history of a map with `stripes` stripes, at least one, each of which takes 9
+ * bytes; by the order of commits the number is ignored.    0; 4; 38; 30 */
 boostmap_status boostmap_judge_new(boostmap_judge *judge, uint64_t stripes, uint32_t rule);
 
 /* Feeds the next entry. It has been fed only after 0; after 30 it may be fed again. Entries after the
