@@ -661,12 +661,12 @@ class _RecordedTransaction(*([_InTransaction] if _boostmap else []), CallerTrans
         return self
 
     def __exit__(self, kind, raised, trace):
-        self._record.append(self)  # before the commit, so that an interrupt loses none
         try:
+            self._record.append(self)  # before the commit, so that an interrupt loses none
             super().__exit__(kind, raised, trace)
         finally:
-            if self.commit_number is None:
-                self._record.remove(self)
+            if self.commit_number is None and self._record[-1:] == [self]:
+                self._record.pop()
 
     def _did(self, operation, key, reply, value=None, expected=None):
         self._entries.append(Entry("asked", 0, operation, key=key, value=value, expected=expected))
@@ -724,7 +724,8 @@ class _RecordedTransaction(*([_InTransaction] if _boostmap else []), CallerTrans
 def history(callers):
     """The committed transactions of all callers of a map that keeps its entries, in the order of commits, each as a
     whole: what a Judge with by_commits=True is fed. No entry says a number of keys; `items` has a get of each pair."""
-    done = sorted((t for caller in callers for t in caller._record), key=lambda t: t.commit_number)
+    all_of_them = (t for caller in callers for t in caller._record if t.commit_number)
+    done = sorted(all_of_them, key=lambda t: t.commit_number)
     return [entry for t in done for entry in (
         Entry("began", 0, number=t.commit_number), *t._entries, Entry("committed", 0, number=t.commit_number))]
 

@@ -19,13 +19,17 @@ def interrupted(job, seconds):
     def handle(*_):
         raise Interrupt
 
+    def runs():  # its own function, since a loop's jump back may lie outside of its try
+        signal.setitimer(signal.ITIMER_REAL, 1e-5 + count % 97 * 1e-6)
+        while time.monotonic() < ends:  # an interrupt in a destructor is lost
+            job()
+        signal.setitimer(signal.ITIMER_REAL, 0)
+
     before, count, ends = signal.signal(signal.SIGALRM, handle), 0, time.monotonic() + seconds
     try:
         while time.monotonic() < ends:
             try:
-                signal.setitimer(signal.ITIMER_REAL, 1e-5 + count % 97 * 1e-6)
-                while time.monotonic() < ends:  # an interrupt in a destructor is lost
-                    job()
+                runs()
             except Interrupt:
                 count += 1
     finally:
