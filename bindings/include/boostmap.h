@@ -420,12 +420,13 @@ boostmap_status boostmap_judge_free(boostmap_judge *judge);
  * yield; the others sleep, each about twice as long as the one before, up to half a millisecond. They
  * are shortened by chance. Threads that do not wait keep one another from committing. */
 static inline void boostmap_wait(uint64_t *waits) {
-    uint64_t nth = (*waits)++, longest = nth < 13 ? (uint64_t)1 << (nth - 4) : 500, random;
+    uint64_t nth = (*waits)++, longest = 500, random;
     struct timeval sleep = {0, 0};
     if (nth < 4) {
         sched_yield();
         return;
     }
+    if (nth < 13) longest = (uint64_t)1 << (nth - 4);
     random = ((uint64_t)(uintptr_t)waits + nth) * 6364136223846793005u >> 33;
     sleep.tv_usec = (suseconds_t)(longest - random % (longest / 2 + 1));
     select(0, NULL, NULL, NULL, &sleep);

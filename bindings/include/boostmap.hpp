@@ -262,6 +262,13 @@ public:
     // Begins a transaction, which aborts if it is destroyed before it is committed.
     [[nodiscard]] caller_transaction begin();
 
+    // Aborts the caller's transaction, and returns whether there was one.
+    bool abort() {
+        bool aborts = boostmap_recorded_abort(&handle_) == BOOSTMAP_DONE;
+        handle_.caller.aborts += aborts;
+        return aborts;
+    }
+
     // Runs a job, which is given a `caller_job`, in a transaction: commits, or aborts if the job throws
     // or rolls back. If a call of this transaction was busy, waits and runs the job again, for ever or
     // at most `tries` times; a busy call of another map is thrown. Returns the job's result.
@@ -345,7 +352,7 @@ public:
     caller_calls(const caller_calls &) = delete;
     caller_calls &operator=(const caller_calls &) = delete;
     ~caller_calls() {
-        if (caller_ && boostmap_recorded_abort(&caller_->handle_) == BOOSTMAP_DONE) counted().aborts++;
+        if (caller_) caller_->abort();
     }
 
     value get(std::uint64_t key) { return call(boostmap_recorded_get, key); }
