@@ -14,8 +14,8 @@ static PyObject *Py_NewRef(PyObject *object) {
 }
 #endif
 
-/* boostmap.Busy and boostmap.Refused. */
-static PyObject *busy_type, *refused_type;
+/* boostmap.Busy, boostmap.Refused and boostmap.CallerTransaction. */
+static PyObject *busy_type, *refused_type, *transaction_type;
 
 typedef struct {
     PyObject_HEAD
@@ -75,12 +75,13 @@ static int read_number(PyObject *from, uint64_t *number) {
 
 enum { GET, TAKE, PUT, PUT_IF, PUT_IF_EQUAL, ADD, GET_OR_PUT };
 
-/* The names by which `run` knows the operations. */
-static const struct {
+/* The names by which `run` knows the operations; `word` is the name as the interpreter keeps it. */
+static struct {
     const char *name;
     int kind;
-} operations[] = {{"get", GET},       {"put", PUT}, {"take", TAKE},
-                  {"put_if", PUT_IF}, {"add", ADD}, {"get_or_put", GET_OR_PUT}};
+    PyObject *word;
+} operations[] = {{"get", GET, NULL},       {"put", PUT, NULL}, {"take", TAKE, NULL},
+                  {"put_if", PUT_IF, NULL}, {"add", ADD, NULL}, {"get_or_put", GET_OR_PUT, NULL}};
 
 /* An operation with its numbers. */
 typedef struct {
@@ -116,19 +117,27 @@ static int read_operation(Operation *op, int kind, PyObject *const *given, Py_ss
     return read_number(given[1], &op->expected);
 }
 
+enum { OPERATIONS = sizeof operations / sizeof *operations };
+
+/* The place of a name among the operations, or OPERATIONS. */
+static int operation_of(PyObject *name) {
+    int i = 0;
+    while (i < OPERATIONS && operations[i].word != name) i++;
+    if (i < OPERATIONS || !PyUnicode_Check(name)) return i;
+    for (i = 0; i < OPERATIONS && PyUnicode_CompareWithASCIIString(name, operations[i].name); i++) {}
+    return i;
+}
+
 /* Reads an operation that is given by its name and its arguments: 0, or -1 with an exception. */
 static int read_named(Operation *op, PyObject *given) {
     PyObject *words = PySequence_Fast(given, "an operation is a name with its arguments");
-    int found = -2, last = sizeof operations / sizeof *operations;
+    Py_ssize_t count = words ? PySequence_Fast_GET_SIZE(words) : 0;
+    int found = count ? operation_of(PySequence_Fast_GET_ITEM(words, 0)) : OPERATIONS, failed = -1;
     if (!words) return -1;
-    if (PySequence_Fast_GET_SIZE(words) > 0 && PyUnicode_Check(PySequence_Fast_GET_ITEM(words, 0)))
-        for (int i = 0; i < last && found == -2; i++)
-            if (!PyUnicode_CompareWithASCIIString(PySequence_Fast_GET_ITEM(words, 0), operations[i].name))
-                found = read_operation(op, operations[i].kind, PySequence_Fast_ITEMS(words) + 1,
-                                       PySequence_Fast_GET_SIZE(words) - 1);
-    if (found == -2) PyErr_Format(PyExc_ValueError, "%R is no operation", given);
+    if (found == OPERATIONS) PyErr_Format(PyExc_ValueError, "%R is no operation", given);
+    else failed = read_operation(op, operations[found].kind, PySequence_Fast_ITEMS(words) + 1, count - 1);
     Py_DECREF(words);
-    return found ? -1 : 0;
+    return failed;
 }
 
 static boostmap_status perform(boostmap_caller *handle, const Operation *op, uint64_t *word) {
@@ -312,6 +321,8 @@ AT_ONCE(put_if, PUT_IF)
 AT_ONCE(add, ADD)
 AT_ONCE(get_or_put, GET_OR_PUT)
 
+static PyObject *caller_transact(PyObject *self, PyObject *args, PyObject *names);
+
 /* A method that takes its arguments as an array. */
 #define FAST(NAME, FUNCTION, TEXT) {NAME, (PyCFunction)(void (*)(void))FUNCTION, METH_FASTCALL, TEXT}
 
@@ -327,6 +338,11 @@ static PyMethodDef caller_methods[] = {
     FAST("add", caller_add, "Adds to the value of the key, 0 if it has none, and returns the value before. A sum "
                             "beyond 64 bits raises OverflowError, and changes nothing."),
     FAST("get_or_put", caller_get_or_put, "Puts only if the key has no value; returns the value that it has now."),
+    {"transact", (PyCFunction)(void (*)(void))caller_transact, METH_VARARGS | METH_KEYWORDS,
+     "transact(job, tries=None)\n--\n\n"
+     "Runs a job, which is given the transaction, and commits. If a call of the transaction was busy, waits and tries "
+     "again, at most `tries` times if that is given: it yields at first, and then sleeps, each time about twice as "
+     "long, up to half a millisecond. Returns the job's result."},
     {"run", caller_run, METH_O,
      "Runs operations in one transaction, such as [(\"get\", 1), (\"put\", 2, 20)], and returns their replies."},
     {"abort", caller_abort, METH_NOARGS, "Aborts the caller's transaction, and returns whether there was one."},
@@ -353,16 +369,18 @@ static PyTypeObject *caller_type;
 
 /* ---- transactions ---- */
 
-static PyObject *transaction_new(PyTypeObject *type, PyObject *args, PyObject *names) {
-    PyObject *caller;
-    Transaction *t;
-    (void)names;
-    if (!PyArg_ParseTuple(args, "O!", caller_type, &caller)) return NULL;
-    t = (Transaction *)type->tp_alloc(type, 0);
+static PyObject *transaction_of(PyTypeObject *type, PyObject *caller) {
+    Transaction *t = (Transaction *)type->tp_alloc(type, 0);
     if (!t) return NULL;
     t->caller = (Caller *)Py_NewRef(caller);
     t->commit_number = Py_NewRef(Py_None);
     return (PyObject *)t;
+}
+
+static PyObject *transaction_new(PyTypeObject *type, PyObject *args, PyObject *names) {
+    PyObject *caller;
+    (void)names;
+    return PyArg_ParseTuple(args, "O!", caller_type, &caller) ? transaction_of(type, caller) : NULL;
 }
 
 /* Aborts the transaction, if it is open. */
@@ -399,25 +417,32 @@ static void note_busy(Transaction *t) {
         if (STATUS == BOOSTMAP_BUSY) note_busy(T);                                                  \
     } while (0)
 
-static PyObject *transaction_enter(PyObject *self, PyObject *none) {
-    Transaction *t = (Transaction *)self;
+/* Begins: 0, or -1 with an exception. */
+static int begin(Transaction *t) {
     boostmap_status status;
-    (void)none;
     enter(t->caller);
     status = boostmap_striped_begin(t->caller->handle);
     leave(t->caller);
-    if (status != BOOSTMAP_DONE) return raise_status(status, 0);
+    if (status != BOOSTMAP_DONE) {
+        raise_status(status, 0);
+        return -1;
+    }
     t->is_open = 1;
     t->was_busy = t->rolls_back = 0;
-    return Py_NewRef(self);
+    return 0;
 }
 
-static PyObject *transaction_exit(PyObject *self, PyObject *const *raised, Py_ssize_t count) {
-    Transaction *t = (Transaction *)self;
+static PyObject *transaction_enter(PyObject *self, PyObject *none) {
+    (void)none;
+    return begin((Transaction *)self) ? NULL : Py_NewRef(self);
+}
+
+/* Commits, or aborts after `roll_back`. */
+static PyObject *finish(Transaction *t) {
     boostmap_status status;
     uint64_t place = 0;
     PyObject *number;
-    if (count < 1 || raised[0] != Py_None || (t->rolls_back && t->is_open)) {
+    if (t->rolls_back && t->is_open) {
         end(t);
         Py_RETURN_NONE;
     }
@@ -429,6 +454,48 @@ static PyObject *transaction_exit(PyObject *self, PyObject *const *raised, Py_ss
     if (!number) return NULL;
     Py_SETREF(t->commit_number, number);
     Py_RETURN_NONE;
+}
+
+static PyObject *transaction_exit(PyObject *self, PyObject *const *raised, Py_ssize_t count) {
+    if (count > 0 && raised[0] == Py_None) return finish((Transaction *)self);
+    end((Transaction *)self);
+    Py_RETURN_NONE;
+}
+
+/* Runs a job in a transaction that has begun, and ends it. *again: whether it was busy. */
+static PyObject *run_job(Transaction *t, PyObject *job, int *again) {
+    PyObject *result = PyObject_CallFunctionObjArgs(job, (PyObject *)t, NULL), *finished;
+    *again = 0;
+    if (!result) {
+        *again = t->was_busy && PyErr_ExceptionMatches(busy_type);
+        end(t);
+        return NULL;
+    }
+    finished = finish(t);
+    if (!finished) Py_CLEAR(result);
+    Py_XDECREF(finished);
+    return result;
+}
+
+static PyObject *caller_transact(PyObject *self, PyObject *args, PyObject *names) {
+    static char *known[] = {"job", "tries", NULL};
+    PyObject *job, *tries_given = Py_None;
+    uint64_t tries = UINT64_MAX, waits = 0;
+    if (!PyArg_ParseTupleAndKeywords(args, names, "O|O:transact", known, &job, &tries_given)) return NULL;
+    if (tries_given != Py_None && read_number(tries_given, &tries)) return NULL;
+    for (;;) {
+        PyObject *t = transaction_of((PyTypeObject *)transaction_type, self), *result;
+        int again = 0;
+        if (!t) return NULL;
+        result = begin((Transaction *)t) ? NULL : run_job((Transaction *)t, job, &again);
+        Py_DECREF(t);
+        if (result || !again || waits == tries) return result;
+        PyErr_Clear();
+        Py_BEGIN_ALLOW_THREADS
+        boostmap_wait(&waits);
+        Py_END_ALLOW_THREADS
+        if (PyErr_CheckSignals()) return NULL;
+    }
 }
 
 /* An operation of the open transaction. */
@@ -589,16 +656,18 @@ static PyType_Spec transaction_spec = {"_boostmap.Transaction", sizeof(Transacti
 
 /* ---- the module ---- */
 
-static PyObject *set_errors(PyObject *self, PyObject *args) {
+static PyObject *set_types(PyObject *self, PyObject *args) {
     (void)self;
-    if (!PyArg_ParseTuple(args, "OO", &busy_type, &refused_type)) return NULL;
+    if (!PyArg_ParseTuple(args, "OOO", &busy_type, &refused_type, &transaction_type)) return NULL;
     Py_INCREF(busy_type);
     Py_INCREF(refused_type);
+    Py_INCREF(transaction_type);
     Py_RETURN_NONE;
 }
 
 static PyMethodDef module_methods[] = {
-    {"set_errors", set_errors, METH_VARARGS, "Sets the exceptions that are raised after busy and refused calls."},
+    {"set_types", set_types, METH_VARARGS,
+     "Sets the exceptions of busy and refused calls, and the type of transactions that `transact` makes."},
     {0},
 };
 
@@ -608,6 +677,7 @@ static struct PyModuleDef module = {PyModuleDef_HEAD_INIT, "_boostmap", "Callers
 PyMODINIT_FUNC PyInit__boostmap(void) {
     PyObject *made = PyModule_Create(&module), *transactions;
     if (!made) return NULL;
+    for (int i = 0; i < OPERATIONS; i++) operations[i].word = PyUnicode_InternFromString(operations[i].name);
     caller_type = (PyTypeObject *)PyType_FromSpec(&caller_spec);
     transactions = PyType_FromSpec(&transaction_spec);
     if (!caller_type || !transactions || PyModule_AddObject(made, "Caller", Py_NewRef((PyObject *)caller_type)) ||

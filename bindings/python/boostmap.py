@@ -340,9 +340,30 @@ def open_striped(callers=1, stripes=64, keys=0, keeps_commits=False, seed=None, 
 
 
 class _AtOnce:
-    """The operations of a caller, each in a transaction of its own."""
+    """What callers have whose transactions are not made by _boostmap: `transact`, and the operations of a caller, each
+    in a transaction of its own."""
 
     __slots__ = ()
+
+    def transact(self, job, tries=None):
+        """Runs a job, which is given the transaction, and commits. If a call of the transaction was busy, waits and tries
+        again, at most `tries` times if that is given: it yields at first, and then sleeps, each time about twice as
+        long, up to half a millisecond. Returns the job's result."""
+        done, longest = 0, 1e-6
+        while True:
+            t = self.transaction()
+            try:
+                with t:
+                    return job(t)
+            except Busy:
+                if not t.was_busy or done == tries:
+                    raise
+            done += 1
+            if done <= 4:
+                time.sleep(0)
+            else:
+                time.sleep(longest * random.uniform(0.5, 1))
+                longest = min(2 * longest, 5e-4)
 
     def get(self, key):
         """The value at the key, in a transaction of its own, as are all operations of a caller."""
@@ -525,10 +546,6 @@ class _CtypesTransaction(_InTransaction):
         return self._call("striped_count")
 
 
-if _boostmap:
-    _boostmap.set_errors(Busy, Refused)
-
-
 class Caller(_boostmap.Caller if _boostmap else _CtypesCaller):
     """A caller of a striped map, made by `open_striped`: one for each thread. Each of its operations (get, put, take,
     put_if, add, get_or_put, update, items and so on) is a transaction of its own, which waits while it is busy. Closing
@@ -545,26 +562,6 @@ class Caller(_boostmap.Caller if _boostmap else _CtypesCaller):
     def transaction(self):
         """A transaction, which begins at `with`, commits at its end, and aborts at an exception."""
         return CallerTransaction(self)
-
-    def transact(self, job, tries=None):
-        """Runs a job, which is given the transaction, and commits. If a call of the transaction was busy, waits and tries
-        again, at most `tries` times if that is given: it yields at first, and then sleeps, each time about twice as
-        long, up to half a millisecond. Returns the job's result."""
-        done, longest = 0, 1e-6
-        while True:
-            t = self.transaction()
-            try:
-                with t:
-                    return job(t)
-            except Busy:
-                if not t.was_busy or done == tries:
-                    raise
-            done += 1
-            if done <= 4:
-                time.sleep(0)
-            else:
-                time.sleep(longest * random.uniform(0.5, 1))
-                longest = min(2 * longest, 5e-4)
 
     def update(self, key, change):
         """Puts what `change` makes of the key's value (None: if it is absent), or, if that is None, takes the key out.
@@ -625,6 +622,10 @@ class CallerTransaction(_boostmap.Transaction if _boostmap else _CtypesTransacti
         for key in keys:
             self.take(key)
         return len(keys)
+
+
+if _boostmap:
+    _boostmap.set_types(Busy, Refused, CallerTransaction)
 
 
 class _RecordedCaller(*([_AtOnce] if _boostmap else []), Caller):
