@@ -28,6 +28,7 @@ typedef struct {
     PyObject_HEAD
     Caller *caller;
     PyObject *commit_number;
+    PyObject *kept; /* a list to which a commit adds its place, or null */
     int is_open, was_busy, rolls_back;
 } Transaction;
 
@@ -397,6 +398,7 @@ static void transaction_dealloc(PyObject *self) {
     end((Transaction *)self);
     Py_XDECREF(((Transaction *)self)->caller);
     Py_XDECREF(((Transaction *)self)->commit_number);
+    Py_XDECREF(((Transaction *)self)->kept);
     type->tp_free(self);
     Py_DECREF(type);
 }
@@ -453,6 +455,7 @@ static PyObject *finish(Transaction *t) {
     number = place ? PyLong_FromUnsignedLongLong(place) : Py_NewRef(Py_None);
     if (!number) return NULL;
     Py_SETREF(t->commit_number, number);
+    if (t->kept && PyList_Append(t->kept, number)) return NULL;
     Py_RETURN_NONE;
 }
 
@@ -540,6 +543,12 @@ static PyObject *transaction_back(PyObject *self, PyObject *const *given, Py_ssi
     Py_RETURN_NONE;
 }
 
+static PyObject *transaction_keep(PyObject *self, PyObject *kept) {
+    if (!PyList_Check(kept)) return PyErr_Format(PyExc_TypeError, "a list is wanted");
+    Py_XSETREF(((Transaction *)self)->kept, Py_NewRef(kept));
+    Py_RETURN_NONE;
+}
+
 static PyObject *transaction_roll_back(PyObject *self, PyObject *none) {
     (void)none;
     ((Transaction *)self)->rolls_back = 1;
@@ -615,6 +624,7 @@ static PyObject *transaction_commit_number(PyObject *self, void *none) {
 
 static PyMethodDef transaction_methods[] = {
     {"__enter__", transaction_enter, METH_NOARGS, NULL},
+    {"_keep", transaction_keep, METH_O, NULL},
     FAST("__exit__", transaction_exit, NULL),
     FAST("get", transaction_get, "The value at the key."),
     FAST("take", transaction_take, "Takes the key out, and returns the value that it had."),

@@ -458,7 +458,7 @@ class _CtypesTransaction(_InTransaction):
     transaction open, until it is collected or its caller aborts."""
 
     _is_open = _rolls_back = was_busy = False
-    commit_number = None
+    commit_number = _kept = None
 
     def __init__(self, caller):
         self._caller = caller
@@ -480,6 +480,8 @@ class _CtypesTransaction(_InTransaction):
                 self.commit_number = self._call("striped_commit") or None
                 self._is_open = False
                 self._caller._ended[0] += 1
+                if self._kept is not None:
+                    self._kept.append(self.commit_number)
         finally:
             self._end()
 
@@ -503,6 +505,9 @@ class _CtypesTransaction(_InTransaction):
 
     def __bool__(self):
         return True
+
+    def _keep(self, kept):
+        self._kept = kept
 
     def roll_back(self):
         """Lets the end of the `with` take everything back, instead of committing."""
@@ -629,7 +634,8 @@ if _boostmap:
 
 
 class _RecordedCaller(*([_AtOnce] if _boostmap else []), Caller):
-    """A caller that keeps its transactions that have committed or are committing."""
+    """A caller that keeps the entries of its transactions that have committed or are committing, a list for each, to
+    which the commit adds its place."""
 
     __slots__ = ("_record",)
 
@@ -642,7 +648,7 @@ class _RecordedCaller(*([_AtOnce] if _boostmap else []), Caller):
 
 
 class _RecordedTransaction(*([_InTransaction] if _boostmap else []), CallerTransaction):
-    """A transaction that keeps its entries, for one `with`."""
+    """A transaction that keeps its entries."""
 
     __slots__ = ("_record", "_entries")
 
@@ -655,18 +661,17 @@ class _RecordedTransaction(*([_InTransaction] if _boostmap else []), CallerTrans
         self._record, self._entries = record, None
 
     def __enter__(self):
-        if self._entries is not None:
-            raise Refused(20)
         super().__enter__()
         self._entries = []
+        self._keep(self._entries)
         return self
 
     def __exit__(self, kind, raised, trace):
         try:
-            self._record.append(self)  # before the commit, so that an interrupt loses none
+            self._record.append(self._entries)  # before the commit, so that an interrupt loses none
             super().__exit__(kind, raised, trace)
         finally:
-            if self.commit_number is None and self._record[-1:] == [self]:
+            if not _is_committed(self._entries) and self._record and self._record[-1] is self._entries:
                 self._record.pop()
 
     def _did(self, operation, key, reply, value=None, expected=None):
@@ -722,13 +727,16 @@ class _RecordedTransaction(*([_InTransaction] if _boostmap else []), CallerTrans
         return standing - below
 
 
+def _is_committed(entries):
+    return bool(entries) and isinstance(entries[-1], int)
+
+
 def history(callers):
     """The committed transactions of all callers of a map that keeps its entries, in the order of commits, each as a
     whole: what a Judge with by_commits=True is fed. No entry says a number of keys; `items` has a get of each pair."""
-    all_of_them = (t for caller in callers for t in caller._record if t.commit_number)
-    done = sorted(all_of_them, key=lambda t: t.commit_number)
-    return [entry for t in done for entry in (
-        Entry("began", 0, number=t.commit_number), *t._entries, Entry("committed", 0, number=t.commit_number))]
+    done = sorted(filter(_is_committed, (kept for caller in callers for kept in caller._record)), key=lambda kept: kept[-1])
+    return [entry for *entries, place in done for entry in (
+        Entry("began", 0, number=place), *entries, Entry("committed", 0, number=place))]
 
 
 _KINDS = {

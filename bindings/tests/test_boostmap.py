@@ -395,13 +395,13 @@ class Operations(unittest.TestCase):
         for keeps_entries in (False, True):
             draw, model, made = random.Random(1), {}, 0
             callers = open_striped(callers=2, stripes=7, keeps_entries=keeps_entries)
-            while made < 50_000:
+            while made < (50_000 if boostmap._boostmap else 5_000):
                 calls, model = self.transaction(draw.choice(callers), model, draw)
                 made += calls
             self.assertEqual(callers[0].items(), model)
             self.assertEqual(list(callers[0].items()), sorted(model))
             commits = sum(caller.counts().commits for caller in callers)
-            self.assertGreater(min(caller.counts().aborts for caller in callers), 100)
+            self.assertGreater(min(caller.counts().aborts for caller in callers), 10)
             if keeps_entries:
                 entries = history(callers)
                 self.assertEqual(judged(entries), Verdict(True, commits, 0, None, None))
