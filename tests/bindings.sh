@@ -95,7 +95,7 @@ in_c() {
   c_test whole c99
   c_test model c99
   c_test crowd c11 -D_GNU_SOURCE -pthread -Wl,--wrap=malloc -Wl,--wrap=calloc -Wl,--wrap=realloc -Wl,--wrap=free
-  try 'crowd of 16, with one in 5 allocations refused' within "$work/crowd" 16 5
+  try 'crowd of 16, with one in 20 allocations refused' within "$work/crowd" 16 20
   try 'crowd of 8, with no allocation refused' within "$work/crowd" 8 0
   try 'compile transfer.c' cc -std=c99 "${strict[@]}" "${use[@]}" bindings/examples/transfer.c -o "$work/transfer" -lboostmap
   try 'example in C' prints_the_example "$work/transfer"

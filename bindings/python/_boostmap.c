@@ -20,7 +20,8 @@ static PyObject *busy_type, *refused_type, *transaction_type;
 typedef struct {
     PyObject_HEAD
     boostmap_caller *handle; /* aligned, which Python's own memory is not */
-    PyThread_type_lock lock;
+    PyThread_type_lock lock; /* held while a thread looks at the map without the interpreter's lock */
+    int is_looked_at;
     uint64_t number;
 } Caller;
 
@@ -32,15 +33,16 @@ typedef struct {
     int is_open, was_busy, rolls_back;
 } Transaction;
 
-/* Takes the caller's lock. Another thread holds it only while it has released the interpreter's lock. */
+/* Waits until no other thread is in a call of this caller. All calls but `look` hold the interpreter's
+ * lock, which keeps the others out. */
 static void enter(Caller *caller) {
-    if (PyThread_acquire_lock(caller->lock, NOWAIT_LOCK)) return;
-    Py_BEGIN_ALLOW_THREADS
-    PyThread_acquire_lock(caller->lock, WAIT_LOCK);
-    Py_END_ALLOW_THREADS
+    while (caller->is_looked_at) {
+        Py_BEGIN_ALLOW_THREADS
+        PyThread_acquire_lock(caller->lock, WAIT_LOCK);
+        PyThread_release_lock(caller->lock);
+        Py_END_ALLOW_THREADS
+    }
 }
-
-static void leave(Caller *caller) { PyThread_release_lock(caller->lock); }
 
 /* Raises what a status other than done and absent says. */
 static PyObject *raise_status(boostmap_status status, uint64_t word) {
@@ -178,7 +180,6 @@ static int perform_all(Caller *caller, const Operation *ops, Reply *replies, Py_
             }
             is_over = boostmap_caller_ends(caller->handle, &status, &place);
         }
-        leave(caller);
         if (is_over) {
             if (status > BOOSTMAP_ABSENT) raise_status(status, word);
             return status > BOOSTMAP_ABSENT ? -1 : 0;
@@ -226,7 +227,6 @@ static PyObject *caller_open(PyObject *self, PyObject *args) {
         if (read_number(given[i], &how[i])) return NULL;
     enter(caller);
     status = boostmap_striped_open(caller->handle, how[0], how[1], how[2], (uint32_t)how[3], how[4], &caller->number);
-    leave(caller);
     return answer(status, caller->number);
 }
 
@@ -239,7 +239,6 @@ static PyObject *caller_join(PyObject *self, PyObject *next) {
     }
     enter(first);
     status = boostmap_striped_join(first->handle, other->handle, &other->number);
-    leave(first);
     return answer(status, other->number);
 }
 
@@ -249,7 +248,6 @@ static PyObject *caller_abort(PyObject *self, PyObject *none) {
     enter((Caller *)self);
     status = boostmap_striped_abort(((Caller *)self)->handle);
     ((Caller *)self)->handle->aborts += status == BOOSTMAP_DONE;
-    leave((Caller *)self);
     return PyBool_FromLong(status == BOOSTMAP_DONE);
 }
 
@@ -257,7 +255,6 @@ static PyObject *caller_close(PyObject *self, PyObject *none) {
     (void)none;
     enter((Caller *)self);
     boostmap_striped_free(((Caller *)self)->handle);
-    leave((Caller *)self);
     Py_RETURN_NONE;
 }
 
@@ -322,6 +319,7 @@ AT_ONCE(put_if, PUT_IF)
 AT_ONCE(add, ADD)
 AT_ONCE(get_or_put, GET_OR_PUT)
 
+static PyObject *caller_transaction(PyObject *self, PyObject *none);
 static PyObject *caller_transact(PyObject *self, PyObject *args, PyObject *names);
 
 /* A method that takes its arguments as an array. */
@@ -339,6 +337,8 @@ static PyMethodDef caller_methods[] = {
     FAST("add", caller_add, "Adds to the value of the key, 0 if it has none, and returns the value before. A sum "
                             "beyond 64 bits raises OverflowError, and changes nothing."),
     FAST("get_or_put", caller_get_or_put, "Puts only if the key has no value; returns the value that it has now."),
+    {"transaction", caller_transaction, METH_NOARGS,
+     "A transaction, which begins at `with`, commits at its end, and aborts at an exception."},
     {"transact", (PyCFunction)(void (*)(void))caller_transact, METH_VARARGS | METH_KEYWORDS,
      "transact(job, tries=None)\n--\n\n"
      "Runs a job, which is given the transaction, and commits. If a call of the transaction was busy, waits and tries "
@@ -378,6 +378,11 @@ static PyObject *transaction_of(PyTypeObject *type, PyObject *caller) {
     return (PyObject *)t;
 }
 
+static PyObject *caller_transaction(PyObject *self, PyObject *none) {
+    (void)none;
+    return transaction_of((PyTypeObject *)transaction_type, self);
+}
+
 static PyObject *transaction_new(PyTypeObject *type, PyObject *args, PyObject *names) {
     PyObject *caller;
     (void)names;
@@ -390,7 +395,6 @@ static void end(Transaction *t) {
     t->is_open = 0;
     enter(t->caller);
     t->caller->handle->aborts += boostmap_striped_abort(t->caller->handle) == BOOSTMAP_DONE;
-    leave(t->caller);
 }
 
 static void transaction_dealloc(PyObject *self) {
@@ -415,7 +419,6 @@ static void note_busy(Transaction *t) {
         if (!(T)->is_open) return raise_status(BOOSTMAP_NOT_OPEN, 0);                               \
         enter((T)->caller);                                                                        \
         STATUS = CALLED;                                                                           \
-        leave((T)->caller);                                                                        \
         if (STATUS == BOOSTMAP_BUSY) note_busy(T);                                                  \
     } while (0)
 
@@ -424,7 +427,6 @@ static int begin(Transaction *t) {
     boostmap_status status;
     enter(t->caller);
     status = boostmap_striped_begin(t->caller->handle);
-    leave(t->caller);
     if (status != BOOSTMAP_DONE) {
         raise_status(status, 0);
         return -1;
@@ -556,12 +558,17 @@ static PyObject *transaction_roll_back(PyObject *self, PyObject *none) {
 }
 
 /* Counts the keys, or with an array reads them, while other threads run. */
-static boostmap_status look(Transaction *t, boostmap_pair *pairs, size_t places, uint64_t *word) {
+static boostmap_status look(Caller *caller, boostmap_pair *pairs, size_t places, uint64_t *word) {
     boostmap_status status;
+    enter(caller);
+    caller->is_looked_at = 1;
+    PyThread_acquire_lock(caller->lock, WAIT_LOCK);
     Py_BEGIN_ALLOW_THREADS
-    if (pairs) status = boostmap_striped_read(t->caller->handle, pairs, places, word);
-    else status = boostmap_striped_count(t->caller->handle, word);
+    if (pairs) status = boostmap_striped_read(caller->handle, pairs, places, word);
+    else status = boostmap_striped_count(caller->handle, word);
     Py_END_ALLOW_THREADS
+    caller->is_looked_at = 0;
+    PyThread_release_lock(caller->lock);
     return status;
 }
 
@@ -573,9 +580,7 @@ static Py_ssize_t transaction_length(PyObject *self) {
         raise_status(BOOSTMAP_NOT_OPEN, 0);
         return -1;
     }
-    enter(t->caller);
-    status = look(t, NULL, 0, &word);
-    leave(t->caller);
+    status = look(t->caller, NULL, 0, &word);
     if (status == BOOSTMAP_DONE) return (Py_ssize_t)word;
     if (status == BOOSTMAP_BUSY) note_busy(t);
     raise_status(status, word);
@@ -597,9 +602,7 @@ static PyObject *transaction_items(PyObject *self, PyObject *none) {
     if (places < 0) return NULL;
     pairs = calloc((size_t)places + 1, sizeof *pairs);
     if (!pairs) return PyErr_NoMemory();
-    enter(((Transaction *)self)->caller);
-    status = look((Transaction *)self, pairs, (size_t)places, &count);
-    leave(((Transaction *)self)->caller);
+    status = look(((Transaction *)self)->caller, pairs, (size_t)places, &count);
     all = status == BOOSTMAP_DONE ? PyDict_New() : raise_status(status, count);
     for (uint64_t i = 0; all && i < count; i++) {
         PyObject *key = PyLong_FromUnsignedLongLong(pairs[i].key);

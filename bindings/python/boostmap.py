@@ -345,6 +345,10 @@ class _AtOnce:
 
     __slots__ = ()
 
+    def transaction(self):
+        """A transaction, which begins at `with`, commits at its end, and aborts at an exception."""
+        return CallerTransaction(self)
+
     def transact(self, job, tries=None):
         """Runs a job, which is given the transaction, and commits. If a call of the transaction was busy, waits and tries
         again, at most `tries` times if that is given: it yields at first, and then sleeps, each time about twice as
@@ -563,10 +567,6 @@ class Caller(_boostmap.Caller if _boostmap else _CtypesCaller):
 
     def __exit__(self, *raised):
         self.close()
-
-    def transaction(self):
-        """A transaction, which begins at `with`, commits at its end, and aborts at an exception."""
-        return CallerTransaction(self)
 
     def update(self, key, change):
         """Puts what `change` makes of the key's value (None: if it is absent), or, if that is None, takes the key out.
