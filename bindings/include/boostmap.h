@@ -313,7 +313,7 @@ boostmap_status boostmap_striped_count(boostmap_caller *caller, uint64_t *word);
 
 /* Takes every stripe as boostmap_striped_count does, and writes the pairs of the map, by rising keys,
  * to the front of an array of `places` elements; *word: the number of pairs. After 7 the array is
- * unchanged, and *word is the number of places that it needs; the call took as long as a full one.
+ * unchanged, and *word is the number of places that it needs; the call took about as long as a full one.
  * 0; 2, after which the transaction has been aborted; 3; 7; 19; 30 */
 boostmap_status boostmap_striped_read(boostmap_caller *caller, boostmap_pair *pairs, size_t places, uint64_t *word);
 
