@@ -1,5 +1,5 @@
-/* The striped map's callers and transactions for Python, in C: a call costs a fifth of what it costs by
- * ctypes, and no signal handler runs between a call and its bookkeeping. boostmap.py has the same classes
+/* The striped map's callers and transactions for Python, in C: a call costs a tenth of what it costs by
+ * ctypes, or less, and no signal handler runs between a call and its bookkeeping. boostmap.py has the same classes
  * by ctypes, for machines without Python's headers, and their documentation. Short calls hold the
  * interpreter's lock; `items`, `len` and waits release it. */
 #define PY_SSIZE_T_CLEAN

@@ -15,7 +15,7 @@ A map with one owner, `Map`, is for one thread that acts for many callers.
 The library is libboostmap.so, next to this file or at the path in BOOSTMAP_SO; `bindings/install.sh` of
 the repository builds it. It is proved; this module is only tested. Threads may share a map, a caller
 or a judge: each call holds that object's lock. Calls of callers are made by the module _boostmap, in C,
-if install.sh has built it, and otherwise, several times as slow, by ctypes.
+if install.sh has built it, and otherwise, ten times as slow or slower, by ctypes.
 """
 import collections
 import contextlib
