@@ -24,7 +24,7 @@ extern "C" {
 #endif
 
 /* A caller with its entries: those of its committed transactions, in their order, up to `kept`, and
- * then those of its open one. If it is not recorded, it keeps none. */
+ * then those of the transaction that has begun last, up to `count`. If it is not recorded, it keeps none. */
 typedef struct boostmap_recorded {
     boostmap_caller caller;
     boostmap_entry *entries;
@@ -53,15 +53,12 @@ static inline boostmap_entry *boostmap_record_note(boostmap_recorded *r, uint32_
     return entry;
 }
 
-/* Ends the transaction's entries: keeps them if its commit has a place, and forgets them if this is 0. */
-static inline void boostmap_record_end(boostmap_recorded *r, uint64_t place) {
+/* Keeps the entries of a transaction that has committed. */
+static inline void boostmap_record_commit(boostmap_recorded *r, uint64_t place) {
     if (!r->is_recorded) return;
-    if (place) {
-        boostmap_record_note(r, BOOSTMAP_COMMITTED, place);
-        r->entries[r->kept].number = place;
-        r->kept = r->count;
-    }
-    r->count = r->kept;
+    boostmap_record_note(r, BOOSTMAP_COMMITTED, place);
+    r->entries[r->kept].number = place;
+    r->kept = r->count;
 }
 
 /* Whether the operation that was asked for changed the map, by its reply. */
@@ -108,21 +105,19 @@ static inline boostmap_status boostmap_recorded_free(boostmap_recorded *r) {
 static inline boostmap_status boostmap_recorded_begin(boostmap_recorded *r) {
     boostmap_status status = boostmap_record_room(r, 1);
     if (status == BOOSTMAP_DONE) status = boostmap_striped_begin(&r->caller);
-    if (status == BOOSTMAP_DONE && r->is_recorded) {
-        r->count = r->kept; /* of a transaction that was ended by a call on r->caller */
-        boostmap_record_note(r, BOOSTMAP_BEGAN, 0);
-    }
+    if (status != BOOSTMAP_DONE || !r->is_recorded) return status;
+    r->count = r->kept; /* forgets a transaction that did not commit */
+    boostmap_record_note(r, BOOSTMAP_BEGAN, 0);
     return status;
 }
 
 static inline boostmap_status boostmap_recorded_commit(boostmap_recorded *r, uint64_t *word) {
     boostmap_status status = boostmap_striped_commit(&r->caller, word);
-    if (status == BOOSTMAP_DONE) boostmap_record_end(r, *word);
+    if (status == BOOSTMAP_DONE) boostmap_record_commit(r, *word);
     return status;
 }
 
 static inline boostmap_status boostmap_recorded_abort(boostmap_recorded *r) {
-    boostmap_record_end(r, 0);
     return boostmap_striped_abort(&r->caller);
 }
 
@@ -131,9 +126,7 @@ static inline boostmap_status boostmap_record_did(boostmap_recorded *r, boostmap
                                                   boostmap_pair pair, const uint64_t *expected,
                                                   const uint64_t *had) {
     boostmap_entry *entry;
-    if (!r->is_recorded) return status;
-    if (status == BOOSTMAP_BUSY) boostmap_record_end(r, 0);
-    if (status > BOOSTMAP_ABSENT) return status;
+    if (!r->is_recorded || status > BOOSTMAP_ABSENT) return status;
     entry = boostmap_record_note(r, BOOSTMAP_ASKED, 0);
     entry->operation = operation;
     entry->key = pair.key;
@@ -190,9 +183,7 @@ static inline boostmap_status boostmap_recorded_back(boostmap_recorded *r, uint6
 
 /* No entry says a number of keys. */
 static inline boostmap_status boostmap_recorded_count(boostmap_recorded *r, uint64_t *word) {
-    boostmap_status status = boostmap_striped_count(&r->caller, word);
-    if (status == BOOSTMAP_BUSY) boostmap_record_end(r, 0);
-    return status;
+    return boostmap_striped_count(&r->caller, word);
 }
 
 /* Keeps a get of each pair. */
@@ -201,7 +192,6 @@ static inline boostmap_status boostmap_recorded_read(boostmap_recorded *r, boost
     boostmap_status status = boostmap_record_room(r, 2 * places);
     uint64_t i;
     if (status == BOOSTMAP_DONE) status = boostmap_striped_read(&r->caller, pairs, places, word);
-    if (status == BOOSTMAP_BUSY) boostmap_record_end(r, 0);
     for (i = 0; status == BOOSTMAP_DONE && i < *word; i++) {
         boostmap_pair pair = {pairs[i].key, 0};
         boostmap_record_did(r, status, BOOSTMAP_GET, pair, NULL, &pairs[i].value);
@@ -222,7 +212,7 @@ static inline boostmap_status boostmap_recorded_transact(boostmap_recorded *r, u
         if (status != BOOSTMAP_DONE) return status;
         status = job(r, with);
         is_over = boostmap_caller_ends(&r->caller, &status, word);
-        boostmap_record_end(r, status <= BOOSTMAP_ABSENT ? *word : 0);
+        if (status <= BOOSTMAP_ABSENT) boostmap_record_commit(r, *word);
         if (is_over || waits == tries) return status;
         boostmap_wait(&waits);
     }
