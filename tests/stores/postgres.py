@@ -193,7 +193,9 @@ def main():
     words = parser.parse_args()
     with Server() as server:
         if words.write:
-            json.dump(run(server, LEVELS[words.level or "serializable"], words), sys.stdout)
+            level = LEVELS[words.level or "serializable"]
+            history = {"test": "postgres.py", "level": level, **run(server, level, words)}
+            print(json.dumps(history, separators=(",", ":")))
             return 0
         print(f"PostgreSQL {server.version()}")
         levels = [words.level] if words.level else LEVELS
