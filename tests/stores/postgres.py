@@ -4,11 +4,13 @@
     tests/stores/postgres.py                     each level with the seeds 1 to 20, by the plain judge
     tests/stores/postgres.py --judge PROGRAM     by this program instead
     tests/stores/postgres.py --level serializable --seed 3 --write >history.json
+    tests/stores/postgres.py --counter           with a counter that each transaction raises
 
 Twelve connections run transactions of two to five gets and puts on 20 keys. They are recorded as
 docs/JUDGE.md says: each entry when its caller sees it happen. At READ COMMITTED and at REPEATABLE READ
 the history must not be serializable, at SERIALIZABLE it must be. The last line is 'postgres: N passed,
-M failed', and the status is 1 if M is not 0.
+M failed', and the status is 1 if M is not 0. With --counter no two transactions overlap that both
+commit, so at REPEATABLE READ the history must be serializable too: the counter hides the write skew.
 """
 import argparse
 import collections
@@ -24,6 +26,7 @@ from server import Refused, Server
 
 sys.path.insert(0, os.path.dirname(os.path.dirname(os.path.abspath(__file__))))
 import plain_order_judge
+import plain_serial_judge
 
 LEVELS = {
     "read-committed": "READ COMMITTED",
@@ -95,8 +98,10 @@ class Transaction:
             self.connection.query(f"DELETE FROM pairs WHERE key = {key}")
         return reply
 
-    def commit(self):
+    def commit(self, has_counter=False):
         """Commits, and notes it once the server says so."""
+        if has_counter:
+            self.connection.query("UPDATE places SET place = place + 1 WHERE id = 1")
         self.connection.query("COMMIT")
         self.recorder.count("committed", self.caller)
 
@@ -109,10 +114,12 @@ class Transaction:
 
 
 def empty(server):
-    """Makes the table, without any row."""
+    """Makes the table, without any row, and the counter."""
     connection = server.connect()
-    connection.query("DROP TABLE IF EXISTS pairs")
+    connection.query("DROP TABLE IF EXISTS pairs, places")
     connection.query("CREATE TABLE pairs (key BIGINT PRIMARY KEY, value BIGINT NOT NULL)")
+    connection.query("CREATE TABLE places (id INT PRIMARY KEY, place BIGINT NOT NULL)")
+    connection.query("INSERT INTO places VALUES (1, 0)")
     connection.close()
 
 
@@ -128,7 +135,7 @@ def work(recorder, caller, server, level, words):
                 values = [caller * 1_000_000 + number * 10 + step] if name == "put" else []
                 transaction.operate(name, draw.randrange(KEYS), *values)
                 time.sleep(draw.expovariate(1 / PAUSE))
-            transaction.commit()
+            transaction.commit(words.counter)
         except Refused:
             transaction.abort()
     connection.close()
@@ -154,30 +161,46 @@ def run(server, level, words):
     return recorder.history()
 
 
-def verdict(program, history, *words):
+def verdict(program, history):
     """The first line of `judge check` on a history, or of the plain judge if there is no program."""
     if program is None:
-        return plain_order_judge.judged(history["entries"], "--real-time" in words)[0]
-    check = [program, "check", *(words or ["--serializable"]), "/dev/stdin"]
+        return plain_order_judge.judged(history["entries"])[0]
+    check = [program, "check", "--serializable", "/dev/stdin"]
     found = subprocess.run(check, input=json.dumps(history), capture_output=True, text=True, check=False)
     return (found.stdout + found.stderr).split("\n", 1)[0]
 
 
+def more(history):
+    """What the plain judges say in real time, and by the order in which the commits returned."""
+    yield kind(plain_order_judge.judged(history["entries"], real_time=True)[0]) + " in real time"
+    yield kind(plain_serial_judge.verdict(history["entries"])) + " by the order of return"
+
+
+def kind(line):
+    """A verdict without its details."""
+    return "not serializable" if line.startswith("not ") else line.split()[0]
+
+
+def is_due(level, line, has_counter):
+    """Whether this is the verdict that the level must have."""
+    is_serial = level == "SERIALIZABLE" or (has_counter and level == "REPEATABLE READ")
+    return kind(line) == ("serializable" if is_serial else "not serializable")
+
+
 def judge_level(server, level, words):
     """Judges a run of each seed. Returns how many have the verdict that the level must have."""
-    tally, is_due = collections.Counter(), "serializable" if level == "SERIALIZABLE" else "not"
+    tally, passed = collections.Counter(), 0
     for words.seed in range(1, words.seeds + 1):
         history = run(server, level, words)
         line = verdict(words.judge, history)
-        tally["committed"] += sum(it[0] == "committed" for it in history["entries"])
-        tally["aborted"] += sum(it[0] == "aborted" for it in history["entries"])
-        tally["passed"] += line.split()[0] == is_due
-        tally[{"not": "not serializable"}.get(line.split()[0], line.split()[0])] += 1
-        if words.real_time:
-            tally["in real time: " + verdict(None, history, "--real-time").split()[0]] += 1
-    told = ", ".join(f"{count} {what}" for what, count in tally.items() if what != "passed")
+        passed += is_due(level, line, words.counter)
+        tally.update(it[0] for it in history["entries"] if it[0] in ("committed", "aborted"))
+        tally[kind(line)] += 1
+        if words.more:
+            tally.update(more(history))
+    told = ", ".join(f"{count} {what}" for what, count in tally.items())
     print(f"{level}: {words.seeds} runs: {told}", flush=True)
-    return tally["passed"]
+    return passed
 
 
 def main():
@@ -188,7 +211,8 @@ def main():
     parser.add_argument("--transactions", type=int, default=396)
     parser.add_argument("--takes", type=int, default=0, help="how many of 100 operations are takes")
     parser.add_argument("--judge", metavar="PROGRAM", help="the program judge")
-    parser.add_argument("--real-time", action="store_true", help="have the plain judge judge real time too")
+    parser.add_argument("--counter", action="store_true", help="each transaction raises a counter")
+    parser.add_argument("--more", action="store_true", help="the plain judges judge in other ways too")
     parser.add_argument("--write", action="store_true", help="write one history, and judge nothing")
     words = parser.parse_args()
     with Server() as server:
