@@ -179,7 +179,7 @@ def judged(history, real_time=False, most=MOST_BRANCHES):
     """The verdict on a history, and the serial order by commit numbers if there is one."""
     at = misshapen(history)
     if at is not None:
-        return f"not serializable entry {at} rule 3", None
+        return f"not serializable: entry {at} has the wrong shape", None
     footprints = [footprint(entries) for entries in committed(history)]
     if None in footprints:
         return "not serializable", None
