@@ -1,7 +1,7 @@
 #!/usr/bin/env bash
 # Gives each command hostile files of the full size, 16,777,216 bytes, and prints for each the answer,
 # the processor seconds, and the most memory as a multiple of the file. A star marks an answer that
-# docs/FORMATS.md does not give, a time of a second or more, and memory of 12 times the file or more; if
+# docs/ANSWERS.md does not give, a time of a second or more, and memory of 12 times the file or more; if
 # there is a star, the status is 1. It takes half a minute, and needs python3 and the built program.
 # Usage: speed/hostile.sh [PROGRAM]
 set -euo pipefail

@@ -77,7 +77,7 @@ files() {
   judge 'watch to a full device' 4 '' 'write failed'
 }
 
-# Small histories, and the verdict of each judge: the table of docs/FORMATS.md.
+# Small histories, and the verdict of each judge: the table of docs/VERDICTS.md.
 both() {
   local what=$1 by_locks=$2 by_commits=$3
   watches "${by_locks:0:1}" "${by_locks:2}" '' "$what" --stripes 8 <"$work/lines"
@@ -95,14 +95,14 @@ for entry in json.loads(sys.argv[1]): print(json.dumps(entry))' "$entries" >"$wo
   echo "$rows" >"$work/out"
   : >"$work/err"
   echo 0 >"$work/status"
-  judge 'rows of the table of docs/FORMATS.md' 0 7 ''
+  judge 'rows of the table of docs/VERDICTS.md' 0 7 ''
 }
 
-# The rows of the first table below a heading of docs/FORMATS.md: what a row is, its entries as an
+# The rows of the first table below a heading of docs/VERDICTS.md: what a row is, its entries as an
 # array, and each verdict after its status.
 rows_of() {
   python3 -c 'import re, sys
-rows = open("docs/FORMATS.md").read().split("### " + sys.argv[1] + "\n", 1)[1].split("|---|", 1)[1]
+rows = open("docs/VERDICTS.md").read().split("### " + sys.argv[1] + "\n", 1)[1].split("|---|", 1)[1]
 for row in rows.split("\n\n", 1)[0].split("\n")[1:]:
     cells = [cell.strip() for cell in row.strip("|").split("|")]
     entries = re.findall(r"`([^`]*)`", cells[0])

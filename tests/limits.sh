@@ -2,8 +2,9 @@
 # Runs the built program on files at every limit of the formats, with ample memory: the most callers,
 # workers, stripes, buckets, steps, scripts, actions and entries, long logs and many levels, and the
 # least and greatest keys and values; and on files that are one past a limit. The expected output
-# follows from the rules of docs/FORMATS.md. By default the program is the one that `rt ci` builds.
-# The last line is 'limits: N passed, M failed', and the status is 1 if M is not 0.
+# follows from the rules of docs/FORMATS.md, ANSWERS.md and VERDICTS.md. By default the program is the
+# one that `rt ci` builds. The last line is 'limits: N passed, M failed', and the status is 1 if M is
+# not 0.
 # Usage: tests/limits.sh [PROGRAM]
 set -uo pipefail
 cd "$(dirname "${BASH_SOURCE[0]}")/.." || exit 1

@@ -9,7 +9,7 @@ headings() {
 }
 
 links() {
-    for document in *.md docs/*.md bindings/*.md; do
+    for document in *.md docs/*.md bindings/*.md crates/*.md; do
         folder=$(dirname "$document")
         grep -o '](\([^):]*\))' "$document" | sed 's/](//; s/)$//' | while read -r link; do
             file=${link%%#*}

@@ -3,7 +3,7 @@
 
     tests/plain_judge.py FILE
 
-It follows the checker's rules in docs/FORMATS.md line by line, and is slow: its time grows with the
+It follows the three rules in docs/VERDICTS.md line by line, and is slow: its time grows with the
 square of the number of entries. It does not test the file's shape.
 """
 import json

@@ -3,8 +3,9 @@
 
     tests/plain_serial_judge.py FILE
 
-It follows the rules in docs/FORMATS.md: each entry has the right shape; and at each committed entry,
-its transaction, run alone on the map of those that committed before it, gets the replies that it got.
+It follows the rules in docs/VERDICTS.md: each entry has the right shape; and at each committed
+entry, its transaction, run alone on the map of those that committed before it, gets the replies that
+it got.
 It is slow: its time grows with the square of the number of entries. It does not test the file's shape.
 """
 import json

@@ -7,8 +7,7 @@
 //! entries are allowed in place of the bad one?
 //!
 //! Each question is answered by separate passes over the entries before the bad one. A pass takes
-//! constant time for each entry. But a pass that feeds a checker takes the checker's time. Nothing
-//! is kept between two questions.
+//! constant time for each entry, unless it feeds a checker. Nothing is kept between two questions.
 //!
 //! Proved, if the bad entry is the first one that is bad: each answer is what the definitions give.
 //! The right reply is that of the present map or of the committed map. The holder of a lock is

@@ -1,4 +1,5 @@
--- The first element at fault: the elements that are still expected decide which element may follow.
+-- Shows that the first element at fault is found, because the stack always has exactly the elements
+-- that are still expected, and these decide which element may follow.
 use Rattle.std.proofs.Common.{◌≡◌, ℕ, ◌+◌, ◌<◌, ◌≤◌, List, [], ◌∷◌, ◌++◌, length, take, drop, get_or, Bool, true, false, ◌&&◌, Option, Some, None, if◌then◌else◌, refl, ap, sym, subst, ◌∙◌, arith, append_assoc}
 use Rattle.std.specs.Prelude.{IsSome, codes, is_some, option_and_then, reverse, slice_get}
 use Rattle.std.proofs.lemmas.List.{drop_all, drop_more, reverse-append, take-append-drop, take_all, take_more}

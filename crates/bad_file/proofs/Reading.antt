@@ -1,4 +1,5 @@
--- `entry_of` reads exactly the elements that are expected, one after the other.
+-- Shows that elements are an entry exactly if each is as expected, because `entry_of` reads the
+-- elements that `accepts` expects, one after the other.
 use Rattle.std.proofs.Common.{◌≡◌, ℕ, suc, List, [], ◌∷◌, ◌++◌, length, Bool, true, false, not, ◌==◌, ◌&&◌, ◌||◌, Option, Some, None, option_map, if◌then◌else◌, refl, ap, sym, ◌∙◌, arith}
 use Rattle.std.specs.Prelude.{option_and_then, is_some, nat_le, codes}
 use Rattle.std.specs.Str.{bytes_eq}

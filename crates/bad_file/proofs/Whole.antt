@@ -1,4 +1,5 @@
--- A file as a whole: its members, its entries, and the faults for which it is refused.
+-- Shows that a flaw is found exactly if the file is refused, and is the cause of the refusal,
+-- because each test of members, entries and ranges fails just where `history_in` gives its fault.
 use Rattle.std.proofs.Common.{◌≡◌, ℕ, ◌+◌, List, [], ◌∷◌, length, Bool, true, false, ◌==◌, ◌&&◌, Option, Some, None, if◌then◌else◌, refl, ap, sym, subst, ◌∙◌, arith}
 use Rattle.std.specs.Prelude.{MatchOption, Result, Ok, Err, codes, is_ok, is_some, nat_le, option_and_then, slice_get}
 use Rattle.std.specs.List.{list_all}

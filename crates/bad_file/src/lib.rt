@@ -2,10 +2,8 @@
 //! values that are allowed instead.
 //!
 //! `txn_files` names the first element of `entries` that is not an entry. Of any other fault it
-//! only says that the file is not JSON, not an object or too long, that some member is missing or
-//! of the wrong kind, or that some number is out of range. This crate answers the writer's next
-//! question: which element of the entry is wrong, which words and numbers are allowed there, or
-//! which member is missing.
+//! only says its kind. This crate answers the writer's next question: which element of the entry is
+//! wrong, which words and numbers are allowed there, or which member is missing.
 //!
 //! `txn_files` defines the format. An element of an array is at fault if some entry begins with the
 //! elements before it, but no entry begins with these elements and the element itself. Exactly the

@@ -1,27 +1,20 @@
-//! Times six things: the nodes and cursors of the split-ordered list, as a table of 65,536 buckets
-//! uses them; the table beside other maps; the core; the shared map; the striped map; and the
-//! stripes as atomic words.
+//! Times the nodes and cursors of the split-ordered list, as a table of 65,536 buckets uses them;
+//! the table beside other maps; the core; the shared map; the striped map; and the stripes as
+//! atomic words.
 //!
 //! Each phase writes one line on standard error: what it did, the number of operations, the time,
-//! and the sum of the operations' answers. By its sum a phase can be compared with another program
-//! that does the same. Four kinds of lines have another number in place of the sum. The shared map
-//! writes the number of commits, the reading of a step file writes the number of bytes, the words
-//! write the number of granted takes, and the line `nodes dummies` has the number of dummies. The
-//! striped map writes the number of transactions in a second, the processor time of one
-//! transaction, and the outcomes. Nothing is written on standard output.
+//! and the sum of the answers, by which it can be compared with another program. In place of the
+//! sum, the shared map writes its commits, the reading of a step file its bytes, the words the
+//! granted takes, `nodes dummies` the dummies, and the striped map transactions a second, processor
+//! time of one, and outcomes.
 //!
-//! The first argument names the part to run: `nodes`, `maps`, `core`, `shared`, `words` or
-//! `striped`. The default, `all`, runs all parts. For all parts but `striped`, the second argument
-//! is the number of keys (`nodes` and `maps`), of puts (`core` and `shared`) or of each thread's
-//! takes (`words`). The default is 10,000. Three parts have a third argument:
-//!
-//! - `core`: a step file. The core takes its steps in place of puts on few keys.
-//! - `shared`: a script file. Its scripts are run in place of puts on few keys.
-//! - `words`: the number of threads, up to 64. The default is two.
-//!
-//! With `all`, these three are the third, the fourth and the fifth argument. For `striped`, the
-//! other arguments are the numbers of threads, of keys, of each thread's transactions and of
-//! stripes. Arguments at the end may be omitted.
+//! The first argument is the part: `nodes`, `maps`, `core`, `shared`, `words`, `striped`, or `all`,
+//! the default. The second is the number of keys (`nodes`, `maps`), of puts (`core`, `shared`) or
+//! of each thread's takes (`words`), 10,000 by default. The third is a step file (`core`) or a
+//! script file (`shared`) in place of puts on few keys, or the number of threads (`words`), up to
+//! 64, two by default. With `all`, these three are the third to fifth. For `striped`, the others
+//! are the numbers of threads, of keys, of each thread's transactions and of stripes. Arguments at
+//! the end may be omitted.
 #![tactic(auto)]
 
 mod any_map;

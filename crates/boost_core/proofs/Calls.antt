@@ -1,5 +1,5 @@
--- Several steps of one caller in a row: if the first is not refused, no later step is refused, and
--- no step has the answer `Again`.
+-- Shows that after a plain call's first step no step is refused or answered `Again`, because nobody
+-- else takes a step in between, so that the cursor that was placed last fits.
 use Rattle.std.proofs.Common.{◌≡◌, ℕ, ◌-◌, ◌<◌, ◌≤◌, ◌&&◌, ◌||◌, Bool, true, false, cond, List, [], ◌∷◌, ◌++◌, Option, Some, None, is_some, refl, sym, ap, ◌∙◌, arith, nat_le, not, unwrap_or, slice_index, eqb-true, ltb-true, ne_eqb, append-nil, inl, inr, ◌⊎◌, All, option_and_then}
 use Rattle.boost_core.proofs.Vocabulary.{and-false, or-true, false≢true, and_parts, Op, Entry, Refusal, Step, Answer, Map, Sizes, caller_of, Phase, Opened, Waiting, LeavingTo, LeavingToEnd, Seat, closed_seat, row, seat_after, own, All-head, All-tail, Ask, Seek, Act, Back, Abort, Refused, Asked, Placed, Again, Done, Undone, Leaving, Returned, Aborted, own-push_in, seat_after-push, State, Caller, seat_in, caller_changes, refusal_of, lacks_in, MayLack, is_closed, is_waiting, is_leaving, has_job, has_target, IsReply, is_back_at, is_at_end, may_be_stale, Move, Happens, Operates, Returns, Aborts, NoSuchCaller, NotOpen, NothingToSeek, Unplaced}
 use Rattle.boost_core.specs.Answers.{end_answer}

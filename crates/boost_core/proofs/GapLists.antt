@@ -1,4 +1,5 @@
--- Which nodes stay linked when the list changes, and which nodes `node_of` and `next_of` find.
+-- Shows that a change of a list leaves its unmarked nodes linked (`Stay`), because sweeps and seeks
+-- unlink marked nodes only, and that they are found again, because places and sort keys differ.
 use Rattle.std.proofs.Common.{◌≡◌, ℕ, ◌==◌, true, false, inl, inr, List, [], ◌∷◌, Some, refl, sym, ap, subst, ◌∙◌, arith, eq-eqb, eqb-true, ltb-true, Bool, cond}
 use Rattle.boost_core.proofs.Vocabulary.{AllByRecursion, false≢true, cases_Bool, is_before, IsBefore, NodeAt, node_of, next_of, first, linked_after, changed_at, IsRising, IsSpread, IsNodeBefore, AbsentFrom, cleaned, sought, without_first_marked, SortKey}
 use Rattle.boost_core.proofs.NodeLists.{node_here, node_later, none_of_none}

@@ -1,4 +1,5 @@
--- The cursors of callers and helpers, before and after a step.
+-- Shows that a cursor stays between its two nodes while they are neighbours, because it still fits
+-- there (`still_fits`), and that a placed cursor that fits stands at its sort key's position.
 use Rattle.std.proofs.Common.{◌≡◌, ℕ, true, false, cond, inl, inr, List, Option, Some, None, refl, sym, ap, subst, ◌∙◌, ◌&&◌, map, slice_get, unwrap_or, option_map, Bool, zero, suc, [], ◌∷◌, replicate, is_some, slice_index_or}
 use Rattle.boost_core.proofs.Vocabulary.{cases_Bool, slice_get-map, TableAt, IsPlaced, nodes_of, fits, Cursor, IsBefore, IsNotBefore, regular_at, NodeAt, node_of, next_of, IsRising, IsSpread, Noted, IsPlacedIn, pred_of, behind, at_of, list_fits, is_noted, is_next_noted, Session, SortKey, Gap, Owner, Caller, gap_in, gap_for, AreNeighbours, IsBetween, StandsAt, World, state_of, nodes_at, gap_at, gap_of, gap_if, gap_by, false≢true, unwrap_or-slice_get, dummy_at, TableHelper, Idle, Seeking, Holding, helper_of, cursor_fits, helper_fits, cursor_in, cursors_of, helper_cursor, Help, Nothing, help_of, Helper, helper_gaps_of}
 use Rattle.boost_core.proofs.GapLists.{Stay, next_found}

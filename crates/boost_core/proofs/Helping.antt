@@ -1,4 +1,5 @@
--- The steps of the table and of its helpers.
+-- Shows that each step of the table or of a helper is a move that keeps the core's invariants,
+-- because pairs, spares, the largest size and the number of helpers stay as they are.
 use Rattle.std.proofs.Common.{◌≡◌, ◌≢◌, ℕ, ◌&&◌, Bool, true, false, cond, List, [], ◌++◌, length, Option, Some, None, Result, Ok, Err, refl, sym, ap, ◌∙◌, arith, slice_get, slice_set, unwrap_or, map, nat_le, not, le-leb, append-nil, inl, inr}
 use Rattle.boost_core.proofs.Vocabulary.{cases_lt, slice_get_within, slice_get-get_or, unwrap_or-slice_get, InitSeek, Refusal, Step, Answer, InitRefusal, is_stored, answer_for, seek_answer, store_answer, LacksSegment, TableAt, Help, Nothing, Sought, Dummy, Follows, KeepsTable, KeepsList, KeepsSpares, map_of, regular, size_of, stored_of, linked_of, helps_of, table_changes, last_of, largest_of, State, Owner, Helper, is_set, help_in, bucket_at, refusal_of, holds_dummy, Move, IsAllowed, World, Tells, LastPlacedFits, state_of, session_changes, all_times, Idle, Holding, with_helper, Seeks, Stores, HelperOutOfOrder, NoMemory, NoSuchBucket, NoSuchHelper, ParentMissing}
 use Rattle.map_ops.specs.Buckets.{parent_of}

@@ -1,6 +1,6 @@
--- A call for help and the core agree (`HelpSuits`) after each move of the call, even if others take
--- steps on the core between two moves. The call never changes its target bucket, and this bucket is
--- stored when the call ends with `Helped`.
+-- Shows that a call for help that ends with `Helped` has stored its target bucket, because each of
+-- its moves keeps the target and the agreement with the core (`HelpSuits`), even if others take
+-- steps on the core between two moves.
 use Rattle.std.proofs.Common.{◌≡◌, ◌≢◌, ℕ, ◌*◌, ◌^◌, ◌%◌, ◌<◌, ◌≤◌, ◌==◌, ◌&&◌, nat_lt, Bool, true, false, if◌then◌else◌, List, [], ◌∷◌, length, Some, None, refl, sym, ap, subst, ◌∙◌, arith, nat_le, not, unwrap_or, slice_get, slice_set, eqb-true, lt-ltb, get_or-set_same, leb-false}
 use Rattle.boost_core.proofs.Vocabulary.{false≢true, eqb-false, mod_below, unwrap_or-slice_get, Step, Answer, Refusal, Way, child_towards, step_in, sized_in, towards, heading, refused_help, told_help, told_init_seek, told_link, told_store, told_in, IsAncestor-root, IsAncestor-child_towards, parent_of-child_towards, child_towards-le, parent_of, IsAncestor, State, Help, Nothing, Sought, Dummy, is_set, with_bucket, help_in, bucket_at, refusal_of, MayLack, has_cursor, holds_dummy, first_of, Move, IsWhole, IsOnWay, HelpSuits, HelperOutOfOrder, NoMemory, NoSuchBucket, NoSuchHelper, OutOfStep, ParentMissing, StampsUsedUp}
 use Rattle.txn_drive.specs.declared.phase.Phase.{Phase}

@@ -1,4 +1,5 @@
--- The step by which a helper links a dummy.
+-- Shows that each answer to `InitLink` is a move of the machine, because the table tests the
+-- cursor, the dummy and the stamps in the same order as the machine.
 use Rattle.std.proofs.Common.{◌≡◌, ◌≢◌, ℕ, ◌-◌, ◌^◌, ◌<◌, ◌==◌, Bool, true, false, cond, length, Option, Some, None, Result, Ok, Err, is_some, refl, sym, ap, subst, ◌∙◌, slice_get, slice_set, unwrap_or, nat_le, not, ne_eqb, inl, inr}
 use Rattle.boost_core.proofs.Vocabulary.{false≢true, cases_eq, and_from, InitLink, Refusal, InitRefusal, is_stored, answer_for, link_answer, helper_fits, link_answer_of, Idle, Seeking, with_helper, HoldsDummy, LinksDummy, TableAt, Help, Nothing, Sought, Dummy, HasParents, KeepsList, regular, size_of, stored_of, linked_of, helps_of, table_changes, last_of, State, Owner, Caller, Helper, is_set, help_in, bucket_at, helper_changes, refusal_of, has_cursor, has_stamp, lacks_dummy, is_just_placed, may_be_stale, Move, World, LastPlacedFits, state_of, HelperOutOfOrder, NoMemory, NoSuchHelper, StampsUsedUp}
 use Rattle.list_steps.specs.Found.{change_number_of}

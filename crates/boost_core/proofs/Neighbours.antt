@@ -1,4 +1,5 @@
--- A cursor still fits if its two nodes are still neighbours.
+-- Shows that a cursor still fits if its two nodes are still neighbours, because both stay linked
+-- with their stamps, and a list has one node with a sort key.
 use Rattle.std.proofs.Common.{◌≡◌, ℕ, ◌==◌, ◌&&◌, true, false, inl, inr, List, [], ◌∷◌, ◌++◌, Option, Some, None, refl, sym, ap, subst, ◌∙◌, not, eq-eqb, eqb-true, option_map}
 use Rattle.boost_core.proofs.Vocabulary.{not-true, AllByRecursion, false≢true, cases_Bool, and_parts, and_from, IsBefore, NodeAt, Listing, node_of, next_of, first, IsRising, IsSpread, IsNodeBefore, Cursor, Noted, pred_of, behind, is_noted, is_next_noted, Node, SortKey, plain_node, StartsAt, AreNeighbours, node_at}
 use Rattle.list_steps.specs.Found.{fits}

@@ -1,4 +1,5 @@
--- The changes to a list of nodes, in the terms of the core's contracts.
+-- Shows that a change of the table's list is the same change of the nodes that contracts see,
+-- because `seen` gives one node for each node, in the same order.
 use Rattle.std.proofs.Common.{◌≡◌, ℕ, ◌==◌, true, false, inl, inr, List, [], ◌∷◌, ◌++◌, Option, Some, refl, sym, ap, ◌∙◌, map, filter, eq-eqb}
 use Rattle.boost_core.proofs.Vocabulary.{AllByRecursion, false≢true, cases_Bool, is_before, IsBefore, NodeAt, IsLinked, node_of, linked_after, changed_at, written_at, IsRising, IsNodeBefore, cleaned, sought, without_first_marked, Node, SortKey, marked_node, IsClean, IsInOrder, StopsAt, is_unmarked, node_at, plain_node}
 

@@ -1,4 +1,5 @@
--- The effect of each step on the nodes, the change number and the last stamp.
+-- Shows what each step does to the nodes, the change number and the last stamp, because it does to
+-- the machine's list what its call of the table does to the table's list.
 use Rattle.std.proofs.Common.{arith, ◌≡◌, ◌⊎◌, ℕ, ◌-◌, ◌%◌, ◌≤◌, Bool, true, false, List, [], ◌∷◌, ◌++◌, length, Option, Some, None, is_some, inl, inr, refl, sym, ap, subst, ◌∙◌, reverse, slice_get, unwrap_or, nat_lt, nat_eq, IsSome, option_map, Result, Ok, Err}
 use Rattle.boost_core.proofs.Vocabulary.{option_eq, false≢true, cases_Bool, slice_get-map, unwrap_or-slice_get, regular_at, Op, Put, Take, Get, PutIf, Refusal, Step, Answer, Phase, Waiting, LeavingTo, LeavingToEnd, Map, get, key_of, now, log_of, stripe_of, Seat, kept_at, newest_above, MapJob, Unput, Restore, Relink, length-map, reverse-append, ancestor_of, NodeAt, changes_after, sought, IsDummyAt, PendingAt, key_of_job, value_before, takes_node, IsDue, TableAt, SpareAt, KeepsNodes, KeepsList, NamesDummies, content, nodes_of, size_of, stored_of, table_changes, last_of, SeeksNear, IsRefused, Session, State, Caller, is_set, seat_in, owner_of, Touches, stamp_after, Writes, Links, Marks, SeeksFrom, SeeksKey, IsNearest, Changes, PutsIf, OpDoes, OpDoesIn, BackDoes, Lists, next_key_in, next_key, newest_key, Reach, reach, HasEffect, ActsIn, DoesIn, TakesBackIn, SeeksIn, IsAsked, AsksBy, unless_busy, Waits, AreDue, key_of_newest, target_in, target_of, changes_of, Claim, Lock, Right, IsClaim, ListsAsk, ListsBy, stamp_by, World, Tells, state_of, node_at, NoMemory, StaleWord, Abort, Act, Ask, Back, Begin, Commit, Save, Seek, dummy_at, InitSeek, InitLink, SweepOutcome, dummy_node, Sweeps, Seeking, SeekChanges, LinkChanges, Help, Nothing, helps_of, help_in, bucket_at, Serves, Sweeping}
 use Rattle.boost_core.specs.Nodes.{LeavesNodes}

@@ -1,4 +1,5 @@
--- The steps that begin or end a transaction, set a savepoint or return to one.
+-- Shows that beginning, ending, setting a savepoint and returning to one are moves that keep the
+-- core's invariants, because each adds one entry that the law of its kind allows.
 use Rattle.std.proofs.Common.{◌≡◌, ℕ, ◌+◌, true, false, cond, List, [], ◌∷◌, ◌++◌, length, take, Option, Some, None, refl, sym, ap, ◌∙◌, add-one, arith, slice_get, slice_set, slice_index, map, nat_eq, nat_lt, not, eq-eqb, leb-false, ltb-false}
 use Rattle.boost_core.proofs.Vocabulary.{option_eq, false≢true, and_from, serial, now, holder_of, log_of, Phase, Closed, Opened, Waiting, LeavingTo, LeavingToEnd, Seat, closed_seat, Next, kept_at, TableAt, map_of, Releases, Session, seat_in, holder_by, refusal_of, is_closed, is_waiting, is_leaving, has_job, is_back_at, is_at_end, World, Tells, state_of, session_changes, Side, side_of, changes_of, SavesIn, ReturnsIn, EndsIn, SettlesIn, WithdrawsIn}
 use Rattle.txn_trace.proofs.Settled.{settled}

@@ -1,4 +1,5 @@
--- The refusals of a caller's step, in terms of the caller's side and of the machine's state.
+-- Shows that a caller's side refuses a step exactly if the machine does, because both test the
+-- caller's number, its seat and its cursor, in this order.
 use Rattle.std.proofs.Common.{◌≡◌, ℕ, ◌<◌, Bool, true, false, cond, List, [], ◌∷◌, ◌++◌, length, get_or, Option, Some, None, is_some, refl, sym, ap, ◌∙◌, arith, nat_le, not, map, slice_get, unwrap_or, leb-false, option_map, length-set, slice_set, get_or-set_same}
 use Rattle.boost_core.proofs.Vocabulary.{lt-leb, not-false, false≢true, slice_get-map, slice_get-get_or, Refusal, Step, Phase, Closed, Opened, Waiting, Seat, closed_seat, TableAt, Cursor, cursor_changes, NoSuchCaller, Unplaced, Begin, Act, Back, Commit, Abort, Session, State, Owner, Caller, seat_in, caller_changes, owner_of, is_closed, is_waiting, is_leaving, tests_in, tests_of, first_of, refusal_in, refusal_of, lacks_in, lacks_cursor, IsSoughtAt, World, Tells, state_of, session_changes}
 

@@ -1,4 +1,5 @@
--- Spares that are given out, kept by callers, and given up.
+-- Shows that the callers keep exactly the spares that the table has given out (`IsCovered`),
+-- because a spare that is given, spent or given up is counted once on both sides.
 use Rattle.std.proofs.Common.{◌≡◌, ◌≢◌, ℕ, ◌+◌, ◌≤◌, ◌==◌, ◌&&◌, Bool, true, false, cond, Option, Some, None, refl, sym, ap, ◌∙◌, arith, nat_eq, eq-eqb, ne_eqb, inl, inr, ◌-◌, ◌^◌, ◌||◌, is_some, not, ◌⊎◌, ◌<◌, List, [], ◌∷◌, ◌++◌, length, length-append, option_to_list, append-nil}
 use Rattle.boost_core.proofs.Vocabulary.{and_right, option_eq, cases_eq, and_from, same_option, same_is, TableAt, SpareAt, KeepsSpares, spare_out, Spends, GivesSpare, OwnsIf, times_of, times_out, IsCovered, IsCoveredWith, StaysCovered, last_of, GivesFor, sum_by_push, cases_lt, false≢true, MapJob, Follows, spare_of_job, GivesBack, times_in, Rests, cases_Bool, Op, Put, Take, Get, PutIf, get, Map, Unput, Restore, Relink, unput, relink, job_of, SpendsFor, KeepsBuckets, KeepsNodes}
 use Rattle.boost_core.proofs.Numbers.{no_more}

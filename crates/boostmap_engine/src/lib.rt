@@ -1,31 +1,26 @@
-//! The engines of the program `boostmap`, for any reader and any writer.
-//!
-//! An engine reads a file and writes the outcome:
+//! The engines of the program `boostmap`, for any reader and any writer. An engine reads a file and
+//! writes the outcome:
 //!
 //! - `replay` runs the steps of a step file on a new core, and writes the report: each step's
 //!   answer, the size and the count, and the pairs of the map in list order.
 //! - `check` judges the history of a history file, and writes the verdict as one line.
-//! - `mix` runs the scripts of a script file, with the workers' turns mixed as a seed determines,
-//!   and writes the history.
+//! - `mix` runs the scripts of a script file, mixed as a seed determines, and writes the history.
 //!
-//! The engine of `run` is in `boostmap_program`, since it starts threads. It also uses
-//! `read_input`, `scripts_in` and `write_history`.
+//! The engine of `run` is in `boostmap_program`, since it starts threads.
 //!
-//! Proved: `replay` writes exactly the report of a run of the file's steps (`specs/Report.antt`).
-//! `check` writes exactly the line that gives the verdict on the file's history
-//! (`specs/Judgement.antt`). `mix` writes a legal history in which the workers' committed
-//! transactions play the file's scripts (`specs/Mixture.antt`). At the faults `Input`, `Read` and
-//! `NoMemory` nothing is written; at `Write`, a proper prefix of the text is written
-//! (`specs/Written.antt`).
+//! Proved: `replay` writes exactly the report of a run of the file's steps (`specs/Report.antt`),
+//! `check` exactly the line of the verdict on the file's history (`specs/Judgement.antt`), and
+//! `mix` a legal history in which the workers' committed transactions play the file's scripts
+//! (`specs/Mixture.antt`). At the faults `Input`, `Read` and `NoMemory` nothing is written; at
+//! `Write`, a proper prefix of the text (`specs/Written.antt`).
 //!
-//! No read and no write is repeated. The bytes of the file and the values that are read from the
-//! bytes are in memory at the same time; then the bytes are dropped. A report is made as a whole
-//! before its first byte is written. A history is written in pieces, in memory that is taken before
-//! the first write.
+//! The bytes of the file and the values read from them are in memory at the same time. A report is
+//! made as a whole before its first byte is written; a history is written in pieces, in memory that
+//! is taken before.
 //!
-//! Only tested: with enough memory no call fails with 1,000,000 steps, with 1,000,000 entries, nor
-//! with a report of 100,002 keys (`tests/limits.sh`); after a failed read or write nothing is
-//! tried again (`engines` of `program_tests`); `Read` is never returned if each read succeeds
+//! Only tested: with enough memory no call fails with 1,000,000 steps or entries, nor with a report
+//! of 100,002 keys (`tests/limits.sh`); after a failed read or write nothing is tried again
+//! (`engines` of `program_tests`); `Read` is never returned if each read succeeds
 //! (`tests/program.sh`).
 #![tactic(auto)]
 

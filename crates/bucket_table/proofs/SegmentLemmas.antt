@@ -1,4 +1,5 @@
--- A row of segments and its flat list of entries.
+-- Shows that a row of segments is a flat list of entries, of which a store changes one, because two
+-- buckets with the same segment and the same place in it are equal.
 use Prim.Native.Nat.{zero, suc}
 use Rattle.std.proofs.Common.{◌+◌, ◌≡◌, ◌≢◌, ℕ, ◌*◌, ◌/◌, ◌%◌, ◌^◌, ◌<◌, ◌≤◌, ◌⊎◌, inl, inr, List, Option, Some, None, true, false, replicate, is_some, length, refl, sym, ◌∙◌, ap, subst, arith, get_or, length-set, slice_index_or, slice_set}
 use Rattle.std.specs.Prelude.{Result, Ok, Err, IfOk, OnErr}

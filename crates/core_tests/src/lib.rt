@@ -2,9 +2,8 @@
 //! (workers), `history_check` (the checker that judges histories), `boost_core` (the core) and
 //! `script_mix` (mixes of scripts).
 //!
-//! A crate with tests is proved twice, so the tests are a separate crate. Each call of a library is
-//! made in one small function without a contract. A test that uses these functions has only its own
-//! safety to prove.
+//! Each call of a library is made in one small function without a contract. A test that uses these
+//! functions has only its own safety to prove.
 #![tactic(auto)]
 
 #[cfg(test)]

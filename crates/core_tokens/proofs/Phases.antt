@@ -1,5 +1,5 @@
--- If the rule of shape allows a step's entries, a drive that is given the step's answer fits its
--- caller's seat.
+-- Shows that a drive fits its caller's seat after each answer whose entries have the right shape,
+-- because these entries lead the seat to the phase that the drive's next phase needs.
 use Rattle.std.proofs.Common.{[], if◌then◌else◌, ℕ, ◌%◌, ◌++◌, ◌+◌, ◌-◌, ◌^◌, ◌∙◌, ◌≡◌, ◌≤◌, Bool, List, None, Option, Some, ap, arith}
 use Rattle.std.proofs.Common.{cond, false, is_some, length, nat_lt, refl, slice_index, subst, sym, true, unwrap_or}
 use Rattle.core_tokens.proofs.Vocabulary.{Acting, Answer, Busy, Call, Doubling, Entry, Fresh, Initialising, Last, Leaving, Linking, Lost}

@@ -69,6 +69,9 @@ impl Claims {
 
     /// Tries the word of a stripe, unless the caller has the right to the stripe.
     ///
+    /// The transaction of the caller that the word names may have ended just before, since only
+    /// `follow` gives its rights back. So a Busy entry may name a caller that is in no transaction.
+    ///
     /// # Errors
     ///
     /// `AllocError` if memory is refused for one more right. Then nothing has changed.

@@ -1,38 +1,24 @@
-//! Tokens for the callers of a core. A token stands for one caller, and several callers use the
-//! same core. This crate takes no lock.
+//! Tokens for the callers of a core. This crate takes no lock: its users say how callers take
+//! turns.
 //!
-//! - A *token*, `Caller`, is one caller. `Booked::new` makes a core with a `Pass` for each caller's
-//!   number, and each pass makes the one token with its number. A token keeps in `seen` the entries
-//!   that its calls have added to the history. It also has a side value. When a transaction's
-//!   changes are taken back, its changes of the side value are taken back too.
-//! - A *hold* is one turn of a call: one or two steps of the core. Code that calls `Caller::hold`
-//!   has the core until `hold` returns: the core makes the moves of the turn, and `seen` gains
-//!   their entries. Other callers may take their steps between any two holds.
-//! - To make a call, call `make_ready`, then `hold` until it returns an end, then `follow` with
-//!   this end.
-//! - An operation first tries the *word* of its key's stripe, unless its token has the right to
-//!   this stripe. The word is an atomic word beside the core that says who holds the stripe. If the
-//!   word was free, the token has the right from then on, and asks the core with this right. If
-//!   not, the token asks with the word. The operation is then busy with the caller that the word
-//!   names, unless the core refuses the word. A token keeps its rights until its transaction has
-//!   committed or aborted; then `follow` gives all of them back. So a Busy entry may name a caller
-//!   whose transaction has just ended.
-//! - Between two holds a token knows of the core only its own entries, and the seat that they give
-//!   it. If the core gives an answer that the entries rule out, the call ends with `OutOfStep`, and
-//!   so does every later call of the token.
-//! - No entry can be added without a token: a ledger counts the entries, `Booked` has the ledger's
-//!   book, and each token has a share. So the history of the core that `Booked::into_core` returns
-//!   has as many entries as the tokens saw together. The ledger is `std`'s `sync::ledger`. Its name
-//!   `L` is the first parameter of `Booked`, `Pass` and `Caller`. `sync::ledger` says how to choose
-//!   this name.
-//! - `laws::helped` is about the holds of a call for help: if the call ends with `Helped`, the
-//!   bucket of its key is initialised.
+//! - A *token*, `Caller`, is one caller. `Booked::new` makes a core and a `Pass` for each number,
+//!   which makes the one token with it. A token keeps the entries that its calls have added
+//!   (`seen`), and a side value that is taken back with its transaction.
+//! - A *hold* is one turn of a call: one or two steps of the core. Others may take steps between
+//!   holds. A call is `make_ready`, `hold` until it returns an end, and `follow`.
+//! - An operation first tries the *word* of its key's stripe, an atomic word beside the core. If
+//!   the word was free, the token has the *right* to the stripe until `follow` gives it back, after
+//!   its transaction. If not, the operation is busy with the caller that the word names.
+//! - Between holds a token knows of the core only its own entries. An answer that contradicts them
+//!   ends this call and each later one with `OutOfStep`.
+//! - A ledger counts the entries (std's `sync::ledger`), so none is added without a token: the
+//!   history that `into_core` returns has as many as the tokens saw together.
 //!
-//! This crate is separate since nothing in it waits. The crates that use it say how callers take
-//! turns at the core. Calls take constant time and no memory unless they say otherwise.
+//! `laws::helped`: a call that ends with `Helped` has initialised its key's bucket. Calls take
+//! constant time and no memory unless they say otherwise.
 //!
-//! Only tested (`tests/limits.sh`): with enough memory no call fails in a script of 10,000
-//! actions on 4,096 stripes, in which a caller has more than 16 rights.
+//! Only tested (`tests/limits.sh`): with enough memory no call fails in 10,000 actions on 4,096
+//! stripes, with more than 16 rights at once.
 #![tactic(auto)]
 
 mod booked;

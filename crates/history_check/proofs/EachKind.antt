@@ -1,5 +1,5 @@
--- For each kind of entry: the seat, the log, the maps and the holders after a legal history and one
--- more entry of this kind, if that entry breaks no rule.
+-- Shows the seat, log, maps and holders after an entry that breaks no rule, because such an entry
+-- has the shape, the reply and the holder that the law of its kind asks for.
 use Rattle.std.proofs.Common.{◌≡◌, ℕ, ◌+◌, ◌-◌, ◌<◌, ◌==◌, ◌&&◌, Bool, true, false, cond, not, List, [], ◌∷◌, ◌++◌, take, length, slice_index, refl, ap, sym, ◌∙◌, Some, None, Option, is_some, arith}
 use Rattle.std.specs.Prelude.{nat_eq, nat_lt}
 use Rattle.std.specs.Option.{option_eq}

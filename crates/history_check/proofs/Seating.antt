@@ -1,4 +1,5 @@
--- The table of callers after one more entry, and after one caller changes without an entry.
+-- Shows that the table of callers stays that of the history, because an entry changes its own
+-- caller's place and no other.
 use Rattle.std.proofs.Common.{get_or, vec_len, ◌≡◌, ◌≢◌, ◌||◌, ℕ, zero, suc, ◌<◌, drop, length, List, [], ◌∷◌, ◌++◌, true, ap, sym, subst, ◌∙◌, Some, None, Option, arith, is_some, refl}
 use Rattle.std.specs.Prelude.{slice_get}
 use Rattle.std.specs.Option.{IfSome, option_and_then}

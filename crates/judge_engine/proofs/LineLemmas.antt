@@ -1,4 +1,5 @@
--- The lines of bytes, and the entries in the lines.
+-- Shows that bytes can be judged line by line, because a line feed cuts them into a line and the
+-- lines of the rest, and a last line feed adds no entry.
 use Rattle.std.proofs.Common.{◌≡◌, ℕ, suc, ◌+◌, ◌-◌, ◌<◌, Bool, true, false, cond, nat_le, List, [], ◌∷◌, ◌++◌, length, take, drop, get_or, Option, Some, None, Result, Ok, Err, refl, sym, ap, ◌∙◌, append_assoc, append-nil, add-one, arith, take-append-drop, length-take-le, get_or-take, drop-cons, length-append, length-drop}
 use Rattle.std.specs.List.{position, position_or_len, onto_first}
 use Rattle.std.proofs.lemmas.Bool.{eqb-true, ltb-false}

@@ -1,5 +1,5 @@
--- `lock` puts a stripe at the front of its caller's chain, and each step of `release_all` removes
--- the chain's first stripe.
+-- Shows that each caller's chain has exactly the stripes that it holds, because `lock` puts a
+-- stripe at the chain's front, and each step of `release_all` removes its first stripe.
 use Prim.Native.Nat.{zero, suc}
 use Rattle.std.proofs.Common.{◌≡◌, ◌≢◌, ℕ, ◌<◌, ◌≤◌, List, [], ◌∷◌, length, get_or, set, replicate, Option, None, Some, true, false, cond, ◌||◌, refl, sym, ◌∙◌, ap, subst, arith, inl, inr, eqb, eq-eqb, ne_eqb, length-set, get_or-set_other, get_or-set_same}
 use Rattle.std.proofs.lemmas.Bool.{cases_eq, cases_lt, or_parts, or_left, eqb-true, eqb-false}

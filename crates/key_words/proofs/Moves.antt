@@ -1,4 +1,5 @@
--- Each step keeps the rule.
+-- Shows that each step keeps the rule of the words, because it changes only a word that is 0 or
+-- that names its own seat.
 use Rattle.std.proofs.Common.{◌≡◌, ◌≢◌, ℕ, zero, suc, ◌+◌, ◌<◌, List, [], ◌∷◌, ◌++◌, map, length, get_or, set, Contains, Option, None, Some, sym, refl, ◌∙◌, ap, subst, inl, inr, ⊎_elim, arith, eqb, length-set, get_or-set_other, get_or-set_same}
 use mathlib.Core.Logic.{dite}
 use mathlib.Core.Option.{Option as Maybe, some, none, some-injective}

@@ -7,13 +7,11 @@
 //! stripe was free, the take returns the right. Otherwise it returns the word, which names the
 //! holder. A give puts the right back into the slot and stores 0.
 //!
-//! A rule holds between any two atomic steps of any threads. From the rule it follows that a stripe
-//! is held by at most one seat (`held_once`), which is the seat that its word names. A stripe's
-//! slot is at home (with no seat) and has the right exactly if the word is 0. So only one seat at a
-//! time gets the right. A take names a seat as the holder only after that seat has taken the
-//! stripe. So no take reports a stripe as held if no seat has ever taken it. No call waits. It is
-//! not proved that a take ever succeeds. Calls take constant time and no memory unless they say
-//! otherwise.
+//! A rule holds between any two atomic steps of any threads. By it a stripe is held by at most one
+//! seat (`held_once`), which is the seat that its word names, and its slot has the right exactly if
+//! the word is 0. So only one seat at a time gets the right. A take names a seat only if that seat
+//! has taken the stripe before. It is not proved that a take ever succeeds. Calls take constant
+//! time and no memory unless they say otherwise.
 //!
 //! Only tested: eight threads take and give 64 words, 100,000 times each.
 #![tactic(auto)]

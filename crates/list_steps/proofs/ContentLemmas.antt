@@ -1,4 +1,5 @@
--- The effect of steps on the content.
+-- Shows what each step does to the content, because replacing a stretch of nodes replaces the pairs
+-- of this stretch, and a marked node has no pair.
 use Rattle.std.proofs.Common.{◌≡◌, ℕ, inl, inr, List, [], ◌∷◌, ◌++◌, Bool, true, false, Some, arith, subst, refl, sym, ◌∙◌, ap, append_assoc}
 use Rattle.split_key.specs.declared.sort.SortKey.{SortKey}
 use Rattle.split_key.proofs.SortLemmas.{cases_before}

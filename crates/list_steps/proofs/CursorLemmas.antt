@@ -1,4 +1,5 @@
--- Cursors that fit, and cursors that were placed.
+-- Shows that a placed cursor stays placed when the list changes (`still_placed`), because no stamp
+-- is used again: a node with the noted stamp is the noted node.
 use Rattle.std.proofs.Common.{◌≡◌, ℕ, inl, inr, List, Option, Some, None, Bool, true, false, refl, sym, ◌∙◌, ap, subst, arith, ◌==◌, ◌&&◌, not}
 use Rattle.std.proofs.lemmas.Bool.Decides.{eqb_tells}
 use Rattle.split_key.specs.Sort.{IsBefore, IsNotBefore}

@@ -1,4 +1,5 @@
--- A list of nodes, split at a place.
+-- Shows what the functions of a list give at a place, because the list splits into the nodes before
+-- the place, the node there and the nodes after it.
 use Rattle.std.proofs.Common.{◌≡◌, ◌≢◌, ℕ, inl, inr, List, [], ◌∷◌, ◌++◌, Option, Some, None, refl, sym, ◌∙◌, ap, subst, append_assoc}
 use Rattle.std.proofs.lemmas.Bool.Decides.{eqb_tells}
 use Rattle.node_list.specs.Nodes.{NodeAt, IsLinked, node_of, next_of, first, without_first, place_of, linked_after, unlinked_after, changed_at}

@@ -1,4 +1,5 @@
--- What a seek still has to do when it has reached a node.
+-- Shows that the loop of a seek has the result of `sought`, because from each node that it reaches
+-- the rest of the seek has the same result (`IsSeeking`).
 use Prim.Native.Nat.{suc}
 use Rattle.std.proofs.Common.{◌≡◌, ℕ, ◌+◌, ◌-◌, ◌<◌, ◌≤◌, inl, inr, List, [], ◌∷◌, ◌++◌, Option, Some, None, Bool, true, false, length, refl, sym, ◌∙◌, ap, subst, arith, if◌then◌else◌, ◌==◌, append_assoc}
 use Rattle.std.proofs.lemmas.Bool.Decides.{eqb_tells}

@@ -1,4 +1,5 @@
--- The nodes that a sweep has passed.
+-- Shows that a sweep may begin at a dummy before the first marks, because all nodes before the
+-- dummy have lower split keys, and so no marks (`before_marks`).
 use Rattle.std.proofs.Common.{◌≡◌, ℕ, ◌<◌, ◌≤◌, inl, inr, List, [], ◌∷◌, ◌++◌, Option, Some, None, Bool, true, false, refl, sym, ◌∙◌, ap, subst, arith, append_assoc, if◌then◌else◌}
 use Rattle.std.specs.List.{AllByRecursion}
 use Rattle.split_key.specs.declared.sort.SortKey.{SortKey}

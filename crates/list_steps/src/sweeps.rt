@@ -61,6 +61,8 @@ pub fn sweep(list: &mut NodeList) -> SweepOutcome
 }
 
 /// Does the same as `sweep`, but begins its walk at `start`, which precedes all marked nodes.
+/// Every dummy whose split key is at most the result of `NodeList::marks_begin` does (the lemma
+/// `before_marks`).
 ///
 /// # Cost
 ///

@@ -23,6 +23,19 @@ use undo_log::Side;
 ///
 /// A contract sees the map's limits. Each hold of the lock takes one turn of a call, which is one
 /// step or two. So other callers may take steps between any two turns.
+///
+/// One caller counts in the map; `R` is the type of the runtime:
+///
+/// ```text
+/// fn count<L: Ledger, S: Side, R: Wait>(rt: &R, map: &SharedMap<L>, me: &mut Caller<L, S>)
+///     -> Result<Receipt, Stop>
+/// {
+///     map.begin(rt, me)?;
+///     let before = map.get(rt, me, 7)?;
+///     map.put(rt, me, 7, before.unwrap_or(0).saturating_add(1))?;
+///     map.commit(rt, me)
+/// }
+/// ```
 #[derive(Drop)]
 pub struct SharedMap<L: Ledger> {
     booked: Mutex<Booked<L>>,

@@ -1,4 +1,5 @@
--- What operations and jobs do to the table, derived from what their steps do.
+-- Shows what operations and jobs do to the table, because giving a spare back after the write
+-- changes neither the content nor another spare.
 use Rattle.std.proofs.Common.{◌≡◌, ℕ, List, Option, Some, None, Bool, true, false, cond, refl, sym, ◌∙◌, ap, subst}
 use Rattle.node_list.specs.Nodes.{NodeAt, Listing, SpareAt}
 use Rattle.node_list.specs.Sound.{IsSound}

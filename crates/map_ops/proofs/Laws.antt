@@ -1,4 +1,5 @@
--- Lemmas about tables that the higher layers use.
+-- Shows that an operation and then its job restore the content, because the job sets the key to its
+-- old value, and that a spare stays the table's until it is spent. Higher layers use these lemmas.
 use Rattle.std.proofs.Common.{◌≡◌, ◌≢◌, ℕ, inl, inr, Bool, true, false, cond, Option, Some, None, [], refl, sym, ap, subst, ◌∙◌}
 use Rattle.std.specs.Prelude.{is_some, IfSome, nat_eq}
 use Rattle.std.specs.Option.{option_eq}

@@ -1,4 +1,5 @@
--- Which nodes are linked, and which are found, after a node is linked, changed or unlinked.
+-- Shows which nodes are linked and found after a node is linked, changed or unlinked, because no
+-- two nodes share a place.
 use Rattle.std.proofs.Common.{◌≡◌, ◌≢◌, ℕ, ◌⊎◌, inl, inr, List, [], ◌∷◌, Some, true, refl, sym, ◌∙◌, ap}
 use Rattle.std.proofs.lemmas.Bool.Decides.{eqb_tells}
 use Rattle.node_list.specs.Nodes.{NodeAt, node_of, next_of, first, place_of, IsLinked, linked_after, unlinked_after, changed_at, marked_at, written_at}

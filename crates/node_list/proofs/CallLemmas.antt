@@ -1,4 +1,5 @@
--- The effect of each call on the fields of a list, and on the list as contracts see it.
+-- Shows what each call does to a list as contracts see it, because the slots that it writes lay out
+-- the old nodes with one linked, changed or unlinked (`SlabSteps`).
 use Rattle.std.proofs.Common.{◌≡◌, ℕ, ◌+◌, ◌-◌, ◌^◌, ◌<◌, ◌≤◌, List, Option, Some, None, Bool, true, false, refl, sym, ◌∙◌, ap, arith, cond}
 use Rattle.slab.specs.Slab.{Slab, get, slab_len, Updates, with_value}
 use Rattle.node_list.specs.declared.node.Node.{Node}

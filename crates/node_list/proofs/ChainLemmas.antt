@@ -1,5 +1,5 @@
--- The linked nodes in the slots of a slab. A walk finds these nodes, and each of them is the node
--- in its slot.
+-- Shows that a walk finds the linked nodes in the slots of a slab, because each slot has the place
+-- of the next node, and the sort keys rise, so no place comes twice.
 use Rattle.std.proofs.Common.{◌≡◌, ◌≢◌, ℕ, ◌<◌, ◌≤◌, inl, inr, List, [], ◌∷◌, Option, Some, None, Bool, true, false, length, refl, sym, ◌∙◌, ap, ap₂, arith, count_by, is_some, cond, get_or, set, get_or-set_other}
 use Prim.Native.Nat.{zero, suc}
 use Rattle.std.proofs.lemmas.Bool.{cases_lt}

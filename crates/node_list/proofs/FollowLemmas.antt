@@ -1,4 +1,5 @@
--- Every list is sound (`IsSound`), and `Follows` holds for a list before and after each change.
+-- Shows that a list follows the list before each change (`Follows`) and is sound, because a new
+-- node has a stamp that was out or is new, and only a marked node is unlinked.
 use Rattle.std.proofs.Common.{◌≡◌, ◌≢◌, ℕ, ◌+◌, ◌-◌, ◌^◌, ◌<◌, inl, inr, Some, false, refl, sym, ◌∙◌, ap, arith}
 use Rattle.std.proofs.lemmas.Bool.{cases_eq}
 use Rattle.slab.specs.Slab.{Slab, get}

@@ -1,4 +1,5 @@
--- How linking, changing or unlinking a node in a slab changes the list that the slab holds.
+-- Shows that a slab lays out the list with one node linked, changed or unlinked, because each write
+-- changes one slot in use, and every other slot stays as it is.
 use Rattle.std.proofs.Common.{◌≡◌, ◌≢◌, ℕ, inl, inr, List, Option, Some, None, false, map, refl, sym, ◌∙◌, ap, get_or}
 use Rattle.std.proofs.lemmas.Bool.{cases_eq}
 use Rattle.slab.specs.Slab.{Slab, get, Updates, with_value}

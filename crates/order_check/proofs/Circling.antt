@@ -1,4 +1,5 @@
--- The circle of edges that a search has met.
+-- Shows that a search that meets an open transaction has found a cycle of edges, because it follows
+-- an edge of each open transaction to the next one.
 use Rattle.std.proofs.Common.{◌≡◌, ℕ, zero, suc, ◌+◌, ◌-◌, ◌<◌, List, [], ◌∷◌, ◌++◌, length, reverse, get_or, vec_len, refl, ap, sym, ◌∙◌, subst, arith}
 use Rattle.std.specs.declared.vec.Vec.{Vec}
 use Rattle.std.specs.declared.alloc.Global.{Global}

@@ -1,4 +1,5 @@
--- One turn of the loop that follows edges.
+-- Shows that each turn of the search keeps its invariant and leaves less to do, because it closes a
+-- transaction, opens one or passes an edge.
 use Rattle.std.proofs.Common.{◌≡◌, ◌==◌, ℕ, ◌+◌, ◌-◌, ◌<◌, ◌≤◌, Bool, false, List, [], ◌∷◌, ◌++◌, length, take, reverse, set, get_or, vec_len, Some, refl, ap, sym, ◌∙◌, subst, arith}
 use Rattle.std.specs.Prelude.{slice_get}
 use Rattle.std.specs.declared.vec.Vec.{Vec}

@@ -1,5 +1,5 @@
--- To run accesses in the order of the list is to run their transactions in the order of their
--- numbers.
+-- Shows that the accesses run in the order of the list exactly if the transactions run in the order
+-- of their numbers, because the accesses of a transaction are together, before those of later ones.
 use Rattle.std.proofs.Common.{◌≡◌, ℕ, zero, suc, ◌+◌, ◌<◌, ◌≤◌, ◌==◌, ◌&&◌, cond, Bool, true, false, List, [], ◌∷◌, ◌++◌, length, map, drop, get_or, Option, Some, None, refl, ap, sym, ◌∙◌, subst, arith}
 use Rattle.std.specs.List.{range_with_len}
 use Rattle.std.specs.Option.{IfSome}

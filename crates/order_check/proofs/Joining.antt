@@ -1,4 +1,5 @@
--- The edges that one more access gives.
+-- Shows that an access gives exactly the edges that its values mean, because the tables name its
+-- source and who replaces that source's version, and one source gives one value.
 use Rattle.std.proofs.Common.{◌≡◌, ◌≢◌, ℕ, Option, Some, None, List, [], ◌∷◌, length, refl, ap, sym, ◌∙◌, subst}
 use Rattle.std.specs.HashMap.{HashMap, get as told_at}
 use mathlib.Core.Logic.{inl, inr}

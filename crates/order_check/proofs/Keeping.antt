@@ -1,4 +1,5 @@
--- What is kept after one more entry.
+-- Shows that accesses, commits and newest transactions are right after one more entry, because only
+-- a Committed adds accesses, and a committed transaction keeps its footprint.
 use Rattle.std.proofs.Common.{◌≡◌, ℕ, zero, suc, ◌+◌, ◌<◌, cond, Bool, true, false, List, [], ◌∷◌, ◌++◌, length, get_or, Option, Some, None, refl, ap, sym, ◌∙◌, subst, arith}
 use Rattle.std.specs.List.{cons_option}
 use Rattle.std.proofs.Math.ListN.{set}

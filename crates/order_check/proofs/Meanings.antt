@@ -1,4 +1,5 @@
--- Accesses and footprints.
+-- Shows that cycles, orders and repeated values found on accesses are those of the footprints,
+-- because each cell comes from exactly one access.
 use Rattle.std.proofs.Common.{◌≡◌, ◌≢◌, ◌==◌, ℕ, ◌<◌, Bool, true, false, cond, ◌&&◌, Option, Some, None, is_some, List, [], ◌∷◌, length, refl, ap, sym, ◌∙◌, subst, arith}
 use Rattle.std.specs.HashMap.{HashMap, get as told_at}
 use Rattle.std.specs.List.{All}

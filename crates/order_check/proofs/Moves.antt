@@ -1,4 +1,5 @@
--- The steps of a search.
+-- Shows that the steps of a search keep its invariant, because each changes the mark of one
+-- transaction, and the others' chain of edges does not depend on it.
 use Rattle.std.proofs.Common.{◌≡◌, ℕ, ◌+◌, ◌<◌, ◌≤◌, List, [], ◌∷◌, ◌++◌, length, Some, refl, ap, sym, ◌∙◌, subst, arith}
 use Rattle.std.specs.Prelude.{slice_get}
 use Rattle.std.proofs.lemmas.Bool.{cases_eq, cases_lt}

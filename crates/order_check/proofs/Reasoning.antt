@@ -1,4 +1,5 @@
--- From footprints to the history: what the outcome on accesses says of the transactions.
+-- Shows that the outcome on accesses holds of the history's transactions, because the accesses are
+-- the footprints of the committed transactions, in the order of their commits.
 use Rattle.std.proofs.Common.{◌≡◌, ◌≢◌, ℕ, ◌<◌, List, [], ◌∷◌, length, map, Option, Some, None, refl, ap, sym, ◌∙◌, subst}
 use Rattle.std.specs.Option.{IfSome}
 use mathlib.Core.Logic.{inl, inr}

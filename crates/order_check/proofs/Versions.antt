@@ -1,5 +1,6 @@
--- If an order keeps the sources, each transaction finds what it needs. No value need be written only
--- once: each transaction finds the version of the value that its source wrote.
+-- Shows that each transaction finds what it needs in an order that keeps the sources, because a
+-- key's present version is the one that its source wrote: every other was replaced. No value need
+-- be written only once.
 use Rattle.std.proofs.Common.{◌≡◌, ℕ, ◌<◌, List, [], ◌∷◌, ◌++◌, length, Option, Some, None, refl, ap, sym, ◌∙◌, subst, append_assoc, arith}
 use Rattle.std.specs.Option.{IfSome}
 use mathlib.Core.Logic.{◌⊎◌, inl, inr}

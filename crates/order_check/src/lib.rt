@@ -1,16 +1,16 @@
 //! A judge of histories by any order of their transactions.
 //!
 //! A history is a list of `txn_trace`'s entries. It is serializable (`IsSerializable`) if it has
-//! the right shape and a serial order. A serial order has each committed transaction once. Each of
-//! them has the same replies as if it ran alone after those before it, from the empty map
-//! (Papadimitriou, "The Serializability of Concurrent Database Updates", JACM 1979). Transactions
-//! that abort or stay open may have read anything.
+//! the right shape and a serial order. A serial order has each committed transaction once. Each has
+//! the same replies as if it ran alone after those before it, from the empty map (Papadimitriou,
+//! "The Serializability of Concurrent Database Updates", 1979). Transactions that abort or stay
+//! open may have read anything.
 //!
 //! Until a transaction commits, the checker keeps its footprint (`serial_check`). From then on it
 //! keeps an access for each key: the value that the transaction needs, and the one that it leaves.
-//! Each value that is needed gets a source. A transaction comes after its sources, and before
-//! those that replace what it needs. These are the dependencies of Adya, "Weak Consistency"
-//! (1999). An order that keeps them is serial.
+//! Each value that is needed gets a source. A transaction comes after its sources, and before those
+//! that replace what it needs. These are the dependencies of Adya, "Weak Consistency" (1999). An
+//! order that keeps them is serial.
 //!
 //! Proved of each verdict:
 //! - Its order is a serial order.

@@ -1,5 +1,6 @@
--- The answers that the steps of a new history's first transaction get. Only caller 0 takes these
--- steps.
+-- Shows that the first transaction of a new history is refused only if memory or stamps are
+-- missing, because only caller 0 takes steps: no stripe is held by another, and no step is out of
+-- order.
 use Rattle.std.proofs.Common.{◌≡◌, ◌≢◌, ℕ, ◌*◌, ◌-◌, ◌^◌, ◌<◌, ◌≤◌, ◌==◌, zero, suc, Bool, true, false, cond, List, [], ◌∷◌, ◌++◌, length, take, drop, slice_index_or, Option, Some, None, refl, sym, ap, subst, ◌∙◌, arith}
 use Rattle.std.specs.Prelude.{nat_le, not, ◌||◌, unwrap_or}
 use Rattle.std.specs.Option.{option_eq}

@@ -1,5 +1,5 @@
--- Savepoints: how setting one and returning to one change a transaction that no other caller
--- interrupts.
+-- Shows that a transaction continues after it sets a savepoint or returns to one, because no other
+-- caller interrupts it, so each change is taken back by one seek and one act.
 use Rattle.std.proofs.Common.{◌≡◌, ℕ, ◌<◌, ◌==◌, zero, suc, Bool, true, false, cond, List, [], ◌∷◌, ◌++◌, length, Option, Some, None, is_some, slice_index, refl, sym, ap, subst, ◌∙◌, arith}
 use Rattle.std.specs.Prelude.{nat_le, nat_lt, ◌&&◌}
 use Rattle.std.specs.Option.{option_and_then}

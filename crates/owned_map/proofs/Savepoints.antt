@@ -1,5 +1,5 @@
--- The maps at the levels of a transaction. Operations and new savepoints leave these maps
--- unchanged, and a return to a level restores the map of this level.
+-- Shows that a return to a level restores the map of this level, because an operation adds its
+-- inverse to the log, so the map that the log leads back to stays the same.
 use Rattle.std.proofs.Common.{◌≡◌, ℕ, ◌+◌, ◌-◌, ◌<◌, ◌≤◌, zero, suc, Bool, true, false, cond, List, [], ◌∷◌, ◌++◌, length, take, get_or, slice_index, Option, Some, None, refl, sym, ap, subst, ◌∙◌, arith}
 use Rattle.std.specs.Prelude.{nat_le, nat_lt, ◌||◌, unwrap_or}
 use Rattle.std.proofs.lemmas.Bool.{and_parts, ltb-true, leb-false}

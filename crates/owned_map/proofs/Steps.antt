@@ -1,4 +1,5 @@
--- The effect of a step or a plain call on a transaction that no other caller interrupts.
+-- Shows what a step or a plain call does to a transaction that no other caller interrupts, because
+-- the map to which it can be taken back stays the same (`IsAt`).
 use Rattle.std.proofs.Common.{◌≡◌, ℕ, zero, suc, Bool, true, false, cond, List, [], ◌∷◌, ◌++◌, Option, Some, None, refl, sym, ap, subst, ◌∙◌, arith}
 use Rattle.std.specs.Prelude.{nat_le, nat_lt, not, ◌||◌, unwrap_or}
 use Rattle.std.proofs.lemmas.Bool.{false≢true, and_parts, ltb-true, lt-ltb}

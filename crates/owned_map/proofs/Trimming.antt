@@ -1,5 +1,5 @@
--- The map after the first transaction of a new history has exactly the pairs that this transaction
--- puts.
+-- Shows that the map after `trim` is the old map, because the first transaction of the new history
+-- puts each of its pairs once: their keys rise.
 use Rattle.std.proofs.Common.{◌≡◌, ◌≢◌, ℕ, ◌+◌, ◌<◌, ◌≤◌, ◌==◌, zero, suc, true, false, cond, T, List, [], ◌∷◌, ◌++◌, length, take, drop, slice_index_or, Option, Some, None, refl, sym, ap, subst, ◌∙◌, arith}
 use Rattle.std.specs.Prelude.{unwrap_or, Result, Ok, Err, OnOk, IfErr}
 use Rattle.std.specs.List.{flat_map, sum_by, range_with_len}

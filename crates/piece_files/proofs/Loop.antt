@@ -1,4 +1,5 @@
--- Reading the pieces of a file one after the other.
+-- Shows that the loop reads the pieces of an array as `pieces_from` does, because what it has read
+-- stays right with one more element (`IsRead`), and nothing changes after a fault.
 use Rattle.std.proofs.Common.{◌≡◌, ℕ, suc, ◌+◌, ◌<◌, ◌≤◌, List, [], ◌∷◌, ◌++◌, length, take, Bool, true, false, not, cond, Option, Some, None, option_and_then, Result, Ok, Err, refl, sym, ap, ◌∙◌, arith}
 use Rattle.std.proofs.lemmas.List.{length-append, take_all, take-append-le}
 use Rattle.serde_json.specs.Data.{Data}

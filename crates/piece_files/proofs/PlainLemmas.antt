@@ -1,5 +1,5 @@
--- What the reader of JSON makes of bytes in plain form: white space, commas and brackets, elements
--- and keys, and the arrays and objects that these form.
+-- Shows what the reader of JSON makes of bytes in plain form, because each number, null, text,
+-- comma and bracket of this form is one token, and white space is none.
 use Rattle.std.proofs.Common.{◌≡◌, ℕ, suc, ◌+◌, ◌-◌, ◌^◌, ◌<◌, ◌≤◌, Bool, true, false, cond, List, [], ◌∷◌, ◌++◌, length, take, drop, get_or, map, Some, None, option_map, inl, inr, refl, sym, ap, ap₂, subst, ◌∙◌, add-one, append_assoc, append-nil, arith, drop-cons, take-append-drop}
 use Rattle.std.specs.Prelude.{Option, IfSome, option_and_then, ◌==◌, ◌||◌}
 use Rattle.std.specs.Char.{is_ascii_digit}

@@ -1,4 +1,5 @@
--- What was found in an object's members (`AreFound`), and how it changes if a member is added.
+-- Shows what one more member changes of what was found in an object (`AreFound`), because the last
+-- member with a name counts, and the names differ.
 use Rattle.std.proofs.Common.{◌≡◌, ℕ, zero, suc, ◌+◌, ◌<◌, ◌≤◌, nat_lt, cond, List, [], ◌∷◌, length, map, replicate, get_or, Bool, true, false, ◌&&◌, not, bytes_eq, true≢false, Option, Some, None, option_and_then, refl, sym, ap, subst, ◌∙◌, arith}
 use Rattle.std.proofs.Math.ListN.{set}
 use Rattle.std.specs.List.{list_all, position, prefix_len}

@@ -1,4 +1,5 @@
--- Which kinds of values can begin with a given token.
+-- Shows which kinds of values cannot begin with a given token, because the first token decides
+-- whether a value is plain, an array or an object.
 use Rattle.std.proofs.Common.{◌≡◌, ℕ, zero, suc, ◌-◌, List, ◌∷◌, Bool, true, false, Option, Some, None, option_map, refl, sym, ap, ◌∙◌, arith}
 use Rattle.json.specs.Token.{Token}
 use Rattle.json.specs.Json.{parse_map}

@@ -1,29 +1,24 @@
 //! Files that are an object in JSON: a version, some numbers, and an array of pieces. A kind of
-//! file has names for its numbers, in the order in which `read_file` returns them, and a name for
-//! the member with its pieces. It also says what a piece is (`PieceKind`). A kind of file may allow
-//! a piece in version 2 but not in version 1 (`PieceKind::is_old`). In a file of version 1 such a
-//! piece is a fault. The pieces are called steps, scripts or entries. This crate knows only these
-//! words, which a fault uses (`Part`).
+//! file has names for its numbers and for the member with its pieces, and says what a piece is, and
+//! which pieces version 1 has too (`PieceKind`).
 //!
-//! The model of a file is the function `contents` in `specs/Files.antt`. It reads the bytes as a
-//! value of JSON (`json_of`). Its result is the version, the numbers and the pieces in the value's
-//! members, or the first fault. Within `contents`, `pieces_from` gives the pieces of an array, or
-//! the first element that is no piece. The model of a reader is the list of tokens that it has not
-//! yet read; `specs/Tokens.antt` says which value such a list begins with. `json` and `serde_json`
-//! define what bytes, tokens and numbers mean as JSON.
+//! The model of a file is the function `contents` in `specs/Files.antt`: the version, the numbers
+//! and the pieces in the members of the bytes' value in JSON (`json_of`), or the first fault. The
+//! model of a reader is the list of tokens that it has not yet read; `specs/Tokens.antt` says which
+//! value such a list begins with. `json` and `serde_json` define what bytes, tokens and numbers
+//! mean as JSON.
 //!
-//! Most files are in plain form, and such a file is read straight from its bytes. In plain form no
-//! text has escapes, and no number has more than 19 digits. The array has at least one element,
-//! each element is a piece of the kind, and there are no more pieces than a file of this kind may
-//! have. The other members have plain values. White space may stand wherever JSON allows it. The
-//! reader of JSON reads a file in any other form again from its start. It makes an index of the
-//! file while it reads, and takes scratch memory of the file's length (`members.rt`).
-//! `specs/PlainBytes.antt` says into which tokens the reader of JSON turns bytes in plain form.
+//! Most files are in plain form, and are read straight from their bytes: no text has escapes, no
+//! number has more than 19 digits, the array has at least one element and at most as many as the
+//! kind allows, each element is a piece, and the other members have plain values. White space may
+//! stand wherever JSON allows it. The reader of JSON reads any other file again from its start.
+//! `specs/PlainBytes.antt` says into which tokens it turns bytes in plain form.
 //!
-//! Guarantees: `read_file` computes `contents`, or reports that memory was refused. A text is read
-//! once, or twice if it has no plain form, in time proportional to its length. Values that are
-//! skipped are tested to be JSON, and nothing of them is kept. No more pieces are kept than a file
-//! may have; further pieces are only counted.
+//! Proved: `read_file` computes `contents`, or reports that memory was refused.
+//!
+//! A text is read at most twice, in time in proportion to its length. Skipped values are tested to
+//! be JSON, and not kept. No more pieces are kept than a file may have; further ones are only
+//! counted.
 #![tactic(auto)]
 
 mod elements;

@@ -1,5 +1,5 @@
--- The value of a key in a sound table, and the effect of a write to the slot at which the key's
--- probe stops.
+-- Shows that a key's value is in the slot at which the key's probe stops, and what a write there
+-- changes, because each key is where its own probe stops (`IsTable`).
 use Rattle.std.proofs.Common.{◌≡◌, ◌≢◌, ℕ, suc, ◌+◌, ◌-◌, ◌<◌, ◌≤◌, Bool, true, false, cond, List, [], ◌∷◌, length, Option, None, Some, count_by, set, get_or, refl, sym, ap, subst, ◌∙◌, ⊎_elim, arith, nat_eq, IsPermutation, not, is_some}
 use Rattle.std.specs.List.{IsDistinct}
 use Rattle.std.specs.Map.{keys_of}

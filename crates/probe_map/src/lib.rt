@@ -7,9 +7,8 @@
 //! A probe for a key begins at the key's home, the slot that a hash of the key gives. It visits the
 //! slots one by one, and after the last slot continues with the first. It stops at a slot that is
 //! empty or has the key. A key that is removed keeps its slot, without a value, so that no probe
-//! for another key stops too early. An `insert` needs room for its key, even if the key was removed
-//! before. If there is no room, `reserve` puts the keys that have values into a new array, and
-//! drops the removed keys.
+//! for another key stops too early. If there is no room for the key of an `insert`, even one that
+//! was removed before, `reserve` puts the keys that have values into a new array.
 //!
 //! A contract sees a map as its `content`, a finite map, and `spare`, the number of new keys that
 //! it has room for. The invariant is `IsTable` in `specs/Slots.antt`.

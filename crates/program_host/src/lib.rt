@@ -1,5 +1,4 @@
-//! The system that a program runs on. All programs use this crate, and so do the crates that read
-//! their command lines.
+//! The system that a program runs on.
 //!
 //! `System` has the services that a program needs: the words of its call, which are its command
 //! line, and files. It is a trait, so a program can also be tried on a system in memory. `Host` is

@@ -2,9 +2,8 @@
 //! `piece_files`, `engines` tests `boostmap_engine` and the engine of `run`, and `commands` tests
 //! `command_line`, `unthreaded_program` and `boostmap_program`.
 //!
-//! The tests are a separate crate, since a crate with tests is proved twice. Each call of a tested
-//! crate is in a small function without a contract. The tests go through tables only with such
-//! functions, which keeps the proofs of the tests short.
+//! Each call of a tested crate is in a small function without a contract, which keeps the proofs of
+//! the tests short.
 #![tactic(auto)]
 
 #[cfg(test)]

@@ -1,4 +1,5 @@
--- Facts about the outcomes and about a worker's `Way` after the first entries of a history.
+-- Shows that the outcomes are true of the entries so far, because each entry keeps what is known of
+-- its caller's outcomes and of the worker's `Way` (`Follows`).
 use Rattle.std.proofs.Common.{◌≡◌, ◌≢◌, ℕ, Option, zero, suc, ◌+◌, ◌%◌, ◌<◌, ◌≤◌, ◌⊎◌, ◌==◌, ◌&&◌, Bool, true, false, cond, List, [], ◌∷◌, ◌++◌, length, take, drop, get_or, set, Some, None, refl, sym, ap, subst, ◌∙◌, inl, inr, arith}
 use Rattle.std.specs.Prelude.{slice_get}
 use Rattle.std.specs.List.{fold}

@@ -1,5 +1,5 @@
--- The chunk: the entries that a caller has added since its script began. Each call adds entries to
--- the chunk. When the script is over, the chunk is the account of the script.
+-- Shows that a script's entries are its account once it is over, because each call leads from one
+-- chunk to the next, and an attempt that was busy commits nothing.
 use Rattle.std.proofs.Common.{◌≡◌, ℕ, zero, suc, Bool, false, List, ◌∷◌, ◌++◌, filter, refl, ap, ◌∙◌, ◌+◌, [], not, length, length-append}
 use Rattle.std.proofs.Common.{append_assoc, append-nil, Option, arith, nat_lt, true, if◌then◌else◌, drop, drop-cons, slice_get, Some, None}
 use Rattle.std.proofs.Common.{sym, add-one, ltb-false}

@@ -1,4 +1,5 @@
--- A worker still keeps to its scripts after each answer, and after it moves to its next call.
+-- Shows that a worker keeps to its scripts after each answer, because its call's entries are those
+-- of the drive's end, and lead to the next chunk or to the script's account.
 use Rattle.std.proofs.Common.{ℕ, ◌<◌, List, [], ◌∷◌, ◌++◌, length, slice_get, Option, Some, None, refl, sym, ap, ◌∙◌, arith, ◌≡◌, ◌+◌, ◌*◌}
 use Rattle.std.proofs.Common.{nat_lt, Bool, true, false, if◌then◌else◌, append_assoc, append-nil, get_or, subst, inl, inr, ltb-true}
 use Rattle.script_worker.proofs.Vocabulary.{Action, Answer, append_quiet, AreAccounts, Attempt, attempt_at, Beginning, Call, call_at}

@@ -1,6 +1,5 @@
--- Sort keys are in a strict total order: no sort key is before itself, `is_before` is transitive,
--- and of two different sort keys one is before the other. The list layers use these lemmas and do
--- not unfold `is_before`.
+-- Shows that sort keys are in a strict total order, because `is_before` compares split keys as
+-- numbers, and then keys. The list layers use these lemmas and do not unfold `is_before`.
 use Rattle.std.proofs.Common.{◌≡◌, ◌≢◌, ℕ, ◌%◌, ◌^◌, ◌<◌, ◌≤◌, ◌⊎◌, inl, inr, Bool, true, false, refl, sym, ◌∙◌, ap, ap₂, subst, arith, ◌==◌, nat_lt}
 use Rattle.std.proofs.lemmas.Bool.{cases_order}
 use Rattle.std.proofs.lemmas.Bool.Decides.{eqb_tells, nat_tests}

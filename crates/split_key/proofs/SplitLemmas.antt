@@ -1,5 +1,5 @@
--- Bits in reverse order: the position of each bit, the fact that no two words share a reversal, and
--- the order of split keys.
+-- Shows the order of split keys, and that no two words share a reversal, because the reversal of a
+-- word in two parts is the reversals of the parts, exchanged.
 use Prim.Native.Nat.{zero, suc}
 use Rattle.std.proofs.Common.{◌≡◌, ℕ, ◌+◌, ◌*◌, ◌-◌, ◌/◌, ◌%◌, ◌^◌, ◌<◌, ◌≤◌, refl, sym, ◌∙◌, ap, arith, bit_or, pow-suc, zero-add, suc-add, div-add-mod', add-mul, subst, mul_assoc, mul_left_comm, inl, inr}
 use Rattle.std.proofs.lemmas.Bool.{cases_lt}

@@ -1,4 +1,5 @@
--- The entries of all callers, each at its position, are the history.
+-- Shows that the entries of all callers, each at its position, are the history, because each
+-- entry's caller writes it at its place, and the numbers follow from the shape.
 use Rattle.std.proofs.Common.{◌≡◌, ℕ, zero, suc, ◌+◌, ◌%◌, ◌^◌, ◌<◌, ◌≤◌, ◌==◌, Bool, true, false, cond, List, [], ◌∷◌, ◌++◌, map, set, length, sym, refl, ap, subst, ◌∙◌, arith, append_assoc, length-append, eq-eqb, eqb-true, ne_eqb}
 use Rattle.std.specs.List.{AllByRecursion}
 use mathlib.Core.Logic.{dite}

@@ -1,4 +1,5 @@
--- How entries of one caller extend a legal history, and the state after them.
+-- Shows that a caller may add its entries to any history that goes on from what it has seen
+-- (`MayAdd`), because nobody else has asked for a key of its stripes.
 use Rattle.std.proofs.Common.{is_some, ◌≡◌, ◌≢◌, ℕ, ◌+◌, ◌-◌, ◌<◌, ◌==◌, ◌⊎◌, Bool, true, false, cond, List, [], ◌∷◌, ◌++◌, Option, Some, None, refl, sym, ap, subst, ◌∙◌, inl, inr, ⊎_elim, arith, append_assoc, append-nil, eqb-true, eq-eqb, ne_eqb, length, length-append, slice_index, take, mod-lt}
 use Rattle.std.specs.Option.{option_eq}
 use Rattle.std.specs.Prelude.{nat_eq, not, ◌&&◌}

@@ -44,6 +44,10 @@ impl Caller {
     /// caller yields the thread and begins again, at most `tries` times. So the work may run several
     /// times. Whenever the work fails, all its changes are taken back.
     ///
+    /// The contract of the work has the clause `Keeps`, which says what each call of a transaction
+    /// keeps. `keeps_stay`, `keeps_on`, `keeps_three` and `keeps_four` of `proofs/Within.antt` join
+    /// the calls of a work.
+    ///
     /// # Errors
     ///
     /// - `Refused(AlreadyOpen)` if the caller is in a transaction. This transaction is unchanged.

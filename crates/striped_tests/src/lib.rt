@@ -1,9 +1,8 @@
-//! Tests of `striped_map`, and of `transfer` of `accounts`. They test what no contract says: as long
-//! as there is memory, each call succeeds. A worked run lists each call with its answer, and the
-//! pairs that remain at the end.
+//! Tests of `striped_map`, and of `transfer` of `accounts`. They test what no contract says: as
+//! long as there is memory, each call succeeds. A worked run lists each call with its answer, and
+//! the pairs that remain at the end.
 //!
-//! The tests are a separate crate, since a crate with tests is proved twice. Most functions that
-//! make calls have no contract; `calls` says why.
+//! Most functions that make calls have no contract; `calls` says why.
 #![tactic(auto)]
 
 #[cfg(test)]

@@ -3,9 +3,8 @@
 //! `stripe_part`.
 //!
 //! The tests cover what no contract says: that each call succeeds while memory is free, the state
-//! after a refused allocation, and the values in worked runs. All of these tests are in one crate,
-//! since each crate with tests is proved twice. Many library calls are made by functions that have
-//! no contract and return the answers. So the tests that call these functions have little to prove.
+//! after a refused allocation, and the values in worked runs. Many library calls are made by
+//! functions that have no contract, so the tests that call these functions have little to prove.
 #![tactic(auto)]
 
 #[cfg(test)]

@@ -1,5 +1,5 @@
--- The calls of a script: the caller's phase after each call, and the possible outcomes of the
--- script.
+-- Shows that a script ends only with an outcome that it allows, because after each call the caller
+-- is in the phase that the next call needs, or its token is broken.
 use Rattle.std.proofs.Common.{◌≡◌, ◌∙◌, ℕ, ◌⊎◌, ◌+◌, nat_lt, Bool, true, false, zero, suc, List, [], ◌∷◌, length, Option, Some, None}
 use Rattle.std.proofs.Common.{is_some, refl, sym, ap, inl, inr, if◌then◌else◌, slice_get, nat_le, IsTrue}
 use Rattle.thread_runs.proofs.Vocabulary.{Acting, Beginning, Failed, Finish, get_empty, has_bad_key, HasEnded, HasPhase, is_abort, is_back}

@@ -1,16 +1,16 @@
 //! Scripts on threads. Each worker has its own thread and is a caller of one shared map.
 //!
 //! Worker `w` is caller `w`, and script `i` belongs to worker `i mod workers`. A worker runs its
-//! scripts in their order, by the rules of `script_worker`. The same rules hold for workers that
-//! take turns in one thread. A gate is called when a worker reaches certain points, and may make
-//! this worker wait. After some new keys without a help, a worker helps the table to grow even if
-//! its script does not ask for it. So scripts without a help do not become slow.
+//! scripts in their order, by the rules of `script_worker`. A gate is called when a worker reaches
+//! certain points, and may make this worker wait. After some new keys without a help, a worker
+//! helps the table to grow even if its script does not ask for it, so that such scripts do not
+//! become slow.
 //!
 //! A contract sees the result of a run: the history, and an outcome for each script. Proved
 //! (`run_scripts`, by `IsRunOf` of `specs/Runs.antt`): the history is legal by the rule that a Busy
-//! may name any other worker that has begun a transaction; each entry of the history belongs to one
-//! of the workers; and the outcome of each script is true of the history. It is not proved that a
-//! run ends, or that a script ever commits.
+//! may name any other worker that has begun a transaction; each entry belongs to one of the
+//! workers; and the outcome of each script is true of the history. It is not proved that a run
+//! ends, or that a script ever commits.
 //!
 //! Only tested: a `Gate` is called once for each action, outcome and release, in order, with the
 //! numbers of worker and script (`gate_tests` of `thread_tests`; by its contract the private

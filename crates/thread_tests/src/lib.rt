@@ -1,7 +1,6 @@
 //! Tests of the values that callers in threads share: the map under its lock, the scripts that
 //! threads run on the map, and the locks and words of the map's stripes.
 //!
-//! The tests are not in the crates that they test, since those crates would then be proved twice.
 //! Small functions without a contract make the calls of the libraries, so that a test has only its
 //! own safety to prove.
 #![tactic(auto)]

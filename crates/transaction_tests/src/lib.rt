@@ -1,8 +1,6 @@
 //! Tests of transactions as values on the map with one owner. No contract says that a work succeeds
 //! if there is memory for it, how far a table grows, or what remains if memory is refused. These
 //! tests check it, also at the limits.
-//!
-//! The tests are a separate crate, because a crate with tests is proved twice.
 #![tactic(auto)]
 
 #[cfg(test)]

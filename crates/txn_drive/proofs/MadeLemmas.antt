@@ -1,5 +1,5 @@
--- Each step appends its entries to the entries that its drive has added. After the drive has ended,
--- its entries are those that belong to its end.
+-- Shows that a drive has added just the entries of its answers, because its phase notes how many
+-- changes were taken back, and that at its end these are the entries of the end.
 use Rattle.std.proofs.Common.{◌≡◌, ℕ, ◌+◌, ◌-◌, ◌^◌, ◌%◌, ◌==◌, nat_lt, ◌&&◌, Bool, true, false, if◌then◌else◌, List, [], ◌∷◌, ◌++◌, Option, Some, None, refl, sym, ap, ◌∙◌, subst, append_assoc}
 use Rattle.std.proofs.lemmas.Bool.{eqb-true}
 use Rattle.std.proofs.lemmas.List.{append-nil, replicate_more}

@@ -1,5 +1,5 @@
--- `kept_history_of` equals `history_of`: an entry in range is small, so it is not replaced, and an
--- entry that is replaced is out of range.
+-- Shows that `kept_history_of` equals `history_of`, because an entry in range is small, so it is
+-- not replaced, and an entry that is replaced is out of range.
 use Rattle.std.proofs.Common.{◌≡◌, ℕ, suc, ◌<◌, Bool, true, false, cond, List, [], ◌∷◌, length, map, Some, None, option_map, inl, inr, refl, sym, ap, ap₂, ◌∙◌, arith}
 use Rattle.std.specs.Prelude.{Option, option_and_then, ◌==◌, Result, Ok, Err, ◌&&◌, nat_le}
 use Rattle.std.specs.List.{list_all}

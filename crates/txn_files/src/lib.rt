@@ -1,25 +1,22 @@
 //! Step files, script files and history files, in JSON.
 //!
-//! The model is three functions of the bytes: `file_of`, `scripts_of` and `history_of`, which
-//! `specs/` defines. Each gives the content of a file, or its first fault in a fixed order: too
-//! long, not JSON, a member of the wrong shape, a piece of the wrong shape, out of range.
-//! `piece_files` parses the bytes as JSON, and has the loop over the pieces of a file. This crate
-//! says what a step, an entry, an action and a script are, and which members each kind of file has.
+//! The model is three functions of the bytes: `file_of`, `scripts_of` and `history_of` (`specs/`).
+//! Each gives the content of a file, or its first fault in a fixed order: too long, not JSON, a
+//! member of the wrong shape, a piece of the wrong shape, out of range. `piece_files` parses JSON,
+//! and has the loop over the pieces. This crate says what a step, an entry, an action and a script
+//! are, and which members each kind of file has.
 //!
-//! Each kind of file has versions 1 and 2. History files also have a version 3, which has the
-//! shapes of version 2. Version 1 has no `put_if`, and the limits of its step and script files
-//! allow only half keys, which are the keys below 2^63. A file of any other version is tested for
-//! the shapes of version 2, and is then refused.
+//! Each kind has versions 1 and 2, and history files a version 3 with the shapes of version 2.
+//! Version 1 has no `put_if`, and its step and script files allow only half keys, below 2^63. A
+//! file of any other version is tested for the shapes of version 2, and then refused.
 //!
 //! Proved: `read_steps`, `read_scripts`, `read_history` and the packed readers compute these
 //! functions, or report that memory was refused. `history_text` makes the text of a history, as
 //! `text_of_history` defines it. `HistoryPieces` hands out the same text and a line feed, piece by
 //! piece.
 //!
-//! Cost: time and memory in proportion to the length of the file or text. A file in plain form is
-//! read once, any other file at most twice. A reader keeps at most as many steps, entries or
-//! scripts as a file may have. But it keeps all actions of a script, even if they are more than a
-//! script may have.
+//! Time and memory are in proportion to the length of the file or text. A reader keeps at most as
+//! many pieces as a file may have, but all actions of a script.
 //!
 //! Only tested: reading the text of a history again gives the same entries.
 #![tactic(auto)]

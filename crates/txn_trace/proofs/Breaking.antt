@@ -1,4 +1,5 @@
--- The rule that an entry breaks after a legal history.
+-- Shows which rule an entry breaks after a legal history, because the shape decides first, then for
+-- a `Did` the map `now`, and then the holder of the stripe.
 use Rattle.std.proofs.Common.{◌≡◌, ℕ, Bool, true, false, cond, not, List, [], ◌∷◌, ◌++◌, refl, ap, sym, subst, ◌∙◌, Some, None, Option, IsSome, is_some}
 use Rattle.std.specs.Option.{option_eq, option_and_then}
 use Rattle.std.specs.Prelude.{nat_eq}

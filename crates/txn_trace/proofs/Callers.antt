@@ -1,5 +1,5 @@
--- Callers in a history of the right shape. No two callers are in the same transaction. A caller
--- runs exactly while its transaction is open.
+-- Shows that no two callers are in the same transaction, because a Began takes a new number, and
+-- that a caller runs exactly while its transaction is open.
 use Rattle.std.proofs.Common.{[], ◌≡◌, ℕ, ◌-◌, take, slice_index, ◌+◌, ◌≤◌, Bool, true, false, cond, not, ◌&&◌, ◌||◌, ◌==◌, List, ◌∷◌, ◌++◌, length, refl, ap, sym, subst, ◌∙◌, Some, None, Option, is_some, arith}
 use Rattle.std.specs.Option.{option_and_then}
 use Rattle.std.specs.Prelude.{nat_lt}

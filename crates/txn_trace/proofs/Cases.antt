@@ -1,5 +1,5 @@
--- Worked histories, checked by computation: their verdicts, their maps, and the histories without
--- their aborted transactions.
+-- Shows the verdicts and maps of worked histories, and what is left of them without aborted
+-- transactions, because the prover computes them from the definitions.
 use Rattle.std.proofs.Common.{[], ◌≡◌, ℕ, ◌^◌, ◌-◌, List, ◌∷◌, ◌++◌, Some, None, Option, refl, take, map}
 use Rattle.split_key.specs.Split.{split, reversed, reversed_low}
 use Rattle.txn_words.specs.declared.op.Op.{Op}

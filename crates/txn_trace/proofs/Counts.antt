@@ -1,6 +1,5 @@
--- The counts of a verdict. In a history of the right shape, the number of commits is the number of
--- `Committed` entries, and the number of open transactions is the number of callers that are not
--- closed.
+-- Shows that a verdict's counts are those of the entries and seats, because a Began opens one
+-- transaction with the next number, and only its caller's end closes it.
 use Rattle.std.proofs.Common.{◌≡◌, ◌≢◌, ℕ, zero, suc, ◌+◌, ◌<◌, ◌≤◌, ◌==◌, Bool, true, false, cond, not, List, [], ◌∷◌, ◌++◌, length, max, refl, ap, sym, subst, ◌∙◌, Some, None, Option, is_some, arith, length-append}
 use Rattle.std.specs.Option.{option_and_then}
 use Rattle.std.specs.List.{cons_option, list_any, sum_by, range_with_len}

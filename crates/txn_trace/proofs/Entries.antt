@@ -1,5 +1,6 @@
--- Each kind of entry after a legal history: when it is legal, and the seats, logs, holders and maps
--- after it.
+-- Shows for each kind of entry when it is legal, and the seats, logs, holders and maps after it,
+-- because `Next` has what all kinds have in common, and its caller's seat, log and stripes decide
+-- the rest.
 use Rattle.std.proofs.Common.{[], drop, ◌≡◌, ℕ, ◌+◌, ◌-◌, ◌<◌, ◌==◌, Bool, true, cond, List, ◌∷◌, ◌++◌, take, length, slice_index, refl, ap, sym, subst, ◌∙◌, Some, None, Option, is_some, arith}
 use Rattle.std.specs.Option.{option_eq}
 use Rattle.std.specs.Prelude.{nat_eq}

@@ -1,4 +1,5 @@
--- A history without the entries of some transactions.
+-- Shows that the transactions that are kept have all their entries in the kept history, because a
+-- caller that is in a kept transaction is in the same one there.
 use Rattle.std.proofs.Common.{◌≡◌, ℕ, Bool, true, false, cond, not, ◌||◌, ◌==◌, List, [], ◌∷◌, map, refl, ap, sym, ◌∙◌, Some, None, Option}
 use Rattle.std.specs.List.{filter, filter_map, fold, cons_option}
 use Rattle.std.proofs.lemmas.Bool.{false≢true, eq-eqb}

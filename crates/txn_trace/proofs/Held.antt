@@ -1,5 +1,5 @@
--- The stripes that a caller in a transaction holds. Among them are the stripes of its standing
--- changes and of the operation that waits.
+-- Shows which stripes an open transaction holds, because it holds the stripe of each key that it
+-- asked for, and that no other caller's entry changes the value of a key of these stripes.
 use Rattle.std.proofs.Common.{None, Option, ◌++◌, append_assoc, ◌≡◌, ◌≢◌, ℕ, ◌==◌, Bool, true, false, cond, ◌&&◌, List, [], ◌∷◌, map, slice_get, refl, ap, sym, subst, ◌∙◌, Some}
 use Rattle.std.specs.Option.{option_eq}
 use Rattle.std.specs.Prelude.{nat_eq}

@@ -1,5 +1,5 @@
--- The holders of a stripe: how one more entry changes them, and why a stripe has at most one
--- holder.
+-- Shows that a stripe has at most one holder, because an `Asked` is allowed only if no other caller
+-- holds its stripe, and how one more entry changes the holders.
 use Rattle.std.proofs.Common.{◌≡◌, ◌≢◌, ℕ, ◌==◌, Bool, true, false, cond, not, ◌&&◌, List, [], ◌∷◌, ◌++◌, map, slice_get, refl, ap, sym, subst, ◌∙◌, Some, None, Option}
 use Rattle.std.specs.Option.{option_eq}
 use Rattle.std.specs.Prelude.{nat_eq}

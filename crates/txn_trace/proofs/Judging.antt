@@ -1,4 +1,5 @@
--- A history is legal exactly if it has no bad entry.
+-- Shows that a history is legal exactly if it has no bad entry, because each rule is one about all
+-- beginnings of the history, and `broken` tests the next one.
 use Rattle.std.proofs.Common.{◌≡◌, ℕ, ◌+◌, ◌==◌, Bool, true, false, cond, not, List, [], ◌∷◌, ◌++◌, map, refl, ap, sym, subst, ◌∙◌, Some, None, Option, IsSome, is_some, append_assoc}
 use Rattle.std.specs.List.{filter, list_any, list_all, AllByRecursion}
 use Rattle.std.specs.Prelude.{◌↔◌}

@@ -1,5 +1,5 @@
--- A transaction that runs alone reads and writes only the keys that it asks for. So it runs in the
--- same way on all maps that agree at these keys.
+-- Shows that a transaction runs in the same way on all maps that agree at the keys that it asks
+-- for, because it reads and writes no other key.
 use Rattle.std.proofs.Common.{◌≡◌, ◌==◌, ℕ, suc, ◌+◌, Bool, true, false, cond, List, [], ◌∷◌, ◌++◌, length, take, refl, ap, sym, subst, ◌∙◌, Some, None, Option, is_some, slice_get}
 use Rattle.std.specs.Prelude.{nat_eq}
 use Rattle.std.specs.Option.{option_eq, option_and_then}

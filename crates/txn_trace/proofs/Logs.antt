@@ -1,4 +1,5 @@
--- The log of a caller agrees with its seat, and with the run of its transaction.
+-- Shows that the log of a caller agrees with its seat and with the run of its transaction, because
+-- each entry changes all three alike.
 use Rattle.std.proofs.Common.{◌≡◌, ◌≢◌, ℕ, ◌+◌, ◌-◌, ◌==◌, ◌&&◌, Bool, true, false, cond, List, [], ◌∷◌, ◌++◌, length, take, drop, slice_get, slice_index, refl, ap, sym, subst, ◌∙◌, Some, None, Option, arith}
 use Rattle.std.specs.Prelude.{nat_eq, nat_lt}
 use Rattle.std.specs.Option.{option_eq, option_and_then}

@@ -1,4 +1,5 @@
--- One more entry after a legal history: what all kinds of entries have in common.
+-- Shows what one more entry of any kind leaves unchanged, because it changes the seat, the log and
+-- the run of its own caller only, unless it commits.
 use Rattle.std.proofs.Common.{◌&&◌, ◌≡◌, ◌≢◌, ℕ, ◌+◌, Bool, true, false, cond, List, [], ◌∷◌, ◌++◌, take, slice_get, refl, ap, sym, subst, ◌∙◌, Some, None, Option, is_some}
 use Rattle.std.specs.Option.{option_eq, option_and_then}
 use Rattle.std.specs.Prelude.{nat_eq}

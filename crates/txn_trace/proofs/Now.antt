@@ -1,4 +1,5 @@
--- The map `now`: its value at a key, and the effect of a commit on it.
+-- Shows the value of the map `now` at a key, because at most one open transaction holds the key's
+-- stripe: it is this transaction's value, or else the committed one.
 use Rattle.std.proofs.Common.{◌≡◌, ℕ, ◌==◌, ◌≢◌, Bool, true, false, cond, not, ◌||◌, List, [], ◌∷◌, ◌++◌, map, refl, ap, sym, subst, ◌∙◌, Some, None, Option, IsSome}
 use Rattle.std.specs.Option.{option_eq}
 use Rattle.std.specs.Prelude.{nat_eq}

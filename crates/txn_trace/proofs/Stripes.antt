@@ -1,5 +1,5 @@
--- No two open transactions have asked for keys of the same stripe. Each transaction changes only
--- keys of the stripes that it has asked for.
+-- Shows that no two open transactions have asked for keys of the same stripe, because the rule of
+-- locks does not allow the second `Asked`.
 use Rattle.std.proofs.Common.{◌≡◌, ℕ, ◌==◌, Bool, true, false, cond, not, ◌&&◌, List, [], ◌∷◌, ◌++◌, map, refl, ap, sym, subst, ◌∙◌, Some, None, Option, IsSome, append_assoc}
 use Rattle.std.specs.List.{filter, list_any, list_all, AllByRecursion}
 use Rattle.std.proofs.lemmas.Bool.{false≢true, eq-eqb, eqb-true, or_left, or_right, and_parts, or_cases}

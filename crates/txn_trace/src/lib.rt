@@ -13,12 +13,11 @@
 //!   says which callers it may name. Each entry has the right shape.
 //!
 //! The definition of legal histories follows the "serialisable" of Herlihy and Koskinen,
-//! "Transactional Boosting: A Methodology for Highly-Concurrent Transactional Objects" (PPoPP
-//! 2008). The locks of a history follow rule 2 of that paper (abstract locks), and its undoing
-//! follows rule 3 (inverses).
+//! "Transactional Boosting" (2008). The locks of a history are the abstract locks of that paper,
+//! and its undoing runs that paper's inverses.
 //!
 //! Proved: the laws of histories in `proofs/`, for each kind of entry. The crates that use this one
-//! cite them. The contract of `laws::erased` says that aborted transactions leave nothing behind.
+//! cite them. By `laws::erased`, aborted transactions leave nothing behind.
 #![tactic(auto)]
 
 pub mod laws;

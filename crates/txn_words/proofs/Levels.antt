@@ -1,6 +1,5 @@
--- The levels of a seat. Each level keeps at least as many changes as the levels before it. If a
--- caller may return to a level, the number of changes that the level keeps is at most the number of
--- the caller's standing changes.
+-- Shows that a level keeps at most as many changes as are standing, because a savepoint notes their
+-- number, and a return takes back only changes above its level.
 use Rattle.std.proofs.Common.{◌≡◌, ℕ, ◌+◌, ◌-◌, ◌<◌, ◌≤◌, ◌==◌, ◌&&◌, Bool, true, false, cond, List, [], ◌∷◌, ◌++◌, length, take, get_or, slice_index, refl, sym, subst, Some, None, Option, arith}
 use Rattle.std.specs.Prelude.{nat_lt}
 use Rattle.std.specs.Option.{option_and_then}

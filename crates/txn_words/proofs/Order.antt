@@ -1,5 +1,5 @@
--- The pairs of a map in the order of the table. Exactly one list of these pairs rises strictly by
--- sort keys.
+-- Shows that exactly one list of a map's pairs rises strictly by sort keys (`ordered`), because
+-- sort keys are in a total order and differ for different keys.
 use Rattle.std.proofs.Common.{[], ◌≡◌, ◌≢◌, ℕ, ◌+◌, ◌<◌, ◌==◌, ◌&&◌, Bool, true, false, cond, T, List, ◌∷◌, length, refl, ap, sym, subst, ◌∙◌, Some, None, Option, is_some, arith}
 use Rattle.std.specs.List.{fold, AllByRecursion}
 use Rattle.std.specs.FinMap.{IsAntisymmetric, nat_cmp-IsAntisymmetric}

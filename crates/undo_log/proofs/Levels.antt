@@ -1,4 +1,5 @@
--- What happens to the words of a side value's levels when jobs are pushed, run and dropped.
+-- Shows that running the jobs above a level, newest first, restores the level's words, because each
+-- job leads from the words after its change to the words before it.
 use Rattle.std.proofs.Common.{◌≡◌, ℕ, zero, suc, ◌+◌, ◌<◌, ◌≤◌, List, [], ◌∷◌, ◌++◌, map, take, length, get_or, slice_get, Some, Result, Ok, Err, OnOk, OnErr, refl, ap, sym, subst, ◌∙◌, arith, add-one}
 use Rattle.std.specs.Option.{option_map}
 use Rattle.std.proofs.lemmas.List.{map-append, take-map, length_push}

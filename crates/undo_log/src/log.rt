@@ -164,7 +164,8 @@ impl<S: JobStore> JobLog<S> {
     ///
     /// # Cost
     ///
-    /// Amortized constant time; takes memory only if there is no room for a savepoint.
+    /// Amortized constant time; takes memory only if there is no room for a savepoint, which takes
+    /// one word.
     pub fn save(&mut self) -> Result<usize, AllocError>
         ensures jobs { self.new.jobs ≡ self.old.jobs }
         ensures room { self.new.room ≡ self.old.room }

@@ -7,9 +7,8 @@
 //! function `run` of this crate has no such engine. It is the whole program `unthreaded`, in which
 //! the command `run` fails since no thread can be started.
 //!
-//! This is a separate crate, since nothing in it needs the proofs about threads. The proof of a
-//! program that only replays, mixes and judges takes two thirds of the time of the proof of
-//! `boostmap`.
+//! This crate needs none of the proofs about threads. Its proof takes two thirds of the time of the
+//! proof of `boostmap`.
 //!
 //! Proved (`specs/Runs.antt`): after a run, one of two things has happened.
 //!
