@@ -102,11 +102,12 @@ class Truth:
     def agreed(self, real_time):
         """What the ways of the plain judge say, which must be the same."""
         line, order = plain_order_judge.judged(self.entries, real_time)
-        found = line.split()[0]
+        found = "not serializable" if line.startswith("not ") else line.split()[0]
         lowest = plain_order_judge.floors(self.entries) if real_time else [0] * len(self.commits)
         if len(self.commits) <= MOST_TRIED:
             tried = plain_order_judge.order_by_trying(self.commits, lowest)
-            assert found == ("not" if tried is None else "serializable"), (found, self.entries)
+            due = "not serializable" if tried is None else "serializable"
+            assert found == due, (found, self.entries)
         if order is not None:
             assert self.is_serial([self.numbers[i - 1] for i in order]), self.entries
             assert all(set(range(1, lowest[i - 1] + 1)) <= set(order[:n]) for n, i in enumerate(order))
@@ -162,7 +163,7 @@ class Truth:
             by_commits = plain_serial_judge.verdict(self.entries)
             return not self.comes_once(int(key), value) and not by_commits.startswith("legal")
         reason = line.removeprefix("not serializable: ")
-        if self.kind != "not" or reason == line:
+        if self.kind != "not serializable" or reason == line:
             return False
         if re.fullmatch(TORN, reason):
             (number,) = re.fullmatch(TORN, reason).groups()

@@ -119,8 +119,8 @@ class Search:
     replaces, it may come first in any serial order of those that are left: it is then placed at once.
     """
 
-    def __init__(self, footprints, lowest):
-        self.footprints, self.lowest = footprints, lowest
+    def __init__(self, footprints, lowest, accesses):
+        self.footprints, self.lowest, self.accesses = footprints, lowest, accesses
 
     def fitting(self, left, pairs):
         """Those that may come next, in the order of the commits."""
@@ -135,18 +135,11 @@ class Search:
     def kept(self, i, left):
         """The values that the transaction replaces and that another one that is left needs."""
         mine = [(key, need) for key, (need, to) in self.footprints[i].items() if need != to]
-        others = [self.footprints[j] for j in left if j != i]
-        return [
-            (key, need)
-            for key, need in mine
-            if any(key in cells and cells[key][0] == need for cells in others)
-        ]
+        return [value for value in mine if self.accesses.needing[value] & left - {i}]
 
-    def comes_back(self, value, i, left):
-        """Whether another one that is left writes the value."""
-        key, what = value
-        cells = [self.footprints[j][key] for j in left if j != i and key in self.footprints[j]]
-        return any(need != what and to == what for need, to in cells)
+    def comes_back(self, value, left):
+        """Whether one that is left writes the value."""
+        return not self.accesses.writing[value].isdisjoint(left)
 
     def order(self, most):
         """A serial order; or None if there is none, or none was found before the bound, and whether
@@ -167,7 +160,7 @@ class Search:
                 if not kept:
                     ways = [i]
                     break
-                if all(self.comes_back(value, i, left) for value in kept):
+                if all(self.comes_back(value, left) for value in kept):
                     ways.append(i)
             for i in reversed(ways):
                 leaves = {key: to for key, (_, to) in self.footprints[i].items()}
@@ -187,7 +180,7 @@ def judged(history, real_time=False, most=MOST_BRANCHES):
     accesses = Accesses(footprints)
     if accesses.is_unwritten() or has_cycle(len(footprints), accesses.edges(lowest)):
         return "not serializable", None
-    order, is_bound_met = Search(footprints, lowest).order(most)
+    order, is_bound_met = Search(footprints, lowest, accesses).order(most)
     if order is None:
         return "undecided" if is_bound_met else "not serializable", None
     return f"serializable {counted(history)}", [i + 1 for i in order]
