@@ -21,7 +21,7 @@ import time
 
 from anomaly import anomaly
 from postgres import LEVELS, Recorder, Transaction, empty, verdict
-from server import Refused, Server
+from server import PATIENCE, Refused, Server
 
 RC, RR, SER = LEVELS.values()
 
@@ -101,10 +101,13 @@ class Worker(threading.Thread):
 
     def settle(self, watcher):
         """Waits until all steps are taken, or until the server says that they wait for a lock."""
+        last = time.monotonic() + PATIENCE
         blocked = f"SELECT cardinality(pg_blocking_pids({self.connection.pid}))"
         while self.steps.unfinished_tasks:
             if int(watcher.query(blocked)[0][0][0]) > 0:
                 return
+            if time.monotonic() > last:
+                sys.exit("a step does not end")
             time.sleep(0.002)
 
     def end(self):

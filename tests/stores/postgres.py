@@ -158,6 +158,9 @@ def run(server, level, words):
         thread.start()
     for thread in threads:
         thread.join()
+    ended = recorder.counts["committed"] + sum(it[0] == "aborted" for it in recorder.entries)
+    if ended != 1 + CALLERS * (words.transactions // CALLERS):
+        sys.exit("a caller did not end")
     return recorder.history()
 
 

@@ -121,6 +121,7 @@ class Server:
 
     def __enter__(self):
         folder, self.owner = programs(), {}
+        signal.signal(signal.SIGTERM, lambda *_: sys.exit(143))
         self.folder = tempfile.mkdtemp(prefix="postgres.")
         if os.geteuid() == 0:
             self.give_away()
