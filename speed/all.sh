@@ -27,7 +27,7 @@ whole 5
 counts
 run 9
 words 3000000 9
-striped 300000 9
+striped 1000000 7
 replay 15
 mix 7
 check 5

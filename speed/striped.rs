@@ -1,14 +1,15 @@
-//! What the part `striped` of crates/bench times, in plain Rust: with a mutex a stripe over a `HashMap` and an undo log (`mutexes`),
-//! where a stripe is tried and not waited for; the same with a count of the commits, which numbers each one, as the map does
-//! (`numbered`); and with one mutex over one `HashMap` (`one`). The same transactions are drawn.
-//! Usage: striped mutexes|numbered|one THREADS KEYS TRANSACTIONS STRIPES
+//! The transactions of striped.cpp in plain Rust, at its best: with a mutex a stripe over a `HashMap` with a fast hasher and an undo
+//! log, where a stripe is tried and not waited for (`mutexes`); and with one mutex over one such map (`one`). Neither has a history,
+//! savepoints or numbers of commits.
+//! Usage: striped mutexes|one THREADS KEYS TRANSACTIONS shared|own; prints what striped.cpp prints.
 
 use std::collections::HashMap;
-use std::hint::black_box;
-use std::sync::atomic::{AtomicU64, Ordering};
-use std::sync::{Mutex, MutexGuard, TryLockError};
+use std::hash::{BuildHasherDefault, Hasher};
+use std::sync::{Barrier, Mutex, MutexGuard};
 use std::thread;
 use std::time::Instant;
+
+const STRIPES: u64 = 4096;
 
 #[derive(Clone, Copy)]
 enum Op {
@@ -24,8 +25,8 @@ impl Op {
         }
     }
 
-    /// Does the operation on a map, and answers the value before, and whether it must be put back.
-    fn apply(self, map: &mut HashMap<u64, u64>) -> (Option<u64>, bool) {
+    /// Does the operation, and answers the value before, and whether it must be put back by an abort.
+    fn apply(self, map: &mut Map) -> (Option<u64>, bool) {
         match self {
             Op::Put(key, value) => (map.insert(key, value), true),
             Op::Take(key) => {
@@ -37,149 +38,143 @@ impl Op {
     }
 }
 
-/// Gives a key the value before.
-fn take_back(map: &mut HashMap<u64, u64>, key: u64, before: Option<u64>) {
+/// A multiplication and a shift: a fast hash for keys that nobody chooses.
+#[derive(Default)]
+struct Mix(u64);
+
+impl Hasher for Mix {
+    fn finish(&self) -> u64 {
+        self.0
+    }
+
+    fn write(&mut self, _: &[u8]) {
+        unreachable!("keys are whole numbers")
+    }
+
+    fn write_u64(&mut self, key: u64) {
+        let product = key.wrapping_mul(0x9e37_79b9_7f4a_7c15);
+        self.0 = product ^ (product >> 32);
+    }
+}
+
+type Map = HashMap<u64, u64, BuildHasherDefault<Mix>>;
+
+fn take_back(map: &mut Map, key: u64, before: Option<u64>) {
     match before {
         Some(value) => map.insert(key, value),
         None => map.remove(&key),
     };
 }
 
-struct Dice {
+/// splitmix64; `threads` is 0 if all threads share the stripes.
+struct Draws {
     state: u64,
+    keys: u64,
+    thread: u64,
+    threads: u64,
 }
 
-impl Dice {
-    fn roll(&mut self, sides: u64) -> u64 {
-        self.state = self.state.wrapping_mul(6_364_136_223_846_793_005).wrapping_add(1_442_695_040_888_963_407);
-        (self.state >> 33) % sides
+impl Draws {
+    fn next(&mut self) -> u64 {
+        self.state = self.state.wrapping_add(0x9e37_79b9_7f4a_7c15);
+        let z = (self.state ^ (self.state >> 30)).wrapping_mul(0xbf58_476d_1ce4_e5b9);
+        let z = (z ^ (z >> 27)).wrapping_mul(0x94d0_49bb_1331_11eb);
+        z ^ (z >> 31)
     }
 
-    fn op(&mut self, keys: u64) -> Op {
-        let key = self.roll(keys);
-        match self.roll(4) {
-            0 | 1 => Op::Put(key, key.wrapping_add(1)),
-            2 => Op::Take(key),
-            _ => Op::Get(key),
+    fn key(&self, drawn: u64) -> u64 {
+        match STRIPES.checked_div(self.threads) {
+            None => drawn,
+            Some(each) => drawn / STRIPES * STRIPES + drawn % each + self.thread * each,
         }
     }
-}
 
-/// A map that threads share.
-trait Map: Sync {
-    /// The state that a thread keeps between its transactions.
-    type Caller<'a>
-    where
-        Self: 'a;
-
-    fn caller(&self) -> Self::Caller<'_>;
-
-    /// One transaction, and the sum of what it answered; none if a stripe was held.
-    fn transact<'a>(&'a self, caller: &mut Self::Caller<'a>, ops: &[Op], aborts: bool) -> Option<u64>;
-}
-
-/// A mutex and a map a stripe; no two of them share a line of cache.
-#[repr(align(64))]
-struct Stripe(Mutex<HashMap<u64, u64>>);
-
-/// A count in a separate line of cache.
-#[repr(align(64))]
-struct Count(AtomicU64);
-
-/// The stripes, and the number of commits, if they are numbered.
-struct Mutexes {
-    stripes: Vec<Stripe>,
-    commits: Option<Count>,
-}
-
-impl Mutexes {
-    fn new(stripes: u64, commits: Option<Count>) -> Mutexes {
-        let stripes = (0..stripes).map(|_| Stripe(Mutex::new(HashMap::new()))).collect();
-        Mutexes { stripes, commits }
+    /// The operations of a transaction, and whether it commits.
+    fn one(&mut self) -> ([Op; 4], bool) {
+        let ops = [(); 4].map(|()| {
+            let z = self.next();
+            let key = self.key((z >> 32) % self.keys);
+            match z & 3 {
+                0 | 1 => Op::Put(key, z >> 20 & 0xfffff),
+                2 => Op::Take(key),
+                _ => Op::Get(key),
+            }
+        });
+        (ops, self.next() % 10 != 0)
     }
+}
+
+/// What a thread keeps between its transactions.
+trait Caller {
+    /// One transaction, and the sum of its replies; none if a stripe was held.
+    fn run(&mut self, ops: &[Op; 4], commits: bool) -> Option<u64>;
 }
 
 /// The stripes that a transaction holds, and what it takes back: the place of a stripe, a key and the value before.
-#[derive(Default)]
-struct Held<'a> {
-    guards: Vec<(usize, MutexGuard<'a, HashMap<u64, u64>>)>,
+struct Striped<'a> {
+    stripes: &'a [Mutex<Map>],
+    held: Vec<(usize, MutexGuard<'a, Map>)>,
     log: Vec<(usize, u64, Option<u64>)>,
 }
 
-impl Held<'_> {
-    fn abort(&mut self) {
-        while let Some((place, key, before)) = self.log.pop() {
-            take_back(&mut self.guards[place].1, key, before);
+impl Striped<'_> {
+    /// The place of a stripe in the list of those that are held.
+    fn hold(&mut self, stripe: usize) -> Option<usize> {
+        if let Some(place) = self.held.iter().position(|held| held.0 == stripe) {
+            return Some(place);
         }
-        self.guards.clear();
+        let guard = self.stripes[stripe].try_lock().ok()?;
+        self.held.push((stripe, guard));
+        Some(self.held.len() - 1)
+    }
+
+    fn end(&mut self, keeps: bool) {
+        while let Some((place, key, before)) = self.log.pop() {
+            if !keeps {
+                take_back(&mut self.held[place].1, key, before);
+            }
+        }
+        self.held.clear();
     }
 }
 
-impl Map for Mutexes {
-    type Caller<'a> = Held<'a>;
-
-    fn caller(&self) -> Held<'_> {
-        Held::default()
-    }
-
-    fn transact<'a>(&'a self, held: &mut Held<'a>, ops: &[Op], aborts: bool) -> Option<u64> {
+impl Caller for Striped<'_> {
+    fn run(&mut self, ops: &[Op; 4], commits: bool) -> Option<u64> {
         let mut sum = 0u64;
         for op in ops {
-            let stripe = (op.key() % self.stripes.len() as u64) as usize;
-            let place = match held.guards.iter().position(|guard| guard.0 == stripe) {
-                Some(place) => place,
-                None => match self.stripes[stripe].0.try_lock() {
-                    Ok(guard) => {
-                        held.guards.push((stripe, guard));
-                        held.guards.len() - 1
-                    }
-                    Err(TryLockError::WouldBlock) => {
-                        held.abort();
-                        return None;
-                    }
-                    Err(TryLockError::Poisoned(_)) => unreachable!(),
-                },
+            let Some(place) = self.hold((op.key() % STRIPES) as usize) else {
+                self.end(false);
+                return None;
             };
-            let (before, changes) = op.apply(&mut held.guards[place].1);
+            let (before, changes) = op.apply(&mut self.held[place].1);
             if changes {
-                held.log.push((place, op.key(), before));
+                self.log.push((place, op.key(), before));
             }
-            sum = sum.wrapping_add(before.unwrap_or(0));
+            sum = sum.wrapping_add(before.unwrap_or(u64::MAX));
         }
-        if aborts {
-            held.abort();
-        } else {
-            if let Some(Count(commits)) = &self.commits {
-                black_box(commits.fetch_add(1, Ordering::SeqCst));
-            }
-            held.log.clear();
-            held.guards.clear();
-        }
+        self.end(commits);
         Some(sum)
     }
 }
 
-struct One(Mutex<HashMap<u64, u64>>);
+struct One<'a> {
+    map: &'a Mutex<Map>,
+    log: Vec<(u64, Option<u64>)>,
+}
 
-impl Map for One {
-    type Caller<'a> = Vec<(u64, Option<u64>)>;
-
-    fn caller(&self) -> Vec<(u64, Option<u64>)> {
-        Vec::new()
-    }
-
-    fn transact(&self, log: &mut Vec<(u64, Option<u64>)>, ops: &[Op], aborts: bool) -> Option<u64> {
-        let mut map = self.0.lock().unwrap();
+impl Caller for One<'_> {
+    fn run(&mut self, ops: &[Op; 4], commits: bool) -> Option<u64> {
+        let mut map = self.map.lock().unwrap();
         let mut sum = 0u64;
         for op in ops {
             let (before, changes) = op.apply(&mut map);
             if changes {
-                log.push((op.key(), before));
+                self.log.push((op.key(), before));
             }
-            sum = sum.wrapping_add(before.unwrap_or(0));
+            sum = sum.wrapping_add(before.unwrap_or(u64::MAX));
         }
-        while let Some((key, before)) = log.pop() {
-            if aborts {
+        while let Some((key, before)) = self.log.pop() {
+            if !commits {
                 take_back(&mut map, key, before);
             }
         }
@@ -187,86 +182,62 @@ impl Map for One {
     }
 }
 
-#[repr(C)]
-struct Timespec {
-    seconds: i64,
-    nanos: i64,
-}
-
 unsafe extern "C" {
-    fn clock_gettime(clock: i32, time: *mut Timespec) -> i32;
+    /// Microseconds of processor time of the process.
+    safe fn clock() -> i64;
 }
 
-/// The processor time of the process, in nanoseconds.
-fn cpu_nanos() -> u64 {
-    let mut time = Timespec { seconds: 0, nanos: 0 };
-    // SAFETY: the call writes the time and nothing else; 2 is CLOCK_PROCESS_CPUTIME_ID on Linux.
-    unsafe { clock_gettime(2, &mut time) };
-    time.seconds as u64 * 1_000_000_000 + time.nanos as u64
-}
-
-/// Puts two of three keys.
-fn fill<M: Map>(map: &M, keys: u64) {
-    let mut caller = map.caller();
-    for key in 0..keys {
-        if key % 3 != 0 {
-            map.transact(&mut caller, &[Op::Put(key, key)], false);
-        }
+fn measure<C: Caller>(threads: u64, keys: u64, count: u64, own: bool, caller: impl Fn() -> C + Sync) {
+    let mut first = caller();
+    for key in (0..keys).filter(|key| key % 3 != 0) {
+        first.run(&[Op::Put(key, key), Op::Get(key), Op::Get(key), Op::Get(key)], true);
     }
-}
-
-/// The work of one thread: how often it was busy, how often it committed, and the sum of the
-/// answers.
-fn work<M: Map>(map: &M, first: u64, keys: u64, transactions: u64) -> [u64; 3] {
-    let mut dice = Dice { state: first };
-    let mut caller = map.caller();
-    let [mut busy, mut commits, mut sum] = [0u64; 3];
-    for number in 0..transactions {
-        let ops = [dice.op(keys), dice.op(keys), dice.op(keys), dice.op(keys)];
-        let aborts = number % 10 == 9;
-        loop {
-            if let Some(answered) = map.transact(&mut caller, &ops, aborts) {
-                sum = sum.wrapping_add(answered);
-                commits += u64::from(!aborts);
-                break;
-            }
-            busy += 1;
-            thread::yield_now();
-        }
-    }
-    [busy, commits, sum]
-}
-
-fn time<M: Map>(name: &str, map: &M, threads: u64, keys: u64, transactions: u64) {
-    fill(map, keys);
-    let used = cpu_nanos();
-    let start = Instant::now();
-    let told: Vec<[u64; 3]> = thread::scope(|scope| {
-        let workers: Vec<_> = (0..threads).map(|first| scope.spawn(move || work(map, first, keys, transactions))).collect();
-        workers.into_iter().map(|worker| worker.join().unwrap()).collect()
+    drop(first);
+    let barrier = Barrier::new(threads as usize + 1);
+    let (begun, used, told) = thread::scope(|scope| {
+        let workers: Vec<_> = (0..threads)
+            .map(|thread| {
+                let (caller, barrier) = (&caller, &barrier);
+                scope.spawn(move || {
+                    let mut me = caller();
+                    let mut draws = Draws { state: thread * 7919 + 1, keys, thread, threads: if own { threads } else { 0 } };
+                    let [mut sum, mut busy] = [0u64; 2];
+                    barrier.wait();
+                    for _ in 0..count {
+                        let (ops, commits) = draws.one();
+                        match me.run(&ops, commits) {
+                            Some(answered) => sum = sum.wrapping_add(answered),
+                            None => busy += 1,
+                        }
+                    }
+                    [sum, busy]
+                })
+            })
+            .collect();
+        let used = clock();
+        barrier.wait();
+        (Instant::now(), used, workers.into_iter().map(|worker| worker.join().unwrap()).collect::<Vec<_>>())
     });
-    let nanos = start.elapsed().as_nanos();
-    let spent = cpu_nanos() - used;
-    let [busy, commits, sum] = told.iter().fold([0u64; 3], |all, one| [0, 1, 2].map(|i| all[i].wrapping_add(one[i])));
-    let all = threads * transactions;
-    let second = u128::from(all) * 1_000_000_000 / nanos;
-    let each = spent / all;
-    eprintln!(
-        "{name}: {threads} threads, {keys} keys, {all} transactions, {second} a second, \
-        {each} ns of processor time each, {busy} busy, {commits} commits, sum {sum}"
-    );
+    let (seconds, spent) = (begun.elapsed().as_secs_f64(), (clock() - used) as f64);
+    let [sum, busy] = told.iter().fold([0u64; 2], |all, one| [all[0].wrapping_add(one[0]), all[1] + one[1]]);
+    let all = (threads * count) as f64;
+    let done = all - busy as f64;
+    println!("{:.4} {:.0} {:.5} {sum}", done / seconds / 1e6, spent * 1e3 / done, busy as f64 / all);
 }
 
 fn main() {
     let words: Vec<String> = std::env::args().skip(1).collect();
-    let [threads, keys, transactions, stripes] = [1, 2, 3, 4].map(|place: usize| words[place].parse::<u64>().unwrap());
+    let [threads, keys, count] = [1, 2, 3].map(|place: usize| words[place].parse().unwrap());
+    let own = words[4] == "own";
     match words[0].as_str() {
-        "mutexes" => time("mutexes", &Mutexes::new(stripes, None), threads, keys, transactions),
-        "numbered" => {
-            let commits = Some(Count(AtomicU64::new(0)));
-            time("numbered", &Mutexes::new(stripes, commits), threads, keys, transactions);
+        "mutexes" => {
+            let stripes: Vec<Mutex<Map>> = (0..STRIPES).map(|_| Mutex::default()).collect();
+            measure(threads, keys, count, own, || Striped { stripes: &stripes, held: Vec::new(), log: Vec::new() });
         }
-        "one" => time("one", &One(Mutex::new(HashMap::new())), threads, keys, transactions),
-        _ => panic!("mutexes, numbered or one"),
+        "one" => {
+            let map = Mutex::default();
+            measure(threads, keys, count, own, || One { map: &map, log: Vec::new() });
+        }
+        _ => panic!("mutexes or one"),
     }
 }

@@ -1,62 +1,68 @@
 #!/usr/bin/env bash
-# Runs transactions of four operations on the striped map, and the same drawn transactions in plain Rust: with a mutex a stripe over
-# a HashMap and an undo log, tried and not waited for (`mutexes`), the same with a count that numbers the commits, as the map numbers
-# them (`numbered`), and with one mutex over one HashMap (`one`). Prints millions of transactions a second by the clock, the processor
-# time of one in nanoseconds, and the ratio of plain Rust's processor time to the map's: 1 is as fast, less is slower. All are medians
-# of the rounds; the four run alternately, so that a machine whose speed changes treats them alike. With one thread all four must
-# answer the same.
-# Usage: speed/striped.sh [TRANSACTIONS [ROUNDS [STRIPES]]]
+# Runs the same transactions of four operations on the striped map from C (striped.cpp), which keeps nothing or the number of its
+# commits, on plain Rust (striped.rs: a mutex a stripe, and one mutex), and, where libtbb-dev is installed, on oneTBB boosted. The
+# programs take turns in random order in each round. Prints the medians: millions of transactions a second that were not busy, by
+# the clock; nanoseconds of processor time of one; and how many percent were busy. `own` gives each thread its own stripes.
+# With one thread all must give the same replies. Writes the table to striped.tsv, of which picture.py draws docs/striped.svg.
+# Usage: speed/striped.sh [TRANSACTIONS_A_THREAD [ROUNDS]]
 source "$(dirname "${BASH_SOURCE[0]}")/common.sh"
-transactions=${1:-300000}
-rounds=${2:-9}
-stripes=${3:-1024}
-build_proved bench striped 2 1000 1000
+count=${1:-1000000}
+rounds=${2:-7}
+quietly bindings/install.sh "$work/usr"
+libraries=(-L"$work/usr/lib" -lboostmap -pthread)
+names='nothing commits mutexes one'
+if [ -e /usr/include/tbb/concurrent_unordered_map.h ]; then
+  libraries+=(-ltbb)
+  names+=' tbb'
+else
+  echo "not measured: tbb, whose header is not here (Debian's package libtbb-dev)" >&2
+fi
+quietly "${CXX:-c++}" -std=c++17 -O2 -I"$work/usr/include" speed/striped.cpp "${libraries[@]}" -o "$work/striped"
 rustc -O -o "$work/plain" speed/striped.rs
 
-# One run: the name, threads, keys, transactions a second, nanoseconds of processor time, and the sum of what was answered.
+# One run: name, keys, who shares them, threads, millions a second, nanoseconds, part that was busy, sum of the replies.
 run_one() {
-  if [ "$1" = striped ]; then
-    "$work/proved" striped "$2" "$3" "$transactions" "$stripes" 2>&1
-  else
-    "$work/plain" "$1" "$2" "$3" "$transactions" "$stripes" 2>&1
-  fi | sed 's/[:,]//g' | awk '{ print $1, $2, $4, $8, $11, $NF }'
+  local program=$work/striped
+  case $1 in mutexes | one) program=$work/plain ;; esac
+  echo "$1 $2 $3 $4 $("$program" "$1" "$4" "$2" "$count" "$3")"
 }
 
-for keys in 1000 100000; do
+while read -r keys who; do
   for threads in 1 2 4; do
     for _ in $(seq "$rounds"); do
-      for name in $(shuffled striped mutexes numbered one); do
-        run_one "$name" $threads $keys
+      # The names are several.
+      # shellcheck disable=SC2086
+      for name in $(shuffled $names); do
+        run_one "$name" "$keys" "$who" "$threads"
       done
     done
   done
-done >"$work/runs"
+done >"$work/runs" <<'END'
+1000 shared
+100000 shared
+1000 own
+100000 own
+64 shared
+16 shared
+END
+
+# The replies of one thread do not depend on the map.
+[ "$(awk '$4 == 1 { print $2, $3, $8 }' "$work/runs" | sort -u | wc -l)" = 6 ] || { echo 'the replies differ' >&2; exit 1; }
 
 # The median of a column of the runs of a program.
-middle() {
-  awk -v name="$1" -v threads="$2" -v keys="$3" -v column="$4" '
-    $1 == name && $2 == threads && $3 == keys { print $column }' "$work/runs" | sort -n | sed -n "$(((rounds + 1) / 2))p"
+median() {
+  awk -v row="$1 $2 $3 $4" -v column="$5" '$1 " " $2 " " $3 " " $4 == row { print $column }' "$work/runs" |
+    sort -n | sed -n "$(((rounds + 1) / 2))p"
 }
 
-format='%7s %7s  %8s %8s %8s %8s  %8s %8s %8s %8s  %8s %8s %8s\n'
-names='striped mutexes numbered one'
-# The names are several.
-# shellcheck disable=SC2059,SC2086
 {
-  printf "$format" '' '' 'millions' 'a second' '' '' 'ns of' 'processor' 'time' '' 'ratio' '' ''
-  printf "$format" keys threads $names $names mutexes numbered one
-}
-for keys in 1000 100000; do
-  [ "$(awk -v keys="$keys" '$2 == 1 && $3 == keys { print $6 }' "$work/runs" | sort -u | wc -l)" = 1 ]
-  for threads in 1 2 4; do
-    line=
-    for column in 4 5; do
-      for name in $names; do
-        line="$line $(middle $name $threads $keys $column)"
-      done
-    done
-    echo "$keys $threads $line" | awk '{
-      printf "%7d %7d  %8.2f %8.2f %8.2f %8.2f  %8d %8d %8d %8d  %8.2f %8.2f %8.2f\n", $1, $2, $3 / 1e6, $4 / 1e6, $5 / 1e6, $6 / 1e6,
-        $7, $8, $9, $10, $8 / $7, $9 / $7, $10 / $7 }'
-  done
-done
+  printf 'keys\twho\tthreads\tname\tmillions\tnanoseconds\tbusy\n'
+  awk '!seen[$2 $3 $4 $1]++ { print $2, $3, $4, $1 }' "$work/runs" | while read -r keys who threads name; do
+    row="$name $keys $who $threads"
+    # The row has four words.
+    # shellcheck disable=SC2086
+    printf '%s\t%s\t%s\t%s\t%s\t%s\t%s\n' "$keys" "$who" "$threads" "$name" \
+      "$(median $row 5)" "$(median $row 6)" "$(median $row 7)"
+  done | sort -t "$(printf '\t')" -k2,2r -k1,1nr -k3,3n -k4,4
+} >speed/striped.tsv
+column -t speed/striped.tsv

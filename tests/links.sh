@@ -1,6 +1,6 @@
 #!/bin/sh
-# Prints each link of the documents that leads to no file, or to no heading of one, and each wrong body
-# that docs/PROMISES.md names but its crate lacks. Fails if there is any.
+# Prints each link of the documents that leads to no file, or to no heading of one, and each name in the
+# lists of docs/PROMISES.md that the sources lack. Fails if there is any.
 cd "$(dirname "$0")/.." || exit 1
 
 # The headings of a page, in the form in which links name them.
@@ -26,17 +26,5 @@ links() {
     done
 }
 
-# The files of must-fail/ have the wrong bodies, each below a line "# NAME".
-bodies() {
-    grep '^- Refused: ' docs/PROMISES.md | tr ';' '\n' | while read -r part; do
-        folder=$(echo "$part" | sed -n 's|.*(\.\./\(crates/[a-z_]*/must-fail\)).*|\1|p')
-        for name in $(echo "$part" | grep -o '`[a-z0-9_]*`' | tr -d '`'); do
-            if ! grep -qxF -e "# $name" "$folder"/*; then
-                echo "docs/PROMISES.md: $name is not in $folder"
-            fi
-        done
-    done
-}
-
-missing=$(links; bodies)
+missing=$(links; tests/promises.py || echo "tests/promises.py failed")
 [ -z "$missing" ] || { echo "$missing"; exit 1; }

@@ -15,7 +15,7 @@ use txn_words::{Op, Reply};
 /// The number of stripes, if no argument gives it.
 pub(crate) const STRIPES: u64 = 1024;
 
-/// A generator of numbers that look random. `speed/striped.rs` draws the same numbers.
+/// A generator of numbers that look random. `speed/c_map.cpp` draws the same numbers.
 #[derive(Clone, Copy)]
 struct Dice {
     state: u64,

@@ -29,7 +29,12 @@ use crate::record::{Record, Told, told_of};
 use crate::seat::MapSeat;
 use map_answers::Stop;
 use std::alloc::{AllocError, Global};
+use std::hint;
 use txn_trace::{Op, Refusal, Reply};
+
+/// How often a call that takes every stripe tries to take a stripe that another caller holds. Such
+/// a caller mostly gives the stripe back within a microsecond.
+const TRIES: usize = 1000;
 
 /// A change that can be taken back: the place of its stripe in the list of held stripes, its
 /// sub-key, and the value before the change.
@@ -287,7 +292,31 @@ impl Hand {
         }
     }
 
-    /// Takes all stripes that the hand does not hold yet. If a stripe is busy, the transaction is
+    /// Takes a stripe, unless the hand holds it already. While another caller holds the stripe, tries
+    /// again, `TRIES` times in all. The hand waits for no one: it gives up after its tries, with the
+    /// stripes that it holds.
+    #[tactic(auto, using(crate::proofs::Ends::went_on))]
+    fn hold_patiently(&mut self, map: &StripedMap, stripe: usize) -> Result<usize, Stop>
+        requires map { IsOf self.old.seat map.now }
+        requires open { IsAt Opened (known self.old.seat) }
+        requires stripe { stripe < stripes_of map.now }
+        ensures map { IsOf self.new.seat map.now }
+        ensures open { IsAt Opened (known self.new.seat) }
+        ensures goes_on { GoesOn map.now self.old self.new }
+        ensures held { IfOk result (λ place. slice_get self.new.held.items place ≡ Some stripe) }
+        ensures levels { self.new.levels ≡ self.old.levels }
+        ensures miss { IfErr result (IsMiss (known self.new.seat)) }
+    {
+        for _ in 1..TRIES {
+            match self.hold(map, stripe) {
+                Err(Stop::Busy { holder: _ }) => hint::spin_loop(),
+                done => return done,
+            }
+        }
+        self.hold(map, stripe)
+    }
+
+    /// Takes all stripes that the hand does not hold yet. If a stripe stays busy, the transaction is
     /// aborted, and the history gets a Busy entry for a get of a key of this stripe.
     #[tactic(auto, using(crate::proofs::Ends::moved_still, crate::proofs::Ends::moved_on, crate::proofs::Ends::moved_busy))]
     fn hold_all(&mut self, map: &StripedMap) -> Result<(), Stop>
@@ -303,7 +332,7 @@ impl Hand {
         ensures err { IfErr result (IsCut map.now self.old self.new) }
     {
         for stripe in 0..map.stripes() {
-            match self.hold(map, stripe) {
+            match self.hold_patiently(map, stripe) {
                 Ok(_) => {}
                 Err(Stop::Busy { holder }) => {
                     self.leave(map, Addition::Yield(Op::Get(stripe as u64), holder));

@@ -12,27 +12,27 @@ use Rattle.striped_map.proofs.hand.Hand.hold_all.Goals as goal
 
 pub returns-in-Err-Busy-clause-err : goal.returns-in-Err-Busy-clause-err
 returns-in-Err-Busy-clause-err c = let map = c.args.map.now in let me = c.args.self.now in let stripe = c.loop-stripe.stripe in
-    let on = went_on map me c.loop-stripe.self c.hold.new.self c.loop-stripe.invariant.goes_on c.hold.ensures.goes_on in
-    (stripe, (c.leave.ensures.closed, c.leave.ensures.idle, moved_busy map me c.hold.new.self c.leave.new.self (Get stripe) _ on c.leave.ensures.moves))
+    let on = went_on map me c.loop-stripe.self c.hold_patiently.new.self c.loop-stripe.invariant.goes_on c.hold_patiently.ensures.goes_on in
+    (stripe, (c.leave.ensures.closed, c.leave.ensures.idle, moved_busy map me c.hold_patiently.new.self c.leave.new.self (Get stripe) _ on c.leave.ensures.moves))
 
 pub loop-stripe-preserved : goal.loop-stripe-preserved
 loop-stripe-preserved c = let map = c.args.map.now in let n = map.table.shared.table_id.slots in let inv = c.loop-stripe.invariant in
-    let me = c.hold.new.self in let v = known me.seat in let stripe = c.loop-stripe.stripe in
-    let parts : AreHeld n v (held_parts me.seat me.held.items) (now v.seen) = subst (λ z. AreHeld z.slots v (held_parts me.seat me.held.items) (now v.seen)) c.hold.ensures.map me.sound.parts in
+    let me = c.hold_patiently.new.self in let v = known me.seat in let stripe = c.loop-stripe.stripe in
+    let parts : AreHeld n v (held_parts me.seat me.held.items) (now v.seen) = subst (λ z. AreHeld z.slots v (held_parts me.seat me.held.items) (now v.seen)) c.hold_patiently.ensures.map me.sound.parts in
     record {
-      map = c.hold.ensures.map;
-      opened = c.hold.ensures.open;
-      levels = c.hold.ensures.levels ∙ inv.levels;
-      goes_on = went_on map c.args.self.now c.loop-stripe.self me inv.goes_on c.hold.ensures.goes_on;
+      map = c.hold_patiently.ensures.map;
+      opened = c.hold_patiently.ensures.open;
+      levels = c.hold_patiently.ensures.levels ∙ inv.levels;
+      goes_on = went_on map c.args.self.now c.loop-stripe.self me inv.goes_on c.hold_patiently.ensures.goes_on;
       held = λ other lt. dite (ℕ_discrete other stripe)
           (λ (e : other ≡ stripe). subst (Holds v) (sym e) (holds_in n v me.seat me.held.items (now v.seen) parts c.in-Ok.field-0 stripe c.in-Ok.ensures.held))
-          (λ ne. c.hold.ensures.goes_on.keeps other (inv.held other (omega arith)));
+          (λ ne. c.hold_patiently.ensures.goes_on.keeps other (inv.held other (omega arith)));
     }
 
 -- Memory was refused. The outcome names some key, and any key will do.
 pub returns-in-Err-Refused-clause-err : goal.returns-in-Err-Refused-clause-err
-returns-in-Err-Refused-clause-err c = let on = went_on c.args.map.now c.args.self.now c.loop-stripe.self c.hold.new.self c.loop-stripe.invariant.goes_on c.hold.ensures.goes_on in
-    (0, (search rules, c.hold.ensures.open, on.moves))
+returns-in-Err-Refused-clause-err c = let on = went_on c.args.map.now c.args.self.now c.loop-stripe.self c.hold_patiently.new.self c.loop-stripe.invariant.goes_on c.hold_patiently.ensures.goes_on in
+    (0, (search rules, c.hold_patiently.ensures.open, on.moves))
 
 pub returns-in-Err-Refused-clause-keeps : goal.returns-in-Err-Refused-clause-keeps
-returns-in-Err-Refused-clause-keeps c = λ _. (went_on c.args.map.now c.args.self.now c.loop-stripe.self c.hold.new.self c.loop-stripe.invariant.goes_on c.hold.ensures.goes_on).keeps
+returns-in-Err-Refused-clause-keeps c = λ _. (went_on c.args.map.now c.args.self.now c.loop-stripe.self c.hold_patiently.new.self c.loop-stripe.invariant.goes_on c.hold_patiently.ensures.goes_on).keeps
