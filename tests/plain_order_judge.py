@@ -3,7 +3,7 @@
 
     tests/plain_order_judge.py [--real-time] FILE
 
-A history is serializable if it has the right shape (docs/FORMATS.md), and if its committed
+A history is serializable if it has the right shape (docs/VERDICTS.md), and if its committed
 transactions have a serial order: one in which each of them, run alone after those before it, from the
 empty map, gets the replies that it got. With --real-time, a transaction that began after another one
 had committed must also come after it in the order.
