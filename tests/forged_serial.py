@@ -43,12 +43,16 @@ class Store:
             return self.draws.choice([*others, *VALUES])
         return self.committed.get(key)
 
+    def value(self):
+        """A value to put."""
+        return self.draws.choice(VALUES)
+
     def ask(self, caller, txn):
         word, key = self.draws.choice(["get", "put", "take", "put_if"]), self.draws.choice(KEYS)
         reply = self.seen(txn, key)
-        rest = {"put": [self.draws.choice(VALUES)]}
+        rest = {"put": [self.value()]}
         expected = self.draws.choice([reply, None, *VALUES])
-        rest["put_if"] = [expected, self.draws.choice(VALUES)]
+        rest["put_if"] = [expected, self.value()]
         op = [word, key, *rest.get(word, [])]
         self.entries.append(["asked", caller, *op])
         if self.draws.random() < 0.02:

@@ -1,8 +1,8 @@
 #!/usr/bin/env bash
-# Tests the examples of docs/JUDGE.md: the lines of `judge why` on the stored history word for word,
-# that the store without a bug is judged legal, and that each bug is found within some runs. It needs
-# python3 and the built programs boostmap and judge. It takes a minute or two. The last line is 'judge: N
-# passed, M failed', and the status is 1 if M is not 0.
+# Tests the examples of docs/JUDGE.md: what `judge` prints of the stored histories word for word, that
+# the store without a bug is judged legal, and that each bug is found within some runs. It needs python3
+# and the built programs boostmap and judge. It takes a minute or two. The last line is 'judge: N passed, M
+# failed', and the status is 1 if M is not 0.
 # Usage: tests/judge.sh [BOOSTMAP [JUDGE]]
 set -uo pipefail
 cd "$(dirname "${BASH_SOURCE[0]}")/.." || exit 1
@@ -42,6 +42,8 @@ verdict() {
 }
 
 as_shown './judge why samples/judge/example.json' "$judge" why samples/judge/example.json
+grep 'G2-item","level":"REPEATABLE' tests/stores/hermitage.jsonl >"${TMPDIR:-/tmp}/judge.$$"
+as_shown './judge check --serializable history.json' "$judge" check --serializable "${TMPDIR:-/tmp}/judge.$$"
 for seed in 1 2 3 4 5; do
   verdict --last --seed "$seed" >/dev/null
   result "the store without a bug, seed $seed" $?

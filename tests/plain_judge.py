@@ -62,14 +62,24 @@ def is_open(entries):
     return entries[-1][0] not in ("committed", "aborted")
 
 
+def committed(history):
+    """The entries of each committed transaction, in the order of the commits."""
+    found = [it for it in transactions(history) if it[-1][0] == "committed"]
+    return sorted(found, key=lambda it: it[-1][2])
+
+
+def counted(history):
+    """The commits and the open transactions, as a verdict counts them."""
+    running = sum(is_open(entries) for entries in transactions(history))
+    return f"{len(committed(history))} commits {running} open"
+
+
 def replies_hold(history):
     """Whether rule 1 holds at the last entry of a history."""
-    all_of_them = transactions(history)
     pairs = {}
-    commits = [it for it in all_of_them if it[-1][0] == "committed"]
-    for entries in sorted(commits, key=lambda it: it[-1][2]):
+    for entries in committed(history):
         pairs, _ = alone(pairs, entries)
-    return all(alone(pairs, it)[1] for it in all_of_them if is_open(it))
+    return all(alone(pairs, it)[1] for it in transactions(history) if is_open(it))
 
 
 def locks_hold(before, entry, stripes, version):
@@ -157,9 +167,7 @@ def verdict(history, stripes, version):
         rule = broken(history[:i], entry, stripes, version)
         if rule:
             return f"illegal entry {i} rule {rule}"
-    commits = sum(entry[0] == "committed" for entry in history)
-    running = sum(is_open(entries) for entries in transactions(history))
-    return f"legal {commits} commits {running} open"
+    return f"legal {counted(history)}"
 
 
 def main():

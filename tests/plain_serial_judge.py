@@ -11,16 +11,15 @@ It is slow: its time grows with the square of the number of entries. It does not
 import json
 import sys
 
-from plain_judge import alone, is_open, is_shaped, transactions
+from plain_judge import alone, committed, counted, is_open, is_shaped, transactions
 
 
 def commits_right(before, entry):
     """Whether a transaction that commits now has the replies of running alone."""
-    pairs, found = {}, transactions(before)
-    commits = [it for it in found if it[-1][0] == "committed"]
-    for entries in sorted(commits, key=lambda it: it[-1][2]):
+    pairs = {}
+    for entries in committed(before):
         pairs, _ = alone(pairs, entries)
-    [mine] = [it for it in found if is_open(it) and it[0][1] == entry[1]]
+    [mine] = [it for it in transactions(before) if is_open(it) and it[0][1] == entry[1]]
     return alone(pairs, mine)[1]
 
 
@@ -39,9 +38,7 @@ def verdict(history):
         rule = broken(history[:i], entry)
         if rule:
             return f"illegal entry {i} rule {rule}"
-    commits = sum(entry[0] == "committed" for entry in history)
-    running = sum(is_open(entries) for entries in transactions(history))
-    return f"legal {commits} commits {running} open"
+    return f"legal {counted(history)}"
 
 
 def main():

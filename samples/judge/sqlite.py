@@ -1,16 +1,18 @@
 #!/usr/bin/env python3
-"""Threads run transactions on a real SQLite database, and record them for `judge --serializable`.
+"""Threads run transactions on a real SQLite database, and record them for `judge`.
 
-    samples/judge/sqlite.py >history.json                        WAL mode, a connection a thread
-    samples/judge/sqlite.py --lines | ./judge watch --serializable
+    samples/judge/sqlite.py --no-counter >history.json           for `judge check --serializable`
+    samples/judge/sqlite.py --lines | ./judge watch --commit-order
     samples/judge/sqlite.py --shared-cache                       one cache for all connections
     samples/judge/sqlite.py --shared-cache --bug read_uncommitted
     samples/judge/sqlite.py --bug cut                            a COMMIT in the middle of a transaction
     samples/judge/sqlite.py --seed 3 --transactions 2000
 
-The database decides the order of the commits: each transaction raises a counter before it commits,
-and the counter's value is its place. A transaction is written down as a whole, once those at all
-earlier places are: only the order of commits matters to this judge, not how entries interleave.
+Without --shared-cache the database is in WAL mode. The order of commits is the database's own: each
+transaction raises a counter before it commits, and the counter's value is its place. A transaction is
+written down as a whole, once those at all earlier places are: neither judge looks at how entries
+interleave. In WAL mode two transactions that overlap both change the counter, so one of them fails. With
+--no-counter there is no counter, and the place is the order in which the commits return.
 """
 import argparse
 import json
@@ -49,8 +51,10 @@ class Recorder:
             self.aborted.setdefault(caller, []).append(entries + undoing)
 
     def commit(self, caller, entries, place):
-        """Notes a transaction that committed at a place. The caller's aborted ones precede it."""
+        """Notes a transaction that committed at a place, or at the next one if it has none. The caller's
+        aborted ones precede it."""
         with self.guard:
+            place = place or self.next_place
             last = entries + [["committed", caller, place]]
             self.waiting[place] = caller, self.aborted.pop(caller, []) + [last]
             while self.next_place in self.waiting:
@@ -88,24 +92,26 @@ class Transaction:
         self.changes += name == "put" or (name == "take" and reply is not None)
         self.entries += [["asked", self.caller, name, key, *values], ["did", self.caller, reply]]
 
-    def commit(self):
-        """Draws the place, commits, and answers with the place."""
-        self.database.execute("UPDATE places SET place = place + 1")
-        (place,) = self.database.execute("SELECT place FROM places").fetchone()
+    def commit(self, has_counter):
+        """Draws the place, commits, and answers with the place, or with None without the counter."""
+        place = None
+        if has_counter:
+            self.database.execute("UPDATE places SET place = place + 1")
+            (place,) = self.database.execute("SELECT place FROM places").fetchone()
         self.database.execute("COMMIT")
         return place
 
 
-def run(caller, connect, recorder, count, bug, seed):
+def run(caller, connect, recorder, words):
     """Runs the transactions of a caller. One in five gives up by itself."""
-    draw = random.Random(f"{seed} {caller}")
+    draw = random.Random(f"{words.seed} {caller}")
     database = connect()
-    for number in range(count):
+    for number in range(words.transactions // WORKERS):
         transaction = None
         try:
             transaction = Transaction(caller, database)
             for step in range(draw.randrange(1, 5)):
-                if bug == "cut" and step == 2:
+                if words.bug == "cut" and step == 2:
                     database.execute("COMMIT")
                     time.sleep(draw.random() / 4000)
                     database.execute("BEGIN")
@@ -115,7 +121,7 @@ def run(caller, connect, recorder, count, bug, seed):
                 time.sleep(draw.random() / 8000)
             if draw.random() < 0.2:
                 raise sqlite3.OperationalError
-            place = transaction.commit()
+            place = transaction.commit(not words.no_counter)
         except sqlite3.OperationalError:
             # The database is busy or locked, or the transaction read an old snapshot, or it gives
             # up.
@@ -133,6 +139,7 @@ def main():
     parser = argparse.ArgumentParser(description=__doc__.split("\n", 1)[0])
     parser.add_argument("--shared-cache", action="store_true", help="one cache for all connections")
     parser.add_argument("--bug", choices=["read_uncommitted", "cut"])
+    parser.add_argument("--no-counter", action="store_true", help="the place is the order of return")
     parser.add_argument("--lines", action="store_true", help="an entry a line, as they come")
     parser.add_argument("--seed", type=int, default=1)
     parser.add_argument("--transactions", type=int, default=1200)
@@ -157,9 +164,8 @@ def main():
         first.execute("CREATE TABLE pairs (key INTEGER PRIMARY KEY, value INTEGER)")
         first.execute("CREATE TABLE places (place INTEGER)")
         first.execute("INSERT INTO places VALUES (0)")
-        count = words.transactions // WORKERS
         workers = [
-            threading.Thread(target=run, args=(caller, connect, recorder, count, words.bug, words.seed))
+            threading.Thread(target=run, args=(caller, connect, recorder, words))
             for caller in range(WORKERS)
         ]
         for worker in workers:
