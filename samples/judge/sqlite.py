@@ -1,8 +1,8 @@
 #!/usr/bin/env python3
-"""Threads run transactions on a real SQLite database, and record them for `judge --serializable`.
+"""Threads run transactions on a real SQLite database, and record them for `judge --commit-order`.
 
     samples/judge/sqlite.py >history.json                        WAL mode, a connection a thread
-    samples/judge/sqlite.py --lines | ./judge watch --serializable
+    samples/judge/sqlite.py --lines | ./judge watch --commit-order
     samples/judge/sqlite.py --shared-cache                       one cache for all connections
     samples/judge/sqlite.py --shared-cache --bug read_uncommitted
     samples/judge/sqlite.py --bug cut                            a COMMIT in the middle of a transaction

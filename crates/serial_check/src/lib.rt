@@ -1,7 +1,7 @@
 //! A judge of recorded histories by the order of their commits.
 //!
 //! A history is a list of `txn_trace`'s entries. It is serializable in the order of its commits
-//! (`IsSerializable`) if two rules hold:
+//! (`IsSerializableByCommits`) if two rules hold:
 //! - Each transaction that commits has the same replies as if it ran alone on the map that the
 //!   earlier commits leave.
 //! - Each caller's entries have the right shape. This is the rule of shape of `history_check`.
@@ -38,8 +38,9 @@
 //!
 //! Proved: `check`, `check_packed`, and a `Checker` that was fed the same entries return the
 //! verdict that the definition `verdict` gives, including the first bad entry. They return legal
-//! exactly if `IsSerializable` holds. If memory is refused for an entry, the checker was not fed
-//! this entry. A history that is legal by locks is serializable (`serializable`).
+//! exactly if `IsSerializableByCommits` holds. If memory is refused for an entry, the checker was
+//! not fed this entry. A history that is legal by locks is serializable in the order of its commits
+//! (`serializable`).
 #![tactic(auto)]
 
 mod checker;
