@@ -19,7 +19,7 @@ use Rattle.txn_trace.proofs.Steps.{txns_of-push, are_committed, commits_are}
 use Rattle.txn_trace.proofs.Inductions.{by_entries}
 use Rattle.txn_trace.proofs.Running.{has_txn}
 use Rattle.txn_trace.proofs.Committing.{commits_so}
-use Rattle.txn_trace.proofs.Judging.{shape_push}
+use Rattle.txn_trace.proofs.BadEntries.{shape_push}
 use Rattle.serial_check.specs.Serializable.{IsSerializableByCommits, CommitsHold}
 use Rattle.order_check.specs.Lists.{IsIn, AreApart}
 use Rattle.order_check.specs.Serializable.{RunAlone, IsSerialOrder, IsSerializable}

@@ -28,7 +28,7 @@ use Rattle.boost_core.specs.Machine.{IsAllowed, Move, Moves}
 use Rattle.boost_core.specs.Plain.{Operates, Returns, Aborts, Ends, Leaves, Drives, Helps, HelpsTo, undoing, undone}
 use Rattle.owned_map.specs.Taken.{is_well, asks_well, HasTakenKeys}
 use Rattle.owned_map.proofs.Levels.{past}
-use Rattle.boost_core.proofs.Refused.{first_none}
+use Rattle.boost_core.proofs.SideRefusals.{first_none}
 
 abbrev pub IsWell : State → Type 0
 IsWell s = asks_well s.limits.half s.history ≡ true

@@ -5,7 +5,7 @@ use Rattle.boost_core.proofs.Vocabulary.{false≢true, cases_eq, and_from, InitL
 use Rattle.list_steps.specs.Found.{change_number_of}
 use Rattle.boost_core.proofs.Moves.{refused, lacks, stale_since}
 use Rattle.boost_core.proofs.Tables.{help_is, idle_becomes, held_becomes, linked_becomes}
-use Rattle.boost_core.proofs.Helping.{served, became, becomes_move, helper_there, helper_none, is_set_is}
+use Rattle.boost_core.proofs.TableMoves.{served, became, becomes_move, helper_there, helper_none, is_set_is}
 use Rattle.map_ops.specs.InitLink.TheVariants as links
 use Rattle.bucket_table.specs.declared.answer.InitRefusal.TheVariants as inits
 use Rattle.txn_words.specs.declared.step.Step.TheVariants as steps

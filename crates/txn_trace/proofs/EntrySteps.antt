@@ -24,7 +24,7 @@ use Rattle.txn_trace.proofs.Shaped.{callers_of}
 use Rattle.txn_trace.proofs.Running.{Running, running_txn}
 use Rattle.txn_trace.proofs.Stripes.{keys_in}
 use Rattle.txn_trace.proofs.Now.{IsRunning, running_of, open_going}
-use Rattle.txn_trace.proofs.Judging.{legal_push, shape_push, locks_push}
+use Rattle.txn_trace.proofs.BadEntries.{legal_push, shape_push, locks_push}
 use Rattle.txn_trace.proofs.Others.{replies-push_other, now-push_same, serial_is}
 use Rattle.txn_trace.proofs.Fits.{Fits, FitsAfter, IsReply, fits_act}
 use Rattle.txn_trace.proofs.Seated.{are_seated, the_some}

@@ -8,8 +8,8 @@ use Rattle.boost_core.proofs.Outcomes.{Called, entered}
 use Rattle.boost_core.proofs.Spares.{times_pushed, spent, done_covered, still_covered, buckets_same}
 use Rattle.boost_core.proofs.Due.{NotedIf, noted, changes_noted, due_noted}
 use Rattle.boost_core.proofs.Sides.{IsGoing, going, waiting_op, changes_last}
-use Rattle.boost_core.proofs.Refused.{seat_here, changes_here}
-use Rattle.boost_core.proofs.Grow.{seated_as, set_cases}
+use Rattle.boost_core.proofs.SideRefusals.{seat_here, changes_here}
+use Rattle.boost_core.proofs.OneCaller.{seated_as, set_cases}
 use Rattle.txn_words.specs.declared.entry.Entry.TheVariants as entry
 use Rattle.txn_words.specs.declared.answer.Answer.TheVariants as answers
 use Rattle.txn_trace.proofs.Entries as laws

@@ -25,7 +25,7 @@ use Rattle.history_check.specs.declared.caller.Caller.{Caller}
 use Rattle.history_check.specs.declared.callers.Callers.{Callers}
 use Rattle.history_check.specs.Callers.{seat_of, log_in, Enters, HasRoom, HasRoomFor, Sits, HaveEntered, IsIn}
 use Rattle.history_check.specs.Logs.{log_entered, log_replied}
-use Rattle.history_check.proofs.EachKind.{did_waits, undone_some}
+use Rattle.history_check.proofs.EntryKinds.{did_waits, undone_some}
 
 -- Suppose that `P i` holds for the element written at index `i`. If `P k` held before for the
 -- element at every other index `k`, then `P k` holds after the write for the element at every index
