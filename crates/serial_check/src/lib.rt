@@ -2,7 +2,7 @@
 //!
 //! A history is serializable in this order (`IsSerializableByCommits`) if each transaction that
 //! commits has the same replies as if it ran alone on the map that the earlier commits leave, and
-//! each caller's entries have the right shape. There is no rule of locks, and other transactions
+//! all entries have the right shape. There is no rule of locks, and other transactions
 //! may have read anything. So this judges stores whose readers share locks, and stores that
 //! validate at the commit.
 //!
