@@ -255,16 +255,19 @@ def main(words):
     need("build.py", RT, f"prove and build {' '.join(names)}")
     for number in (signal.SIGTERM, signal.SIGHUP, signal.SIGINT):
         signal.signal(number, lambda number, _: sys.exit(128 + number))
-    PROVED.mkdir(parents=True, exist_ok=True)
-    with open(OUT / "lock", "w", encoding="utf-8") as lock, tempfile.TemporaryDirectory(prefix="build-") as room:
-        fcntl.flock(lock, fcntl.LOCK_EX)  # one call at a time builds in a checkout
-        try:
+    try:
+        PROVED.mkdir(parents=True, exist_ok=True)
+        with open(OUT / "lock", "w", encoding="utf-8") as lock, tempfile.TemporaryDirectory(prefix="build-") as room:
+            fcntl.flock(lock, fcntl.LOCK_EX)  # one call at a time builds in a checkout
             Build([known[name] for name in names], after_ci, Path(room)).run()
-        except NotProved as error:
-            name, said = error.args
-            print(f"\n{said}\n{names[-1]}: {name} is not proved. Compare the sources with git status, and rt version with"
-                  " the logic that README.md names", file=sys.stderr)
-            return 125
+    except NotProved as error:
+        name, said = error.args
+        print(f"\n{said}\n{names[-1]}: {name} is not proved. Compare the sources with git status, and rt version with the"
+              " logic that README.md names", file=sys.stderr)
+        return 125
+    except (OSError, subprocess.CalledProcessError) as error:
+        print(f"{names[-1]}: {error}", file=sys.stderr)
+        return 125
     return 0
 
 

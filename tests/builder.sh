@@ -151,6 +151,10 @@ holds 'the program of ci' test "$(<out/judge)" = 'by ci'
 expect 'after ci, again' 0 '' ./build.py judge
 
 rm -rf out crates/*/out
+touch out
+expect 'no folder for builds' 125 '' ./build.py judge
+holds 'it says which' grep -qF "judge: [Errno 17] File exists: '$repository/out" "$work/err"
+rm out
 expect 'a call without a command' 2 '' ./boostmap
 holds 'it prints the usage' prints err 'usage: it'
 expect 'a call without a file' 2 '' ./judge check
