@@ -153,7 +153,7 @@ expect 'after ci, again' 0 '' ./build.py judge
 rm -rf out crates/*/out
 touch out
 expect 'no folder for builds' 125 '' ./build.py judge
-holds 'it says which' grep -qF "judge: [Errno 17] File exists: '$repository/out" "$work/err"
+holds 'it says which' grep -qF "judge: [Errno 20] Not a directory: '$repository/out" "$work/err"
 rm out
 expect 'a call without a command' 2 '' ./boostmap
 holds 'it prints the usage' prints err 'usage: it'
