@@ -83,4 +83,4 @@ row() {
 
 printf '%-12s %9s %8s %8s %6s %7s %7s %9s %9s %6s\n' rules entries proved plain ratio MB plain proved plain ratio
 row watch --stripes 4096
-row watch --serializable
+row watch --commit-order

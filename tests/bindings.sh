@@ -39,6 +39,7 @@ within() { timeout 600 "$@"; }
 
 prints_the_example() { within "$@" | cmp - bindings/examples/stdout; }
 prints_the_threads() { within "$@" | cmp - bindings/examples/threads.stdout; }
+prints_the_verdict() { within "$@" | cmp - bindings/examples/judged.stdout; }
 
 # Compiles the example in C with the flags of boostmap.pc, in a folder with a blank in its name, and runs it.
 with_pkg_config() {
@@ -81,6 +82,7 @@ c_test() {
 in_c() {
   c_test statuses c99
   c_test read c99
+  c_test owned c99
   c_test judge c99
   c_test recorded c99
   c_test threads c11 -D_GNU_SOURCE -pthread
@@ -91,19 +93,27 @@ in_c() {
   try 'striped_recorded with 16' within "$work/striped_recorded" 16
   c_test door c11 -pthread
   c_test no_memory c11 -Wl,--wrap=malloc -Wl,--wrap=realloc -Wl,--wrap=free
+  c_test whole c99
+  c_test model c99
+  c_test crowd c11 -D_GNU_SOURCE -pthread -Wl,--wrap=malloc -Wl,--wrap=calloc -Wl,--wrap=realloc -Wl,--wrap=free
+  try 'crowd of 16, with one in 20 allocations refused' within "$work/crowd" 16 20
+  try 'crowd of 8, with no allocation refused' within "$work/crowd" 8 0
   try 'compile transfer.c' cc -std=c99 "${strict[@]}" "${use[@]}" bindings/examples/transfer.c -o "$work/transfer" -lboostmap
   try 'example in C' prints_the_example "$work/transfer"
   try 'compile threads.c, the example' cc -std=c99 "${strict[@]}" "${use[@]}" bindings/examples/threads.c \
     -o "$work/threads_example" -lboostmap -pthread
   try 'example of threads in C' prints_the_threads "$work/threads_example"
+  try 'compile judged.c' cc -std=c99 "${strict[@]}" "${use[@]}" bindings/examples/judged.c -o "$work/judged" -lboostmap -pthread
+  try 'a run in C that is judged' prints_the_verdict "$work/judged"
 }
 
 in_c_again() {
   local name checked=(within valgrind -q --error-exitcode=9 --leak-check=full)
   if has valgrind 'the tests in C under it'; then
-    for name in statuses read no_memory threads striped; do
+    for name in statuses read owned no_memory threads striped whole; do
       try "$name under valgrind" "${checked[@]}" "$work/$name"
     done
+    try 'model of 40000 calls under valgrind' "${checked[@]}" "$work/model" 40000
     for name in 4 16; do
       try "striped_threads with $name under valgrind" "${checked[@]}" --fair-sched=yes "$work/striped_threads" "$name" 1000
     done
@@ -127,10 +137,14 @@ in_cpp() {
   if has valgrind 'values in C++ under it'; then
     try 'values in C++ under valgrind' within valgrind -q --error-exitcode=9 --leak-check=full --fair-sched=yes "$work/values"
   fi
+  try 'compile model.cpp' c++ -std=c++17 "${strict[@]}" "${use[@]}" bindings/tests/model.cpp -o "$work/model_cpp" -lboostmap
+  try 'model in C++' within "$work/model_cpp"
   try 'no commit in a job' no_commit_in_a_job
   try 'the checked header in C++' checked_in_cpp
   try 'compile transfer.cpp' c++ -std=c++17 "${strict[@]}" "${use[@]}" bindings/examples/transfer.cpp -o "$work/transfer" -lboostmap -pthread
   try 'example in C++' prints_the_example "$work/transfer"
+  try 'compile judged.cpp' c++ -std=c++17 "${strict[@]}" "${use[@]}" bindings/examples/judged.cpp -o "$work/judged" -lboostmap -pthread
+  try 'a run in C++ that is judged' prints_the_verdict "$work/judged"
 }
 
 in_rust() {
@@ -139,6 +153,7 @@ in_rust() {
   cp -r bindings/rust "$work/rust"
   try 'tests in Rust' within "${run[@]}" test "${crate[@]}"
   try 'example in Rust' prints_the_example "${run[@]}" run "${crate[@]}" --example transfer
+  try 'a run in Rust that is judged' prints_the_verdict "${run[@]}" run "${crate[@]}" --example judged
   # What README shows, which puts 20 at key 1.
   {
     echo 'fn main() -> Result<(), boostmap::Error> {'
@@ -156,6 +171,7 @@ sys.modules["_boostmap"] = None
 sys.path.insert(0, "bindings/tests")
 unittest.main(module="test_boostmap")'
   try 'example in Python' prints_the_example "${run[@]}" bindings/examples/transfer.py
+  try 'a run in Python that is judged' prints_the_verdict "${run[@]}" bindings/examples/judged.py
 }
 
 try 'install.sh' bindings/install.sh "$work/usr"

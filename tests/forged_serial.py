@@ -1,5 +1,5 @@
 #!/usr/bin/env -S python3 -B
-"""Judges drawn histories by `judge check --serializable` and by plain_serial_judge.py.
+"""Judges drawn histories by `judge check --commit-order` and by plain_serial_judge.py.
 
     tests/forged_serial.py PROGRAM COUNT SEED
 
@@ -142,7 +142,7 @@ def histories(draws):
 def judged(program, entries):
     file = {"version": 3, "stripes": 4096, "entries": entries}
     text = json.dumps(file, separators=(",", ":"))
-    words = [program, "check", "--serializable", "/dev/stdin"]
+    words = [program, "check", "--commit-order", "/dev/stdin"]
     found = subprocess.run(words, input=text, capture_output=True, text=True)
     return found.stdout, found.stderr, found.returncode
 

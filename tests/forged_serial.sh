@@ -1,5 +1,5 @@
 #!/usr/bin/env bash
-# Judges drawn histories by `judge check --serializable` and by a plain judge
+# Judges drawn histories by `judge check --commit-order` and by a plain judge
 # (tests/forged_serial.py): 100,000 of seed 1. It needs python3.
 # Usage: tests/forged_serial.sh [HISTORIES [SEED [PROGRAM]]]
 set -euo pipefail

@@ -36,7 +36,13 @@ usage_errors() {
   wants 2 '' "$usage" check examples/checked.json examples/checked.json
   wants 2 '' "$usage" check --stripes 8 examples/checked.json
   wants 2 '' "$usage" watch examples/checked.json
-  wants 2 '' "$usage" watch --serializable --stripes 8
+  wants 2 '' "$usage" check --commit-order --serializable examples/checked.json
+  wants 2 '' "$usage" check --show-order examples/checked.json
+  wants 2 '' "$usage" check --commit-order --show-order examples/checked.json
+  wants 2 '' "$usage" check --serializable --serializable examples/checked.json
+  wants 2 '' "$usage" why --serializable examples/checked.json
+  wants 2 '' "$usage" watch --commit-order --stripes 8
+  wants 2 '' "$usage" watch --serializable
   local stripes
   for stripes in 0 4097 -1 x '' 8x 18446744073709551616; do
     wants 2 '' "$usage" watch "--stripes=$stripes"
@@ -57,12 +63,16 @@ help_and_version() {
 
 files() {
   wants 0 'legal 2 commits 0 open' '' check examples/checked.json
-  wants 0 'legal 2 commits 0 open' '' check --serializable examples/checked.json
+  wants 0 'legal 2 commits 0 open' '' check --commit-order examples/checked.json
+  wants 0 'serializable 2 commits 0 open' '' check --serializable examples/checked.json
   wants 1 'illegal entry 125 rule 1' '' check samples/judge/example.json
-  wants 0 'legal 4 commits 4 open' '' check --serializable samples/judge/example.json
+  wants 0 'legal 4 commits 4 open' '' check --commit-order samples/judge/example.json
+  wants 0 'serializable 4 commits 4 open' '' check --serializable samples/judge/example.json
   wants 3 '' 'refused 21' check examples/first_commit.json
+  wants 3 '' 'refused 20' check --commit-order README.md
   wants 3 '' 'refused 20' check --serializable README.md
   wants 4 '' 'read failed' check examples/missing.json
+  wants 4 '' 'read failed' check --serializable examples/missing.json
   wants 4 '' 'read failed' check examples
   "$program" check - <samples/judge/example.json >"$work/out" 2>"$work/err"
   echo $? >"$work/status"
@@ -78,24 +88,50 @@ files() {
 }
 
 # Small histories, and the verdict of each judge: the table of docs/VERDICTS.md.
-both() {
-  local what=$1 by_locks=$2 by_commits=$3
+each() {
+  local what=$1 by_locks=$2 by_commits=$3 in_any=$4
   watches "${by_locks:0:1}" "${by_locks:2}" '' "$what" --stripes 8 <"$work/lines"
-  watches "${by_commits:0:1}" "${by_commits:2}" '' "$what" --serializable <"$work/lines"
+  watches "${by_commits:0:1}" "${by_commits:2}" '' "$what" --commit-order <"$work/lines"
+  printf '{"version":3,"stripes":8,"entries":[%s]}' "$(paste -sd , "$work/lines")" >"$work/history.json"
+  run check --serializable "$work/history.json"
+  judge "check --serializable: $what" "${in_any:0:1}" "${in_any:2}" ''
 }
 
 verdicts() {
-  local what entries by_locks by_commits rows=0
-  while IFS=$'\t' read -r what entries by_locks by_commits; do
+  local what entries by_locks by_commits in_any rows=0
+  while IFS=$'\t' read -r what entries by_locks by_commits in_any; do
     python3 -c 'import json, sys
 for entry in json.loads(sys.argv[1]): print(json.dumps(entry))' "$entries" >"$work/lines"
-    both "$what" "$by_locks" "$by_commits"
+    each "$what" "$by_locks" "$by_commits" "$in_any"
     rows=$((rows + 1))
-  done < <(rows_of 'The two judges')
+  done < <(rows_of 'The three judges')
   echo "$rows" >"$work/out"
   : >"$work/err"
   echo 0 >"$work/status"
-  judge 'rows of the table of docs/VERDICTS.md' 0 7 ''
+  judge 'rows of the table of docs/VERDICTS.md' 0 11 ''
+}
+
+# The order of a serializable history, and other answers in any order.
+orders() {
+  printf '%s' '{"version":3,"stripes":8,"entries":[["began",0,1],["began",1,2],["asked",0,"get",1],["did",0,null],
+["asked",1,"put",1,5],["did",1,null],["committed",1,1],["committed",0,2],["began",2,3]]}' >"$work/history.json"
+  wants 0 'serializable 2 commits 1 open
+transaction 1
+transaction 2' '' check --serializable --show-order "$work/history.json"
+  wants 0 'serializable 2 commits 1 open' '' check "$work/history.json" --serializable
+  "$program" check --show-order --serializable - <"$work/history.json" >"$work/out" 2>"$work/err"
+  echo $? >"$work/status"
+  judge 'check --serializable of standard input' 0 'serializable 2 commits 1 open
+transaction 1
+transaction 2' ''
+  printf '%s' '{"version":3,"stripes":8,"entries":[["began",0,1],["asked",0,"get",1],["did",0,null],["asked",0,"get",1],
+["did",0,5],["committed",0,1]]}' >"$work/history.json"
+  wants 1 'not serializable: the replies of transaction 1 contradict one another' '' \
+    check --serializable --show-order "$work/history.json"
+  "$program" check --serializable "$work/history.json" >/dev/full 2>"$work/err"
+  echo $? >"$work/status"
+  : >"$work/out"
+  judge 'check --serializable to a full device' 4 '' 'write failed'
 }
 
 # The rows of the first table below a heading of docs/VERDICTS.md: what a row is, its entries as an
@@ -106,7 +142,9 @@ rows = open("docs/VERDICTS.md").read().split("### " + sys.argv[1] + "\n", 1)[1].
 for row in rows.split("\n\n", 1)[0].split("\n")[1:]:
     cells = [cell.strip() for cell in row.strip("|").split("|")]
     entries = re.findall(r"`([^`]*)`", cells[0])
-    verdicts = [("0 " if "legal" == v.strip("`").split()[0] else "1 ") + v.strip("`") for v in cells[1:]]
+    statuses = {"legal": 0, "serializable": 0, "undecided": 5}
+    verdicts = [v.strip("`") for v in cells[1:]]
+    verdicts = [f"{statuses.get(v.split()[0], 1)} {v}" for v in verdicts]
     print(cells[0].rsplit(": ", 1)[1], "[" + ",".join(entries) + "]", *verdicts, sep="\t")' "$1"
 }
 
@@ -291,7 +329,7 @@ the entry:
 what may stand there: ["aborted",0]
 entries of transaction 1 of caller 0:
   0 ["began",0,1]
-  1 ["leave",0,null]' '' 'nothing to take back' 1 --serializable <<<'["began",0,1]
+  1 ["leave",0,null]' '' 'nothing to take back' 1 --commit-order <<<'["began",0,1]
 ["leave",0,null]
 ["undone",0]'
   explains 1 'illegal entry 2 rule 3
@@ -316,7 +354,7 @@ entries on key 1 since entry 6, where caller 1 committed its value:
 entries of transaction 1 of caller 0:
   0 ["began",0,1]
   2 ["asked",0,"get",1]
-  3 ["did",0,null]' '' 'a reader that commits after the writer' 1 --serializable <<<'["began",0,1]
+  3 ["did",0,null]' '' 'a reader that commits after the writer' 1 --commit-order <<<'["began",0,1]
 ["began",1,2]
 ["asked",0,"get",1]
 ["did",0,null]
@@ -335,7 +373,7 @@ entries of transaction 1 of caller 0:
   1 ["asked",0,"get",1]
   2 ["did",0,null]
   3 ["asked",0,"get",1]
-  4 ["did",0,5]' '' 'two replies that differ' 1 --serializable <<<'["began",0,1]
+  4 ["did",0,5]' '' 'two replies that differ' 1 --commit-order <<<'["began",0,1]
 ["asked",0,"get",1]
 ["did",0,null]
 ["asked",0,"get",1]
@@ -354,7 +392,7 @@ entries of transaction 2 of caller 0:
   7 ["asked",0,"get",1]
   8 ["did",0,null]
   9 ["asked",0,"get",1]
-  10 ["did",0,5]' '' 'a change of its own that is not seen, by commits' 1 --serializable <<<'["began",0,1]
+  10 ["did",0,5]' '' 'a change of its own that is not seen, by commits' 1 --commit-order <<<'["began",0,1]
 ["asked",0,"put",1,5]
 ["did",0,null]
 ["committed",0,1]
@@ -462,7 +500,7 @@ print(*["[\"saved\",0]"] * 1000001, sep=",", end="]}")' >"$work/refused.json"
   wants 2 '' "$usage" why
   wants 2 '' "$usage" why --stripes 8 examples/checked.json
   wants 0 'legal 2 commits 0 open' '' why examples/checked.json
-  wants 0 'legal 4 commits 4 open' '' why --serializable samples/judge/example.json
+  wants 0 'legal 4 commits 4 open' '' why --commit-order samples/judge/example.json
   for of in examples/checked.json samples/judge/example.json README.md; do
     "$program" why "$of" >/dev/full 2>"$work/err"
     echo $? >"$work/status"
@@ -472,7 +510,7 @@ print(*["[\"saved\",0]"] * 1000001, sep=",", end="]}")' >"$work/refused.json"
 }
 
 # What became of each script of examples/scripts.json, written by hand: for the history in
-# docs/FORMATS.md, and for an empty one.
+# docs/VERDICTS.md, and for an empty one.
 script_outcomes() {
   local lost='script 0 worker 0 given up
 script 1 worker 0 given up
@@ -503,7 +541,7 @@ script 2 worker 0 committed 2 entry 23
   wants 2 '' "$usage" outcomes
   wants 2 '' "$usage" outcomes examples/scripts.json
   wants 2 '' "$usage" outcomes - -
-  wants 2 '' "$usage" outcomes --serializable examples/scripts.json "$work/empty.json"
+  wants 2 '' "$usage" outcomes --commit-order examples/scripts.json "$work/empty.json"
 }
 
 # An entry as a line of this many bytes.
@@ -553,12 +591,13 @@ little_memory() {
   }' >"$work/lines"
   { printf '{"entries":[' && paste -sd , "$work/lines" && echo '],"stripes":8,"version":3}'; } >"$work/long.json"
   local words limit
-  for words in check 'check --serializable' why 'why --serializable'; do
+  for words in check 'check --commit-order' why 'why --commit-order'; do
     # The words are several.
     # shellcheck disable=SC2086
     wants 0 'legal 0 commits 1 open' '' $words "$work/long.json"
   done
-  for words in check 'check --serializable' why 'why --serializable' 'outcomes examples/scripts.json'; do
+  wants 0 'serializable 0 commits 1 open' '' check --serializable "$work/long.json"
+  for words in check 'check --commit-order' 'check --serializable' why 'why --commit-order' 'outcomes examples/scripts.json'; do
     for limit in 8000 16000 24000 32000; do
       # The words are several.
       # shellcheck disable=SC2086
@@ -567,7 +606,7 @@ little_memory() {
       judge "$words with $limit kB" 4 '' 'no memory'
     done
   done
-  for words in watch 'watch --serializable'; do
+  for words in watch 'watch --commit-order'; do
     # shellcheck disable=SC2086
     (ulimit -v 16000; exec "$program" $words <"$work/lines") >"$work/out" 2>"$work/err"
     echo $? >"$work/status"
@@ -620,7 +659,7 @@ real_stores() {
     for seed in 1 2; do
       # shellcheck disable=SC2086
       samples/judge/sqlite.py $words --seed $seed >"$work/sqlite.json"
-      run check --serializable "$work/sqlite.json"
+      run check --commit-order "$work/sqlite.json"
       sed -i 's/legal [0-9]* commits/legal N commits/' "$work/out"
       judge "sqlite.py $words --seed $seed" 0 'legal N commits 0 open' ''
     done
@@ -631,9 +670,9 @@ real_stores() {
       # shellcheck disable=SC2086
       samples/judge/sqlite.py $words --seed $seed >"$work/sqlite.json" 2>/dev/null
       lines_of "$work/sqlite.json" 2>/dev/null |
-        "$program" watch --serializable >"$work/verdict" 2>"$work/err"
+        "$program" watch --commit-order >"$work/verdict" 2>"$work/err"
       # `why` prints the same verdict, and then the lines that lead to the bug.
-      run why --serializable "$work/sqlite.json"
+      run why --commit-order "$work/sqlite.json"
       if ! head -n 1 "$work/out" | cmp -s - "$work/verdict"; then
         found='two verdicts'
       elif grep -q '^the first reply at key\|^no map gives' "$work/out"; then
@@ -650,6 +689,7 @@ usage_errors
 help_and_version
 files
 verdicts
+orders
 reasons
 shapes
 commits
@@ -658,7 +698,7 @@ script_outcomes
 input
 limits
 many
-many --serializable
+many --commit-order
 little_memory
 early
 parts

@@ -9,7 +9,7 @@ trap 'rm -rf "$work"' EXIT
 passed=0 failed=0
 
 mkdir "$work/bin" "$work/copy"
-cp -r boostmap judge look launcher.sh tools.sh crates.txt bindings .ci "$work/copy"
+cp -r boostmap judge look launcher.sh tools.sh build.py install.sh VERSION crates.txt bindings .ci "$work/copy"
 cp examples/first_commit.json "$work/copy/file.json"
 while read -r folder; do
   find "$folder" -maxdepth 1 ! -type d -exec ln -sf -t "$work/bin" -- {} +
@@ -37,19 +37,28 @@ builds="there is no rt, which is needed to prove and build the program: $rt"
 without rt '' "boostmap: $builds" ./boostmap run file.json
 without rt '' "unthreaded: $builds" ./boostmap replay file.json
 without rt '' "judge: $builds" ./judge check file.json
+without python3 '' "boostmap: there is no python3, which is needed to prove and build the program: $other" ./boostmap run file.json
+without rt '' "build.py: there is no rt, which is needed to prove and build boostmap judge: $rt" ./build.py boostmap judge
 without rt '' "look: there is no rt, which is needed to compile the program: $rt" ./look replay file.json
 without rt '' "look: there is no rt, which is needed to compile the program: $rt" ./look judge check file.json
-install=(bindings/install.sh "$work/prefix")
-without rt '' "install.sh: there is no rt, which is needed to prove and build the archive: $rt" "${install[@]}"
-without cc '' "install.sh: there is no cc, which is needed to link the library that Python loads: $other" "${install[@]}"
-without ar '' "install.sh: there is no ar, which is needed to add the allocator to the archive: $other" "${install[@]}"
+for install in ./install.sh bindings/install.sh; do
+  for row in "rt:prove and build what is installed: $rt" "python3:prove and build what is installed: $other" \
+    "cc:link the shared library: $other" "ar:add the allocator to the archive: $other"; do
+    tool=${row%%:*}
+    without "$tool" '' "install.sh: there is no $tool, which is needed to ${row#*:}" "$install" "$work/prefix"
+  done
+done
+for row in "git:find what has changed: $other" "rt:prove it: $rt" "cc:test it: $other"; do
+  tool=${row%%:*}
+  without "$tool" '' ".ci/quick: there is no $tool, which is needed to ${row#*:}" .ci/quick
+done
 for row in "rt:prove everything: $rt" "python3:try the wrong bodies: $other" "cc:test the library for C: $other"; do
   tool=${row%%:*}
   without "$tool" '0 passed, 1 failed' ".ci/run: there is no $tool, which is needed to ${row#*:}" .ci/run
 done
 
 # Nothing was made by the way.
-if [ -e "$work/prefix" ] || [ -e "$work/copy/crates" ]; then
+if [ -e "$work/prefix" ] || [ -e "$work/copy/crates" ] || [ -e "$work/copy/out" ]; then
   failed=$((failed + 1))
   echo 'missing: a script made something before it looked for its tools' >&2
 else

@@ -1,5 +1,5 @@
 #!/usr/bin/env -S python3 -B
-"""Judges a history as `judge check --serializable` does, from the beginning at each entry.
+"""Judges a history as `judge check --commit-order` does, from the beginning at each entry.
 
     tests/plain_serial_judge.py FILE
 
@@ -33,7 +33,7 @@ def broken(before, entry):
 
 
 def verdict(history):
-    """The line that `check --serializable` prints."""
+    """The line that `check --commit-order` prints."""
     for i, entry in enumerate(history):
         rule = broken(history[:i], entry)
         if rule:

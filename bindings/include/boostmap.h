@@ -6,36 +6,47 @@
  * SYNOPSIS
  *     #include <boostmap.h>            cc program.c $(pkg-config --cflags --libs boostmap)
  *
- *     boostmap map = BOOSTMAP_INIT;
+ *     boostmap_caller mine = BOOSTMAP_INIT, yours = BOOSTMAP_INIT;   a striped map for two threads
  *     uint64_t word;
- *     if (boostmap_new(&map, 2, 64, 1024) != BOOSTMAP_DONE)      2 callers, 64 stripes, 1024 buckets
- *         return 1;
- *     boostmap_begin(&map, 0, &word);                            caller 0 begins a transaction
- *     boostmap_put(&map, 0, 7, 70, &word);                       BOOSTMAP_ABSENT: 7 had no value
- *     boostmap_get(&map, 0, 7, &word);                           BOOSTMAP_DONE: word is 70
- *     boostmap_commit(&map, 0, &word);                           word is 1: the first commit
- *     boostmap_free(&map);
- *
- *     boostmap_caller mine = BOOSTMAP_INIT, yours = BOOSTMAP_INIT;   a map for two threads
- *     boostmap_striped_open(&mine, 2, 64, 0, BOOSTMAP_KEEP_NOTHING, 0, &word);   2 callers, 64 stripes
+ *     if (boostmap_striped_open(&mine, 2, 64, 0, BOOSTMAP_KEEP_NOTHING, 0, &word) != BOOSTMAP_DONE)
+ *         return 1;                                              2 callers, 64 stripes
  *     boostmap_striped_join(&mine, &yours, &word);               `yours` goes to the other thread
  *     boostmap_striped_begin(&mine);
  *     boostmap_striped_put(&mine, 7, 70, &word);                 BOOSTMAP_BUSY if the other has it
  *     boostmap_striped_commit(&mine, &word);
  *     boostmap_striped_free(&mine);
  *
+ *     boostmap map = BOOSTMAP_INIT;                              a map with one owner
+ *     boostmap_new(&map, 2, 64, 1024);                           2 callers, 64 stripes, 1024 buckets
+ *     boostmap_begin(&map, 0, &word);                            caller 0 begins a transaction
+ *     boostmap_put(&map, 0, 7, 70, &word);                       BOOSTMAP_ABSENT: 7 had no value
+ *     boostmap_get(&map, 0, 7, &word);                           BOOSTMAP_DONE: word is 70
+ *     boostmap_commit(&map, 0, &word);                           word is 1: the first commit
+ *     boostmap_free(&map);
+ *
  * DESCRIPTION
- *     A map has 1 to 64 callers, numbered from 0. Each may have one transaction open, and the calls
- *     of several callers may be made in any order. Keys belong to stripes. An operation takes the
- *     stripe of its key, and its transaction keeps the stripe to the end, so committed transactions
- *     have the replies of running one after another, in the order of their commits. A caller that
- *     finds a stripe held by another never waits: the call returns BOOSTMAP_BUSY, and the
- *     transaction can only abort.
+ *     There are two kinds of maps. Use the striped map, with one caller or with many, unless you
+ *     want a history.
  *
  *     A striped map is for threads: each of its 1 to 4096 callers has its own handle, a
- *     `boostmap_caller`, and callers run in parallel without a lock. It grows by itself and keeps no
- *     history, so it may run forever. If a caller finds a stripe held, the call returns
- *     BOOSTMAP_BUSY, and the transaction has been aborted, with all its changes taken back.
+ *     `boostmap_caller`, and callers run in parallel without a lock. It grows by itself, hashes its
+ *     keys and keeps no history, so it may run forever. If a caller finds a stripe held, the call
+ *     returns BOOSTMAP_BUSY, and the transaction has been aborted, with all its changes taken back.
+ *
+ *     A map with one owner, a `boostmap`, is for a program that wants to see each step of up to 64
+ *     callers and to keep the history of their transactions: for tests, for simulations, for a log
+ *     that is judged (boostmap_history). The program makes the calls of all callers, numbered from 0, in any order.
+ *     Each caller may have one transaction open. If a caller finds a stripe held, the call returns
+ *     BOOSTMAP_BUSY, and the transaction can only abort.
+ *       Its memory grows with its history: 32 bytes an entry, 320 bytes for a transaction of four
+ *     operations, also of gets. boostmap_trim cuts the history off, and after boostmap_trim_above the
+ *     map does so by itself. The map also grows by itself, but it does not hash: a key belongs to the
+ *     bucket that its low bits name. Consecutive and random keys are fast. Keys whose low bits are all
+ *     alike, as multiples of 65536, form one long list: mix such keys before.
+ *
+ *     In both maps keys belong to stripes. An operation takes the stripe of its key, and its
+ *     transaction keeps the stripe to the end, so committed transactions have the replies of running
+ *     one after another, in the order of their commits. No call ever waits for a stripe.
  *
  * RETURN VALUE
  *     Every call returns a status. Most take a pointer `word`: with BOOSTMAP_DONE and BOOSTMAP_BUSY
@@ -47,7 +58,7 @@
  *     2         another caller holds a stripe that the call needs
  *     3, 4      the handle is empty, or in use already; nothing was done
  *     5, 6      of boostmap_checked.h: a null pointer, or a handle that is in another call
- *     7, 8      an array that is too short, or numbers that are no entry
+ *     7, 8, 9   an array that is too short, numbers that are no entry, a sum beyond 64 bits
  *     16 + n    refused; n is the number of the refusal, from 2 to 22
  *
  * OWNERSHIP
@@ -88,14 +99,20 @@
  *     level or a limit out of range, calls out of order, and memory that is refused.
  *
  * SEE ALSO
- *     boostmap_checked.h (null and overlapping calls become statuses), boostmap.hpp (C++),
- *     docs/C.md
+ *     boostmap_checked.h (null and overlapping calls become statuses), boostmap_recorded.h (a program
+ *     has its own run judged), boostmap.hpp (C++), docs/C.md
  */
 #ifndef BOOSTMAP_H
 #define BOOSTMAP_H
 
+/* The version of the library. */
+#define BOOSTMAP_VERSION "1.0.0"
+
+#include <sched.h>
 #include <stddef.h>
 #include <stdint.h>
+#include <stdlib.h>
+#include <sys/select.h>
 
 #ifdef __cplusplus
 extern "C" {
@@ -126,6 +143,7 @@ enum {
     BOOSTMAP_IN_CALL = 6, /* only from boostmap_checked.h: the handle is in another call */
     BOOSTMAP_SHORT = 7,  /* from a read: the array is too short; *word is the number of places needed */
     BOOSTMAP_NO_ENTRY = 8, /* from a judge: these numbers are no entry of a caller below 64 */
+    BOOSTMAP_OVERFLOW = 9, /* from an add: the sum would be below 0 or above 2^64 - 1 */
     /* 16 + the number of a refusal: nothing has changed, unless the comment of the call says so */
     BOOSTMAP_NO_SUCH_CALLER = 18,  /* the caller's number is not below the number of callers; from
                                       boostmap_striped_join: no caller waits */
@@ -152,6 +170,7 @@ static inline const char *boostmap_text(boostmap_status status) {
     case BOOSTMAP_IN_CALL: return "the handle is in another call";
     case BOOSTMAP_SHORT: return "the array is too short";
     case BOOSTMAP_NO_ENTRY: return "these numbers are no entry";
+    case BOOSTMAP_OVERFLOW: return "the sum does not fit in 64 bits";
     case BOOSTMAP_NO_SUCH_CALLER: return "there is no such caller";
     case BOOSTMAP_NOT_OPEN: return "the caller has no transaction";
     case BOOSTMAP_ALREADY_OPEN: return "the caller has a transaction already";
@@ -165,8 +184,13 @@ static inline const char *boostmap_text(boostmap_status status) {
     }
 }
 
+/* ---- the map with one owner ---------------------------------------------------------------------
+ *
+ * Its memory grows with its history, and its keys should differ in their low bits: see above. */
+
 /* Makes a map for 1 to 64 callers, with 1 to 4096 stripes and at most `buckets` buckets, a power of
- * two from 2 to 65536.    0; 4; 38; 30 */
+ * two from 2 to 65536. The table grows by itself up to this size; with more than about eight keys a
+ * bucket, operations get slower.    0; 4; 38; 30 */
 boostmap_status boostmap_new(boostmap *map, uint64_t callers, uint64_t stripes, uint64_t buckets);
 
 /* Frees the map, also if transactions are open.    0; 3 */
@@ -186,15 +210,31 @@ typedef struct boostmap_pair {
  * After 7 the array is unchanged, and *word is the number of places that it needs.    0; 3; 7; 30 */
 boostmap_status boostmap_read(boostmap *map, boostmap_pair *pairs, size_t places, uint64_t *word);
 
-/* Doubles the table if it has more than two keys a bucket, and initialises the key's bucket. Nothing
- * else doubles the table: call this from time to time when you put keys, or they form one long list.
- * After 30 and 32 the table may have grown all the same.    0; 3; 28; 32; 30 */
+/* *word: the number of entries of the map's history. An operation has two entries, and the begin, the
+ * commit, a savepoint, and each change that is taken back has one; each takes 32 bytes.    0; 3 */
+boostmap_status boostmap_entries(boostmap *map, uint64_t *word);
+
+/* Cuts the history off and frees its memory, in the time of a put for each key. The map and its keys
+ * stay. Instead of the old history there is one transaction that puts the pairs of the map, by caller 0:
+ * it has number 1 and commit number 1, and the next ones have 2. After 20 (a caller has a transaction)
+ * and 30 the map and its history are unchanged.    0; 3; 20; 30; 32 */
+boostmap_status boostmap_trim(boostmap *map);
+
+/* From now on boostmap_commit and boostmap_abort trim the map by themselves, if its history has more
+ * than `entries` entries and more than four for each key, and no caller has a transaction. So the memory
+ * stays bounded. If there is no memory for that, they end the transaction all the same, and the next
+ * one tries again. With 0, as in a new map, the map never trims by itself.    0; 3 */
+boostmap_status boostmap_trim_above(boostmap *map, uint64_t entries);
+
+/* Doubles the table if it has more than two keys a bucket, and initialises the key's bucket. The table
+ * grows by itself, so no program needs this call. After 30 and 32 the table may have grown all the same.
+ * 0; 3; 28; 32; 30 */
 boostmap_status boostmap_help(boostmap *map, uint64_t caller, uint64_t key);
 
-/* Begins a transaction; *word: its number, from 1.    0; 3; 18; 20; 22; 30 */
+/* Begins a transaction; *word: its number in the history, from 1.    0; 3; 18; 20; 22; 30 */
 boostmap_status boostmap_begin(boostmap *map, uint64_t caller, uint64_t *word);
 
-/* Commits; *word: the place in the order of commits, from 1.    0; 3; 18; 19; 22 */
+/* Commits; *word: the place in the order of commits of the history, from 1.    0; 3; 18; 19; 22 */
 boostmap_status boostmap_commit(boostmap *map, uint64_t caller, uint64_t *word);
 
 /* Aborts: takes every change back, and gives the stripes back. It writes no word.    0; 3; 18; 19 */
@@ -223,7 +263,11 @@ boostmap_status boostmap_back(boostmap *map, uint64_t caller, uint64_t level, ui
 /* ---- the striped map ----------------------------------------------------------------------------
  *
  * One handle is one caller. Its calls need no lock: give each thread its own caller. A caller may move
- * to another thread between any two calls, also within a transaction. */
+ * to another thread between any two calls, also within a transaction.
+ *
+ * A key belongs to the stripe key % stripes, and a transaction excludes all others from its stripes. So
+ * take several times as many stripes as keys are in open transactions at a time, and not a number that
+ * divides all your keys. After BOOSTMAP_BUSY wait before you try again, as boostmap_wait does. */
 
 /* Aligns a handle to a line of the processor's cache. */
 #if defined __cplusplus
@@ -236,11 +280,13 @@ boostmap_status boostmap_back(boostmap *map, uint64_t caller, uint64_t level, ui
 
 /* A handle of a caller: all zeros, or a caller of a striped map. The program does not touch the
  * fields. It has a line of the cache to itself: every call reads it, and writes of other threads to
- * that line would slow the call down. On the heap, take it from aligned_alloc. */
+ * that line would slow the call down. On the heap, take it from aligned_alloc. The archive uses the
+ * first two fields; boostmap_caller_counts tells the next three. */
 typedef struct boostmap_caller {
     BOOSTMAP_LINE uint64_t tag;
     void *held;
-    uint64_t apart[6];
+    uint64_t commits, aborts, busy;
+    uint64_t apart[3];
 } boostmap_caller;
 
 /* What a map keeps of its history. One that keeps its commits counts them in a word that all its
@@ -249,7 +295,8 @@ enum { BOOSTMAP_KEEP_NOTHING = 0, BOOSTMAP_KEEP_COMMITS = 1 };
 
 /* Opens a map with no keys, for 1 to 4096 callers and with 1 to 4096 stripes, with room for `keys`
  * keys, and makes `first` its first caller; *word: the caller's number, which is the number of
- * callers. The others wait until they are joined. `seed` is that of the hash of keys within a stripe:
+ * callers. The others wait until they are joined. The map grows by itself; memory that it has for keys is
+ * kept for later keys until the map is freed. `seed` is that of the hash of keys within a stripe:
  * if strangers choose the keys, draw it at random below 2^32, or they can make every call slow. With
  * larger seeds, consecutive keys may be slow.
  * 0; 4; 38; 30 */
@@ -257,7 +304,9 @@ boostmap_status boostmap_striped_open(boostmap_caller *first, uint64_t callers, 
                                       uint32_t keep, uint64_t seed, uint64_t *word);
 
 /* Makes `next` the handle of the next caller that waits; *word: its number, counted down to 1. Both
- * handles are in this call.    0; 4: `next` is in use; 3: `first` is empty; 18: nobody waits; 30 */
+ * handles are in this call. A caller that is freed does not wait again: if threads come and go, keep the
+ * handles of those that went for those that come.
+ * 0; 4: `next` is in use; 3: `first` is empty; 18: nobody waits; 30 */
 boostmap_status boostmap_striped_join(boostmap_caller *first, boostmap_caller *next, uint64_t *word);
 
 /* Frees the caller, and the callers that still wait to be joined through its handle; an open
@@ -291,13 +340,15 @@ boostmap_status boostmap_striped_save(boostmap_caller *caller, uint64_t *word);
 boostmap_status boostmap_striped_back(boostmap_caller *caller, uint64_t level);
 
 /* Takes every stripe; *word: the number of keys that the map has, with the transaction's own changes.
- * The stripes stay held to the transaction's end; after 30 it may hold some of them.
+ * The stripes stay held to the transaction's end; after 30 it may hold some of them. While other callers
+ * seldom rest, most of these calls are busy: if the whole map is often read, exclude them by a lock of
+ * your own.
  * 0; 2, after which the transaction has been aborted; 3; 19; 30 */
 boostmap_status boostmap_striped_count(boostmap_caller *caller, uint64_t *word);
 
 /* Takes every stripe as boostmap_striped_count does, and writes the pairs of the map, by rising keys,
  * to the front of an array of `places` elements; *word: the number of pairs. After 7 the array is
- * unchanged, and *word is the number of places that it needs.
+ * unchanged, and *word is the number of places that it needs; the call took about as long as a full one.
  * 0; 2, after which the transaction has been aborted; 3; 7; 19; 30 */
 boostmap_status boostmap_striped_read(boostmap_caller *caller, boostmap_pair *pairs, size_t places, uint64_t *word);
 
@@ -322,8 +373,9 @@ boostmap_status boostmap_striped_read(boostmap_caller *caller, boostmap_pair *pa
  *                      transaction aborts
  *     ABORTED          all changes are taken back
  *
- * docs/JUDGE.md has the rules in full. It is proved that the verdict is legal exactly if the history
- * is. */
+ * docs/FORMATS.md has the rules in full ("The checker's rules"), and docs/JUDGE.md says how to record a
+ * history; boostmap_recorded.h records this map's. It is proved that the verdict is legal exactly if the
+ * history is. */
 
 typedef struct boostmap_judge {
     uint64_t tag;
@@ -369,8 +421,8 @@ typedef struct boostmap_verdict {
  * transaction had a wrong reply (rule 1), or an entry out of the order of a transaction (rule 3). */
 enum { BOOSTMAP_HOLDER_NOW = 0, BOOSTMAP_HOLDER_BEGUN = 1, BOOSTMAP_BY_COMMITS = 2 };
 
-/* Begins to judge the history of a map with `stripes` stripes, at least one; by the order of commits
- * the number is ignored.    0; 4; 38; 30 */
+/* Begins to judge the history of a map with `stripes` stripes, at least one, each of which takes 9
+ * bytes; by the order of commits the number is ignored.    0; 4; 38; 30 */
 boostmap_status boostmap_judge_new(boostmap_judge *judge, uint64_t stripes, uint32_t rule);
 
 /* Feeds the next entry. It has been fed only after 0; after 30 it may be fed again. Entries after the
@@ -387,6 +439,223 @@ boostmap_status boostmap_judge_verdict(boostmap_judge *judge, boostmap_verdict *
 
 /* Frees the judge.    0; 3 */
 boostmap_status boostmap_judge_free(boostmap_judge *judge);
+
+/* Writes the history of a map with one owner, oldest entry first, from the entry with index `first` on:
+ * as many entries as there are and as the array of `places` elements has room for. *word: the number of
+ * entries of the whole history. It may be fed to a judge of the map's number of stripes. Members that
+ * the kind of an entry does not have are 0.    0; 3 */
+boostmap_status boostmap_history(boostmap *map, uint64_t first, boostmap_entry *entries, size_t places, uint64_t *word);
+/* ---- whole transactions, and more operations ------------------------------------------------------
+ *
+ * These functions are compiled with the program, and only tested. They make calls of the striped map,
+ * and return the statuses of those calls.
+ *
+ *     boostmap_striped_NAME   an operation in the caller's open transaction
+ *     boostmap_caller_NAME    the same as a transaction of its own, which the function begins and
+ *                             commits; 20 if the caller has an open transaction. A busy one is
+ *                             tried again after a wait, for ever. With a status other than 0 and 1
+ *                             nothing has changed. */
+
+/* Waits before a busy transaction is tried again; `*waits` is 0 before the first wait. Four waits
+ * yield; the others sleep, each about twice as long as the one before, up to half a millisecond. They
+ * are shortened by chance. Threads that do not wait keep one another from committing. */
+static inline void boostmap_wait(uint64_t *waits) {
+    uint64_t nth = (*waits)++, longest = 500, random;
+    struct timeval sleep = {0, 0};
+    if (nth < 4) {
+        sched_yield();
+        return;
+    }
+    if (nth < 13) longest = (uint64_t)1 << (nth - 4);
+    random = ((uint64_t)(uintptr_t)waits + nth) * 6364136223846793005u >> 33;
+    sleep.tv_usec = (suseconds_t)(longest - random % (longest / 2 + 1));
+    select(0, NULL, NULL, NULL, &sleep);
+}
+
+/* How transactions of a caller ended: by a commit, by an abort, and by a busy call, which aborts too.
+ * Only transactions of boostmap_caller_NAME are counted. */
+typedef struct boostmap_counts {
+    uint64_t commits;
+    uint64_t aborts;
+    uint64_t busy;
+} boostmap_counts;
+
+static inline boostmap_counts boostmap_caller_counts(const boostmap_caller *caller) {
+    boostmap_counts counts;
+    counts.commits = caller->commits;
+    counts.aborts = caller->aborts;
+    counts.busy = caller->busy;
+    return counts;
+}
+
+/* Ends a transaction whose operations returned `*status`: commits after 0 and 1, and else aborts. Is 0
+ * if a call of this transaction was busy. */
+static inline int boostmap_caller_ends(boostmap_caller *caller, boostmap_status *status, uint64_t *place) {
+    uint64_t commits = *status <= BOOSTMAP_ABSENT;
+    boostmap_status end = commits ? boostmap_striped_commit(caller, place) : boostmap_striped_abort(caller);
+    if (end == BOOSTMAP_DONE) {
+        caller->commits += commits;
+        caller->aborts += 1 - commits;
+        return 1;
+    }
+    caller->busy += end == BOOSTMAP_NOT_OPEN;
+    if (commits) *status = end;
+    return *status != BOOSTMAP_BUSY;
+}
+
+/* What a transaction does. It neither begins nor ends it, and may run again after it was busy: it
+ * should have no effect outside the map. Its status says how the transaction ends: with 0 and 1 it
+ * commits, with another status it aborts. */
+typedef boostmap_status boostmap_job(boostmap_caller *caller, void *with);
+
+/* Runs a job in a transaction, and returns its status. A busy transaction is tried again at most
+ * `tries` times (UINT64_MAX: for ever); a busy call of another map is returned at once. *word: the
+ * place of the commit, as boostmap_striped_commit has it.
+ * What the job returns; 2; 3; 19, if the job went on after a busy call and returned 0 or 1; 20 */
+static inline boostmap_status boostmap_caller_transact(boostmap_caller *caller, uint64_t tries, boostmap_job *job,
+                                                       void *with, uint64_t *word) {
+    uint64_t waits = 0;
+    for (;;) {
+        boostmap_status status = boostmap_striped_begin(caller);
+        if (status != BOOSTMAP_DONE) return status;
+        status = job(caller, with);
+        if (boostmap_caller_ends(caller, &status, word) || waits == tries) return status;
+        boostmap_wait(&waits);
+    }
+}
+
+/* Adds to the value of the key, 0 if it has none; *word: the value that it had, or 0. After 9 nothing
+ * has changed.    0; 1: it had none; 9; as boostmap_striped_put */
+static inline boostmap_status boostmap_striped_add(boostmap_caller *caller, uint64_t key, int64_t delta,
+                                                   uint64_t *word) {
+    uint64_t by = delta < 0 ? 0 - (uint64_t)delta : (uint64_t)delta;
+    boostmap_status status = boostmap_striped_get(caller, key, word);
+    if (status == BOOSTMAP_ABSENT) *word = 0;
+    else if (status != BOOSTMAP_DONE) return status;
+    if (delta < 0 ? *word < by : UINT64_MAX - *word < by) return BOOSTMAP_OVERFLOW;
+    return boostmap_striped_put(caller, key, delta < 0 ? *word - by : *word + by, word);
+}
+
+/* Puts only if the key has no value; *word: the value that it has now.
+ * 0; 1: it has been put; as boostmap_striped_put */
+static inline boostmap_status boostmap_striped_get_or_put(boostmap_caller *caller, uint64_t key, uint64_t value,
+                                                          uint64_t *word) {
+    boostmap_status status = boostmap_striped_put_if_absent(caller, key, value, word);
+    if (status == BOOSTMAP_ABSENT) *word = value;
+    return status;
+}
+
+/* The new value of a key: `found` is 0 if the key has the value *value, and 1 if it has none. With 0
+ * *value is put, with 1 the key is taken out, and another status is that of the update. */
+typedef boostmap_status boostmap_change(void *with, boostmap_status found, uint64_t *value);
+
+/* Lets `change` say the key's new value; *word: the value that it had.
+ * 0; 1: it had none; what `change` returns; as boostmap_striped_put */
+static inline boostmap_status boostmap_striped_update(boostmap_caller *caller, uint64_t key,
+                                                      boostmap_change *change, void *with, uint64_t *word) {
+    uint64_t value = 0;
+    boostmap_status found = boostmap_striped_get(caller, key, word), wanted;
+    if (found > BOOSTMAP_ABSENT) return found;
+    if (found == BOOSTMAP_DONE) value = *word;
+    wanted = change(with, found, &value);
+    if (wanted == BOOSTMAP_DONE) return boostmap_striped_put(caller, key, value, word);
+    if (wanted > BOOSTMAP_ABSENT || found == BOOSTMAP_ABSENT) return wanted;
+    return boostmap_striped_take(caller, key, word);
+}
+
+/* All pairs of the map by rising keys, in a new array that the program frees by free(); *word: their
+ * number. Takes every stripe, as boostmap_striped_read: no call reads only a part of a map.
+ * 0; as boostmap_striped_count */
+static inline boostmap_status boostmap_striped_items(boostmap_caller *caller, boostmap_pair **pairs, uint64_t *word) {
+    boostmap_status status = boostmap_striped_count(caller, word);
+    if (status != BOOSTMAP_DONE) return status;
+    *pairs = (boostmap_pair *)malloc((*word + 1) * sizeof **pairs);
+    if (!*pairs) return BOOSTMAP_NO_MEMORY;
+    status = boostmap_striped_read(caller, *pairs, *word, word);
+    if (status != BOOSTMAP_DONE) free(*pairs);
+    return status;
+}
+
+/* Puts the pairs of an array, in their order.    0; as boostmap_striped_put, with some of them put */
+static inline boostmap_status boostmap_striped_put_all(boostmap_caller *caller, const boostmap_pair *pairs,
+                                                       size_t count) {
+    size_t i;
+    for (i = 0; i < count; i++) {
+        uint64_t had;
+        boostmap_status status = boostmap_striped_put(caller, pairs[i].key, pairs[i].value, &had);
+        if (status > BOOSTMAP_ABSENT) return status;
+    }
+    return BOOSTMAP_DONE;
+}
+
+/* Takes every key out; *word: how many there were. Takes every stripe.
+ * 0; as boostmap_striped_count, with some of them taken out */
+static inline boostmap_status boostmap_striped_clear(boostmap_caller *caller, uint64_t *word) {
+    boostmap_pair *pairs;
+    uint64_t i, had;
+    boostmap_status status = boostmap_striped_items(caller, &pairs, word);
+    if (status != BOOSTMAP_DONE) return status;
+    for (i = 0; i < *word && status == BOOSTMAP_DONE; i++) status = boostmap_striped_take(caller, pairs[i].key, &had);
+    free(pairs);
+    return status;
+}
+
+/* Defines boostmap_caller_NAME by its parameters after the caller and by the operation. */
+#define BOOSTMAP_AT_ONCE(NAME, PARAMETERS, OPERATION)                                                \
+    static inline boostmap_status boostmap_caller_##NAME PARAMETERS {                               \
+        uint64_t waits = 0, place;                                                                  \
+        for (;;) {                                                                                  \
+            boostmap_status status = boostmap_striped_begin(caller);                                \
+            if (status != BOOSTMAP_DONE) return status;                                             \
+            status = OPERATION;                                                                     \
+            if (boostmap_caller_ends(caller, &status, &place)) return status;                       \
+            boostmap_wait(&waits);                                                                  \
+        }                                                                                           \
+    }
+
+BOOSTMAP_AT_ONCE(get, (boostmap_caller *caller, uint64_t key, uint64_t *word),
+                 boostmap_striped_get(caller, key, word))
+BOOSTMAP_AT_ONCE(take, (boostmap_caller *caller, uint64_t key, uint64_t *word),
+                 boostmap_striped_take(caller, key, word))
+BOOSTMAP_AT_ONCE(put, (boostmap_caller *caller, uint64_t key, uint64_t value, uint64_t *word),
+                 boostmap_striped_put(caller, key, value, word))
+BOOSTMAP_AT_ONCE(put_if_absent, (boostmap_caller *caller, uint64_t key, uint64_t value, uint64_t *word),
+                 boostmap_striped_put_if_absent(caller, key, value, word))
+BOOSTMAP_AT_ONCE(put_if_equal,
+                 (boostmap_caller *caller, uint64_t key, uint64_t expected, uint64_t value, uint64_t *word),
+                 boostmap_striped_put_if_equal(caller, key, expected, value, word))
+BOOSTMAP_AT_ONCE(add, (boostmap_caller *caller, uint64_t key, int64_t delta, uint64_t *word),
+                 boostmap_striped_add(caller, key, delta, word))
+BOOSTMAP_AT_ONCE(get_or_put, (boostmap_caller *caller, uint64_t key, uint64_t value, uint64_t *word),
+                 boostmap_striped_get_or_put(caller, key, value, word))
+BOOSTMAP_AT_ONCE(update,
+                 (boostmap_caller *caller, uint64_t key, boostmap_change *change, void *with, uint64_t *word),
+                 boostmap_striped_update(caller, key, change, with, word))
+BOOSTMAP_AT_ONCE(count, (boostmap_caller *caller, uint64_t *word), boostmap_striped_count(caller, word))
+BOOSTMAP_AT_ONCE(items, (boostmap_caller *caller, boostmap_pair **pairs, uint64_t *word),
+                 boostmap_striped_items(caller, pairs, word))
+BOOSTMAP_AT_ONCE(put_all, (boostmap_caller *caller, const boostmap_pair *pairs, size_t count),
+                 boostmap_striped_put_all(caller, pairs, count))
+BOOSTMAP_AT_ONCE(clear, (boostmap_caller *caller, uint64_t *word), boostmap_striped_clear(caller, word))
+#undef BOOSTMAP_AT_ONCE
+
+/* How a striped map is opened, for boostmap_striped_open_with; members that are 0 are as said at the
+ * right. Later versions may add members at the end, whose 0 is what this version does. */
+typedef struct boostmap_options {
+    uint64_t callers; /* 1 */
+    uint64_t stripes; /* 64 */
+    uint64_t keys;    /* no room for keys from the start */
+    uint64_t seed;    /* the same hash in every run: only for keys that no stranger chooses */
+    uint32_t keep;    /* BOOSTMAP_KEEP_NOTHING */
+} boostmap_options;
+
+/* Opens a map as boostmap_striped_open does.    As boostmap_striped_open */
+static inline boostmap_status boostmap_striped_open_with(boostmap_caller *first, const boostmap_options *options,
+                                                         uint64_t *word) {
+    return boostmap_striped_open(first, options->callers ? options->callers : 1,
+                                 options->stripes ? options->stripes : 64, options->keys, options->keep,
+                                 options->seed, word);
+}
 
 #ifdef __cplusplus
 }

@@ -1,34 +1,32 @@
 // boostmap for C++17: handles as values that can be moved but not copied, transactions that abort in
 // their destructor, and `transact` with a lambda. This header is only tested; the archive is proved.
 //
-//     boostmap_cpp::map accounts(2, 64, 1024);
-//     accounts.transact(0, [](auto &t) { t.put(1, 10); });
-//     accounts.transact(0, [](auto &t) {
+//     auto callers = boostmap_cpp::open_striped(4, 64);      one for each of four threads
+//     callers[0].put(1, 10);                                 a transaction of one call
+//     callers[0].transact([](auto &t) {                      if busy, waits and tries again
 //         t.put(1, t.get(1).value_or(0) - 5);
 //         t.put(2, t.get(2).value_or(0) + 5);
-//     });                                  commits; an exception aborts
+//     });                                                    commits; an exception aborts
 //
-//     auto callers = boostmap_cpp::open_striped(4, 64);      one for each of four threads
-//     callers[0].transact([](auto &t) { t.put(1, 10); });        if busy, waits and tries again
+//     boostmap_cpp::map accounts(2, 64, 1024);               a map with one owner
+//     accounts.transact(0, [](auto &t) { t.put(1, 10); });
 //
 // A job can neither commit nor abort. It throws, or calls `t.roll_back()` to return a value although
-// nothing is committed.
+// nothing is committed. It may run again after it was busy, so it should change nothing but the map.
 //
 // Threads: as boostmap.h says, one call at a time on one map, one caller or one judge. A call that
 // fails throws `error`, or `busy`.
 #ifndef BOOSTMAP_HPP
 #define BOOSTMAP_HPP
 
-#include "boostmap.h"
+#include "boostmap_recorded.h"
 
 #include <algorithm>
-#include <chrono>
 #include <cstdint>
 #include <optional>
 #include <random>
 #include <stdexcept>
 #include <string>
-#include <thread>
 #include <type_traits>
 #include <utility>
 #include <vector>
@@ -82,21 +80,6 @@ template <class Open, class Job> auto run_and_finish(Open &open, Job &job) {
     }
 }
 
-// The waits between the tries of one transaction: four yields, and then sleeps, each twice as long as
-// the one before, up to half a millisecond, and shortened by chance by up to a half.
-class waits {
-public:
-    void wait() {
-        if (tries_++ < 4) return std::this_thread::yield();
-        random_ = random_ * 6364136223846793005 + 1442695040888963407;
-        std::this_thread::sleep_for(std::chrono::nanoseconds(longest_ / 2 + (random_ >> 33) % (longest_ / 2)));
-        longest_ = std::min<std::uint64_t>(longest_ * 2, 500000);
-    }
-
-private:
-    std::uint64_t tries_ = 0, longest_ = 1000, random_ = reinterpret_cast<std::uintptr_t>(this);
-};
-
 // For a call that answers no value.
 inline void check(boostmap_status status) { value_or_throw(status, 0); }
 } // namespace detail
@@ -129,7 +112,7 @@ public:
     void help(std::uint64_t caller, std::uint64_t key) { detail::check(boostmap_help(&handle_, caller, key)); }
 
     // The pairs of the map, with the changes of open transactions, in no particular order.
-    std::vector<boostmap_pair> pairs() {
+    std::vector<boostmap_pair> items() {
         std::vector<boostmap_pair> all(count() + 1); // one more, so that data() is not null
         std::uint64_t word = 0;
         boostmap_status status = boostmap_read(&handle_, all.data(), all.size(), &word);
@@ -243,14 +226,19 @@ template <class Job> auto map::transact(std::uint64_t caller, Job &&job) {
     return detail::run_and_finish(open, job);
 }
 
-// How a striped map is opened: the number of keys for which it has room from the start, whether it keeps
-// the number of its commits, so that each commit tells its place, and the seed of the hash of keys
-// within a stripe, drawn from the system, below 2^32, unless it is given.
+// How a striped map is opened: the number of keys for which it has room from the start; whether it keeps
+// the number of its commits, so that each commit tells its place; whether its callers keep the entries
+// of their committed transactions for `history`, which takes 64 bytes an entry; and the seed of the
+// hash of keys within a stripe, drawn from the system, below 2^32, unless it is given.
 struct opening {
     std::uint64_t keys = 0;
     bool keeps_commits = false;
+    bool keeps_entries = false;
     std::uint64_t seed = std::random_device{}();
 };
+
+// How a caller's transactions ended: by a commit, by an abort, and by a busy call, which aborts too.
+using counts = boostmap_counts;
 
 class caller_calls;
 class caller_job;
@@ -259,20 +247,27 @@ class caller_transaction;
 // A caller of a striped map, for one thread. Callers of one map may be in calls at the same time.
 class caller {
 public:
-    caller(caller &&other) noexcept : number_(other.number_) { std::swap(handle_, other.handle_); }
+    caller(caller &&other) noexcept { swap(other); }
     caller &operator=(caller &&other) noexcept {
-        std::swap(handle_, other.handle_);
-        std::swap(number_, other.number_);
+        swap(other);
         return *this;
     }
     caller(const caller &) = delete;
     caller &operator=(const caller &) = delete;
-    ~caller() { boostmap_striped_free(&handle_); }
+    ~caller() { boostmap_recorded_free(&handle_); }
 
     std::uint64_t number() const { return number_; }
+    boostmap_cpp::counts counts() const { return boostmap_caller_counts(&handle_.caller); }
 
     // Begins a transaction, which aborts if it is destroyed before it is committed.
     [[nodiscard]] caller_transaction begin();
+
+    // Aborts the caller's transaction, and returns whether there was one.
+    bool abort() {
+        bool aborts = boostmap_recorded_abort(&handle_) == BOOSTMAP_DONE;
+        handle_.caller.aborts += aborts;
+        return aborts;
+    }
 
     // Runs a job, which is given a `caller_job`, in a transaction: commits, or aborts if the job throws
     // or rolls back. If a call of this transaction was busy, waits and runs the job again, for ever or
@@ -280,11 +275,30 @@ public:
     template <class Job> auto transact(Job &&job) { return transact(UINT64_MAX, job); }
     template <class Job> auto transact(std::uint64_t tries, Job &&job);
 
+    // Each of these is a transaction of its own, which waits for ever while it is busy. They are as in
+    // `caller_calls`.
+    value get(std::uint64_t key);
+    value take(std::uint64_t key);
+    value put(std::uint64_t key, std::uint64_t to);
+    value put_if(std::uint64_t key, value expected, std::uint64_t to);
+    value add(std::uint64_t key, std::int64_t delta);
+    std::uint64_t get_or_put(std::uint64_t key, std::uint64_t to);
+    template <class Change> value update(std::uint64_t key, Change &&change);
+    std::uint64_t count();
+    std::vector<boostmap_pair> items();
+    void put_all(const std::vector<boostmap_pair> &pairs);
+    std::uint64_t clear();
+
 private:
     friend class caller_calls;
     friend std::vector<caller> open_striped(std::uint64_t callers, std::uint64_t stripes, const opening &how);
+    friend std::vector<boostmap_entry> history(const std::vector<caller> &callers);
     caller() = default;
-    boostmap_caller handle_ = BOOSTMAP_INIT;
+    void swap(caller &other) noexcept {
+        std::swap(handle_, other.handle_);
+        std::swap(number_, other.number_);
+    }
+    boostmap_recorded handle_ = {};
     std::uint64_t number_ = 0;
 };
 
@@ -293,16 +307,41 @@ private:
 inline std::vector<caller> open_striped(std::uint64_t callers, std::uint64_t stripes, const opening &how = {}) {
     std::vector<caller> all;
     caller first;
-    std::uint32_t keep = how.keeps_commits ? BOOSTMAP_KEEP_COMMITS : BOOSTMAP_KEEP_NOTHING;
-    detail::check(boostmap_striped_open(&first.handle_, callers, stripes, how.keys, keep, how.seed, &first.number_));
+    bool keeps = how.keeps_commits || how.keeps_entries;
+    first.handle_.is_recorded = how.keeps_entries;
+    detail::check(boostmap_striped_open(&first.handle_.caller, callers, stripes, how.keys,
+                                        keeps ? BOOSTMAP_KEEP_COMMITS : BOOSTMAP_KEEP_NOTHING, how.seed,
+                                        &first.number_));
     all.reserve(callers);
     for (std::uint64_t i = 1; i < callers; i++) {
         caller next;
-        detail::check(boostmap_striped_join(&first.handle_, &next.handle_, &next.number_));
+        detail::check(boostmap_recorded_join(&first.handle_, &next.handle_, &next.number_));
         all.push_back(std::move(next));
     }
     std::reverse(all.begin(), all.end()); // numbers are counted down
     all.push_back(std::move(first));
+    return all;
+}
+
+// The committed transactions of a map's callers, in the order of commits, each as a whole, for a judge
+// by the order of commits. Only if the map keeps its entries and these are all its callers is the
+// history the map's. No entry says a number of keys; `items` has a get of each pair.
+inline std::vector<boostmap_entry> history(const std::vector<caller> &callers) {
+    struct part {
+        const boostmap_entry *first, *end;
+    };
+    std::vector<part> parts;
+    for (const auto &each : callers) {
+        const boostmap_entry *at = each.handle_.entries;
+        for (std::size_t i = 0, from = 0; i < each.handle_.kept; i++)
+            if (at[i].kind == BOOSTMAP_COMMITTED) {
+                parts.push_back({at + from, at + i + 1});
+                from = i + 1;
+            }
+    }
+    std::sort(parts.begin(), parts.end(), [](part a, part b) { return a.first->number < b.first->number; });
+    std::vector<boostmap_entry> all;
+    for (const auto &each : parts) all.insert(all.end(), each.first, each.end);
     return all;
 }
 
@@ -313,51 +352,94 @@ public:
     caller_calls(const caller_calls &) = delete;
     caller_calls &operator=(const caller_calls &) = delete;
     ~caller_calls() {
-        if (caller_) boostmap_striped_abort(&caller_->handle_);
+        if (caller_) caller_->abort();
     }
 
-    value get(std::uint64_t key) { return call(boostmap_striped_get, key); }
-    value take(std::uint64_t key) { return call(boostmap_striped_take, key); }
-    value put(std::uint64_t key, std::uint64_t to) { return call(boostmap_striped_put, key, to); }
-    value put_if_absent(std::uint64_t key, std::uint64_t to) { return call(boostmap_striped_put_if_absent, key, to); }
+    value get(std::uint64_t key) { return call(boostmap_recorded_get, key); }
+    value take(std::uint64_t key) { return call(boostmap_recorded_take, key); }
+    value put(std::uint64_t key, std::uint64_t to) { return call(boostmap_recorded_put, key, to); }
+    value put_if_absent(std::uint64_t key, std::uint64_t to) { return call(boostmap_recorded_put_if_absent, key, to); }
     value put_if_equal(std::uint64_t key, std::uint64_t expected, std::uint64_t to) {
-        return call(boostmap_striped_put_if_equal, key, expected, to);
+        return call(boostmap_recorded_put_if_equal, key, expected, to);
     }
-    std::uint64_t save() { return *call(boostmap_striped_save); }
-    void back(std::uint64_t level) { detail::check(boostmap_striped_back(handle(), level)); }
+    // Puts if the key has the expected value, or, without one, if it is absent; returns the value before.
+    value put_if(std::uint64_t key, value expected, std::uint64_t to) {
+        return expected ? put_if_equal(key, *expected, to) : put_if_absent(key, to);
+    }
 
-    // The number of keys of the map, and its pairs by rising keys. Both take every stripe.
-    std::uint64_t count() { return *call(boostmap_striped_count); }
-    std::vector<boostmap_pair> pairs() {
+    // Adds to the value of the key, 0 if it has none, and returns the value before. If the sum does not
+    // fit in 64 bits, throws `error` with BOOSTMAP_OVERFLOW, and nothing has changed.
+    value add(std::uint64_t key, std::int64_t delta) {
+        value had = get(key);
+        std::uint64_t from = had.value_or(0), to = from + static_cast<std::uint64_t>(delta);
+        if (delta < 0 ? to > from : to < from) throw error(BOOSTMAP_OVERFLOW);
+        return put(key, to);
+    }
+    // Puts only if the key has no value; returns the value that it has now.
+    std::uint64_t get_or_put(std::uint64_t key, std::uint64_t to) { return put_if_absent(key, to).value_or(to); }
+
+    // Puts what `change` makes of the key's value, or, if it makes none, takes the key out; returns the
+    // value before.
+    template <class Change> value update(std::uint64_t key, Change &&change) {
+        value had = get(key), to = change(had);
+        if (to) put(key, *to);
+        else if (had) take(key);
+        return had;
+    }
+
+    std::uint64_t save() { return *call(boostmap_recorded_save); }
+    void back(std::uint64_t level) { detail::check(boostmap_recorded_back(handle(), level)); }
+
+    // The number of keys of the map, and its pairs by rising keys. Both take every stripe: no call reads
+    // only a part of a map.
+    std::uint64_t count() { return *call(boostmap_recorded_count); }
+    std::vector<boostmap_pair> items() {
         std::vector<boostmap_pair> all(count() + 1); // one more, so that data() is not null
-        all.resize(*call(boostmap_striped_read, all.data(), all.size()));
+        all.resize(*call(boostmap_recorded_read, all.data(), all.size()));
         return all;
     }
 
+    void put_all(const std::vector<boostmap_pair> &pairs) {
+        for (const auto &pair : pairs) put(pair.key, pair.value);
+    }
+    // Takes every key out, and returns how many there were. Takes every stripe.
+    std::uint64_t clear() {
+        auto all = items();
+        for (const auto &pair : all) take(pair.key);
+        return all.size();
+    }
+
 protected:
-    explicit caller_calls(caller *owner) : caller_(owner) { detail::check(boostmap_striped_begin(&owner->handle_)); }
+    explicit caller_calls(caller *owner) : caller_(owner) { detail::check(boostmap_recorded_begin(&owner->handle_)); }
     caller_calls(caller_calls &&other) noexcept : caller_(std::exchange(other.caller_, nullptr)) {}
 
     value end_by_commit() {
-        value place = call(boostmap_striped_commit);
+        value place = call(boostmap_recorded_commit);
+        counted().commits++;
         caller_ = nullptr;
         return *place ? place : std::nullopt;
     }
     void end_by_abort() {
-        detail::check(boostmap_striped_abort(handle()));
+        detail::check(boostmap_recorded_abort(handle()));
+        counted().aborts++;
         caller_ = nullptr;
     }
 
 private:
-    boostmap_caller *handle() {
+    boostmap_recorded *handle() {
         if (!caller_) throw error(BOOSTMAP_NOT_OPEN);
         return &caller_->handle_;
     }
+    boostmap_caller &counted() { return caller_->handle_.caller; }
+
     template <class Call, class... Words> value call(Call function, Words... words) {
-        boostmap_caller *called = handle();
+        boostmap_recorded *called = handle();
         std::uint64_t word = 0;
         boostmap_status status = function(called, words..., &word);
-        if (status == BOOSTMAP_BUSY) caller_ = nullptr;
+        if (status == BOOSTMAP_BUSY) {
+            counted().busy++;
+            caller_ = nullptr;
+        }
         return detail::value_or_throw(status, word, called);
     }
 
@@ -400,16 +482,48 @@ private:
 inline caller_transaction caller::begin() { return caller_transaction(this); }
 
 template <class Job> auto caller::transact(std::uint64_t tries, Job &&job) {
-    detail::waits waits;
-    for (;; tries--) {
+    for (std::uint64_t waits = 0;; boostmap_wait(&waits)) {
         try {
             caller_job open(this);
             return detail::run_and_finish(open, job);
         } catch (const busy &found) {
-            if (found.handle != &handle_ || tries == 0) throw;
+            if (found.handle != &handle_ || waits == tries) throw;
         }
-        waits.wait();
     }
+}
+
+inline value caller::get(std::uint64_t key) {
+    return transact([&](auto &t) { return t.get(key); });
+}
+inline value caller::take(std::uint64_t key) {
+    return transact([&](auto &t) { return t.take(key); });
+}
+inline value caller::put(std::uint64_t key, std::uint64_t to) {
+    return transact([&](auto &t) { return t.put(key, to); });
+}
+inline value caller::put_if(std::uint64_t key, value expected, std::uint64_t to) {
+    return transact([&](auto &t) { return t.put_if(key, expected, to); });
+}
+inline value caller::add(std::uint64_t key, std::int64_t delta) {
+    return transact([&](auto &t) { return t.add(key, delta); });
+}
+inline std::uint64_t caller::get_or_put(std::uint64_t key, std::uint64_t to) {
+    return transact([&](auto &t) { return t.get_or_put(key, to); });
+}
+template <class Change> value caller::update(std::uint64_t key, Change &&change) {
+    return transact([&](auto &t) { return t.update(key, change); });
+}
+inline std::uint64_t caller::count() {
+    return transact([](auto &t) { return t.count(); });
+}
+inline std::vector<boostmap_pair> caller::items() {
+    return transact([](auto &t) { return t.items(); });
+}
+inline void caller::put_all(const std::vector<boostmap_pair> &pairs) {
+    transact([&](auto &t) { t.put_all(pairs); });
+}
+inline std::uint64_t caller::clear() {
+    return transact([](auto &t) { return t.clear(); });
 }
 
 // The judge of histories, fed entry by entry. The functions of `entry` below make entries.

@@ -1,7 +1,7 @@
-/* The striped map's callers and transactions for Python, in C: a call costs a fifth of what it costs by
- * ctypes, and no signal handler runs between a call and its bookkeeping. boostmap.py has the same classes
+/* The striped map's callers and transactions for Python, in C: a call costs a tenth of what it costs by
+ * ctypes, or less, and no signal handler runs between a call and its bookkeeping. boostmap.py has the same classes
  * by ctypes, for machines without Python's headers, and their documentation. Short calls hold the
- * interpreter's lock; `items` and `len` release it. */
+ * interpreter's lock; `items`, `len` and waits release it. */
 #define PY_SSIZE_T_CLEAN
 #include <Python.h>
 #include <boostmap.h>
@@ -14,13 +14,14 @@ static PyObject *Py_NewRef(PyObject *object) {
 }
 #endif
 
-/* boostmap.Busy and boostmap.Refused. */
-static PyObject *busy_type, *refused_type;
+/* boostmap.Busy, boostmap.Refused and boostmap.CallerTransaction. */
+static PyObject *busy_type, *refused_type, *transaction_type;
 
 typedef struct {
     PyObject_HEAD
     boostmap_caller *handle; /* aligned, which Python's own memory is not */
-    PyThread_type_lock lock;
+    PyThread_type_lock lock; /* held while a thread looks at the map without the interpreter's lock */
+    int is_looked_at;
     uint64_t number;
 } Caller;
 
@@ -28,24 +29,28 @@ typedef struct {
     PyObject_HEAD
     Caller *caller;
     PyObject *commit_number;
+    PyObject *kept; /* a list to which a commit adds its place, or null */
     int is_open, was_busy, rolls_back;
 } Transaction;
 
-/* Takes the caller's lock. Another thread holds it only while it has released the interpreter's lock. */
+/* Waits until no other thread is in a call of this caller. All calls but `look` hold the interpreter's
+ * lock, which keeps the others out. */
 static void enter(Caller *caller) {
-    if (PyThread_acquire_lock(caller->lock, NOWAIT_LOCK)) return;
-    Py_BEGIN_ALLOW_THREADS
-    PyThread_acquire_lock(caller->lock, WAIT_LOCK);
-    Py_END_ALLOW_THREADS
+    while (caller->is_looked_at) {
+        Py_BEGIN_ALLOW_THREADS
+        PyThread_acquire_lock(caller->lock, WAIT_LOCK);
+        PyThread_release_lock(caller->lock);
+        Py_END_ALLOW_THREADS
+    }
 }
-
-static void leave(Caller *caller) { PyThread_release_lock(caller->lock); }
 
 /* Raises what a status other than done and absent says. */
 static PyObject *raise_status(boostmap_status status, uint64_t word) {
     int is_busy = status == BOOSTMAP_BUSY;
     unsigned long long number = is_busy ? word : status;
-    PyObject *type = is_busy ? busy_type : refused_type, *raised = PyObject_CallFunction(type, "K", number);
+    PyObject *type = is_busy ? busy_type : refused_type, *raised;
+    if (status == BOOSTMAP_OVERFLOW) return PyErr_Format(PyExc_OverflowError, "%s", boostmap_text(status));
+    raised = PyObject_CallFunction(type, "K", number);
     if (raised) PyErr_SetObject(type, raised);
     Py_XDECREF(raised);
     return NULL;
@@ -67,6 +72,123 @@ static int read_number(PyObject *from, uint64_t *number) {
         PyErr_Format(PyExc_OverflowError, "%S is not an unsigned 64-bit number", index);
     Py_DECREF(index);
     return PyErr_Occurred() ? -1 : 0;
+}
+
+/* ---- operations ---- */
+
+enum { GET, TAKE, PUT, PUT_IF, PUT_IF_EQUAL, ADD, GET_OR_PUT };
+
+/* The names by which `run` knows the operations; `word` is the name as the interpreter keeps it. */
+static struct {
+    const char *name;
+    int kind;
+    PyObject *word;
+} operations[] = {{"get", GET, NULL},       {"put", PUT, NULL}, {"take", TAKE, NULL},
+                  {"put_if", PUT_IF, NULL}, {"add", ADD, NULL}, {"get_or_put", GET_OR_PUT, NULL}};
+
+/* An operation with its numbers. */
+typedef struct {
+    int kind;
+    uint64_t key, value, expected;
+    int64_t delta;
+} Operation;
+
+/* Reads a signed number of 64 bits: 0, or -1 with an exception. */
+static int read_delta(PyObject *from, int64_t *delta) {
+    PyObject *index = PyNumber_Index(from);
+    if (!index) return -1;
+    *delta = PyLong_AsLongLong(index);
+    if (PyErr_Occurred() && PyErr_ExceptionMatches(PyExc_OverflowError))
+        PyErr_Format(PyExc_OverflowError, "%S is not a signed 64-bit number", index);
+    Py_DECREF(index);
+    return PyErr_Occurred() ? -1 : 0;
+}
+
+/* Reads the arguments of an operation: 0, or -1 with an exception. */
+static int read_operation(Operation *op, int kind, PyObject *const *given, Py_ssize_t count) {
+    Py_ssize_t wanted = kind == PUT_IF ? 3 : kind == GET || kind == TAKE ? 1 : 2;
+    op->kind = kind;
+    if (count != wanted) {
+        PyErr_Format(PyExc_TypeError, "the operation takes %zd arguments, and not %zd", wanted, count);
+        return -1;
+    }
+    if (read_number(given[0], &op->key)) return -1;
+    if (kind == ADD) return read_delta(given[1], &op->delta);
+    if (wanted > 1 && read_number(given[wanted - 1], &op->value)) return -1;
+    if (kind != PUT_IF || given[1] == Py_None) return 0;
+    op->kind = PUT_IF_EQUAL;
+    return read_number(given[1], &op->expected);
+}
+
+enum { OPERATIONS = sizeof operations / sizeof *operations };
+
+/* The place of a name among the operations, or OPERATIONS. */
+static int operation_of(PyObject *name) {
+    int i = 0;
+    while (i < OPERATIONS && operations[i].word != name) i++;
+    if (i < OPERATIONS || !PyUnicode_Check(name)) return i;
+    for (i = 0; i < OPERATIONS && PyUnicode_CompareWithASCIIString(name, operations[i].name); i++) {}
+    return i;
+}
+
+/* Reads an operation that is given by its name and its arguments: 0, or -1 with an exception. */
+static int read_named(Operation *op, PyObject *given) {
+    PyObject *words = PySequence_Fast(given, "an operation is a name with its arguments");
+    Py_ssize_t count = words ? PySequence_Fast_GET_SIZE(words) : 0;
+    int found = count ? operation_of(PySequence_Fast_GET_ITEM(words, 0)) : OPERATIONS, failed = -1;
+    if (!words) return -1;
+    if (found == OPERATIONS) PyErr_Format(PyExc_ValueError, "%R is no operation", given);
+    else failed = read_operation(op, operations[found].kind, PySequence_Fast_ITEMS(words) + 1, count - 1);
+    Py_DECREF(words);
+    return failed;
+}
+
+static boostmap_status perform(boostmap_caller *handle, const Operation *op, uint64_t *word) {
+    boostmap_status status;
+    switch (op->kind) {
+    case GET: return boostmap_striped_get(handle, op->key, word);
+    case TAKE: return boostmap_striped_take(handle, op->key, word);
+    case PUT: return boostmap_striped_put(handle, op->key, op->value, word);
+    case PUT_IF: return boostmap_striped_put_if_absent(handle, op->key, op->value, word);
+    case PUT_IF_EQUAL: return boostmap_striped_put_if_equal(handle, op->key, op->expected, op->value, word);
+    case ADD: return boostmap_striped_add(handle, op->key, op->delta, word);
+    default:
+        status = boostmap_striped_get_or_put(handle, op->key, op->value, word);
+        return status == BOOSTMAP_ABSENT ? BOOSTMAP_DONE : status; /* it always answers a value */
+    }
+}
+
+/* What an operation came to. */
+typedef struct {
+    boostmap_status status;
+    uint64_t word;
+} Reply;
+
+/* Performs operations in a transaction of their own, again and again until it is not busy. Returns 0 and
+ * the replies, or -1 with an exception. */
+static int perform_all(Caller *caller, const Operation *ops, Reply *replies, Py_ssize_t count) {
+    uint64_t waits = 0, place = 0, word = 0;
+    for (;;) {
+        int is_over = 1;
+        boostmap_status status;
+        enter(caller);
+        status = boostmap_striped_begin(caller->handle);
+        if (status == BOOSTMAP_DONE) {
+            for (Py_ssize_t i = 0; i < count && status <= BOOSTMAP_ABSENT; i++) {
+                status = replies[i].status = perform(caller->handle, &ops[i], &word);
+                replies[i].word = word;
+            }
+            is_over = boostmap_caller_ends(caller->handle, &status, &place);
+        }
+        if (is_over) {
+            if (status > BOOSTMAP_ABSENT) raise_status(status, word);
+            return status > BOOSTMAP_ABSENT ? -1 : 0;
+        }
+        Py_BEGIN_ALLOW_THREADS
+        boostmap_wait(&waits);
+        Py_END_ALLOW_THREADS
+        if (PyErr_CheckSignals()) return -1;
+    }
 }
 
 /* ---- callers ---- */
@@ -105,7 +227,6 @@ static PyObject *caller_open(PyObject *self, PyObject *args) {
         if (read_number(given[i], &how[i])) return NULL;
     enter(caller);
     status = boostmap_striped_open(caller->handle, how[0], how[1], how[2], (uint32_t)how[3], how[4], &caller->number);
-    leave(caller);
     return answer(status, caller->number);
 }
 
@@ -118,7 +239,6 @@ static PyObject *caller_join(PyObject *self, PyObject *next) {
     }
     enter(first);
     status = boostmap_striped_join(first->handle, other->handle, &other->number);
-    leave(first);
     return answer(status, other->number);
 }
 
@@ -127,7 +247,7 @@ static PyObject *caller_abort(PyObject *self, PyObject *none) {
     (void)none;
     enter((Caller *)self);
     status = boostmap_striped_abort(((Caller *)self)->handle);
-    leave((Caller *)self);
+    ((Caller *)self)->handle->aborts += status == BOOSTMAP_DONE;
     return PyBool_FromLong(status == BOOSTMAP_DONE);
 }
 
@@ -135,7 +255,6 @@ static PyObject *caller_close(PyObject *self, PyObject *none) {
     (void)none;
     enter((Caller *)self);
     boostmap_striped_free(((Caller *)self)->handle);
-    leave((Caller *)self);
     Py_RETURN_NONE;
 }
 
@@ -144,9 +263,89 @@ static PyObject *caller_number(PyObject *self, void *none) {
     return PyLong_FromUnsignedLongLong(((Caller *)self)->number);
 }
 
+static PyObject *caller_counts(PyObject *self, PyObject *none) {
+    boostmap_counts counts = boostmap_caller_counts(((Caller *)self)->handle);
+    (void)none;
+    return Py_BuildValue("KKK", (unsigned long long)counts.commits, (unsigned long long)counts.aborts,
+                         (unsigned long long)counts.busy);
+}
+
+/* One operation in a transaction of its own. */
+static PyObject *at_once(PyObject *self, int kind, PyObject *const *given, Py_ssize_t count) {
+    Operation op;
+    Reply reply;
+    if (read_operation(&op, kind, given, count) || perform_all((Caller *)self, &op, &reply, 1)) return NULL;
+    return answer(reply.status, reply.word);
+}
+
+/* Performs the operations of a sequence, and returns a list of their replies. */
+static PyObject *run_all(Caller *caller, PyObject *sequence, Operation *ops, Reply *replies) {
+    Py_ssize_t count = PySequence_Fast_GET_SIZE(sequence);
+    PyObject *all, *reply;
+    for (Py_ssize_t i = 0; i < count; i++)
+        if (read_named(&ops[i], PySequence_Fast_GET_ITEM(sequence, i))) return NULL;
+    if (perform_all(caller, ops, replies, count)) return NULL;
+    all = PyList_New(count);
+    for (Py_ssize_t i = 0; all && i < count; i++) {
+        reply = answer(replies[i].status, replies[i].word);
+        if (reply) PyList_SET_ITEM(all, i, reply);
+        else Py_CLEAR(all);
+    }
+    return all;
+}
+
+static PyObject *caller_run(PyObject *self, PyObject *given) {
+    PyObject *sequence = PySequence_Tuple(given), *all;
+    Operation *ops;
+    Reply *replies;
+    if (!sequence) return NULL;
+    ops = PyMem_New(Operation, PyTuple_GET_SIZE(sequence) + 1);
+    replies = PyMem_New(Reply, PyTuple_GET_SIZE(sequence) + 1);
+    all = ops && replies ? run_all((Caller *)self, sequence, ops, replies) : PyErr_NoMemory();
+    PyMem_Free(ops);
+    PyMem_Free(replies);
+    Py_DECREF(sequence);
+    return all;
+}
+
+#define AT_ONCE(NAME, KIND)                                                                        \
+    static PyObject *caller_##NAME(PyObject *self, PyObject *const *given, Py_ssize_t count) {     \
+        return at_once(self, KIND, given, count);                                                  \
+    }
+AT_ONCE(get, GET)
+AT_ONCE(take, TAKE)
+AT_ONCE(put, PUT)
+AT_ONCE(put_if, PUT_IF)
+AT_ONCE(add, ADD)
+AT_ONCE(get_or_put, GET_OR_PUT)
+
+static PyObject *caller_transaction(PyObject *self, PyObject *none);
+static PyObject *caller_transact(PyObject *self, PyObject *args, PyObject *names);
+
+/* A method that takes its arguments as an array. */
+#define FAST(NAME, FUNCTION, TEXT) {NAME, (PyCFunction)(void (*)(void))FUNCTION, METH_FASTCALL, TEXT}
+
 static PyMethodDef caller_methods[] = {
     {"_open", caller_open, METH_VARARGS, NULL},
     {"_join", caller_join, METH_O, NULL},
+    {"_counts", caller_counts, METH_NOARGS, NULL},
+    FAST("get", caller_get, "The value at the key, in a transaction of its own, as are all operations of a caller."),
+    FAST("take", caller_take, "Takes the key out, and returns the value that it had."),
+    FAST("put", caller_put, "Puts the value at the key, and returns the value before."),
+    FAST("put_if", caller_put_if,
+         "Puts the value if the key has the expected one (None: if it is absent), and returns the value before."),
+    FAST("add", caller_add, "Adds to the value of the key, 0 if it has none, and returns the value before. A sum "
+                            "beyond 64 bits raises OverflowError, and changes nothing."),
+    FAST("get_or_put", caller_get_or_put, "Puts only if the key has no value; returns the value that it has now."),
+    {"transaction", caller_transaction, METH_NOARGS,
+     "A transaction, which begins at `with`, commits at its end, and aborts at an exception."},
+    {"transact", (PyCFunction)(void (*)(void))caller_transact, METH_VARARGS | METH_KEYWORDS,
+     "transact(job, tries=None)\n--\n\n"
+     "Runs a job, which is given the transaction, and commits. If a call of the transaction was busy, waits and tries "
+     "again, at most `tries` times if that is given: it yields at first, and then sleeps, each time about twice as "
+     "long, up to half a millisecond. Returns the job's result."},
+    {"run", caller_run, METH_O,
+     "Runs operations in one transaction, such as [(\"get\", 1), (\"put\", 2, 20)], and returns their replies."},
     {"abort", caller_abort, METH_NOARGS, "Aborts the caller's transaction, and returns whether there was one."},
     {"close", caller_close, METH_NOARGS, "Frees the caller. An open transaction is aborted."},
     {0},
@@ -171,16 +370,23 @@ static PyTypeObject *caller_type;
 
 /* ---- transactions ---- */
 
-static PyObject *transaction_new(PyTypeObject *type, PyObject *args, PyObject *names) {
-    PyObject *caller;
-    Transaction *t;
-    (void)names;
-    if (!PyArg_ParseTuple(args, "O!", caller_type, &caller)) return NULL;
-    t = (Transaction *)type->tp_alloc(type, 0);
+static PyObject *transaction_of(PyTypeObject *type, PyObject *caller) {
+    Transaction *t = (Transaction *)type->tp_alloc(type, 0);
     if (!t) return NULL;
     t->caller = (Caller *)Py_NewRef(caller);
     t->commit_number = Py_NewRef(Py_None);
     return (PyObject *)t;
+}
+
+static PyObject *caller_transaction(PyObject *self, PyObject *none) {
+    (void)none;
+    return transaction_of((PyTypeObject *)transaction_type, self);
+}
+
+static PyObject *transaction_new(PyTypeObject *type, PyObject *args, PyObject *names) {
+    PyObject *caller;
+    (void)names;
+    return PyArg_ParseTuple(args, "O!", caller_type, &caller) ? transaction_of(type, caller) : NULL;
 }
 
 /* Aborts the transaction, if it is open. */
@@ -188,8 +394,7 @@ static void end(Transaction *t) {
     if (!t->is_open) return;
     t->is_open = 0;
     enter(t->caller);
-    boostmap_striped_abort(t->caller->handle);
-    leave(t->caller);
+    t->caller->handle->aborts += boostmap_striped_abort(t->caller->handle) == BOOSTMAP_DONE;
 }
 
 static void transaction_dealloc(PyObject *self) {
@@ -197,6 +402,7 @@ static void transaction_dealloc(PyObject *self) {
     end((Transaction *)self);
     Py_XDECREF(((Transaction *)self)->caller);
     Py_XDECREF(((Transaction *)self)->commit_number);
+    Py_XDECREF(((Transaction *)self)->kept);
     type->tp_free(self);
     Py_DECREF(type);
 }
@@ -204,6 +410,7 @@ static void transaction_dealloc(PyObject *self) {
 static void note_busy(Transaction *t) {
     t->is_open = 0;
     t->was_busy = 1;
+    t->caller->handle->busy++;
 }
 
 /* Makes a call on the handle of an open transaction; after a busy one the transaction is over. */
@@ -212,83 +419,111 @@ static void note_busy(Transaction *t) {
         if (!(T)->is_open) return raise_status(BOOSTMAP_NOT_OPEN, 0);                               \
         enter((T)->caller);                                                                        \
         STATUS = CALLED;                                                                           \
-        leave((T)->caller);                                                                        \
         if (STATUS == BOOSTMAP_BUSY) note_busy(T);                                                  \
     } while (0)
 
-static PyObject *transaction_enter(PyObject *self, PyObject *none) {
-    Transaction *t = (Transaction *)self;
+/* Begins: 0, or -1 with an exception. */
+static int begin(Transaction *t) {
     boostmap_status status;
-    (void)none;
     enter(t->caller);
     status = boostmap_striped_begin(t->caller->handle);
-    leave(t->caller);
-    if (status != BOOSTMAP_DONE) return raise_status(status, 0);
+    if (status != BOOSTMAP_DONE) {
+        raise_status(status, 0);
+        return -1;
+    }
     t->is_open = 1;
     t->was_busy = t->rolls_back = 0;
-    return Py_NewRef(self);
+    return 0;
 }
 
-static PyObject *transaction_exit(PyObject *self, PyObject *const *raised, Py_ssize_t count) {
-    Transaction *t = (Transaction *)self;
+static PyObject *transaction_enter(PyObject *self, PyObject *none) {
+    (void)none;
+    return begin((Transaction *)self) ? NULL : Py_NewRef(self);
+}
+
+/* Commits, or aborts after `roll_back`. */
+static PyObject *finish(Transaction *t) {
     boostmap_status status;
     uint64_t place = 0;
     PyObject *number;
-    if (count < 1 || raised[0] != Py_None || (t->rolls_back && t->is_open)) {
+    if (t->rolls_back && t->is_open) {
         end(t);
         Py_RETURN_NONE;
     }
     CALL(t, status, boostmap_striped_commit(t->caller->handle, &place));
     if (status != BOOSTMAP_DONE) return raise_status(status, 0);
     t->is_open = 0;
+    t->caller->handle->commits++;
     number = place ? PyLong_FromUnsignedLongLong(place) : Py_NewRef(Py_None);
     if (!number) return NULL;
     Py_SETREF(t->commit_number, number);
+    if (t->kept && PyList_Append(t->kept, number)) return NULL;
     Py_RETURN_NONE;
 }
 
-static PyObject *transaction_get(PyObject *self, PyObject *key_given) {
-    Transaction *t = (Transaction *)self;
-    boostmap_status status;
-    uint64_t key, word = 0;
-    if (read_number(key_given, &key)) return NULL;
-    CALL(t, status, boostmap_striped_get(t->caller->handle, key, &word));
-    return answer(status, word);
+static PyObject *transaction_exit(PyObject *self, PyObject *const *raised, Py_ssize_t count) {
+    if (count > 0 && raised[0] == Py_None) return finish((Transaction *)self);
+    end((Transaction *)self);
+    Py_RETURN_NONE;
 }
 
-static PyObject *transaction_take(PyObject *self, PyObject *key_given) {
-    Transaction *t = (Transaction *)self;
-    boostmap_status status;
-    uint64_t key, word = 0;
-    if (read_number(key_given, &key)) return NULL;
-    CALL(t, status, boostmap_striped_take(t->caller->handle, key, &word));
-    return answer(status, word);
-}
-
-static PyObject *transaction_put(PyObject *self, PyObject *const *given, Py_ssize_t count) {
-    Transaction *t = (Transaction *)self;
-    boostmap_status status;
-    uint64_t key, value, word = 0;
-    if (count != 2) return PyErr_Format(PyExc_TypeError, "put takes a key and a value");
-    if (read_number(given[0], &key) || read_number(given[1], &value)) return NULL;
-    CALL(t, status, boostmap_striped_put(t->caller->handle, key, value, &word));
-    return answer(status, word);
-}
-
-static PyObject *transaction_put_if(PyObject *self, PyObject *const *given, Py_ssize_t count) {
-    Transaction *t = (Transaction *)self;
-    boostmap_status status;
-    uint64_t key, expected = 0, value, word = 0;
-    if (count != 3) return PyErr_Format(PyExc_TypeError, "put_if takes a key, the expected value and a value");
-    if (read_number(given[0], &key) || read_number(given[2], &value)) return NULL;
-    if (given[1] == Py_None) {
-        CALL(t, status, boostmap_striped_put_if_absent(t->caller->handle, key, value, &word));
-    } else {
-        if (read_number(given[1], &expected)) return NULL;
-        CALL(t, status, boostmap_striped_put_if_equal(t->caller->handle, key, expected, value, &word));
+/* Runs a job in a transaction that has begun, and ends it. *again: whether it was busy. */
+static PyObject *run_job(Transaction *t, PyObject *job, int *again) {
+    PyObject *result = PyObject_CallFunctionObjArgs(job, (PyObject *)t, NULL), *finished;
+    *again = 0;
+    if (!result) {
+        *again = t->was_busy && PyErr_ExceptionMatches(busy_type);
+        end(t);
+        return NULL;
     }
+    finished = finish(t);
+    if (!finished) Py_CLEAR(result);
+    Py_XDECREF(finished);
+    return result;
+}
+
+static PyObject *caller_transact(PyObject *self, PyObject *args, PyObject *names) {
+    static char *known[] = {"job", "tries", NULL};
+    PyObject *job, *tries_given = Py_None;
+    uint64_t tries = UINT64_MAX, waits = 0;
+    if (!PyArg_ParseTupleAndKeywords(args, names, "O|O:transact", known, &job, &tries_given)) return NULL;
+    if (tries_given != Py_None && read_number(tries_given, &tries)) return NULL;
+    for (;;) {
+        PyObject *t = transaction_of((PyTypeObject *)transaction_type, self), *result;
+        int again = 0;
+        if (!t) return NULL;
+        result = begin((Transaction *)t) ? NULL : run_job((Transaction *)t, job, &again);
+        Py_DECREF(t);
+        if (result || !again || waits == tries) return result;
+        PyErr_Clear();
+        Py_BEGIN_ALLOW_THREADS
+        boostmap_wait(&waits);
+        Py_END_ALLOW_THREADS
+        if (PyErr_CheckSignals()) return NULL;
+    }
+}
+
+/* An operation of the open transaction. */
+static PyObject *in_transaction(PyObject *self, int kind, PyObject *const *given, Py_ssize_t count) {
+    Transaction *t = (Transaction *)self;
+    boostmap_status status;
+    uint64_t word = 0;
+    Operation op;
+    if (read_operation(&op, kind, given, count)) return NULL;
+    CALL(t, status, perform(t->caller->handle, &op, &word));
     return answer(status, word);
 }
+
+#define IN_TRANSACTION(NAME, KIND)                                                                 \
+    static PyObject *transaction_##NAME(PyObject *self, PyObject *const *given, Py_ssize_t count) { \
+        return in_transaction(self, KIND, given, count);                                           \
+    }
+IN_TRANSACTION(get, GET)
+IN_TRANSACTION(take, TAKE)
+IN_TRANSACTION(put, PUT)
+IN_TRANSACTION(put_if, PUT_IF)
+IN_TRANSACTION(add, ADD)
+IN_TRANSACTION(get_or_put, GET_OR_PUT)
 
 static PyObject *transaction_save(PyObject *self, PyObject *none) {
     Transaction *t = (Transaction *)self;
@@ -310,6 +545,12 @@ static PyObject *transaction_back(PyObject *self, PyObject *const *given, Py_ssi
     Py_RETURN_NONE;
 }
 
+static PyObject *transaction_keep(PyObject *self, PyObject *kept) {
+    if (!PyList_Check(kept)) return PyErr_Format(PyExc_TypeError, "a list is wanted");
+    Py_XSETREF(((Transaction *)self)->kept, Py_NewRef(kept));
+    Py_RETURN_NONE;
+}
+
 static PyObject *transaction_roll_back(PyObject *self, PyObject *none) {
     (void)none;
     ((Transaction *)self)->rolls_back = 1;
@@ -317,12 +558,17 @@ static PyObject *transaction_roll_back(PyObject *self, PyObject *none) {
 }
 
 /* Counts the keys, or with an array reads them, while other threads run. */
-static boostmap_status look(Transaction *t, boostmap_pair *pairs, size_t places, uint64_t *word) {
+static boostmap_status look(Caller *caller, boostmap_pair *pairs, size_t places, uint64_t *word) {
     boostmap_status status;
+    enter(caller);
+    caller->is_looked_at = 1;
+    PyThread_acquire_lock(caller->lock, WAIT_LOCK);
     Py_BEGIN_ALLOW_THREADS
-    if (pairs) status = boostmap_striped_read(t->caller->handle, pairs, places, word);
-    else status = boostmap_striped_count(t->caller->handle, word);
+    if (pairs) status = boostmap_striped_read(caller->handle, pairs, places, word);
+    else status = boostmap_striped_count(caller->handle, word);
     Py_END_ALLOW_THREADS
+    caller->is_looked_at = 0;
+    PyThread_release_lock(caller->lock);
     return status;
 }
 
@@ -334,9 +580,7 @@ static Py_ssize_t transaction_length(PyObject *self) {
         raise_status(BOOSTMAP_NOT_OPEN, 0);
         return -1;
     }
-    enter(t->caller);
-    status = look(t, NULL, 0, &word);
-    leave(t->caller);
+    status = look(t->caller, NULL, 0, &word);
     if (status == BOOSTMAP_DONE) return (Py_ssize_t)word;
     if (status == BOOSTMAP_BUSY) note_busy(t);
     raise_status(status, word);
@@ -358,9 +602,7 @@ static PyObject *transaction_items(PyObject *self, PyObject *none) {
     if (places < 0) return NULL;
     pairs = calloc((size_t)places + 1, sizeof *pairs);
     if (!pairs) return PyErr_NoMemory();
-    enter(((Transaction *)self)->caller);
-    status = look((Transaction *)self, pairs, (size_t)places, &count);
-    leave(((Transaction *)self)->caller);
+    status = look(((Transaction *)self)->caller, pairs, (size_t)places, &count);
     all = status == BOOSTMAP_DONE ? PyDict_New() : raise_status(status, count);
     for (uint64_t i = 0; all && i < count; i++) {
         PyObject *key = PyLong_FromUnsignedLongLong(pairs[i].key);
@@ -385,16 +627,19 @@ static PyObject *transaction_commit_number(PyObject *self, void *none) {
 
 static PyMethodDef transaction_methods[] = {
     {"__enter__", transaction_enter, METH_NOARGS, NULL},
-    {"__exit__", (PyCFunction)(void (*)(void))transaction_exit, METH_FASTCALL, NULL},
-    {"get", transaction_get, METH_O, "The value at the key."},
-    {"take", transaction_take, METH_O, "Takes the key out, and returns the value that it had."},
-    {"put", (PyCFunction)(void (*)(void))transaction_put, METH_FASTCALL,
-     "Puts the value at the key, and returns the value before."},
-    {"put_if", (PyCFunction)(void (*)(void))transaction_put_if, METH_FASTCALL,
-     "Puts the value if the key has the expected one (None: if it is absent), and returns the value before."},
+    {"_keep", transaction_keep, METH_O, NULL},
+    FAST("__exit__", transaction_exit, NULL),
+    FAST("get", transaction_get, "The value at the key."),
+    FAST("take", transaction_take, "Takes the key out, and returns the value that it had."),
+    FAST("put", transaction_put, "Puts the value at the key, and returns the value before."),
+    FAST("put_if", transaction_put_if,
+         "Puts the value if the key has the expected one (None: if it is absent), and returns the value before."),
+    FAST("add", transaction_add, "Adds to the value of the key, 0 if it has none, and returns the value before. A sum "
+                                 "beyond 64 bits raises OverflowError, and changes nothing."),
+    FAST("get_or_put", transaction_get_or_put, "Puts only if the key has no value; returns the value that it has now."),
     {"save", transaction_save, METH_NOARGS, "Sets a savepoint, and returns its level."},
-    {"back", (PyCFunction)(void (*)(void))transaction_back, METH_FASTCALL,
-     "Takes back every change since the level was set; 0 is the beginning of the transaction."},
+    FAST("back", transaction_back,
+         "Takes back every change since the level was set; 0 is the beginning of the transaction."),
     {"roll_back", transaction_roll_back, METH_NOARGS,
      "Lets the end of the `with` take everything back, instead of committing."},
     {"items", transaction_items, METH_NOARGS,
@@ -403,7 +648,8 @@ static PyMethodDef transaction_methods[] = {
 };
 
 static PyGetSetDef transaction_members[] = {
-    {"commit_number", transaction_commit_number, NULL, "After the commit, its place in the order of commits, if the map keeps its commits.", NULL},
+    {"commit_number", transaction_commit_number, NULL,
+     "After the commit, its place in the order of commits, if the map keeps its commits.", NULL},
     {"was_busy", transaction_was_busy, NULL, "Whether a call was busy, which has ended the transaction.", NULL},
     {0},
 };
@@ -423,16 +669,18 @@ static PyType_Spec transaction_spec = {"_boostmap.Transaction", sizeof(Transacti
 
 /* ---- the module ---- */
 
-static PyObject *set_errors(PyObject *self, PyObject *args) {
+static PyObject *set_types(PyObject *self, PyObject *args) {
     (void)self;
-    if (!PyArg_ParseTuple(args, "OO", &busy_type, &refused_type)) return NULL;
+    if (!PyArg_ParseTuple(args, "OOO", &busy_type, &refused_type, &transaction_type)) return NULL;
     Py_INCREF(busy_type);
     Py_INCREF(refused_type);
+    Py_INCREF(transaction_type);
     Py_RETURN_NONE;
 }
 
 static PyMethodDef module_methods[] = {
-    {"set_errors", set_errors, METH_VARARGS, "Sets the exceptions that are raised after busy and refused calls."},
+    {"set_types", set_types, METH_VARARGS,
+     "Sets the exceptions of busy and refused calls, and the type of transactions that `transact` makes."},
     {0},
 };
 
@@ -442,6 +690,7 @@ static struct PyModuleDef module = {PyModuleDef_HEAD_INIT, "_boostmap", "Callers
 PyMODINIT_FUNC PyInit__boostmap(void) {
     PyObject *made = PyModule_Create(&module), *transactions;
     if (!made) return NULL;
+    for (int i = 0; i < OPERATIONS; i++) operations[i].word = PyUnicode_InternFromString(operations[i].name);
     caller_type = (PyTypeObject *)PyType_FromSpec(&caller_spec);
     transactions = PyType_FromSpec(&transaction_spec);
     if (!caller_type || !transactions || PyModule_AddObject(made, "Caller", Py_NewRef((PyObject *)caller_type)) ||

@@ -1,22 +1,21 @@
 """boostmap: transactional maps from 64-bit keys to 64-bit values, over a proved library.
 
-    from boostmap import Map, open_striped
-
-    accounts = Map(callers=2, stripes=64, buckets=1024)
-    with accounts.transaction() as t:        # commits at the end, aborts at an exception
-        t.put(1, 100)
-        t.put(2, t.get(2) or 0)
-
 A striped map is for threads: each thread has its own caller, and callers run in parallel.
 
+    from boostmap import open_striped
+
     callers = open_striped(callers=4, stripes=64)
-    with callers[0].transaction() as t:      # Busy if another caller holds the key's stripe
-        t.put(1, 100)
+    callers[0].put(1, 100)                           # a transaction of one call
+    callers[0].transact(lambda t: (t.add(1, -30), t.add(2, 30)))     # one of several
+    with callers[0].transaction() as t:              # Busy if another caller holds the key's stripe
+        t.put(1, 100)                                # commits at the end, aborts at an exception
+
+A map with one owner, `Map`, is for one thread that acts for many callers.
 
 The library is libboostmap.so, next to this file or at the path in BOOSTMAP_SO; `bindings/install.sh` of
 the repository builds it. It is proved; this module is only tested. Threads may share a map, a caller
 or a judge: each call holds that object's lock. Calls of callers are made by the module _boostmap, in C,
-if install.sh has built it, and otherwise, four times as slow, by ctypes.
+if install.sh has built it, and otherwise, ten times as slow or slower, by ctypes.
 """
 import collections
 import contextlib
@@ -33,9 +32,11 @@ except ImportError:
     _boostmap = None
 
 __all__ = [
-    "Map", "Transaction", "Caller", "CallerTransaction", "open_striped", "Judge", "Entry", "Verdict",
+    "open_striped", "Caller", "CallerTransaction", "Counts", "history", "Map", "Transaction", "Judge", "Entry", "Verdict",
     "Error", "Busy", "Refused", "NotFed",
 ]
+
+__version__ = "1.0.0"
 
 _U64 = ctypes.c_uint64
 
@@ -320,25 +321,124 @@ class Transaction:
         self._call("back", level)
 
 
-def open_striped(callers=1, stripes=64, keys=0, keeps_commits=False, seed=None):
+Counts = collections.namedtuple("Counts", "commits aborts busy")
+Counts.__doc__ = """How a caller's transactions ended: by a commit, by an abort, and by a busy call, which aborts too."""
+
+
+def open_striped(callers=1, stripes=64, keys=0, keeps_commits=False, seed=None, keeps_entries=False):
     """Opens a striped map with no keys, for 1 to 4096 callers and with 1 to 4096 stripes, and returns its callers, in
     the order of their numbers from 1. It has room for so many keys from the start. If it keeps its commits, each
-    transaction has a commit_number, and all callers write a common word. The seed of the hash of keys within a stripe
-    is drawn from the system, below 2**32, unless it is given. The map is freed with the last of them."""
-    first = Caller()
+    transaction has a commit_number, and all callers write a common word. If it keeps its entries, so do the callers, for
+    `history`. The seed of the hash of keys within a stripe is drawn from the system, below 2**32, unless it is given. The
+    map is freed with the last of them."""
+    kind = _RecordedCaller if keeps_entries else Caller
+    first = kind()
     seed = int.from_bytes(os.urandom(4), "little") if seed is None else seed
-    first._open(callers, stripes, keys, int(keeps_commits), seed)
-    others = [Caller() for _ in range(1, callers)]
+    first._open(callers, stripes, keys, int(keeps_commits or keeps_entries), seed)
+    others = [kind() for _ in range(1, callers)]
     for other in others:
         first._join(other)
     return others[::-1] + [first]  # numbers are counted down
 
 
-class _CtypesCaller(_Owned):
+class _AtOnce:
+    """What callers have whose transactions are not made by _boostmap: `transact`, and the operations of a caller, each
+    in a transaction of its own."""
+
+    __slots__ = ()
+
+    def transaction(self):
+        """A transaction, which begins at `with`, commits at its end, and aborts at an exception."""
+        return CallerTransaction(self)
+
+    def transact(self, job, tries=None):
+        """Runs a job, which is given the transaction, and commits. If a call of the transaction was busy, waits and tries
+        again, at most `tries` times if that is given: it yields at first, and then sleeps, each time about twice as
+        long, up to half a millisecond. Returns the job's result."""
+        done, longest = 0, 1e-6
+        while True:
+            t = self.transaction()
+            try:
+                with t:
+                    return job(t)
+            except Busy:
+                if not t.was_busy or done == tries:
+                    raise
+            done += 1
+            if done <= 4:
+                time.sleep(0)
+            else:
+                time.sleep(longest * random.uniform(0.5, 1))
+                longest = min(2 * longest, 5e-4)
+
+    def get(self, key):
+        """The value at the key, in a transaction of its own, as are all operations of a caller."""
+        return self.transact(lambda t: t.get(key))
+
+    def take(self, key):
+        """Takes the key out, and returns the value that it had."""
+        return self.transact(lambda t: t.take(key))
+
+    def put(self, key, value):
+        """Puts the value at the key, and returns the value before."""
+        return self.transact(lambda t: t.put(key, value))
+
+    def put_if(self, key, expected, value):
+        """Puts the value if the key has the expected one (None: if it is absent), and returns the value before."""
+        return self.transact(lambda t: t.put_if(key, expected, value))
+
+    def add(self, key, delta):
+        """Adds to the value of the key, 0 if it has none, and returns the value before. A sum beyond 64 bits raises
+        OverflowError, and changes nothing."""
+        return self.transact(lambda t: t.add(key, delta))
+
+    def get_or_put(self, key, value):
+        """Puts only if the key has no value; returns the value that it has now."""
+        return self.transact(lambda t: t.get_or_put(key, value))
+
+    def run(self, operations):
+        """Runs operations in one transaction, such as [("get", 1), ("put", 2, 20)], and returns their replies."""
+        operations = [tuple(operation) for operation in operations]
+        for operation in operations:
+            if not operation or operation[0] not in _NAMES:
+                raise ValueError(f"{operation!r} is no operation")
+        return self.transact(lambda t: [getattr(t, name)(*numbers) for name, *numbers in operations])
+
+
+_NAMES = {"get", "put", "take", "put_if", "add", "get_or_put"}
+
+
+class _InTransaction:
+    """Operations that are made of others."""
+
+    __slots__ = ()
+
+    def add(self, key, delta):
+        """Adds to the value of the key, 0 if it has none, and returns the value before. A sum beyond 64 bits raises
+        OverflowError, and changes nothing."""
+        delta = operator.index(delta)
+        if not -1 << 63 <= delta < 1 << 63:
+            raise OverflowError(f"{delta} is not a signed 64-bit number")
+        total = (self.get(key) or 0) + delta
+        if not 0 <= total < 1 << 64:
+            raise OverflowError("the sum does not fit in 64 bits")
+        return self.put(key, total)
+
+    def get_or_put(self, key, value):
+        """Puts only if the key has no value; returns the value that it has now."""
+        had = self.put_if(key, None, value)
+        return value if had is None else had
+
+
+class _CtypesCaller(_AtOnce, _Owned):
     """What _boostmap.Caller has, by ctypes."""
 
     _free = "striped_free"
     number = None
+
+    def __init__(self):
+        super().__init__()
+        self._ended = [0, 0, 0]
 
     def _open(self, *how):
         self.number = self._call("striped_open", *how)
@@ -349,17 +449,22 @@ class _CtypesCaller(_Owned):
             status = _library.boostmap_striped_join(self._handle, other._handle, word)
         other.number = _value(status, word)
 
+    def _counts(self):
+        return self._ended
+
     def abort(self):
         """Aborts the caller's transaction, and returns whether there was one."""
-        return _aborts(self, "striped_abort")
+        aborts = _aborts(self, "striped_abort")
+        self._ended[1] += aborts
+        return aborts
 
 
-class _CtypesTransaction:
+class _CtypesTransaction(_InTransaction):
     """What _boostmap.Transaction has, by ctypes. An interrupt between a call and its bookkeeping may leave the
     transaction open, until it is collected or its caller aborts."""
 
     _is_open = _rolls_back = was_busy = False
-    commit_number = None
+    commit_number = _kept = None
 
     def __init__(self, caller):
         self._caller = caller
@@ -380,6 +485,9 @@ class _CtypesTransaction:
             if kind is None and not (self._rolls_back and self._is_open):
                 self.commit_number = self._call("striped_commit") or None
                 self._is_open = False
+                self._caller._ended[0] += 1
+                if self._kept is not None:
+                    self._kept.append(self.commit_number)
         finally:
             self._end()
 
@@ -398,10 +506,14 @@ class _CtypesTransaction:
             return self._caller._call(name, *numbers)
         except Busy:
             self._is_open, self.was_busy = False, True
+            self._caller._ended[2] += 1
             raise
 
     def __bool__(self):
         return True
+
+    def _keep(self, kept):
+        self._kept = kept
 
     def roll_back(self):
         """Lets the end of the `with` take everything back, instead of committing."""
@@ -445,12 +557,10 @@ class _CtypesTransaction:
         return self._call("striped_count")
 
 
-if _boostmap:
-    _boostmap.set_errors(Busy, Refused)
-
-
 class Caller(_boostmap.Caller if _boostmap else _CtypesCaller):
-    """A caller of a striped map, made by `open_striped`: one for each thread. Closing it aborts an open transaction."""
+    """A caller of a striped map, made by `open_striped`: one for each thread. Each of its operations (get, put, take,
+    put_if, add, get_or_put, update, items and so on) is a transaction of its own, which waits while it is busy. Closing
+    it aborts an open transaction."""
 
     __slots__ = ()
 
@@ -460,29 +570,31 @@ class Caller(_boostmap.Caller if _boostmap else _CtypesCaller):
     def __exit__(self, *raised):
         self.close()
 
-    def transaction(self):
-        """A transaction, which begins at `with`, commits at its end, and aborts at an exception."""
-        return CallerTransaction(self)
+    def update(self, key, change):
+        """Puts what `change` makes of the key's value (None: if it is absent), or, if that is None, takes the key out.
+        Returns the value before. `change` may run again after it was busy."""
+        return self.transact(lambda t: t.update(key, change))
 
-    def transact(self, job, tries=None):
-        """Runs a job, which is given the transaction, and commits. If a call of the transaction was busy, waits and tries
-        again, at most `tries` times if that is given: it yields at first, and then sleeps, each time about twice as
-        long, up to half a millisecond. Returns the job's result."""
-        done, longest = 0, 1e-6
-        while True:
-            t = self.transaction()
-            try:
-                with t:
-                    return job(t)
-            except Busy:
-                if not t.was_busy or done == tries:
-                    raise
-            done += 1
-            if done <= 4:
-                time.sleep(0)
-            else:
-                time.sleep(longest * random.uniform(0.5, 1))
-                longest = min(2 * longest, 5e-4)
+    def count(self):
+        """The number of keys of the map. Takes every stripe."""
+        return self.transact(len)
+
+    def items(self):
+        """A dictionary of the whole map, by rising keys. Takes every stripe: no call reads only a part of a map."""
+        return self.transact(lambda t: t.items())
+
+    def put_all(self, pairs):
+        """Puts the pairs of a dictionary, or pairs in their order, in one transaction."""
+        pairs = dict(pairs)
+        self.transact(lambda t: t.put_all(pairs))
+
+    def clear(self):
+        """Takes every key out, and returns how many there were. Takes every stripe."""
+        return self.transact(lambda t: t.clear())
+
+    def counts(self):
+        """How the caller's transactions ended, as Counts."""
+        return Counts(*self._counts())
 
 
 class CallerTransaction(_boostmap.Transaction if _boostmap else _CtypesTransaction):
@@ -490,6 +602,143 @@ class CallerTransaction(_boostmap.Transaction if _boostmap else _CtypesTransacti
     `len` is the number of keys of the map, with the transaction's own changes, and takes every stripe."""
 
     __slots__ = ()
+
+    def update(self, key, change):
+        """Puts what `change` makes of the key's value (None: if it is absent), or, if that is None, takes the key out.
+        Returns the value before."""
+        had = self.get(key)
+        value = change(had)
+        if value is not None:
+            self.put(key, value)
+        elif had is not None:
+            self.take(key)
+        return had
+
+    def count(self):
+        """The number of keys of the map, with the transaction's own changes. Takes every stripe."""
+        return len(self)
+
+    def put_all(self, pairs):
+        """Puts the pairs of a dictionary, or pairs in their order."""
+        for key, value in dict(pairs).items():
+            self.put(key, value)
+
+    def clear(self):
+        """Takes every key out, and returns how many there were. Takes every stripe."""
+        keys = self.items()
+        for key in keys:
+            self.take(key)
+        return len(keys)
+
+
+if _boostmap:
+    _boostmap.set_types(Busy, Refused, CallerTransaction)
+
+
+class _RecordedCaller(*([_AtOnce] if _boostmap else []), Caller):
+    """A caller that keeps the entries of its transactions that have committed or are committing, a list for each, to
+    which the commit adds its place."""
+
+    __slots__ = ("_record",)
+
+    def __init__(self):
+        super().__init__()
+        self._record = []
+
+    def transaction(self):
+        return _RecordedTransaction(self, self._record)
+
+
+class _RecordedTransaction(*([_InTransaction] if _boostmap else []), CallerTransaction):
+    """A transaction that keeps its entries."""
+
+    __slots__ = ("_record", "_entries")
+
+    def __new__(cls, caller, record):
+        return super().__new__(cls, caller) if _boostmap else super().__new__(cls)
+
+    def __init__(self, caller, record):
+        if not _boostmap:
+            super().__init__(caller)
+        self._record, self._entries = record, None
+
+    def __enter__(self):
+        super().__enter__()
+        self._entries = []
+        self._keep(self._entries)
+        return self
+
+    def __exit__(self, kind, raised, trace):
+        try:
+            self._record.append(self._entries)  # before the commit, so that an interrupt loses none
+            super().__exit__(kind, raised, trace)
+        finally:
+            if not _is_committed(self._entries) and self._record and self._record[-1] is self._entries:
+                self._record.pop()
+
+    def _did(self, operation, key, reply, value=None, expected=None):
+        self._entries.append(Entry("asked", 0, operation, key=key, value=value, expected=expected))
+        self._entries.append(Entry("did", 0, value=reply))
+        return reply
+
+    def get(self, key):
+        return self._did("get", key, super().get(key))
+
+    def take(self, key):
+        return self._did("take", key, super().take(key))
+
+    def put(self, key, value):
+        return self._did("put", key, super().put(key, value), value)
+
+    def put_if(self, key, expected, value):
+        return self._did("put_if", key, super().put_if(key, expected, value), value, expected)
+
+    def items(self):
+        items = super().items()
+        for key, value in items.items():
+            self._did("get", key, value)
+        return items
+
+    def save(self):
+        level = super().save()
+        self._entries.append(Entry("saved", 0))
+        return level
+
+    def back(self, level=0):
+        super().back(level)
+        undone = [Entry("undone", 0)] * self._changes_above(level)
+        self._entries += [Entry("leave", 0, number=level), *undone, Entry("returned", 0, number=level)]
+
+    def _changes_above(self, level):
+        """The number of changes above the level that stand."""
+        standing = below = levels = 0
+        asked = None
+        for entry in self._entries:
+            if entry.kind == "did":
+                is_as_expected = asked.operation == "put_if" and entry.value == asked.expected
+                is_taken = asked.operation == "take" and entry.value is not None
+                standing += asked.operation == "put" or is_as_expected or is_taken
+            elif entry.kind == "undone":
+                standing -= 1
+            elif entry.kind == "returned":
+                levels = entry.number
+            elif entry.kind == "saved":
+                levels += 1
+                below = standing if levels == level else below
+            asked = entry
+        return standing - below
+
+
+def _is_committed(entries):
+    return bool(entries) and isinstance(entries[-1], int)
+
+
+def history(callers):
+    """The committed transactions of all callers of a map that keeps its entries, in the order of commits, each as a
+    whole: what a Judge with by_commits=True is fed. No entry says a number of keys; `items` has a get of each pair."""
+    done = sorted(filter(_is_committed, (kept for caller in callers for kept in caller._record)), key=lambda kept: kept[-1])
+    return [entry for *entries, place in done for entry in (
+        Entry("began", 0, number=place), *entries, Entry("committed", 0, number=place))]
 
 
 _KINDS = {

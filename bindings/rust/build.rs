@@ -5,6 +5,8 @@ fn main() {
     if let Ok(folder) = std::env::var("BOOSTMAP_LIB") {
         println!("cargo:rustc-link-search=native={folder}");
         println!("cargo:rerun-if-changed={folder}/libboostmap.a");
+    } else {
+        println!("cargo:warning=BOOSTMAP_LIB is not set: libboostmap.a is searched in the linker's own folders only");
     }
     println!("cargo:rustc-link-lib=static=boostmap");
 }

@@ -1,3 +1,4 @@
+import random
 import signal
 import sys
 import threading
@@ -5,7 +6,7 @@ import time
 import unittest
 
 import boostmap
-from boostmap import Busy, Entry, Judge, Map, NotFed, Refused, Verdict, open_striped
+from boostmap import Busy, Counts, Entry, Judge, Map, NotFed, Refused, Verdict, history, open_striped
 
 
 class Interrupt(Exception):
@@ -18,13 +19,17 @@ def interrupted(job, seconds):
     def handle(*_):
         raise Interrupt
 
+    def runs():  # its own function, since a loop's jump back may lie outside of its try
+        signal.setitimer(signal.ITIMER_REAL, 1e-5 + count % 97 * 1e-6)
+        while time.monotonic() < ends:  # an interrupt in a destructor is lost
+            job()
+        signal.setitimer(signal.ITIMER_REAL, 0)
+
     before, count, ends = signal.signal(signal.SIGALRM, handle), 0, time.monotonic() + seconds
     try:
         while time.monotonic() < ends:
             try:
-                signal.setitimer(signal.ITIMER_REAL, 1e-5 + count % 97 * 1e-6)
-                while time.monotonic() < ends:  # an interrupt in a destructor is lost
-                    job()
+                runs()
             except Interrupt:
                 count += 1
     finally:
@@ -309,6 +314,191 @@ class Callers(unittest.TestCase):
         for thread in threads:
             thread.join()
         self.assertEqual(callers[0].transact(lambda t: sum(t.get(key) for key in range(keys))), 100 * keys)
+
+
+def judged(entries):
+    """The verdict on a history, by the order of commits."""
+    with Judge(by_commits=True) as judge:
+        judge.feed_all(entries)
+        return judge.verdict()
+
+
+def call(t, model, draw):
+    """Makes a random call of a caller or a transaction, and checks its reply by the model, a dictionary."""
+    key, value = draw.randrange(40), draw.choice((0, 1, 2, 3, 2**64 - 1))
+    had, delta = model.get(key), draw.randrange(-4, 5)
+    expected = had if draw.random() < 0.5 else draw.choice((None, 1, 2))
+    kind, due, after = draw.randrange(9), had, had
+    if kind == 0:
+        reply, after = t.put(key, value), value
+    elif kind == 1:
+        reply, after = t.take(key), None
+    elif kind == 2:
+        reply, after = t.put_if(key, expected, value), value if had == expected else had
+    elif kind == 3:
+        reply, due = t.get_or_put(key, value), value if had is None else had
+        after = due
+    elif kind == 4:
+        reply, after = t.update(key, lambda is_: None if is_ else value), None if had else value
+    elif kind == 5 and not 0 <= (had or 0) + delta < 2**64:
+        try:
+            t.add(key, delta)
+            reply = "no exception"
+        except OverflowError:
+            reply = had
+    elif kind == 5:
+        reply, after = t.add(key, delta), (had or 0) + delta
+    elif kind == 6 and draw.random() < 0.05:
+        reply, due = (t.items(), t.count()), (model, len(model))
+    elif kind == 7 and draw.random() < 0.01:
+        reply, due = t.clear(), len(model)
+        model.clear()
+        after = None
+    else:
+        reply = t.get(key)
+    if after is None:
+        model.pop(key, None)
+    else:
+        model[key] = after
+    return reply == due
+
+
+class GivesUp(Exception):
+    """What a job of these tests raises."""
+
+
+class Operations(unittest.TestCase):
+    def transaction(self, caller, model, draw):
+        """Makes a random transaction, and returns how many calls it had, and the model after it."""
+        calls, ending, changed = draw.randrange(1, 10), draw.randrange(6), dict(model)
+        if ending == 0:
+            self.assertTrue(call(caller, model, draw))
+            return 1, model
+        try:
+            with caller.transaction() as t:
+                level = t.save()
+                for i in range(calls):
+                    self.assertTrue(call(t, changed, draw))
+                if ending == 1:
+                    raise GivesUp
+                if ending == 2:
+                    t.roll_back()
+                if ending == 3:
+                    t.back(level)
+                    changed = dict(model)
+                    self.assertTrue(call(t, changed, draw))
+        except GivesUp:
+            pass
+        return calls, model if ending in (1, 2) else changed
+
+    def test_calls_beside_a_model(self):
+        for keeps_entries in (False, True):
+            draw, model, made = random.Random(1), {}, 0
+            callers = open_striped(callers=2, stripes=7, keeps_entries=keeps_entries)
+            while made < (50_000 if boostmap._boostmap else 5_000):
+                calls, model = self.transaction(draw.choice(callers), model, draw)
+                made += calls
+            self.assertEqual(callers[0].items(), model)
+            self.assertEqual(list(callers[0].items()), sorted(model))
+            commits = sum(caller.counts().commits for caller in callers)
+            self.assertGreater(min(caller.counts().aborts for caller in callers), 10)
+            if keeps_entries:
+                entries = history(callers)
+                self.assertEqual(judged(entries), Verdict(True, commits, 0, None, None))
+                forged = next(i for i in range(len(entries) // 2, len(entries)) if entries[i].kind == "did")
+                entries[forged] = Entry("did", 0, value=12345)
+                self.assertEqual(judged(entries)[4], "replies")
+
+    def test_a_whole_transaction_in_one_call(self):
+        for keeps_entries in (False, True):
+            one, other = open_striped(callers=2, keeps_entries=keeps_entries)
+            replies = one.run([("put", 1, 10), ("get", 1), ["add", 1, -4], ("put_if", 1, 6, 7), ("get_or_put", 2, 20),
+                               ("take", 1), ("put_if", 3, None, 30), ("get", 3)])
+            self.assertEqual(replies, [None, 10, 10, 6, 20, 7, None, 30])
+            self.assertEqual((other.items(), one.run([])), ({2: 20, 3: 30}, []))
+            rows = [(OverflowError, [("put", 4, 1), ("add", 2, -21)]), (ValueError, [("put", 4, 1), ("clear",)]),
+                    (ValueError, [()]), (TypeError, [("put", 4, 1), ("get", "x")]), (TypeError, [("get",)]), (TypeError, [5]),
+                    (OverflowError, [("add", 2, 2**63)]), (OverflowError, [("put", 2, 2**64)])]
+            for error, operations in rows:
+                with self.assertRaises(error):
+                    one.run(operations)
+            self.assertEqual(other.items(), {2: 20, 3: 30})
+            with one.transaction(), self.assertRaises(Refused) as refused:
+                one.get(1)
+            self.assertEqual(refused.exception.status, 20)
+
+    def test_calls_at_once_wait(self):
+        one, other = open_striped(callers=2)
+        holds, replies = one.transaction().__enter__(), []
+        holds.put(5, 50)
+        waits = threading.Thread(target=lambda: replies.extend([other.get(5), other.run([("add", 5, 1)])]))
+        waits.start()
+        while not other.counts().busy:
+            time.sleep(1e-3)
+        holds.__exit__(None, None, None)
+        waits.join()
+        self.assertEqual((replies, one.get(5), one.counts()), ([50, [50]], 51, Counts(2, 0, 0)))
+        self.assertEqual(other.counts().commits, 2)
+
+    def test_an_interrupt_leaves_all_or_nothing(self):
+        jobs = [
+            lambda caller: caller.run([("add", 1, -1), ("add", 2, 1)]),
+            lambda caller: caller.transact(lambda t: (t.add(1, -1), t.add(2, 1))),
+            lambda caller: caller.transact(lambda t: (t.update(1, lambda v: v - 1), t.update(2, lambda v: v + 1))),
+        ]
+        for keeps_entries in (False, True):
+            for job in jobs:
+                one, other = open_striped(callers=2, keeps_entries=keeps_entries)
+                one.put_all({1: 2**40, 2: 0})
+
+                def moves():
+                    if not boostmap._boostmap:
+                        one.abort()  # by ctypes an interrupt may come between a call and its bookkeeping
+                    job(one)
+
+                self.assertGreater(interrupted(moves, 0.25), 10)
+                if not boostmap._boostmap:
+                    one.abort()
+                items = other.transact(lambda t: t.items(), tries=0)
+                self.assertEqual(sum(items.values()), 2**40)
+                self.assertGreater(items[2], 0)
+                if keeps_entries and boostmap._boostmap:
+                    commits = one.counts().commits + other.counts().commits
+                    self.assertEqual(judged(history([one, other])), Verdict(True, commits, 0, None, None))
+
+    def test_threads_that_come_and_go_are_judged(self):
+        callers = open_striped(callers=40, stripes=5, keeps_entries=True)
+        callers[0].put_all({key: 100 for key in range(10)})
+        audits = []
+
+        def visits(caller):
+            draw = random.Random(caller.number)
+            for _ in range(30):
+                one, another = draw.randrange(10), draw.randrange(10)
+
+                def moves(t):
+                    has = t.get(one)
+                    if has:
+                        t.put(one, has - 1)
+                        t.add(another, 1)
+
+                caller.transact(moves)
+            audits.append(sum(caller.items().values()))
+            if draw.random() < 0.5:
+                caller.transaction().__enter__().put(1, 10**6)
+            caller.close()
+
+        threads = []
+        for caller in callers[1:]:
+            if len(threads) >= 4:
+                threads.pop(0).join()
+            threads.append(threading.Thread(target=visits, args=(caller,)))
+            threads[-1].start()
+        for thread in threads:
+            thread.join()
+        self.assertEqual((audits, sum(callers[0].items().values())), ([1000] * 39, 1000))
+        commits = sum(caller.counts().commits for caller in callers)
+        self.assertEqual(judged(history(callers)), Verdict(True, commits, 0, None, None))
 
 
 class Judges(unittest.TestCase):

@@ -52,8 +52,8 @@ static void of_one_owner() {
     first = std::move(second);
     CHECK(first.count() == 1);
     first.help(1, 1);
-    CHECK(first.pairs().size() == 1 && first.pairs()[0].key == 1 && first.pairs()[0].value == 12);
-    CHECK(map(1, 16, 64).pairs().empty());
+    CHECK(first.items().size() == 1 && first.items()[0].key == 1 && first.items()[0].value == 12);
+    CHECK(map(1, 16, 64).items().empty());
 }
 
 template <class T> constexpr bool is_moved_only =
@@ -92,8 +92,8 @@ static void of_callers() {
         left_open.put(1, 99);
     }
     CHECK(two.transact(0, [](auto &t) { return *t.get(1); }) == 12);
-    CHECK(two.transact(0, [](auto &t) { return t.count() + t.pairs().size(); }) == 2);
-    CHECK(two.transact(0, [](auto &t) { return t.pairs()[0].key * 100 + t.pairs()[0].value; }) == 112);
+    CHECK(two.transact(0, [](auto &t) { return t.count() + t.items().size(); }) == 2);
+    CHECK(two.transact(0, [](auto &t) { return t.items()[0].key * 100 + t.items()[0].value; }) == 112);
     auto holds = one.begin();
     holds.get(1);
     int runs = 0;

@@ -1,6 +1,7 @@
 #!/usr/bin/env python3
 """Threads run transactions on a real SQLite database, and record them for `judge`.
 
+    samples/judge/sqlite.py >history.json                        for `judge check --commit-order`
     samples/judge/sqlite.py --no-counter >history.json           for `judge check --serializable`
     samples/judge/sqlite.py --lines | ./judge watch --commit-order
     samples/judge/sqlite.py --shared-cache                       one cache for all connections

@@ -1,8 +1,9 @@
 //! The striped map, for threads: each thread has its own caller, and no call takes a lock or waits. Its
 //! transactions are apart from those of a `Map`, since a call that is `Busy` ends them. The handle of a
 //! caller owns it from `open_striped` to its drop.
+use crate::history::{changes_above, Committed};
 use crate::sys::{self, Handle};
-use crate::{answer, Error, Result};
+use crate::{answer, Entry, Error, Operation, Result};
 use std::collections::hash_map::RandomState;
 use std::hash::{BuildHasher, Hasher};
 use std::thread;
@@ -23,7 +24,7 @@ use std::time::Duration;
 ///         }));
 ///     }
 /// });
-/// assert_eq!(callers[0].transact(|t| t.get(7))?, Some(4));
+/// assert_eq!(callers[0].get(7)?, Some(4));
 /// # Ok::<(), boostmap::Error>(())
 /// ```
 ///
@@ -34,8 +35,8 @@ pub fn open_striped(callers: u64, stripes: u64) -> Result<Vec<Caller>> {
     Opening { callers, stripes, ..Opening::default() }.open()
 }
 
-/// How a striped map is opened. By default it has one caller, 64 stripes and no room for keys, does not
-/// keep its commits, and has a random seed below 2^32.
+/// How a striped map is opened. By default it has one caller, 64 stripes and no room for keys, keeps
+/// neither commits nor entries, and has a random seed below 2^32.
 #[derive(Clone, Copy, Debug, PartialEq, Eq)]
 pub struct Opening {
     /// The number of callers, 1 to 4096.
@@ -47,6 +48,9 @@ pub struct Opening {
     /// Whether the map keeps the number of its commits, so that each commit tells its place. Its callers
     /// then write a common word.
     pub keeps_commits: bool,
+    /// Whether the callers keep the entries of their committed transactions, for ever, for
+    /// [`history`](crate::history()). The map then keeps its commits too.
+    pub keeps_entries: bool,
     /// The seed of the hash of keys within a stripe. Whoever knows it can choose keys that make every
     /// call slow. With a seed of 2^32 or more, consecutive keys may be slow.
     pub seed: u64,
@@ -55,7 +59,7 @@ pub struct Opening {
 impl Default for Opening {
     fn default() -> Opening {
         let seed = RandomState::new().build_hasher().finish() >> 32;
-        Opening { callers: 1, stripes: 64, keys: 0, keeps_commits: false, seed }
+        Opening { callers: 1, stripes: 64, keys: 0, keeps_commits: false, keeps_entries: false, seed }
     }
 }
 
@@ -66,16 +70,17 @@ impl Opening {
     ///
     /// `Limit` and `NoMemory`.
     pub fn open(&self) -> Result<Vec<Caller>> {
-        let Opening { callers, stripes, keys, keeps_commits, seed } = *self;
-        let mut first = Caller { handle: Handle::EMPTY, number: 0 };
+        let Opening { callers, stripes, keys, keeps_commits, keeps_entries, seed } = *self;
+        let keep = u32::from(keeps_commits || keeps_entries);
+        let mut first = Caller::empty(keeps_entries);
         // SAFETY: the handle is all zeros and uniquely borrowed.
         let number = answer(&mut first.handle, |at, word| unsafe {
-            sys::boostmap_striped_open(at, callers, stripes, keys, u32::from(keeps_commits), seed, word)
+            sys::boostmap_striped_open(at, callers, stripes, keys, keep, seed, word)
         })?;
         first.number = number.unwrap_or_default();
         let mut all = Vec::with_capacity(callers as usize);
         for _ in 1..callers {
-            let mut next = Caller { handle: Handle::EMPTY, number: 0 };
+            let mut next = Caller::empty(keeps_entries);
             let at_next: *mut Handle = &mut next.handle;
             // SAFETY: both handles are uniquely borrowed, and differ.
             let number =
@@ -89,10 +94,25 @@ impl Opening {
     }
 }
 
-/// A caller of a striped map, for one thread. Its drop aborts an open transaction.
+/// How a caller's transactions ended.
+#[derive(Clone, Copy, Debug, Default, PartialEq, Eq)]
+pub struct Counts {
+    /// By a commit.
+    pub commits: u64,
+    /// By an abort.
+    pub aborts: u64,
+    /// By a call that was `Busy`, which aborts too.
+    pub busy: u64,
+}
+
+/// A caller of a striped map, for one thread. Its drop aborts an open transaction. Each of its
+/// operations is a transaction of its own, which waits and tries again while it is busy.
 pub struct Caller {
     handle: Handle,
     number: u64,
+    counts: Counts,
+    committed: Vec<Committed>,
+    keeps_entries: bool,
 }
 
 // SAFETY: `sends_member` of the archive proves `Send` of what the handle owns, and `&mut self` puts
@@ -105,6 +125,21 @@ impl Caller {
         self.number
     }
 
+    /// How its transactions ended.
+    pub fn counts(&self) -> Counts {
+        self.counts
+    }
+
+    fn empty(keeps_entries: bool) -> Caller {
+        let (counts, committed) = (Counts::default(), Vec::new());
+        Caller { handle: Handle::EMPTY, number: 0, counts, committed, keeps_entries }
+    }
+
+    /// Its committed transactions, in their order, if it keeps them.
+    pub(crate) fn committed(&self) -> &[Committed] {
+        &self.committed
+    }
+
     /// Begins a transaction, which aborts if it is dropped before it is committed.
     ///
     /// # Errors
@@ -113,13 +148,23 @@ impl Caller {
     pub fn begin(&mut self) -> Result<CallerTransaction<'_>> {
         // SAFETY: see `call`.
         self.call(|at, _| unsafe { sys::boostmap_striped_begin(at) })?;
-        Ok(CallerTransaction { caller: self, is_open: true })
+        let entries = self.keeps_entries.then(Vec::new);
+        Ok(CallerTransaction { caller: self, is_open: true, rolls_back: false, entries })
+    }
+
+    /// Aborts a transaction that was leaked, and returns whether there was one.
+    pub fn abort(&mut self) -> bool {
+        // SAFETY: see `call`.
+        let aborts = self.call(|at, _| unsafe { sys::boostmap_striped_abort(at) }).is_ok();
+        self.counts.aborts += u64::from(aborts);
+        aborts
     }
 
     /// Runs a job in a transaction: commits, or aborts if the job fails or panics. If a stripe is busy,
     /// it waits and runs the job again: it yields at first, and then sleeps, each time about twice as
     /// long, up to half a millisecond. A job's error may be of any type that an [`Error`] turns into; if
-    /// the job ends in `Ok`, name the type, as in `Ok::<_, Error>(value)`.
+    /// the job ends in `Ok`, name the type, as in `Ok::<_, Error>(value)`. Every `Ok` commits, also
+    /// `Ok(Err(..))`, unless the job called [`CallerTransaction::roll_back`].
     ///
     /// ```
     /// #[derive(Debug, PartialEq)]
@@ -169,6 +214,7 @@ impl Caller {
         loop {
             let mut transaction = self.begin()?;
             let error = match job(&mut transaction) {
+                Ok(value) if transaction.is_open && transaction.rolls_back => return Ok(value),
                 Ok(value) => return transaction.commit().map(|_| value).map_err(E::from),
                 Err(error) => error,
             };
@@ -179,6 +225,107 @@ impl Caller {
             left -= 1;
             waits.wait();
         }
+    }
+
+    /// The value at a key.
+    ///
+    /// # Errors
+    ///
+    /// `AlreadyOpen`, if an earlier transaction was leaked, and `NoMemory`.
+    pub fn get(&mut self, key: u64) -> Result<Option<u64>> {
+        self.transact(|t| t.get(key))
+    }
+
+    /// Takes a key out, and returns the value that it had.
+    ///
+    /// # Errors
+    ///
+    /// Those of [`Caller::get`].
+    pub fn take(&mut self, key: u64) -> Result<Option<u64>> {
+        self.transact(|t| t.take(key))
+    }
+
+    /// Puts a value at a key, and returns the value before.
+    ///
+    /// # Errors
+    ///
+    /// Those of [`Caller::get`].
+    pub fn put(&mut self, key: u64, value: u64) -> Result<Option<u64>> {
+        self.transact(|t| t.put(key, value))
+    }
+
+    /// Puts a value if the key has the expected one (`None`: if it is absent), and returns the value
+    /// before.
+    ///
+    /// # Errors
+    ///
+    /// Those of [`Caller::get`].
+    pub fn put_if(&mut self, key: u64, expected: Option<u64>, value: u64) -> Result<Option<u64>> {
+        self.transact(|t| t.put_if(key, expected, value))
+    }
+
+    /// Adds to the value of a key, 0 if it has none, and returns the value before.
+    ///
+    /// # Errors
+    ///
+    /// Those of [`Caller::get`], and `Overflow`.
+    pub fn add(&mut self, key: u64, delta: i64) -> Result<Option<u64>> {
+        self.transact(|t| t.add(key, delta))
+    }
+
+    /// Puts a value only if the key has none, and returns the value that it has now.
+    ///
+    /// # Errors
+    ///
+    /// Those of [`Caller::get`].
+    pub fn get_or_put(&mut self, key: u64, value: u64) -> Result<u64> {
+        self.transact(|t| t.get_or_put(key, value))
+    }
+
+    /// Puts what `change` makes of the key's value, or takes the key out if that is `None`. Returns the
+    /// value before. `change` may run again after it was busy.
+    ///
+    /// # Errors
+    ///
+    /// Those of [`Caller::get`].
+    pub fn update(&mut self, key: u64, mut change: impl FnMut(Option<u64>) -> Option<u64>) -> Result<Option<u64>> {
+        self.transact(|t| t.update(key, &mut change))
+    }
+
+    /// The number of keys of the map. Takes every stripe.
+    ///
+    /// # Errors
+    ///
+    /// Those of [`Caller::get`].
+    pub fn count(&mut self) -> Result<u64> {
+        self.transact(|t| t.count())
+    }
+
+    /// The pairs of the map, by rising keys. Takes every stripe: no call reads only a part of a map.
+    ///
+    /// # Errors
+    ///
+    /// Those of [`Caller::get`].
+    pub fn items(&mut self) -> Result<Vec<(u64, u64)>> {
+        self.transact(|t| t.items())
+    }
+
+    /// Puts pairs, in their order, in one transaction.
+    ///
+    /// # Errors
+    ///
+    /// Those of [`Caller::get`].
+    pub fn put_all(&mut self, pairs: &[(u64, u64)]) -> Result<()> {
+        self.transact(|t| t.put_all(pairs))
+    }
+
+    /// Takes every key out, and returns how many there were. Takes every stripe.
+    ///
+    /// # Errors
+    ///
+    /// Those of [`Caller::get`].
+    pub fn clear(&mut self) -> Result<u64> {
+        self.transact(|t| t.clear())
     }
 
     // Each job is one call of the archive. SAFETY of them all: the handle is live from `open_striped`
@@ -200,6 +347,8 @@ impl Drop for Caller {
 pub struct CallerTransaction<'a> {
     caller: &'a mut Caller,
     is_open: bool,
+    rolls_back: bool,
+    entries: Option<Vec<Entry>>,
 }
 
 impl CallerTransaction<'_> {
@@ -209,7 +358,7 @@ impl CallerTransaction<'_> {
     ///
     /// `Busy`, `NotOpen` and `NoMemory`, after which the transaction may hold the key's stripe.
     pub fn get(&mut self, key: u64) -> Result<Option<u64>> {
-        self.call(|at, word| unsafe { sys::boostmap_striped_get(at, key, word) })
+        self.operate(Operation::Get { key })
     }
 
     /// Takes a key out, and returns the value that it had.
@@ -218,7 +367,7 @@ impl CallerTransaction<'_> {
     ///
     /// Those of `get`.
     pub fn take(&mut self, key: u64) -> Result<Option<u64>> {
-        self.call(|at, word| unsafe { sys::boostmap_striped_take(at, key, word) })
+        self.operate(Operation::Take { key })
     }
 
     /// Puts a value at a key, and returns the value before.
@@ -227,7 +376,7 @@ impl CallerTransaction<'_> {
     ///
     /// Those of `get`.
     pub fn put(&mut self, key: u64, value: u64) -> Result<Option<u64>> {
-        self.call(|at, word| unsafe { sys::boostmap_striped_put(at, key, value, word) })
+        self.operate(Operation::Put { key, value })
     }
 
     /// Puts a value if the key has the expected one (`None`: if it is absent), and returns the value
@@ -237,12 +386,65 @@ impl CallerTransaction<'_> {
     ///
     /// Those of `get`.
     pub fn put_if(&mut self, key: u64, expected: Option<u64>, value: u64) -> Result<Option<u64>> {
-        self.call(|at, word| unsafe {
-            match expected {
-                None => sys::boostmap_striped_put_if_absent(at, key, value, word),
-                Some(expected) => sys::boostmap_striped_put_if_equal(at, key, expected, value, word),
+        self.operate(Operation::PutIf { key, expected, value })
+    }
+
+    fn operate(&mut self, operation: Operation) -> Result<Option<u64>> {
+        let reply = self.call(|at, word| unsafe {
+            match operation {
+                Operation::Get { key } => sys::boostmap_striped_get(at, key, word),
+                Operation::Take { key } => sys::boostmap_striped_take(at, key, word),
+                Operation::Put { key, value } => sys::boostmap_striped_put(at, key, value, word),
+                Operation::PutIf { key, expected: None, value } => {
+                    sys::boostmap_striped_put_if_absent(at, key, value, word)
+                }
+                Operation::PutIf { key, expected: Some(expected), value } => {
+                    sys::boostmap_striped_put_if_equal(at, key, expected, value, word)
+                }
             }
-        })
+        })?;
+        self.note([Entry::Asked(0, operation), Entry::Did(0, reply)]);
+        Ok(reply)
+    }
+
+    fn note(&mut self, noted: impl IntoIterator<Item = Entry>) {
+        if let Some(entries) = &mut self.entries {
+            entries.extend(noted);
+        }
+    }
+
+    /// Adds to the value of a key, 0 if it has none, and returns the value before.
+    ///
+    /// # Errors
+    ///
+    /// Those of `get`, and `Overflow`, after which nothing has changed.
+    pub fn add(&mut self, key: u64, delta: i64) -> Result<Option<u64>> {
+        let sum = self.get(key)?.unwrap_or(0).checked_add_signed(delta).ok_or(Error::Overflow)?;
+        self.put(key, sum)
+    }
+
+    /// Puts a value only if the key has none, and returns the value that it has now.
+    ///
+    /// # Errors
+    ///
+    /// Those of `get`.
+    pub fn get_or_put(&mut self, key: u64, value: u64) -> Result<u64> {
+        Ok(self.put_if(key, None, value)?.unwrap_or(value))
+    }
+
+    /// Puts what `change` makes of the key's value, or takes the key out if that is `None`. Returns the
+    /// value before.
+    ///
+    /// # Errors
+    ///
+    /// Those of `get`.
+    pub fn update(&mut self, key: u64, change: impl FnOnce(Option<u64>) -> Option<u64>) -> Result<Option<u64>> {
+        let had = self.get(key)?;
+        match change(had) {
+            Some(value) => self.put(key, value),
+            None if had.is_some() => self.take(key),
+            None => Ok(None),
+        }
     }
 
     /// Sets a savepoint, and returns its level.
@@ -251,7 +453,9 @@ impl CallerTransaction<'_> {
     ///
     /// `NotOpen` and `NoMemory`.
     pub fn save(&mut self) -> Result<u64> {
-        self.call(|at, word| unsafe { sys::boostmap_striped_save(at, word) }).map(Option::unwrap_or_default)
+        let level = self.call(|at, word| unsafe { sys::boostmap_striped_save(at, word) })?;
+        self.note([Entry::Saved(0)]);
+        Ok(level.unwrap_or_default())
     }
 
     /// Takes back every change since the level was set; 0 is the beginning of the transaction.
@@ -260,7 +464,12 @@ impl CallerTransaction<'_> {
     ///
     /// `NotOpen` and `NoSuchLevel`.
     pub fn back(&mut self, level: u64) -> Result<()> {
-        self.call(|at, _| unsafe { sys::boostmap_striped_back(at, level) }).map(drop)
+        self.call(|at, _| unsafe { sys::boostmap_striped_back(at, level) })?;
+        let undone = self.entries.as_ref().map_or(0, |entries| changes_above(entries, level));
+        self.note([Entry::Leave(0, Some(level))]);
+        self.note((0..undone).map(|_| Entry::Undone(0)));
+        self.note([Entry::Returned(0, level)]);
+        Ok(())
     }
 
     /// The number of keys of the map, with the transaction's own changes. Takes every stripe.
@@ -272,29 +481,69 @@ impl CallerTransaction<'_> {
         self.call(|at, word| unsafe { sys::boostmap_striped_count(at, word) }).map(Option::unwrap_or_default)
     }
 
-    /// The pairs of the map, by rising keys, with the transaction's own changes. Takes every stripe.
+    /// The pairs of the map, by rising keys, with the transaction's own changes. Takes every stripe: no
+    /// call reads only a part of a map.
     ///
     /// # Errors
     ///
     /// Those of `get`; after `NoMemory` it may hold some of the stripes.
-    pub fn pairs(&mut self) -> Result<Vec<(u64, u64)>> {
+    pub fn items(&mut self) -> Result<Vec<(u64, u64)>> {
         let mut pairs = vec![sys::Pair { key: 0, value: 0 }; self.count()? as usize];
         let (start, places) = (pairs.as_mut_ptr(), pairs.len());
         // SAFETY: the array has as many places as its length says. There is one for each key, since
         // this caller holds every stripe.
         self.call(|at, word| unsafe { sys::boostmap_striped_read(at, start, places, word) })?;
+        self.note(
+            pairs
+                .iter()
+                .flat_map(|pair| [Entry::Asked(0, Operation::Get { key: pair.key }), Entry::Did(0, Some(pair.value))]),
+        );
         Ok(pairs.iter().map(|pair| (pair.key, pair.value)).collect())
+    }
+
+    /// Puts pairs, in their order.
+    ///
+    /// # Errors
+    ///
+    /// Those of `get`, with some of them put.
+    pub fn put_all(&mut self, pairs: &[(u64, u64)]) -> Result<()> {
+        pairs.iter().try_for_each(|&(key, value)| self.put(key, value).map(drop))
+    }
+
+    /// Takes every key out, and returns how many there were. Takes every stripe.
+    ///
+    /// # Errors
+    ///
+    /// Those of `get`, with some of them taken out.
+    pub fn clear(&mut self) -> Result<u64> {
+        let items = self.items()?;
+        items.iter().try_for_each(|&(key, _)| self.take(key).map(drop))?;
+        Ok(items.len() as u64)
+    }
+
+    /// Lets the end of `transact` take everything back, although it returns the job's value. A `commit`
+    /// by hand is then refused.
+    pub fn roll_back(&mut self) {
+        self.rolls_back = true;
     }
 
     /// Commits, and returns the place in the order of commits, if the map keeps its commits.
     ///
     /// # Errors
     ///
-    /// `NotOpen`.
+    /// `NotOpen`, also after `roll_back`.
     pub fn commit(mut self) -> Result<Option<u64>> {
+        if self.rolls_back {
+            return Err(Error::NotOpen);
+        }
         let place = self.call(|at, word| unsafe { sys::boostmap_striped_commit(at, word) })?;
         self.is_open = false;
-        Ok(place.filter(|&place| place != 0))
+        self.caller.counts.commits += 1;
+        let place = place.filter(|&place| place != 0);
+        if let (Some(place), Some(entries)) = (place, self.entries.take()) {
+            self.caller.committed.push(Committed { place, entries });
+        }
+        Ok(place)
     }
 
     fn call(&mut self, job: impl FnOnce(*mut Handle, *mut u64) -> u32) -> Result<Option<u64>> {
@@ -304,6 +553,7 @@ impl CallerTransaction<'_> {
         let answer = self.caller.call(job);
         if let Err(Error::Busy(_)) = answer {
             self.is_open = false;
+            self.caller.counts.busy += 1;
         }
         answer
     }
@@ -312,8 +562,7 @@ impl CallerTransaction<'_> {
 impl Drop for CallerTransaction<'_> {
     fn drop(&mut self) {
         if self.is_open {
-            // SAFETY: see `Caller::call`.
-            let _ = self.caller.call(|at, _| unsafe { sys::boostmap_striped_abort(at) });
+            self.caller.abort();
         }
     }
 }

@@ -1,22 +1,15 @@
-//! Transactional maps from `u64` to `u64`, over the proved static library `boostmap_c`: a map with one
-//! owner ([`Map`]), a map for threads ([`open_striped`]), and a judge of histories ([`Judge`]).
+//! Transactional maps from `u64` to `u64`, over the proved static library `boostmap_c`: a map for threads
+//! ([`open_striped`]), a map with one owner ([`Map`]), and a judge of histories ([`Judge`]).
 //!
 //! ```
-//! use boostmap::Map;
-//!
-//! let mut accounts = Map::new(2, 64, 1024)?;
-//! accounts.transact(0, |t| {
-//!     t.put(1, 100)?;
-//!     t.put(2, 50)
-//! })?;
-//! let moved = accounts.transact(0, |t| {
-//!     let from = t.get(1)?.unwrap_or(0);
-//!     let to = t.get(2)?.unwrap_or(0);
-//!     t.put(1, from - 30)?;
-//!     t.put(2, to + 30)?;
+//! let mut callers = boostmap::open_striped(4, 64)?; // one for each of four threads
+//! callers[0].put(1, 100)?; // a transaction of one call
+//! let moved = callers[0].transact(|t| {
+//!     t.add(1, -30)?;
+//!     t.add(2, 30)?;
 //!     Ok::<_, boostmap::Error>(30)
 //! })?;
-//! assert_eq!(moved, 30);
+//! assert_eq!((moved, callers[1].items()?), (30, vec![(1, 70), (2, 30)]));
 //! # Ok::<(), boostmap::Error>(())
 //! ```
 //!
@@ -31,9 +24,11 @@ use std::error;
 use std::fmt;
 
 mod caller;
+mod history;
 mod judge;
 
-pub use caller::{open_striped, Caller, CallerTransaction, Opening};
+pub use caller::{open_striped, Caller, CallerTransaction, Counts, Opening};
+pub use history::history;
 pub use judge::{Entry, Holder, Judge, NotFed, Operation, Rule, Verdict};
 
 /// A map, a caller and a judge can move to another thread, and cannot be shared by threads:
@@ -206,6 +201,8 @@ pub enum Error {
     Limit,
     /// An entry's caller is not below 64.
     NoEntry,
+    /// The sum of an `add` does not fit in 64 bits.
+    Overflow,
     /// A status that no call of this crate can return.
     Other(u32),
 }
@@ -241,6 +238,7 @@ impl fmt::Display for Error {
             Error::StampsUsedUp => f.write_str("no stamp is left"),
             Error::Limit => f.write_str("a limit is out of range"),
             Error::NoEntry => f.write_str("the entry's caller is not below 64"),
+            Error::Overflow => f.write_str("the sum does not fit in 64 bits"),
             Error::Other(status) => write!(f, "status {status}"),
         }
     }
@@ -285,7 +283,7 @@ impl Map {
     /// # Errors
     ///
     /// `NoMemory`.
-    pub fn pairs(&mut self) -> Result<Vec<(u64, u64)>> {
+    pub fn items(&mut self) -> Result<Vec<(u64, u64)>> {
         let mut pairs = vec![sys::Pair { key: 0, value: 0 }; self.count()? as usize];
         let (start, places) = (pairs.as_mut_ptr(), pairs.len());
         // SAFETY: the array has as many places as its length says, one for each key.

@@ -26,9 +26,9 @@ fn a_transaction_commits_or_leaves_nothing() -> Result<(), Error> {
 #[test]
 fn the_pairs_are_those_that_stand() -> Result<(), Error> {
     let mut map = Map::new(1, 16, 64)?;
-    assert_eq!(map.pairs()?, []);
+    assert_eq!(map.items()?, []);
     map.transact(0, |t| (0..5).try_for_each(|key| t.put(key, 10 * key).map(drop)))?;
-    let mut pairs = map.pairs()?;
+    let mut pairs = map.items()?;
     pairs.sort();
     assert_eq!(pairs, [(0, 0), (1, 10), (2, 20), (3, 30), (4, 40)]);
     Ok(())

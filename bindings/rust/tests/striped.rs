@@ -31,11 +31,11 @@ fn a_transaction_commits_or_leaves_nothing() -> Result<(), Error> {
     let pairs = other.transact(|t| {
         t.put(0, 9)?;
         assert_eq!(t.count()?, 2);
-        t.pairs()
+        t.items()
     })?;
     assert_eq!(pairs, [(0, 9), (1, 12)]);
     let mut plain = open_striped(1, 8)?.remove(0);
-    assert_eq!(plain.transact(|t| t.pairs())?, []);
+    assert_eq!(plain.transact(|t| t.items())?, []);
     assert_eq!(plain.begin()?.commit()?, None);
     Ok(())
 }

@@ -7,7 +7,7 @@ use Rattle.txn_words.specs.declared.op.Op.TheVariants.{Get, Put}
 use Rattle.txn_words.specs.Shape.{own}
 use Rattle.striped_map.specs.declared.caller.Caller.{Caller}
 use Rattle.striped_map.specs.Callers.{number, seen, IsStep}
-use Rattle.striped_map.proofs.Lands.{own-append}
+use Rattle.striped_map.proofs.AdditionLemmas.{own-append}
 use Rattle.accounts.specs.Transfers.{CannotMove, HasAdded, HasWorked, reading, writing}
 
 added_none : (a : Caller) → HasAdded a [] a

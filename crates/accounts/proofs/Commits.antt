@@ -24,8 +24,8 @@ use Rattle.striped_map.specs.Callers.{number, seen, stripes_held, stripes_in, Is
 use Rattle.striped_map.specs.Seats.{stripes_of}
 use Rattle.striped_map.specs.Steps.{Extends}
 use Rattle.striped_map.proofs.Hands.{own_extends}
-use Rattle.striped_map.proofs.Lands.{own-append}
-use Rattle.striped_map.proofs.Within.{since_then, since_began}
+use Rattle.striped_map.proofs.AdditionLemmas.{own-append}
+use Rattle.striped_map.proofs.CallSpans.{since_then, since_began}
 use Rattle.accounts.specs.Transfers.{HasTransferred, HasWorked, HasWritten, Makes}
 use Rattle.accounts.proofs.Works.{made}
 

@@ -17,7 +17,7 @@ use Rattle.txn_trace.proofs.Callers.{is_end}
 use Rattle.txn_trace.proofs.Shaped.{callers_of}
 use Rattle.txn_trace.proofs.Running.{has_txn}
 use Rattle.txn_trace.proofs.Holders.{holder_of-other, holder_of-end, holder_of-asked}
-use Rattle.serial_check.specs.Serializable.{IsSerializable}
+use Rattle.serial_check.specs.Serializable.{IsSerializableByCommits}
 use Rattle.bad_entry.specs.Holding.{next_holder}
 
 longer : {A : Type 0} (x g h : List A) → IsPrefix x g → IsPrefix x (g ++ h)
@@ -30,14 +30,14 @@ legal_front holder stripes g h legal = record {
   shape = λ x e p. legal.shape x e (longer (x ++ e ∷ []) g h p);
 }
 
-pub serial_front : (g h : List Entry) → IsSerializable (g ++ h) → IsSerializable g
+pub serial_front : (g h : List Entry) → IsSerializableByCommits (g ++ h) → IsSerializableByCommits g
 serial_front g h serial = record {
   shape = λ x e p. serial.shape x e (longer (x ++ e ∷ []) g h p);
   replies = λ x c q t p at. serial.replies x c q t (longer (x ++ Committed c q ∷ []) g h p) at;
 }
 
-pub serial_take : (i : ℕ) (h : List Entry) → IsSerializable h → IsSerializable (take i h)
-serial_take i h serial = serial_front (take i h) (drop i h) (subst IsSerializable (sym (take-append-drop i h)) serial)
+pub serial_take : (i : ℕ) (h : List Entry) → IsSerializableByCommits h → IsSerializableByCommits (take i h)
+serial_take i h serial = serial_front (take i h) (drop i h) (subst IsSerializableByCommits (sym (take-append-drop i h)) serial)
 
 -- Who holds a stripe after one more entry of a legal history.
 module _ (holder : Holder) (stripes s : ℕ) (g : List Entry) where

@@ -16,7 +16,7 @@ use Rattle.txn_words.specs.Shape.{own}
 use Rattle.txn_trace.proofs.Pushes.{txn_in-push}
 use Rattle.txn_trace.proofs.Logs.{log_after-own, log_after-other}
 use Rattle.serial_check.specs.Serializable as serial
-use Rattle.history_check.proofs.Seating.{each-set, if_some, at_some}
+use Rattle.history_check.proofs.CallerTable.{each-set, if_some, at_some}
 use Rattle.bad_entry.specs.declared.desks.Desk.{Desk}
 use Rattle.bad_entry.specs.declared.desks.Desks.{Desks}
 use Rattle.bad_entry.specs.Desks.{HaveNoted, IsDeskOf}

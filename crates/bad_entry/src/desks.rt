@@ -15,11 +15,11 @@ const CALLERS: usize = 64;
 
 /// The state of a caller.
 #[derive(Clone, Copy, Debug, PartialEq, Eq)]
-pub(crate) struct Desk {
+pub struct Desk {
     /// The operation that waits for its reply.
-    pub(crate) waiting: Option<Op>,
+    pub waiting: Option<Op>,
     /// The transaction that the caller began last.
-    pub(crate) txn: Option<u64>,
+    pub txn: Option<u64>,
 }
 
 impl Desk {
@@ -43,8 +43,10 @@ impl Desk {
 }
 
 /// The state of each of 64 callers.
+///
+/// In a contract, `HaveNoted h desks` says that the entries `h` were entered in `desks`.
 #[derive(Drop)]
-pub(crate) struct Desks {
+pub struct Desks {
     table: Vec<Desk>,
     ghost all: { vec_len table ≡ 64 },
 }
@@ -54,7 +56,15 @@ impl Desks {
     ghost use Rattle.bad_entry.specs.Desks.{HaveNoted, txn_in, waiting_in};
 
     /// Returns the states of the callers before the first entry.
-    pub(crate) fn new(alloc: Global) -> Result<Desks, AllocError>
+    ///
+    /// # Errors
+    ///
+    /// `AllocError` if memory is refused.
+    ///
+    /// # Cost
+    ///
+    /// Time and memory for 64 callers.
+    pub fn new(alloc: Global) -> Result<Desks, AllocError>
         ensures { IfOk result (HaveNoted []) }
     {
         let mut table = Vec::with_capacity(alloc, CALLERS)?;
@@ -68,7 +78,11 @@ impl Desks {
     }
 
     /// The state of a caller.
-    pub(crate) fn at(&self, caller: u64) -> Desk
+    ///
+    /// # Cost
+    ///
+    /// Constant time; takes no memory.
+    pub fn at(&self, caller: u64) -> Desk
         requires { caller < 64 }
         ensures waiting { (h : List Entry) → HaveNoted h self.now →
             result.waiting ≡ waiting_in h caller }
@@ -77,8 +91,12 @@ impl Desks {
         self.table[caller as usize]
     }
 
-    /// Updates the state of an entry's caller by the entry.
-    pub(crate) fn enter(&mut self, entry: Entry)
+    /// Updates the state of an entry's caller by the entry. The entry may be of any shape.
+    ///
+    /// # Cost
+    ///
+    /// Constant time; takes no memory.
+    pub fn enter(&mut self, entry: Entry)
         requires { caller_of entry < 64 }
         ensures { (h : List Entry) → HaveNoted h self.old → HaveNoted (h ++ entry ∷ []) self.new }
     {

@@ -12,7 +12,7 @@ ghost use Rattle.txn_trace.specs.Now.{now};
 ghost use Rattle.txn_words.specs.declared.holder.Holder.{Holder};
 ghost use Rattle.history_check.specs.Fed as locks;
 ghost use Rattle.serial_check.specs.Fed as commits;
-ghost use Rattle.serial_check.specs.Serializable.{IsSerializable};
+ghost use Rattle.serial_check.specs.Serializable.{IsSerializableByCommits};
 ghost use Rattle.bad_entry.specs.Commits.{IsTornSince, last_commit, settling_commit};
 
 use std::alloc::{AllocError, Global};
@@ -93,7 +93,7 @@ pub fn last_commit(
     key: u64,
 ) -> Result<Option<(u64, u64)>, AllocError>
     requires { All (λ entry. caller_of entry < 64) entries.now }
-    ensures { IfOk result (λ found. IsSerializable entries.now →
+    ensures { IfOk result (λ found. IsSerializableByCommits entries.now →
         found ≡ last_commit key entries.now) }
 {
     let mut checker = serial_check::Checker::new(alloc)?;
@@ -125,7 +125,7 @@ pub fn torn_since(
 ) -> Result<Option<u64>, AllocError>
     requires caller { caller < 64 }
     requires callers { All (λ entry. caller_of entry < 64) entries.now }
-    ensures { IfOk result (λ found. IsSerializable entries.now →
+    ensures { IfOk result (λ found. IsSerializableByCommits entries.now →
         IsTornSince entries.now caller found) }
 {
     let mut checker = serial_check::Checker::new(alloc)?;

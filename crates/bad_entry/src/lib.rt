@@ -22,6 +22,7 @@ mod held;
 mod reason;
 
 pub use change::{Change, Fate, fate_of, last_change, last_with_fate};
+pub use desks::{Desk, Desks};
 pub use due::{last_commit, torn_since, value_now};
 pub use held::{Held, held_by, next_txn, txn_of};
 pub use reason::{Reason, by_commits, by_locks};

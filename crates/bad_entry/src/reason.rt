@@ -10,7 +10,7 @@ ghost use Rattle.txn_words.specs.declared.entry.Entry.{Entry};
 ghost use Rattle.txn_words.specs.declared.holder.Holder.{Holder};
 ghost use Rattle.txn_words.specs.declared.op.Op.{Op};
 ghost use Rattle.history_check.specs.Callers.{HaveEntered};
-ghost use Rattle.serial_check.specs.Serializable.{IsSerializable};
+ghost use Rattle.serial_check.specs.Serializable.{IsSerializableByCommits};
 ghost use Rattle.bad_entry.specs.Desks.{waiting_in};
 ghost use Rattle.bad_entry.specs.Reasons.{IsLockReason, IsReplyReason, IsReasonByCommits};
 ghost use Rattle.bad_entry.specs.Reasons.{IsCommitReason, IsReasonByLocks, IsShapeReason};
@@ -205,7 +205,7 @@ pub fn by_locks(
 fn commit_reason(alloc: Global, entries: &[SmallEntry], caller: u64) -> Result<Reason, AllocError>
     requires caller { caller < 64 }
     requires callers { All (λ entry. caller_of entry < 64) entries.now }
-    ensures { IfOk result (λ reason. IsSerializable entries.now →
+    ensures { IfOk result (λ reason. IsSerializableByCommits entries.now →
         IsCommitReason entries.now caller reason) }
 {
     let checker = fed_by_commits(alloc, entries)?;
@@ -240,7 +240,7 @@ pub fn by_commits(
 ) -> Result<Reason, AllocError>
     requires caller { caller_of bad.now < 64 }
     requires callers { All (λ entry. caller_of entry < 64) entries.now }
-    ensures { IfOk result (λ reason. IsSerializable entries.now →
+    ensures { IfOk result (λ reason. IsSerializableByCommits entries.now →
         IsReasonByCommits rule entries.now bad.now reason) }
 {
     match rule {

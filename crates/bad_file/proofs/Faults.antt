@@ -10,7 +10,7 @@ use Rattle.bad_file.specs.Following.{expected_after}
 use Rattle.bad_file.specs.Meets.{is_met, is_as_expected}
 use Rattle.bad_file.specs.declared.expected.Expected.{Expected}
 use Rattle.bad_file.specs.declared.expected.Expected.TheVariants as expected
-use Rattle.bad_file.proofs.Reading.{accepts, is_entry}
+use Rattle.bad_file.proofs.EntryElements.{accepts, is_entry}
 
 -- ---- what is still expected
 

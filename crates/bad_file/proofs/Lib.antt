@@ -2,6 +2,6 @@ pub mod Faults
 pub mod Founds
 pub mod Pieces
 pub mod Places
-pub mod Reading
+pub mod EntryElements
 pub mod Viewed
-pub mod Whole
+pub mod Flaws

@@ -5,9 +5,8 @@
 //! only says its kind. This crate answers the writer's next question: which element of the entry is
 //! wrong, which words and numbers are allowed there, or which member is missing.
 //!
-//! `txn_files` defines the format. An element of an array is at fault if some entry begins with the
-//! elements before it, but no entry begins with these elements and the element itself. Exactly the
-//! elements that continue some entry are allowed in its place.
+//! `txn_files` defines the format. The element at fault is the first with which no entry goes on;
+//! exactly those that continue some entry are allowed in its place (`IsFault`).
 //!
 //! Proved: `flaw_in` finds no flaw exactly if `read_history` accepts the file. If it finds a flaw,
 //! this flaw is the cause of the refusal. `flaw_in` keeps the JSON value of the whole file, which

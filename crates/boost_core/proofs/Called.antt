@@ -3,11 +3,11 @@ use Rattle.std.proofs.Common.{◌≡◌, ℕ, ◌-◌, ◌^◌, ◌<◌, ◌≤�
 use Rattle.boost_core.proofs.Vocabulary.{false≢true, slice_get_within, slice_get-map, Step, Answer, key_of, Op, stripe_of, Counts, Session, Caller, caller_changes, refusal_of, owner_of, Claim, Lock, Right, Held, Stale, IsClaim, times_in, World, Tells, state_of, session_changes, all_times, side_of, HasEffect, ActsIn, Saves, IsAsked, AsksBy, unless_busy, KeepsPlaced, MayTakeStep, Reach, reach, spare_if, times_kept, NoMemory}
 use Rattle.boost_core.proofs.Outcomes.{Called, CalledBy}
 use Rattle.boost_core.proofs.Spares.{owns_if}
-use Rattle.boost_core.proofs.Grow.{one_of_sum}
-use Rattle.boost_core.proofs.Refused.{caller_in, free, seat_free, cursor_free, set_here, noted_some}
-use Rattle.boost_core.proofs.Parting.{begun, saved, left, committed, withdrawn, returned, ended}
-use Rattle.boost_core.proofs.Asking.{asked_called, busy_called, ask_refused, save_refused, stale_called, held_called, word_stale_called}
-use Rattle.boost_core.proofs.Working.{did_called, undone_called, sought_called, again_called}
+use Rattle.boost_core.proofs.OneCaller.{one_of_sum}
+use Rattle.boost_core.proofs.SideRefusals.{caller_in, free, seat_free, cursor_free, set_here, noted_some}
+use Rattle.boost_core.proofs.BoundaryMoves.{begun, saved, left, committed, withdrawn, returned, ended}
+use Rattle.boost_core.proofs.AskMoves.{asked_called, busy_called, ask_refused, save_refused, stale_called, held_called, word_stale_called}
+use Rattle.boost_core.proofs.WorkMoves.{did_called, undone_called, sought_called, again_called}
 use Rattle.txn_words.specs.declared.step.Step.TheVariants as steps
 use Rattle.txn_words.specs.declared.answer.Answer.TheVariants as answers
 

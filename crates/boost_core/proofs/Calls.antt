@@ -4,7 +4,7 @@ use Rattle.std.proofs.Common.{◌≡◌, ℕ, ◌-◌, ◌<◌, ◌≤◌, ◌&&
 use Rattle.boost_core.proofs.Vocabulary.{and-false, or-true, false≢true, and_parts, Op, Entry, Refusal, Step, Answer, Map, Sizes, caller_of, Phase, Opened, Waiting, LeavingTo, LeavingToEnd, Seat, closed_seat, row, seat_after, own, All-head, All-tail, Ask, Seek, Act, Back, Abort, Refused, Asked, Placed, Again, Done, Undone, Leaving, Returned, Aborted, own-push_in, seat_after-push, State, Caller, seat_in, caller_changes, refusal_of, lacks_in, MayLack, is_closed, is_waiting, is_leaving, has_job, has_target, IsReply, is_back_at, is_at_end, may_be_stale, Move, Happens, Operates, Returns, Aborts, NoSuchCaller, NotOpen, NothingToSeek, Unplaced}
 use Rattle.boost_core.specs.Answers.{end_answer}
 use Rattle.boost_core.proofs.Moves.{just_placed}
-use Rattle.boost_core.proofs.Refused.{or_else, refusal_parts, free, three_tests}
+use Rattle.boost_core.proofs.SideRefusals.{or_else, refusal_parts, free, three_tests}
 use Rattle.txn_words.specs.declared.entry.Entry.TheVariants as entry
 
 -- If a caller has a transaction, `seat_after` finds a seat for the caller's entries. It is the seat

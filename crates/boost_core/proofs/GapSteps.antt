@@ -2,14 +2,14 @@
 -- owner's, and a cursor whose nodes stay neighbours still fits.
 use Rattle.std.proofs.Common.{◌≡◌, ◌≢◌, ℕ, inl, inr, List, length, set, Option, Some, is_some, sym, ap, subst, ◌∙◌, arith, map, slice_get, slice_set, length-set, get_or-set_other, None, Result, Ok, Err, refl, slice_index_or}
 use Rattle.boost_core.proofs.Vocabulary.{cases_lt, regular_at, Op, key_of, stripe_of, Refusal, Step, Answer, nodes_of, IsSound, slice_get_within, slice_get_past, slice_get-get_or, Session, State, Gap, Caller, Helper, gap_in, gap_for, owner_of, Claim, Lock, Right, AreNeighbours, Cursors, Fits, KeepsGaps, StandsAt, mover_of, next_key, Side, Reach, reach, HasEffect, ActsIn, SeeksIn, IsAsked, AsksBy, World, Tells, state_of, nodes_at, gap_by, gap_if, NoMemory, dummy_at, InitSeek, InitLink, SweepOutcome, dummy_node, Sweeps, found_fits, found_placed, TableHelper, Idle, Seeking, Holding, SeekChanges, LinkChanges, StoreChanges, link_answer_of, seek_answer, TableAt, KeepsList, cursor_in, helper_cursor, size_of, stored_of, helps_of, Serves, StampsUsedUp}
-use Rattle.boost_core.proofs.Refused.{set_here}
+use Rattle.boost_core.proofs.SideRefusals.{set_here}
 use Rattle.boost_core.proofs.Moves.{gaps_same}
 use Rattle.boost_core.proofs.NodeSteps.{next_is}
 use Rattle.boost_core.proofs.GapLists.{Stay, stay_same, stay_swept, stay_sought}
 use Rattle.boost_core.proofs.Neighbours.{fit_of}
 use Rattle.boost_core.proofs.Gaps.{gap_here, no_gap, gap_by_side, gap_kept, stands, same_gap, cursors_stay, helper_kept, helper_gap, helper_stands, no_helper_gap}
 use Rattle.boost_core.proofs.Staying.{does_stay, linked}
-use Rattle.boost_core.proofs.Linking.{fits_where, stale_where}
+use Rattle.boost_core.proofs.LinkAnswers.{fits_where, stale_where}
 use Rattle.boost_core.proofs.Tables.{doubled_helpers, links_node, other_cursor, seeker_is, seeker_there}
 use Rattle.txn_words.specs.declared.step.Step.TheVariants as steps
 use Rattle.txn_words.specs.declared.answer.Answer.TheVariants as answers

@@ -1,8 +1,8 @@
 pub mod Vocabulary
 pub mod Spares
 pub mod Due
-pub mod Grow
-pub mod Refused
+pub mod OneCaller
+pub mod SideRefusals
 pub mod Sides
 pub mod Events
 pub mod Moves
@@ -11,9 +11,9 @@ pub mod Runs
 pub mod Starting
 pub mod Named
 pub mod Outcomes
-pub mod Parting
-pub mod Working
-pub mod Asking
+pub mod BoundaryMoves
+pub mod WorkMoves
+pub mod AskMoves
 pub mod NodeLists
 pub mod NodeSteps
 pub mod GapLists
@@ -23,9 +23,9 @@ pub mod Staying
 pub mod GapSteps
 pub mod Called
 pub mod Tables
-pub mod Helping
-pub mod Linking
+pub mod TableMoves
+pub mod LinkAnswers
 pub mod Serving
 pub mod Calls
-pub mod InStep
-pub mod Driving
+pub mod HelpTargets
+pub mod HelpOutcomes

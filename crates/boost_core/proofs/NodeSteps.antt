@@ -6,7 +6,7 @@ use Rattle.boost_core.specs.Nodes.{LeavesNodes}
 use Rattle.boost_core.proofs.Spares.{given_for, nodes_then}
 use Rattle.boost_core.proofs.NodeLists.{seen, inserted, replaced, written_seen, seeks_from, clean_seen, sweeps as swept_nodes}
 use Rattle.boost_core.proofs.Outcomes.{is_stale_word}
-use Rattle.boost_core.proofs.Refused.{caller_in, seat_here}
+use Rattle.boost_core.proofs.SideRefusals.{caller_in, seat_here}
 use Rattle.boost_core.proofs.Sides.{changes_last, waiting_op, newest_is}
 use Rattle.map_ops.specs.Buckets.{parent_of}
 use Rattle.boost_core.proofs.Tables.{help_is, links_node}

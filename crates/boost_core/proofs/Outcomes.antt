@@ -7,8 +7,8 @@ use Rattle.boost_core.specs.Machine.{after}
 use Rattle.boost_core.specs.Adding.{Enters, CanAdd}
 use Rattle.boost_core.proofs.Named.{grown_small}
 use Rattle.boost_core.proofs.Moves.{lacks, refused, state_is, changes_set, with_nodes}
-use Rattle.boost_core.proofs.Grow.{Grows, Stays, world_after, seated_as, row_there, grown, stayed, sum_changed, one_of_sum}
-use Rattle.boost_core.proofs.Refused.{no_cursor}
+use Rattle.boost_core.proofs.OneCaller.{Grows, Stays, world_after, seated_as, row_there, grown, stayed, sum_changed, one_of_sum}
+use Rattle.boost_core.proofs.SideRefusals.{no_cursor}
 use Rattle.boost_core.proofs.Spares.{buckets_same}
 use Rattle.txn_words.specs.declared.step.Step.TheVariants as steps
 use Rattle.txn_words.specs.declared.answer.Answer.TheVariants as answers

@@ -2,8 +2,8 @@
 use Rattle.std.proofs.Common.{◌≡◌, ℕ, ◌*◌, ◌==◌, ◌&&◌, Bool, true, false, cond, Some, None, Result, Ok, Err, refl, sym, ap, ◌∙◌, nat_le, nat_lt, not, lt-ltb, le-leb, length-set, inl, inr, le-ltb, slice_get}
 use Rattle.boost_core.proofs.Vocabulary.{lt-leb, cases_lt, Step, Answer, now, InitSeek, InitLink, Refusal, SweepOutcome, TableAt, Follows, size_of, stored_of, helps_of, count_of, Double, HasParents, KeepsList, linked_of, regular, Doubles, SeekChanges, LinkChanges, StoreChanges, seek_answer, Helper, IsAnswer, placed_then, Move, Serves, Sweeping, Linking, Storing, World, Tells, state_of}
 use Rattle.boost_core.proofs.Tables.{doubled_becomes, held_becomes, idle_becomes, linked_becomes, seeker_fits, seeker_there, sought_becomes, stored_becomes}
-use Rattle.boost_core.proofs.Helping.{served, sweep_tells, swept_move, becomes_tells, becomes_move, seek_refusal, refusal_in_result, seek_ready_move, seek_placed_move, helper_refused, store_refused_move, stored_move}
-use Rattle.boost_core.proofs.Linking.{link_refused_move, link_again_move, link_present_move, link_linked_move}
+use Rattle.boost_core.proofs.TableMoves.{served, sweep_tells, swept_move, becomes_tells, becomes_move, seek_refusal, refusal_in_result, seek_ready_move, seek_placed_move, helper_refused, store_refused_move, stored_move}
+use Rattle.boost_core.proofs.LinkAnswers.{link_refused_move, link_again_move, link_present_move, link_linked_move}
 use Rattle.txn_words.specs.declared.step.Step.TheVariants as steps
 use Rattle.map_ops.specs.Double.TheVariants as doubles
 use Rattle.map_ops.specs.InitSeek.TheVariants as seeks

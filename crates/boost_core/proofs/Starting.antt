@@ -1,7 +1,7 @@
 -- A core whose history is empty.
 use Rattle.std.proofs.Common.{◌≡◌, ℕ, ◌+◌, ◌<◌, ◌≤◌, ◌==◌, ◌∷◌, Bool, true, List, [], length, map, replicate, Option, Some, None, zero, suc, refl, sym, ap, ◌∙◌, arith, slice_get, sum_by, eq-eqb, eqb-true, inl, inr, All, option_map, ◌*◌, ◌/◌, ◌%◌, ◌^◌, pow-suc, count_ones}
 use Rattle.boost_core.proofs.Vocabulary.{and_parts, cases_Bool, cases_lt, slice_get_within, get_or_from_slice_get, caller_of, is_power_of_two, length-replicate, get_or-replicate, get_or_past, All-nil, sum_by-cons, held_by, Sizes, are_limits, owed_in, NodeAt, first, first_dummy, node_of, IsRising, IsSpread, IsSound, TableAt, IsNew, Nothing, cursor_changes, nodes_of, Session, start, Side, side_of, IsIdle, owed_of, times_kept, World, Tells, IsSeated, state_of, session_changes, node_at, gap_if, gap_by, all_times, cases_eq, zero_from_ones, ones_le_self}
-use Rattle.txn_trace.proofs.Judging.{legal_none}
+use Rattle.txn_trace.proofs.BadEntries.{legal_none}
 use Rattle.boost_core.proofs.Gaps.{idle_cursors}
 use Rattle.boost_core.proofs.NodeLists.{node_here, node_later, none_of_none}
 use Rattle.boost_core.proofs.Spares.{none_covered}

@@ -5,7 +5,7 @@ use Rattle.list_steps.specs.Content.{pairs}
 use Rattle.bucket_table.specs.Dummies.{has_dummy}
 use Rattle.bucket_table.specs.Links.{LinksAt}
 use Rattle.map_ops.proofs.BucketLemmas.{linked_with}
-use Rattle.boost_core.proofs.Refused.{set_here}
+use Rattle.boost_core.proofs.SideRefusals.{set_here}
 use Rattle.map_ops.specs.Double.TheVariants as doubles
 use Rattle.map_ops.specs.InitSeek.TheVariants as seeks
 

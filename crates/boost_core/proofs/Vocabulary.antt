@@ -65,10 +65,10 @@ pub use Rattle.txn_drive.specs.Drives.{end_of, ended_by, first_phase, heading, n
 unfoldable pub use Rattle.txn_drive.specs.Ways.{child_towards, child_within}
 pub use Rattle.txn_drive.specs.declared.drive.Drive.{Drive}
 pub use Rattle.txn_drive.specs.declared.way.Way.{Way}
-pub use Rattle.txn_trace.proofs.Held.{held_apart, log_held, waiting_held}
+pub use Rattle.txn_trace.proofs.HeldStripes.{held_apart, log_held, waiting_held}
 pub use Rattle.txn_trace.proofs.Holders.{is_locked-asked, is_locked-busy}
 pub use Rattle.txn_trace.proofs.Naming.{has_begun-other, has_begun-own, legal_begun}
-pub use Rattle.txn_trace.proofs.Next.{Next, seat-own}
+pub use Rattle.txn_trace.proofs.EntrySteps.{Next, seat-own}
 pub use Rattle.txn_trace.proofs.Now.{same_is, same_option}
 pub use Rattle.txn_trace.proofs.Pushes.{how_many-push, own-push_in, seat_after-push}
 pub use Rattle.txn_trace.specs.Legal.{IsLegal, is_running, runs}

@@ -20,9 +20,8 @@
 //! its operation and the operation's undoing need. Calls take constant time and no memory unless
 //! they say otherwise.
 //!
-//! Only tested (`cores::limits` of `core_tests`): with enough memory no call fails, with 1 and 64
-//! callers, 4,096 stripes, 65,536 buckets, keys and values up to 2^64 - 1, 1,000 savepoints, logs
-//! of 100,000 jobs, and 100,001 steps.
+//! Only tested (`cores::limits` of `core_tests`): with enough memory no call fails at any limit,
+//! nor with 1,000 savepoints, logs of 100,000 jobs, or 100,001 steps.
 #![tactic(auto)]
 
 mod adding;

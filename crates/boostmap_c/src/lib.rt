@@ -1,4 +1,4 @@
-//! Transactional maps for C, and the judge of their histories: `boost_core`'s `Core`,
+//! Transactional maps for C, and the judge of their histories: `owned_map`'s `OwnedMap`,
 //! `striped_map`'s `Caller`, and the checkers of `history_check` and `serial_check`, each behind a
 //! handle that C keeps, with its exports.
 //!
@@ -6,9 +6,9 @@
 //! pointer whose type is erased. A ghost field says what it owns. In a caller's handle this is a
 //! member: the caller, those that wait for a handle, and the shared map.
 //!
-//! A call takes the object out of the handle, makes the library's call and puts the object back; a
-//! member is borrowed instead. Each call returns a status (`status.rt`) and writes at most one
-//! word. Reads also write pairs, and `boostmap_judge_verdict` a `CVerdict`.
+//! A call borrows the object through the pointer and makes the library's call; a judge is taken out
+//! and put back instead. Each call returns a status (`status.rt`) and writes at most one word.
+//! Reads also write pairs, `boostmap_history` entries, and `boostmap_judge_verdict` a `CVerdict`.
 //!
 //! No export has a `requires`. What C must do is in the header. Calls on different handles of one
 //! striped map may run at once; none takes a lock or waits.
@@ -27,10 +27,12 @@
 #![tactic(auto)]
 
 mod c_entry;
-mod core_pointer;
 mod handle;
+mod held_map;
+mod history;
 mod judge;
 mod map;
+mod map_pointer;
 mod member;
 mod member_handle;
 mod member_pointer;

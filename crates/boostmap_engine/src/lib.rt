@@ -1,18 +1,15 @@
-//! The engines of the program `boostmap`, for any reader and any writer. An engine reads a file and
-//! writes the outcome:
+//! The engines of the program `boostmap`, for any reader and any writer. An engine reads a file
+//! and, as is proved, writes exactly the outcome:
 //!
-//! - `replay` runs the steps of a step file on a new core, and writes the report: each step's
-//!   answer, the size and the count, and the pairs of the map in list order.
-//! - `check` judges the history of a history file, and writes the verdict as one line.
-//! - `mix` runs the scripts of a script file, mixed as a seed determines, and writes the history.
+//! - `replay`: the report of a run of the file's steps on a new core, that is each step's answer,
+//!   the size and the count, and the pairs of the map in list order (`specs/Report.antt`);
+//! - `check`: the line of the verdict on the file's history (`specs/Judgement.antt`);
+//! - `mix`: a legal history of the file's scripts, mixed as a seed determines, in which the
+//!   workers' committed transactions play them (`specs/Mixture.antt`).
 //!
-//! The engine of `run` is in `boostmap_program`, since it starts threads.
-//!
-//! Proved: `replay` writes exactly the report of a run of the file's steps (`specs/Report.antt`),
-//! `check` exactly the line of the verdict on the file's history (`specs/Judgement.antt`), and
-//! `mix` a legal history in which the workers' committed transactions play the file's scripts
-//! (`specs/Mixture.antt`). At the faults `Input`, `Read` and `NoMemory` nothing is written; at
-//! `Write`, a proper prefix of the text (`specs/Written.antt`).
+//! The engine of `run` is in `boostmap_program`, since it starts threads. At the faults `Input`,
+//! `Read` and `NoMemory` nothing is written; at `Write`, a proper prefix of the text
+//! (`specs/Written.antt`).
 //!
 //! The bytes of the file and the values read from them are in memory at the same time. A report is
 //! made as a whole before its first byte is written; a history is written in pieces, in memory that

@@ -5,8 +5,7 @@
 //! (`asked`, `specs/Words.antt`). The calls are `replay FILE`, `run FILE`, `mix --seed N FILE` and
 //! `check FILE`.
 //!
-//! The programs that run the engine of a call are other crates (`unthreaded_program`,
-//! `boostmap_program`). Reading the words needs none of the proofs about engines and threads.
+//! Reading the words needs none of the proofs about engines and threads.
 #![tactic(auto)]
 
 mod no_call;

@@ -4,7 +4,7 @@ use Rattle.std.proofs.Common.{ℕ, ◌%◌, ◌∙◌, ◌≡◌, Bool, List, No
 use Rattle.core_tokens.proofs.Vocabulary.{Answer, Call, Claim, Doubling, Drive, End, Entry, Goes, HelpSuits, Helped, Initialising, IsWhole}
 use Rattle.core_tokens.proofs.Vocabulary.{Linking, Move, Phase, Refused, Seat, State, Step, Storing, Way, end_of, ended_by, false≢true}
 use Rattle.core_tokens.proofs.Vocabulary.{goes_on, is_ask, is_set, seat_in, sized_of, told_in, told_init_seek, turn_in, turn_of}
-use Rattle.boost_core.proofs.InStep.{Reaches, double_reaches, link_reaches, seek_reaches, store_reaches}
+use Rattle.boost_core.proofs.HelpTargets.{Reaches, double_reaches, link_reaches, seek_reaches, store_reaches}
 use Rattle.core_tokens.proofs.Claiming.{plain_claim}
 use Rattle.core_tokens.proofs.Going.{at_paired}
 use Rattle.core_tokens.specs.Claims.{Trial, claim_in}

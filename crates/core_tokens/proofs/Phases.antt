@@ -8,7 +8,7 @@ use Rattle.core_tokens.proofs.Vocabulary.{entries_of, first_step, fold, fold-app
 use Rattle.core_tokens.proofs.Vocabulary.{told_in, told_seek, undone_in, undone_more}
 use Rattle.txn_drive.specs.Drives.{heading, refused_help, towards}
 use Rattle.txn_words.specs.declared.refusal.Refusal.TheVariants.{NothingToSeek}
-use Rattle.boost_core.proofs.InStep.{at_heading, at_refused, at_towards}
+use Rattle.boost_core.proofs.HelpTargets.{at_heading, at_refused, at_towards}
 use Rattle.core_tokens.specs.Suits.{SuitsSeat, undone_of, work_phase}
 use Rattle.txn_drive.specs.declared.call.Call.TheVariants as calls
 use Rattle.txn_words.specs.declared.answer.Answer.TheVariants as answers

@@ -5,7 +5,7 @@ use Rattle.core_tokens.proofs.Vocabulary.{Acting, Call, Doubling, Drive, Ended, 
 use Rattle.core_tokens.proofs.Vocabulary.{Seeking, Standing, Step, Storing, Turn, Two, Work, closed_seat, false≢true, first_step, is_closed}
 use Rattle.core_tokens.proofs.Vocabulary.{made, made_in, owed_by, owed_in, refusal_in, reserved, seat_after, turn_in, turn_of}
 use Rattle.txn_words.specs.declared.refusal.Refusal.TheVariants.{NoMemory}
-use Rattle.boost_core.proofs.Refused.{abort_runs, commit_open}
+use Rattle.boost_core.proofs.SideRefusals.{abort_runs, commit_open}
 use Rattle.core_tokens.proofs.Going.{at_paired}
 use Rattle.core_tokens.proofs.Phases.{some_is}
 use Rattle.core_tokens.proofs.Working.{IsAtWork, at_work}

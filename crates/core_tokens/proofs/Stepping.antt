@@ -5,7 +5,7 @@ use Rattle.core_tokens.proofs.Vocabulary.{AllByRecursion, Answer, Drive, Entry, 
 use Rattle.core_tokens.proofs.Vocabulary.{caller_of, entries_of, has_seat, own, seat_after, seat_in, step_in, step_of, told_in}
 use Rattle.std.proofs.lemmas.List.Elements.{filter-append}
 use Rattle.txn_drive.proofs.DriveLaws.{entries_callers, own_all}
-use Rattle.boost_core.proofs.Refused.{le_false}
+use Rattle.boost_core.proofs.SideRefusals.{le_false}
 use Rattle.core_tokens.proofs.Claiming.{goes_cases, goes_over, suits_stale}
 use Rattle.core_tokens.proofs.Phases.{entries_if, fits_told, seat_on, seat_on_more, seat_told, some_is, undone_told}
 use Rattle.core_tokens.proofs.Suiting.{MoveIf, suits_fits, suits_told}

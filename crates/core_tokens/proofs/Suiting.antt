@@ -5,7 +5,7 @@ use Rattle.core_tokens.proofs.Vocabulary.{Acting, Answer, Call, Doubling, Fresh,
 use Rattle.core_tokens.proofs.Vocabulary.{Phase, Refused, Seat, Seeking, State, Step, Storing, false≢true, first_step, refusal_in, seat_in}
 use Rattle.core_tokens.proofs.Vocabulary.{sized_in, step_in, told_in}
 use Rattle.txn_words.specs.declared.refusal.Refusal.TheVariants.{NoMemory, StampsUsedUp}
-use Rattle.boost_core.proofs.InStep.{help_suits_told}
+use Rattle.boost_core.proofs.HelpTargets.{help_suits_told}
 use Rattle.core_tokens.proofs.Phases.{entries_if}
 use Rattle.core_tokens.proofs.Starting.{first_free, suits_first}
 use Rattle.core_tokens.proofs.Working.{suits_act, suits_seek}

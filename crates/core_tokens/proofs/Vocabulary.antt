@@ -39,4 +39,4 @@ pub use Rattle.boost_core.specs.Whole.{IsWhole}
 pub use Rattle.boost_core.specs.Words.{Goes, IsStale, is_ask, is_stale}
 pub use Rattle.boost_core.specs.declared.claim.Claim.{Claim}
 pub use Rattle.boost_core.proofs.Calls.{never_refused}
-pub use Rattle.boost_core.proofs.Refused.{or_else, refusal_parts}
+pub use Rattle.boost_core.proofs.SideRefusals.{or_else, refusal_parts}

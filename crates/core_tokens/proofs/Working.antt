@@ -10,7 +10,7 @@ use Rattle.txn_trace.specs.Now.{now}
 use Rattle.txn_words.specs.Map.{Map}
 use Rattle.txn_words.specs.declared.refusal.Refusal.TheVariants.{NothingToSeek, OutOfStep}
 use Rattle.boost_core.proofs.Calls.{act_free, and_none}
-use Rattle.boost_core.proofs.InStep.{set_there}
+use Rattle.boost_core.proofs.HelpTargets.{set_there}
 use Rattle.boost_core.specs.Answers.{IsReply, is_at_end, is_back_at}
 use Rattle.boost_core.specs.Refusals.{lacks_in}
 use Rattle.core_tokens.specs.Suits.{SuitsSeat, Suits, is_odd, work_phase}

@@ -1,7 +1,6 @@
 //! A history as lines. Each line of a text is an entry, written as the array that a history file
-//! has for it, such as `["asked",0,"put",1,10]`. A store can append such lines while it runs: there
-//! is no bracket to close, and no bound on the number of lines. After a crash, the lines that were
-//! completely written can be read.
+//! has for it, such as `["asked",0,"put",1,10]`. A store can append such lines while it runs, and
+//! after a crash those that were completely written can be read.
 //!
 //! The model is two functions of bytes (`specs/`). `entry_on` is the entry on a line, or none if
 //! the line is blank, or the line's first fault. `history_of_lines` gives the entries of all lines

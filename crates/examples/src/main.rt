@@ -2,8 +2,8 @@
 //! one map and take jobs from another map. Runs the files of the folder `examples`. The output of
 //! each example begins with a line: the example's name, or its command and its file.
 //!
-//! `.ci/run` compares the output with the file `stdout`, which was written by hand. So what the
-//! documentation says about the examples remains true. This program itself has no contract.
+//! `.ci/run` compares the output with the file `stdout`, which was written by hand. This program
+//! itself has no contract.
 #![tactic(auto)]
 
 mod call_audit;

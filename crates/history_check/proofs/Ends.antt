@@ -8,7 +8,7 @@ use Rattle.txn_words.specs.Kinds.{is_commit}
 use Rattle.txn_words.specs.Shape.{how_many}
 use Rattle.txn_trace.specs.Legal as legal
 use Rattle.txn_trace.specs.Legal.{IsLegal, broken, first_bad, callers_in, running, verdict}
-use Rattle.txn_trace.proofs.Judging.{legal_iff}
+use Rattle.txn_trace.proofs.BadEntries.{legal_iff}
 use Rattle.history_check.specs.declared.verdict.Verdict.{Verdict}
 use Rattle.history_check.specs.Verdicts.{meaning_of, IsVerdictOn}
 use Rattle.history_check.specs.FirstBad.{first_bad_by, verdict_by}

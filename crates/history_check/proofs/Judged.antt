@@ -5,7 +5,7 @@ use Rattle.txn_words.specs.declared.holder.Holder.{Holder}
 use Rattle.txn_words.specs.declared.entry.Entry.TheVariants.{Did}
 use Rattle.txn_words.specs.Shape.{is_shaped}
 use Rattle.txn_trace.specs.Legal.{IsLegal, replies_hold}
-use Rattle.txn_trace.proofs.Breaking.{is_right, replies_hold-push}
+use Rattle.txn_trace.proofs.RuleBreaks.{is_right, replies_hold-push}
 
 -- Only a Did can have a wrong reply.
 right_other : (g : List Entry) (e : Entry) → ((c : ℕ) (x : Option ℕ) → e ≡ Did c x → ⊥) → is_right g e ≡ true

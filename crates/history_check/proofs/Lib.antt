@@ -1,6 +1,6 @@
 pub mod OneKey
-pub mod EachKind
-pub mod Seating
+pub mod EntryKinds
+pub mod CallerTable
 pub mod Showing
 pub mod Holding
 pub mod Beginners

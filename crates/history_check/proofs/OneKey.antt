@@ -15,7 +15,7 @@ use Rattle.txn_words.specs.Map.{Map, empty, get, set_at}
 use Rattle.txn_words.proofs.Maps.{get-set_at}
 use Rattle.history_check.specs.declared.values.Values.{Values}
 use Rattle.history_check.specs.Remainders.{HasOf, Have}
-use Rattle.history_check.proofs.Seating.{each-set, if_some, at_some}
+use Rattle.history_check.proofs.CallerTable.{each-set, if_some, at_some}
 
 pub is_at-nat : (k q : ℕ) → is_at (nat_cmp k) q ≡ (q == k)
 is_at-nat k q = (eq_by_cmp_equiv nat_cmp_total).symm k q ∙ unsigned_tied q k

@@ -9,13 +9,13 @@ use Rattle.txn_trace.specs.Locks.{holder_of, is_locked}
 use Rattle.txn_trace.specs.Now.{now}
 use Rattle.txn_words.specs.Shape.{Seat, is_shaped}
 use Rattle.txn_trace.specs.Legal.{IsLegal, replies_hold, broken}
-use Rattle.txn_trace.proofs.Next.{Next}
+use Rattle.txn_trace.proofs.EntrySteps.{Next}
 use Rattle.key_locks.specs.Locks as locks
 use Rattle.history_check.specs.declared.live_map.LiveMap.{LiveMap}
 use Rattle.history_check.specs.LiveMaps.{Shows, FollowsAt}
 use Rattle.history_check.specs.Remainders.{Have}
-use Rattle.history_check.proofs.EachKind.{broken_by, next-began, next-busy, next-saved, next-leave, next-returned}
-use Rattle.history_check.proofs.Seating.{seat_there}
+use Rattle.history_check.proofs.EntryKinds.{broken_by, next-began, next-busy, next-saved, next-leave, next-returned}
+use Rattle.history_check.proofs.CallerTable.{seat_there}
 
 module _ {holder : Holder} (stripes : ℕ) (h : List Entry) (legal : IsLegal holder stripes h) (live : LiveMap) (shows : Shows holder stripes h live) (e : Entry) (shaped : is_shaped h e ≡ true) (answered : replies_hold (h ++ e ∷ []) ≡ true) where
   -- If an entry with the right shape and the right reply also keeps the rule of locks, it breaks no

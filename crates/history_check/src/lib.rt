@@ -1,11 +1,8 @@
 //! A checker of recorded histories of a transactional map.
 //!
-//! A history is legal (`IsLegal` of `txn_trace`) if each open transaction has the same replies as
-//! if it ran alone on the map that results from the committed transactions, a stripe of keys
-//! belongs to at most one open transaction at a time, and each caller's entries have the right
-//! shape. These are serializability in the order of commits, also of open transactions, and strict
-//! two-phase locking. The checker names the first entry that breaks a rule. Which callers a Busy
-//! may name is a parameter (`Holder`).
+//! A legal history (`IsLegal` of `txn_trace`) is serializable in the order of commits, open
+//! transactions too, and keeps strict two-phase locking. The checker names the first entry that
+//! breaks a rule. Which callers a Busy may name is a parameter (`Holder`).
 //!
 //! The checker runs no transaction again. While a history is legal, open transactions hold
 //! different stripes, so the map as it is now gives the right reply to each of them. So the checker

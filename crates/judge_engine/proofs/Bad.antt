@@ -12,7 +12,7 @@ use Rattle.history_check.specs.declared.verdict.Verdict.TheVariants.{Illegal}
 use Rattle.history_check.specs.FirstBad.{first_bad_by}
 use Rattle.history_check.specs.Verdicts.{number_of}
 use Rattle.serial_check.specs.Serializable as serializable
-use Rattle.serial_check.specs.Serializable.{IsSerializable}
+use Rattle.serial_check.specs.Serializable.{IsSerializableByCommits}
 use Rattle.serial_check.proofs.Judging.{serializable_iff}
 use Rattle.serial_check.proofs.Law.{legal_serializable}
 use Rattle.judge_engine.specs.declared.basis.Basis.{Basis}
@@ -78,7 +78,7 @@ legal_before basis h i rule v =
     subst (IsLegalBy basis) (sym (ap (take i) b.is ∙ take_at b.front (b.entry ∷ b.back) i (sym b.index))) b.legal
 
 -- A history that is legal by any rules is serializable.
-pub serial_by : (basis : Basis) (h : List Entry) → IsLegalBy basis h → IsSerializable h
+pub serial_by : (basis : Basis) (h : List Entry) → IsLegalBy basis h → IsSerializableByCommits h
 serial_by (Locks stripes holder) h is = legal_serializable holder stripes h is
 serial_by Commits h is = is
 

@@ -1,16 +1,20 @@
 -- How reading ends, and what is written then.
-use Rattle.std.proofs.Common.{◌≡◌, ℕ, Bool, List, [], ◌++◌, Option, Result, Ok, Err, take, refl, inl, inr}
+use Rattle.std.proofs.Common.{◌≡◌, ℕ, Bool, List, [], ◌++◌, Option, Result, Ok, Err, take, refl, sym, subst, inl, inr}
 use Rattle.std.specs.Prelude.{IfOk, IfErr, MatchResult, IfSome}
-use Rattle.std.specs.Io.KnownBytes.{Consumes, IsAtEnd}
+use Rattle.std.specs.Io.KnownBytes.{Appends, Consumes, IsAtEnd}
+use Rattle.txn_words.specs.declared.entry.Entry.{Entry}
 use Rattle.history_check.specs.declared.verdict.Verdict.{Verdict}
 use Rattle.history_check.specs.Verdicts.{says_legal, verdict_line}
+use Rattle.order_check.specs.declared.verdict.Verdict.{Verdict as Found}
+use Rattle.judge_engine.specs.declared.answer.Answer.{Answer}
 use Rattle.judge_engine.specs.declared.basis.Basis.{Basis}
 use Rattle.judge_engine.specs.declared.fault.Fault.{Fault}
 use Rattle.judge_engine.specs.declared.fault.Fault.TheVariants.{Input, Line, NoMemory, Read, Write}
 use Rattle.entry_lines.specs.Lines.{history_of_lines}
 use Rattle.txn_files.specs.Reading.{max_read}
 use Rattle.judge_engine.specs.Files.{FailsToCheck, IsExplainedFile, IsUnjudgedFile}
-use Rattle.judge_engine.specs.Outputs.{FailsToWrite, LeavesOutput}
+use Rattle.judge_engine.specs.Ordered.{IsAnswered, WritesAnswer}
+use Rattle.judge_engine.specs.Outputs.{FailsToWrite, IsLineOf, LeavesOutput, LeavesText}
 use Rattle.judge_engine.specs.Watching.{FailsToWatch, IsJudgedLines, IsRefusedLine, IsUnjudged, Watches}
 use Rattle.judge_engine.specs.Whys.{LeavesExplanation, Tells}
 use Rattle.judge_engine.proofs.Known.{OfAll-early, OfAll-read, keeps_all}
@@ -58,19 +62,28 @@ leaves_watch P basis remaining old Read h = keeps_all old
 leaves_watch P basis remaining old (Input fault) h = absurd h
 leaves_watch P basis remaining old Write h = absurd h
 
-pub leaves_check : (P : Verdict → Type 0) (remaining old : Option (List ℕ)) (bytes : List ℕ) (fault : Fault) → IfSome remaining (λ all. bytes ≡ take max_read all) → IsUnjudgedFile bytes fault → LeavesOutput P (FailsToCheck remaining) old old fault
+pub leaves_check : (P : List ℕ → Type 0) (remaining old : Option (List ℕ)) (bytes : List ℕ) (fault : Fault) → IfSome remaining (λ all. bytes ≡ take max_read all) → IsUnjudgedFile bytes fault → LeavesText P (FailsToCheck remaining) old old fault
 leaves_check P remaining old bytes (Input fault) known h = (keeps_all old, (bytes, known, h))
 leaves_check P remaining old bytes NoMemory known h = keeps_all old
 leaves_check P remaining old bytes Read known h = keeps_all old
 leaves_check P remaining old bytes (Line number fault) known h = absurd h
 leaves_check P remaining old bytes Write known h = absurd h
 
+-- A text for which `P` holds was to be written, and memory was there for it.
+pub leaves_answer : (P : List ℕ → Type 0) (F : Fault → Type 0) (old new : Option (List ℕ)) (text : List ℕ) (fault : Fault) → P text → FailsToWrite old new text fault → LeavesText P F old new fault
+leaves_answer P F old new text Write right h = (text, right, h)
+leaves_answer P F old new text NoMemory right h = h
+leaves_answer P F old new text Read right h = absurd h
+leaves_answer P F old new text (Input fault) right h = absurd h
+leaves_answer P F old new text (Line number fault) right h = absurd h
+
 pub leaves_verdict : (P : Verdict → Type 0) (F : Fault → Type 0) (old new : Option (List ℕ)) (outcome : Verdict) (fault : Fault) → P outcome → FailsToWrite old new (verdict_line outcome) fault → LeavesOutput P F old new fault
-leaves_verdict P F old new outcome Write right h = (outcome, right, h)
-leaves_verdict P F old new outcome NoMemory right h = h
-leaves_verdict P F old new outcome Read right h = absurd h
-leaves_verdict P F old new outcome (Input fault) right h = absurd h
-leaves_verdict P F old new outcome (Line number fault) right h = absurd h
+leaves_verdict P F old new outcome fault right h = leaves_answer (IsLineOf P) F old new (verdict_line outcome) fault (outcome, right, refl) h
+
+pub answer_written : (text_of : List Entry → Found → List ℕ) (remaining old new : Option (List ℕ)) (bytes : List ℕ) (answer : Answer) (text : List ℕ) (r : Result Answer Fault) → IfSome remaining (λ all. bytes ≡ take max_read all) → IsAnswered text_of bytes answer text
+    → IfOk r (λ written. (written ≡ answer) × Appends old new text) → IfOk r (λ written. WritesAnswer text_of remaining written old new)
+answer_written text_of remaining old new bytes answer text (Ok written) known is (same, grows) = (bytes, known, (text, subst (λ (a : Answer). IsAnswered text_of bytes a text) (sym same) is, grows))
+answer_written text_of remaining old new bytes answer text (Err fault) known is h = tt
 
 -- ---- what `why` leaves at a fault
 

@@ -4,6 +4,7 @@ pub mod Feeding
 pub mod Known
 pub mod LineLemmas
 pub mod Listed
+pub mod OrderTexts
 pub mod Settled
 pub mod Taking
 pub mod Telling

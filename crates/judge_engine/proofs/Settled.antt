@@ -4,7 +4,7 @@ use Rattle.std.proofs.lemmas.Bool.{false≢true}
 use Rattle.txn_words.specs.declared.entry.Entry.{Entry}
 use Rattle.txn_words.specs.declared.holder.Holder.{Holder}
 use Rattle.txn_trace.specs.Legal as legal
-use Rattle.txn_trace.proofs.Judging.{legal_iff}
+use Rattle.txn_trace.proofs.BadEntries.{legal_iff}
 use Rattle.serial_check.specs.Serializable as serializable
 use Rattle.serial_check.proofs.Judging.{serializable_iff}
 use Rattle.history_check.specs.declared.verdict.Rule.{Rule}

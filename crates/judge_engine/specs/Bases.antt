@@ -10,7 +10,7 @@ use Rattle.history_check.specs.Fed as locks
 use Rattle.history_check.specs.Verdicts as locks_verdicts
 use Rattle.serial_check.specs.Fed as commits
 use Rattle.serial_check.specs.Verdicts as commits_verdicts
-use Rattle.serial_check.specs.Serializable.{IsSerializable}
+use Rattle.serial_check.specs.Serializable.{IsSerializableByCommits}
 use Rattle.judge_engine.specs.declared.basis.Basis.{Basis}
 use Rattle.judge_engine.specs.declared.basis.Basis.TheVariants.{Locks, Commits}
 use Rattle.judge_engine.specs.declared.judge.Judge.{Judge}
@@ -24,7 +24,7 @@ HasStripes Commits = Unit {0}
 -- The history is legal by locks, or serializable in the order of its commits.
 abbrev pub IsLegalBy : Basis → List Entry → Type 0
 IsLegalBy (Locks stripes holder) h = IsLegal holder stripes h
-IsLegalBy Commits h = IsSerializable h
+IsLegalBy Commits h = IsSerializableByCommits h
 
 -- The outcome is the verdict that the definitions give on the history by these rules. It says legal
 -- exactly if the history is legal by these rules.

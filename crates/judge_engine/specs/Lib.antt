@@ -1,9 +1,12 @@
+pub mod Answers
 pub mod Bases
 pub mod Breaks
 pub mod Faults
 pub mod Explained
 pub mod Files
 pub mod LineReads
+pub mod OrderLines
+pub mod Ordered
 pub mod Outcomes
 pub mod Outputs
 pub mod ReasonLines

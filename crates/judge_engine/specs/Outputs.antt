@@ -26,15 +26,24 @@ WritesLine IsRight legal old new =
     (outcome : Verdict) × IsRight outcome × (legal ≡ says_legal outcome)
     × Appends old new (verdict_line outcome)
 
--- The output after a fault. If a write failed, the output grew by a proper prefix of the line of a
--- verdict for which `IsRight` holds. After any other fault nothing was written. If a file or a line
--- was refused, `IsWrong` holds for the fault.
+-- The output after a fault. If a write failed, the output grew by a proper prefix of a text for
+-- which `IsRight` holds. After any other fault nothing was written. If a file or a line was refused,
+-- `IsWrong` holds for the fault.
+abbrev pub LeavesText : (List ℕ → Type 0) → (Fault → Type 0) → Option (List ℕ) → Option (List ℕ)
+    → Fault → Type 0
+LeavesText IsRight IsWrong old new Write =
+    (text : List ℕ) × IsRight text × AppendsPart old new text
+LeavesText IsRight IsWrong old new (Input fault) = Keeps old new × IsWrong (Input fault)
+LeavesText IsRight IsWrong old new (Line number fault) = Keeps old new
+    × IsWrong (Line number fault)
+LeavesText IsRight IsWrong old new NoMemory = Keeps old new
+LeavesText IsRight IsWrong old new Read = Keeps old new
+
+-- The text is the line of a verdict for which `IsRight` holds.
+abbrev pub IsLineOf : (Verdict → Type 0) → List ℕ → Type 0
+IsLineOf IsRight text = (outcome : Verdict) × IsRight outcome × (text ≡ verdict_line outcome)
+
+-- The output after a fault, if a line of a verdict for which `IsRight` holds was to be written.
 abbrev pub LeavesOutput : (Verdict → Type 0) → (Fault → Type 0) → Option (List ℕ) → Option (List ℕ)
     → Fault → Type 0
-LeavesOutput IsRight IsWrong old new Write =
-    (outcome : Verdict) × IsRight outcome × AppendsPart old new (verdict_line outcome)
-LeavesOutput IsRight IsWrong old new (Input fault) = Keeps old new × IsWrong (Input fault)
-LeavesOutput IsRight IsWrong old new (Line number fault) = Keeps old new
-    × IsWrong (Line number fault)
-LeavesOutput IsRight IsWrong old new NoMemory = Keeps old new
-LeavesOutput IsRight IsWrong old new Read = Keeps old new
+LeavesOutput IsRight = LeavesText (IsLineOf IsRight)

@@ -14,7 +14,7 @@ pub enum Basis {
         /// Which caller a Busy entry may name.
         holder: Holder,
     },
-    /// By the order of commits: a history is legal if `IsSerializable` of `serial_check` holds of
-    /// it.
+    /// By the order of commits: a history is legal if `IsSerializableByCommits` of `serial_check`
+    /// holds of it.
     Commits,
 }

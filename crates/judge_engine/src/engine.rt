@@ -6,14 +6,18 @@
 ghost use Rattle.std.specs.Prelude.{IfOk, IfErr};
 ghost use Rattle.judge_engine.specs.Bases.{HasStripes};
 ghost use Rattle.judge_engine.specs.Files.{Checks, FailsToCheck};
-ghost use Rattle.judge_engine.specs.Outputs.{LeavesOutput, WritesLine};
+ghost use Rattle.judge_engine.specs.OrderLines.{order_text};
+ghost use Rattle.judge_engine.specs.Ordered.{IsAnswerText, WritesAnswer};
+ghost use Rattle.judge_engine.specs.Outputs.{LeavesOutput, LeavesText, WritesLine};
 ghost use Rattle.judge_engine.specs.Watching.{FailsToWatch, Watches};
 ghost use Rattle.judge_engine.specs.Whys.{LeavesExplanation, WritesExplanation};
 
+use crate::answer::Answer;
 use crate::basis::Basis;
 use crate::fault::Fault;
 use crate::file::{explain_file, judge_file};
-use crate::output::{tell, write_explained, write_verdict};
+use crate::order::order_file;
+use crate::output::{tell, write_answer, write_explained, write_verdict};
 use crate::reading::{read_file, watch_lines};
 use std::alloc::Global;
 use std::io::{Read, Write};
@@ -95,6 +99,49 @@ pub fn check<R: Read + Drop, W: Write>(
     let bytes = read_file(alloc, input)?;
     let verdict = judge_file(alloc, by_commits, bytes)?;
     write_verdict(alloc, verdict, output)
+}
+
+/// Reads a history file to its end, judges the history by any order of its transactions, and writes
+/// the verdict as one line. The line is `serializable C commits O open`, or `not serializable: ` and
+/// the reason, or `undecided key K value V`. If the history is serializable and `shows_order` is
+/// true, the transactions of a serial order follow, one in a line. Nothing else is written. Returns
+/// the answer that the verdict gives.
+///
+/// If the order of the commits is a serial order, the verdict is `serializable`. If it is
+/// `undecided`, the value named comes more than once at its key.
+///
+/// At most 16,777,217 bytes are read. A read or a write is tried again only if it was interrupted.
+///
+/// # Errors
+///
+/// If the error is not `Write`, nothing was written.
+///
+/// - `Read` if a read fails.
+/// - `Input` if the file is refused.
+/// - `NoMemory` if memory is refused.
+/// - `Write` if a write fails or takes nothing. Then the beginning of the text may be written, but
+///   not the whole text.
+///
+/// # Cost
+///
+/// The cost of the checker for each entry and of its verdict, and time and memory in proportion to
+/// the size of the file.
+pub fn check_serializable<R: Read + Drop, W: Write>(
+    alloc: Global,
+    shows_order: bool,
+    input: R,
+    output: &mut W,
+) -> Result<Answer, Fault>
+    ensures answers { IfOk result (λ answer. WritesAnswer (order_text shows_order)
+        (R.remaining input) answer (W.contents output.old) (W.contents output.new)) }
+    ensures fault { IfErr result (LeavesText
+        (IsAnswerText (order_text shows_order) (R.remaining input))
+        (FailsToCheck (R.remaining input))
+        (W.contents output.old) (W.contents output.new)) }
+{
+    let bytes = read_file(alloc, input)?;
+    let (answer, text) = order_file(alloc, shows_order, bytes)?;
+    write_answer(answer, text.as_str(), output)
 }
 
 /// Judges a history file and writes the verdict's line, like `check`. If the history is illegal,

@@ -15,18 +15,22 @@
 //! `watch` keeps a checker and a part of the input in memory, and the others keep whole files.
 #![tactic(auto)]
 
+mod answer;
 mod basis;
 mod engine;
 mod fault;
 mod file;
 mod judge;
 mod lines;
+mod order;
+mod order_lines;
 mod outcomes;
 mod output;
 mod reading;
 mod watcher;
 
+pub use answer::Answer;
 pub use basis::Basis;
-pub use engine::{check, watch, why};
+pub use engine::{check, check_serializable, watch, why};
 pub use fault::Fault;
 pub use outcomes::{OutcomesFault, tell_outcomes};

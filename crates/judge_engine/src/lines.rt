@@ -9,7 +9,7 @@ ghost use Rattle.txn_words.specs.Kinds.{caller_of};
 ghost use Rattle.txn_words.specs.Shape.{IsShaped};
 ghost use Rattle.txn_words.specs.declared.entry.Entry.{Entry};
 ghost use Rattle.history_check.specs.Callers.{HaveEntered};
-ghost use Rattle.serial_check.specs.Serializable.{IsSerializable};
+ghost use Rattle.serial_check.specs.Serializable.{IsSerializableByCommits};
 ghost use Rattle.judge_engine.specs.Bases.{HasStripes, IsLegalBy, IsReasonBy, IsVerdictBy};
 ghost use Rattle.judge_engine.specs.Explained.{Explains, ExplainsAt, ExplainsEntry};
 ghost use Rattle.judge_engine.specs.ReasonLines.{contradiction_lines, entry_line, since_torn};
@@ -30,7 +30,7 @@ use txn_trace::{Entry, Holder, Phase, Reply, SmallEntry};
 
 /// A value, printed as `none` if there is no value.
 #[derive(Clone, Copy)]
-struct OrNone(Reply);
+pub(crate) struct OrNone(pub(crate) Reply);
 
 impl fmt::Display for OrNone {
     ghost use Rattle.std.specs.Prelude.{Some};
@@ -338,7 +338,7 @@ fn put_reply(
     due: Reply,
     last: Option<(Change, Fate)>,
 ) -> Result<(), AllocError>
-    requires serial { IsSerializable entries.now }
+    requires serial { IsSerializableByCommits entries.now }
     requires callers { All (λ entry. caller_of entry < 64) entries.now }
     ensures { OnOk result (string_bytes text.new
         ≡ string_bytes text.old ++ reply_lines entries.now caller key due last) }
@@ -361,7 +361,7 @@ fn put_misread(
     due: Reply,
     commit: Option<(u64, u64)>,
 ) -> Result<(), AllocError>
-    requires serial { IsSerializable entries.now }
+    requires serial { IsSerializableByCommits entries.now }
     requires callers { All (λ entry. caller_of entry < 64) entries.now }
     ensures { OnOk result (string_bytes text.new
         ≡ string_bytes text.old ++ misread_lines entries.now caller key read due commit) }
@@ -496,7 +496,7 @@ fn put_reason(
     bad: Entry,
     reason: Reason,
 ) -> Result<(), AllocError>
-    requires serial { IsSerializable entries.now }
+    requires serial { IsSerializableByCommits entries.now }
     requires callers { All (λ entry. caller_of entry < 64) entries.now }
     ensures { OnOk result (string_bytes text.new
         ≡ string_bytes text.old ++ reason_lines basis entries.now bad reason) }

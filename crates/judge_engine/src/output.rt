@@ -9,6 +9,7 @@ ghost use Rattle.judge_engine.specs.Files.{IsUnjudgedFile};
 ghost use Rattle.judge_engine.specs.Outputs.{AppendsPart, FailsToWrite};
 ghost use Rattle.judge_engine.specs.Whys.{FailsToTell, IsFlawLine, IsRefused, Tells, WritesFlaw};
 
+use crate::answer::Answer;
 use crate::fault::Fault;
 use bad_file::flaw_in;
 use history_check::Verdict;
@@ -117,6 +118,29 @@ pub(crate) fn write_explained<W: Write>(
     let text = text_of(alloc, verdict, lines)?;
     write_text(output, text.as_bytes())?;
     Ok(is_legal(verdict))
+}
+
+/// Writes the text of an answer, and returns the answer.
+///
+/// # Errors
+///
+/// `Write` if the writer fails or takes nothing: a proper prefix of the text is written.
+///
+/// # Cost
+///
+/// As many calls of the writer as it takes to write the text. Takes no memory.
+pub(crate) fn write_answer<W: Write>(
+    answer: Answer,
+    text: &str,
+    output: &mut W,
+) -> Result<Answer, Fault>
+    ensures ok { IfOk result (λ written. (written ≡ answer)
+        × Appends (W.contents output.old) (W.contents output.new) text.now) }
+    ensures err { IfErr result (FailsToWrite (W.contents output.old) (W.contents output.new)
+        text.now) }
+{
+    write_text(output, text.as_bytes())?;
+    Ok(answer)
 }
 
 /// The line of the flaw of a file that is refused.

@@ -4,15 +4,20 @@ use Rattle.std.specs.Prelude.{option_and_then, option_map}
 use Rattle.clap.specs.declared.parser.matches.Found.{Found}
 use Rattle.clap.specs.Words.{Text, first_of, first_value, rows_of}
 use Rattle.clap.proofs.WalkLemmas.{first_value-rows}
-use Rattle.judge_line.specs.Words.{Asked, Check, Why, Watch, asked_in, basis_for, is_set, outcomes_for}
+use Rattle.judge_line.specs.Words.{Asked, Why, Watch, asked_in, basis_for, check_for, is_set, outcomes_for}
+
+abbrev pub set_in : Text → Found → Bool
+set_in name found = is_set (first_of name (rows_of found))
 
 abbrev pub flag_in : Found → Bool
-flag_in found = is_set (first_of (codes "serializable") (rows_of found))
+flag_in found = set_in (codes "commit-order") found
 
-pub check_is : (name : Text) (found : Found) (flag : Bool) (file : Option Text) → name ≡ codes "check" → flag ≡ flag_in found → file ≡ first_value found (codes "FILE")
-    → option_map (Check flag) file ≡ asked_in name (rows_of found)
-check_is name found flag file named set is =
-    ap₂ (λ (b : Bool) (f : Option Text). option_map (Check b) f) set (is ∙ first_value-rows found (codes "FILE"))
+pub check_is : (name : Text) (found : Found) (flag any shows : Bool) (file : Option Text) → name ≡ codes "check" → flag ≡ flag_in found → any ≡ set_in (codes "serializable") found → shows ≡ set_in (codes "show-order") found
+    → file ≡ first_value found (codes "FILE") → option_and_then (check_for flag any shows) file ≡ asked_in name (rows_of found)
+check_is name found flag any shows file named set any_set shows_set is =
+    ap (λ (b : Bool). option_and_then (check_for b any shows) file) set
+    ∙ ap₂ (λ (b s : Bool). option_and_then (check_for (flag_in found) b s) file) any_set shows_set
+    ∙ ap (option_and_then (check_for (flag_in found) (set_in (codes "serializable") found) (set_in (codes "show-order") found))) (is ∙ first_value-rows found (codes "FILE"))
     ∙ ap (λ given. asked_in given (rows_of found)) (sym named)
 
 pub why_is : (name : Text) (found : Found) (flag : Bool) (file : Option Text) → name ≡ codes "why" → flag ≡ flag_in found → file ≡ first_value found (codes "FILE")

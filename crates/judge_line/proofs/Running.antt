@@ -32,7 +32,7 @@ no_words (Some words) files known kind is =
 
 pub no_call : (spoken : Option (List Text)) (words : List Text) (files : Files) (known : Option (List ℕ)) (outcome : RunResult) (failure : Failure) → IfSome spoken (λ known. words ≡ known)
     → (failure ≡ Fault faults.NoMemory) ⊎ ((failure ≡ Usage) × Spells words None) → IsErrAnd outcome (λ e. e ≡ failure) → Runs spoken files known known outcome
-no_call spoken words files known (Ok well) failure same which err = absurd err
+no_call spoken words files known (Ok answer) failure same which err = absurd err
 no_call spoken words files known (Err e) failure same (inl memory) err = rw (err, memory) (inr (keeps_same known, refl))
 no_call spoken words files known (Err e) failure same (inr (usage, none)) err =
     rw (err, usage) (inr (keeps_same known, of_known spoken words (λ given. Spells given None) same none))

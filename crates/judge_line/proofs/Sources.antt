@@ -10,7 +10,7 @@ use Rattle.judge_engine.specs.declared.outcomes.OutcomesFault.{OutcomesFault}
 use Rattle.judge_engine.specs.declared.outcomes.OutcomesFault.TheVariants as both
 use Rattle.judge_engine.specs.Files.{FailsToCheck, OfFile, max_read}
 use Rattle.judge_engine.specs.Outcomes.{IsOutcomesText, LeavesOutcomes, WritesOutcomes, TellsOutcomes}
-use Rattle.judge_engine.specs.Outputs.{LeavesOutput, WritesLine}
+use Rattle.judge_engine.specs.Outputs.{LeavesText, WritesLine}
 use Rattle.judge_engine.specs.Watching.{FailsToWatch, OfAll}
 use Rattle.judge_engine.specs.Whys.{LeavesExplanation, WritesExplanation}
 
@@ -32,8 +32,8 @@ of_all known bytes P same (read, is, holds) = (read, read_same known bytes (λ a
 pub writes_line : (P Q : Verdict → Type 0) (well : Bool) (old new : Option (List ℕ)) → ((v : Verdict) → P v → Q v) → WritesLine P well old new → WritesLine Q well old new
 writes_line P Q well old new follows (v, right, says, grows) = (v, follows v right, says, grows)
 
-pub leaves : (P Q : Verdict → Type 0) (F G : Fault → Type 0) (old new : Option (List ℕ)) (fault : Fault) → ((v : Verdict) → P v → Q v) → ((f : Fault) → F f → G f) → LeavesOutput P F old new fault → LeavesOutput Q G old new fault
-leaves P Q F G old new Write follows fails (v, right, part) = (v, follows v right, part)
+pub leaves : (P Q : List ℕ → Type 0) (F G : Fault → Type 0) (old new : Option (List ℕ)) (fault : Fault) → ((text : List ℕ) → P text → Q text) → ((f : Fault) → F f → G f) → LeavesText P F old new fault → LeavesText Q G old new fault
+leaves P Q F G old new Write follows fails (text, right, part) = (text, follows text right, part)
 leaves P Q F G old new (Input fault) follows fails h = (h.0, fails _ h.1)
 leaves P Q F G old new (Line number fault) follows fails h = (h.0, fails _ h.1)
 leaves P Q F G old new NoMemory follows fails h = h

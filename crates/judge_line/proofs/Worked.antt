@@ -6,7 +6,7 @@ use Rattle.clap.specs.Words.{Text}
 use Rattle.clap.proofs.OnLiterals.{clap_on_literals}
 use Rattle.txn_words.specs.declared.holder.Holder.TheVariants.{Begun}
 use Rattle.judge_engine.specs.declared.basis.Basis.TheVariants.{Locks, Commits}
-use Rattle.judge_line.specs.Words.{Spells, Check, Why, Watch, Outcomes, Help, Version}
+use Rattle.judge_line.specs.Words.{Spells, Check, CheckSerializable, Why, Watch, Outcomes, Help, Version}
 
 abbrev call : List Text → List Text
 call words = codes "judge" ∷ words
@@ -15,11 +15,31 @@ check : Spells (call (codes "check" ∷ codes "a.json" ∷ [])) (Some (Check fal
 unfolding clap_on_literals
 check = refl
 
-check_by_commits : Spells (call (codes "check" ∷ codes "--serializable" ∷ codes "a.json" ∷ [])) (Some (Check true (codes "a.json")))
+check_by_commits : Spells (call (codes "check" ∷ codes "--commit-order" ∷ codes "a.json" ∷ [])) (Some (Check true (codes "a.json")))
 unfolding clap_on_literals
 check_by_commits = refl
 
-flag_behind : Spells (call (codes "check" ∷ codes "-" ∷ codes "--serializable" ∷ [])) (Some (Check true (codes "-")))
+serializable : Spells (call (codes "check" ∷ codes "--serializable" ∷ codes "a.json" ∷ [])) (Some (CheckSerializable false (codes "a.json")))
+unfolding clap_on_literals
+serializable = refl
+
+show_order : Spells (call (codes "check" ∷ codes "--show-order" ∷ codes "a.json" ∷ codes "--serializable" ∷ [])) (Some (CheckSerializable true (codes "a.json")))
+unfolding clap_on_literals
+show_order = refl
+
+no_order : Spells (call (codes "check" ∷ codes "--show-order" ∷ codes "a.json" ∷ [])) None
+unfolding clap_on_literals
+no_order = refl
+
+two_rules : Spells (call (codes "check" ∷ codes "--commit-order" ∷ codes "--serializable" ∷ codes "a.json" ∷ [])) None
+unfolding clap_on_literals
+two_rules = refl
+
+watched_in_any_order : Spells (call (codes "watch" ∷ codes "--serializable" ∷ [])) None
+unfolding clap_on_literals
+watched_in_any_order = (UnknownArgument, inl refl, refl)
+
+flag_behind : Spells (call (codes "check" ∷ codes "-" ∷ codes "--commit-order" ∷ [])) (Some (Check true (codes "-")))
 unfolding clap_on_literals
 flag_behind = refl
 
@@ -27,7 +47,7 @@ why : Spells (call (codes "why" ∷ codes "--" ∷ codes "-a" ∷ [])) (Some (Wh
 unfolding clap_on_literals
 why = refl
 
-why_by_commits : Spells (call (codes "why" ∷ codes "--serializable" ∷ codes "a.json" ∷ [])) (Some (Why true (codes "a.json")))
+why_by_commits : Spells (call (codes "why" ∷ codes "--commit-order" ∷ codes "a.json" ∷ [])) (Some (Why true (codes "a.json")))
 unfolding clap_on_literals
 why_by_commits = refl
 
@@ -47,7 +67,7 @@ most_stripes : Spells (call (codes "watch" ∷ codes "--stripes=4096" ∷ [])) (
 unfolding clap_on_literals
 most_stripes = refl
 
-watch_by_commits : Spells (call (codes "watch" ∷ codes "--serializable" ∷ [])) (Some (Watch Commits))
+watch_by_commits : Spells (call (codes "watch" ∷ codes "--commit-order" ∷ [])) (Some (Watch Commits))
 unfolding clap_on_literals
 watch_by_commits = refl
 
@@ -71,7 +91,7 @@ no_number : Spells (call (codes "watch" ∷ codes "--stripes=x" ∷ [])) None
 unfolding clap_on_literals
 no_number = refl
 
-both_rules : Spells (call (codes "watch" ∷ codes "--serializable" ∷ codes "--stripes" ∷ codes "7" ∷ [])) None
+both_rules : Spells (call (codes "watch" ∷ codes "--commit-order" ∷ codes "--stripes" ∷ codes "7" ∷ [])) None
 unfolding clap_on_literals
 both_rules = refl
 
@@ -107,7 +127,7 @@ stripes_elsewhere : Spells (call (codes "check" ∷ codes "--stripes=7" ∷ code
 unfolding clap_on_literals
 stripes_elsewhere = (UnknownArgument, inl refl, refl)
 
-flag_twice : Spells (call (codes "check" ∷ codes "--serializable" ∷ codes "--serializable" ∷ codes "a" ∷ [])) None
+flag_twice : Spells (call (codes "check" ∷ codes "--commit-order" ∷ codes "--commit-order" ∷ codes "a" ∷ [])) None
 unfolding clap_on_literals
 flag_twice = (ArgumentConflict, inl refl, refl)
 

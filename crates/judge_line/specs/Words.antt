@@ -20,11 +20,13 @@ use Rattle.judge_line.specs.declared.words.Call.{Call}
 use Rattle.judge_line.specs.declared.words.Call.TheVariants as calls
 
 -- A call of the program. `Check` judges the history file with this name, by the order of commits or
--- by locks. `Why` does so too, and says what leads to the bad entry. `Watch` judges the entries of
--- standard input by these rules. `Outcomes` reads a script file and a history file, and says what
--- became of each script. `Help` and `Version` show the usage and the version.
+-- by locks. `CheckSerializable` says whether it is serializable in any order, and shows the order
+-- if the flag is true. `Why` does what `Check` does, and says what leads to the bad entry. `Watch`
+-- judges the entries of standard input by these rules. `Outcomes` reads a script file and a history
+-- file, and says what became of each script. `Help` and `Version` show the usage and the version.
 pub data Asked : Type 0 where
   Check : Bool → Text → Asked
+  CheckSerializable : Bool → Text → Asked
   Why : Bool → Text → Asked
   Watch : Basis → Asked
   Outcomes : Text → Text → Asked
@@ -33,6 +35,7 @@ pub data Asked : Type 0 where
 
 abbrev pub asked_of : Call → Asked
 asked_of (calls.Check by_commits file) = Check by_commits file.now
+asked_of (calls.CheckSerializable shows file) = CheckSerializable shows file.now
 asked_of (calls.Why by_commits file) = Why by_commits file.now
 asked_of (calls.Watch basis) = Watch basis
 asked_of (calls.Outcomes scripts history) = Outcomes scripts.now history.now
@@ -44,14 +47,12 @@ abbrev pub HasStripesIf : Asked → Type 0
 HasStripesIf (Watch basis) = HasStripes basis
 HasStripesIf asked = Unit {0}
 
--- The command line: `check [--serializable] FILE`, `outcomes SCRIPTS HISTORY`,
--- `watch [--serializable] [--stripes N]` and `why [--serializable] FILE`. Each command is an
--- application of `clap`, and the definitions of `clap` say how its words are read.
-abbrev pub serializable_word : Rule
-serializable_word = record (new_rule (codes "serializable")) {
-  long = Some (codes "serializable");
-  action = Some SetTrue;
-}
+-- The command line: `check [--commit-order] [--serializable] [--show-order] FILE`,
+-- `outcomes SCRIPTS HISTORY`, `watch [--commit-order] [--stripes N]` and
+-- `why [--commit-order] FILE`. Each command is an application of `clap`, and the definitions of
+-- `clap` say how its words are read.
+abbrev pub flag_word : Text → Rule
+flag_word name = record (new_rule name) { long = Some name; action = Some SetTrue }
 
 abbrev pub stripes_word : Rule
 stripes_word = record (new_rule (codes "stripes")) {
@@ -60,10 +61,18 @@ stripes_word = record (new_rule (codes "stripes")) {
 }
 
 abbrev pub flagged : Text → App
-flagged name = with_rule (new_app name) serializable_word
+flagged name = with_rule (new_app name) (flag_word (codes "commit-order"))
 
-abbrev pub over_history : Text → App
-over_history name = with_rule (flagged name) (file_word (codes "FILE"))
+abbrev pub ruled : Text → App
+ruled name = with_rule (flagged name) (flag_word (codes "serializable"))
+
+abbrev pub checking : App
+checking =
+    let shows = with_rule (ruled (codes "check")) (flag_word (codes "show-order")) in
+    with_rule shows (file_word (codes "FILE"))
+
+abbrev pub explaining : App
+explaining = with_rule (flagged (codes "why")) (file_word (codes "FILE"))
 
 abbrev pub over_both : App
 over_both =
@@ -80,10 +89,10 @@ without_commands =
 
 abbrev pub command_line : App
 command_line =
-    let check = with_subcommand without_commands (over_history (codes "check")).top in
+    let check = with_subcommand without_commands checking.top in
     let outcomes = with_subcommand check over_both.top in
     let watch = with_subcommand outcomes watching.top in
-    with_subcommand watch (over_history (codes "why")).top
+    with_subcommand watch explaining.top
 
 -- True if the flag was found and is set.
 abbrev pub is_set : Option Text → Bool
@@ -98,6 +107,15 @@ stripes_in_word word =
     let stripes = digits_value 10 digits in
     if is_numeral digits && (nat_le 1 stripes && nat_le stripes max_stripes)
     then Some stripes else None
+
+-- The call to judge a file, given the flags for the order of commits, for any order, and to show
+-- the order. If both rules are asked for, or if an order is to be shown and none is looked for, the
+-- command line is a usage error.
+abbrev pub check_for : Bool → Bool → Bool → Text → Option Asked
+check_for by_commits false false file = Some (Check by_commits file)
+check_for false true shows file = Some (CheckSerializable shows file)
+check_for true true shows file = None
+check_for by_commits false true file = None
 
 -- The rules to judge by. The arguments are the flag, and the word for the number of locks if there
 -- is one. If both the flag and the word are given, the command line is a usage error.
@@ -116,9 +134,11 @@ outcomes_for scripts history =
 -- The call of the command with this name, given the arguments that were found.
 abbrev pub asked_in : Text → List Row → Option Asked
 asked_in name rows =
-    let by_commits = is_set (first_of (codes "serializable") rows) in
+    let by_commits = is_set (first_of (codes "commit-order") rows) in
+    let is_serializable = is_set (first_of (codes "serializable") rows) in
+    let shows = is_set (first_of (codes "show-order") rows) in
     if bytes_eq name (codes "check")
-    then option_map (Check by_commits) (first_of (codes "FILE") rows)
+    then option_and_then (check_for by_commits is_serializable shows) (first_of (codes "FILE") rows)
     else if bytes_eq name (codes "outcomes")
     then option_and_then (λ scripts. option_and_then (outcomes_for scripts)
     (first_of (codes "HISTORY") rows)) (first_of (codes "SCRIPTS") rows)

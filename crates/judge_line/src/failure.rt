@@ -11,9 +11,10 @@ use std::fmt;
 
 /// The text that is printed for words that are no call of the program, and for a call that asks for
 /// help.
-pub(crate) const USAGE: &str = "usage: judge check [--serializable] FILE
-       judge watch [--serializable | --stripes N]
-       judge why [--serializable] FILE
+pub(crate) const USAGE: &str = "usage: judge check [--commit-order] FILE
+       judge check --serializable [--show-order] FILE
+       judge watch [--commit-order | --stripes N]
+       judge why [--commit-order] FILE
        judge outcomes SCRIPTS HISTORY
 
   check FILE  says whether the history of a file is legal, or which entry breaks which rule
@@ -22,14 +23,16 @@ pub(crate) const USAGE: &str = "usage: judge check [--serializable] FILE
   outcomes SCRIPTS HISTORY
               says what became of each script of a file in the history that was printed of it
 
-  --serializable  judges by the order of commits, and not by locks
+  --commit-order  judges by the order of commits, and not by locks
+  --serializable  says whether the committed transactions have a serial order, whichever it is
+  --show-order    names the transactions in this order, one a line
   --stripes N     how many locks the keys are shared out to: 1 to 4096, and 4096 if it is not given
 
 FILE and HISTORY are paths of history files, SCRIPTS of a script file; - is standard input.
 
-Exit status: 0 all is well, 1 the history is illegal, or a script without an abort was given up,
-2 a usage error, 3 a file or a line is refused, 4 no memory, a failed read or write.
-From 3 on one line on standard error says which.
+Exit status: 0 all is well, 1 the history is illegal or not serializable, or a script without an
+abort was given up, 2 a usage error, 3 a file or a line is refused, 4 no memory, a failed read or
+write, 5 undecided. For 3 and 4 one line on standard error says which.
 
 Example: judge check examples/checked.json";
 

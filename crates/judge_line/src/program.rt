@@ -1,8 +1,9 @@
 //! The whole call of `judge`: words, files, the engine, the line of a failure, the exit status. The
 //! engines take readers, so the files that a call names are opened here. The system and both
 //! outputs are type parameters, so that tests can run a call on words and files in memory.
-ghost use Rattle.std.specs.Prelude.{◌≡◌, ◌⊎◌, Bool, Result, Some, IfOk, IfErr, IfSome};
+ghost use Rattle.std.specs.Prelude.{◌≡◌, ◌⊎◌, Result, Some, IfOk, IfErr, IfSome};
 ghost use Rattle.std.specs.IoError.{error_kind};
+ghost use Rattle.judge_engine.specs.declared.answer.Answer.{Answer};
 ghost use Rattle.judge_engine.specs.declared.fault.Fault.TheVariants as faults;
 ghost use Rattle.judge_engine.specs.Bases.{HasStripes};
 ghost use Rattle.judge_line.specs.declared.failure.Failure.{Failure};
@@ -13,7 +14,9 @@ ghost use Rattle.judge_line.specs.Words.{HasStripesIf, asked_of};
 
 use crate::failure::{Failure, USAGE};
 use crate::words::{Call, STANDARD, call_in};
-use judge_engine::{Basis, Fault, OutcomesFault, check, tell_outcomes, watch, why};
+use judge_engine::{
+    Answer, Basis, Fault, OutcomesFault, check, check_serializable, tell_outcomes, watch, why,
+};
 use program_host::System;
 use std::alloc::Global;
 use std::io;
@@ -25,20 +28,21 @@ const VERSION: &str = "judge 1.0.0";
 /// How a run of the program ended.
 #[derive(Clone, Copy, Debug, PartialEq, Eq)]
 pub struct Ending {
-    /// The exit status. It is 0 if all is well, and 1 if a history is illegal or a script that has
-    /// no `abort` was given up. After a failure it is the failure's status.
+    /// The exit status. It is that of the answer: 0 if all is well; 1 if a history is illegal or
+    /// not serializable, or a script that has no `abort` was given up; 5 if it is undecided whether
+    /// a history is serializable. After a failure it is the failure's status.
     pub status: u8,
     /// True if the whole message was written to standard error, or if there is no message.
     pub is_told: bool,
 }
 
-/// Writes a line. Returns `true` (all is well) if the write succeeds.
-fn show<W: Write>(output: &mut W, text: &str) -> Result<bool, Failure>
+/// Writes a line. Returns `Yes` (all is well) if the write succeeds.
+fn show<W: Write>(output: &mut W, text: &str) -> Result<Answer, Failure>
     ensures { EndsWith (Prints text.now (W.contents output.old) (W.contents output.new))
         (λ fault. fault ≡ faults.Write) result }
 {
     match output.writeln(text) {
-        Ok(()) => Ok(true),
+        Ok(()) => Ok(Answer::Yes),
         Err(_) => Err(Failure::Fault(Fault::Write)),
     }
 }
@@ -74,12 +78,27 @@ fn check_file<S: System, W: Write>(
     by_commits: bool,
     name: &str,
     output: &mut W,
-) -> Result<bool, Failure>
+) -> Result<Answer, Failure>
     ensures { RunsCall (asked.Check by_commits name.now) (S.bytes system.now)
         (W.contents output.old) (W.contents output.new) result }
 {
     let source = open(system, name, Failure::Fault(Fault::Read))?;
-    Ok(check(alloc, by_commits, source, output)?)
+    Ok(Answer::from(check(alloc, by_commits, source, output)?))
+}
+
+/// Judges the history file with this name by any order of its transactions.
+fn check_order<S: System, W: Write>(
+    alloc: Global,
+    system: &S,
+    shows_order: bool,
+    name: &str,
+    output: &mut W,
+) -> Result<Answer, Failure>
+    ensures { RunsCall (asked.CheckSerializable shows_order name.now) (S.bytes system.now)
+        (W.contents output.old) (W.contents output.new) result }
+{
+    let source = open(system, name, Failure::Fault(Fault::Read))?;
+    Ok(check_serializable(alloc, shows_order, source, output)?)
 }
 
 /// Judges the history file with this name, and writes what leads to its bad entry.
@@ -89,12 +108,12 @@ fn explain_file<S: System, W: Write>(
     by_commits: bool,
     name: &str,
     output: &mut W,
-) -> Result<bool, Failure>
+) -> Result<Answer, Failure>
     ensures { RunsCall (asked.Why by_commits name.now) (S.bytes system.now)
         (W.contents output.old) (W.contents output.new) result }
 {
     let source = open(system, name, Failure::Fault(Fault::Read))?;
-    Ok(why(alloc, by_commits, source, output)?)
+    Ok(Answer::from(why(alloc, by_commits, source, output)?))
 }
 
 /// Judges the entries on standard input.
@@ -103,13 +122,13 @@ fn watch_standard<S: System, W: Write>(
     system: &S,
     basis: Basis,
     output: &mut W,
-) -> Result<bool, Failure>
+) -> Result<Answer, Failure>
     requires { HasStripes basis }
     ensures { RunsCall (asked.Watch basis) (S.bytes system.now)
         (W.contents output.old) (W.contents output.new) result }
 {
     let mut source = open(system, STANDARD, Failure::Fault(Fault::Read))?;
-    Ok(watch(alloc, basis, &mut source, output)?)
+    Ok(Answer::from(watch(alloc, basis, &mut source, output)?))
 }
 
 /// Writes what became of the scripts of one file in the history of another file.
@@ -119,7 +138,7 @@ fn outcomes_in<S: System, W: Write>(
     scripts: &str,
     history: &str,
     output: &mut W,
-) -> Result<bool, Failure>
+) -> Result<Answer, Failure>
     ensures { RunsCall (asked.Outcomes scripts.now history.now) (S.bytes system.now)
         (W.contents output.old) (W.contents output.new) result }
 {
@@ -127,17 +146,16 @@ fn outcomes_in<S: System, W: Write>(
     let no_history = Failure::Outcomes(OutcomesFault::HistoryRead);
     let scripts = open(system, scripts, no_scripts)?;
     let history = open(system, history, no_history)?;
-    Ok(tell_outcomes(alloc, scripts, history, output)?)
+    Ok(Answer::from(tell_outcomes(alloc, scripts, history, output)?))
 }
 
-/// Does what a call asks for. Returns `false` if a history is illegal, or if a script that has no
-/// `abort` was given up. Otherwise returns `true` (all is well).
+/// Does what a call asks for, and returns the answer.
 fn answer<S: System, W: Write>(
     alloc: Global,
     system: &S,
     call: Call<'_>,
     output: &mut W,
-) -> Result<bool, Failure>
+) -> Result<Answer, Failure>
     requires { HasStripesIf (asked_of call) }
     ensures { RunsCall (asked_of call.entry) (S.bytes system.now)
         (W.contents output.old) (W.contents output.new) result }
@@ -146,6 +164,9 @@ fn answer<S: System, W: Write>(
         Call::Help => show(output, USAGE),
         Call::Version => show(output, VERSION),
         Call::Check { by_commits, file } => check_file(alloc, system, by_commits, file, output),
+        Call::CheckSerializable { shows_order, file } => {
+            check_order(alloc, system, shows_order, file, output)
+        }
         Call::Outcomes { scripts, history } => {
             outcomes_in(alloc, system, scripts, history, output)
         }
@@ -159,7 +180,7 @@ fn run_words<S: System, W: Write>(
     alloc: Global,
     system: &S,
     output: &mut W,
-) -> Result<bool, Failure>
+) -> Result<Answer, Failure>
     ensures { Runs (S.spoken system.now) (S.bytes system.now)
         (W.contents output.old) (W.contents output.new) result }
 {
@@ -172,12 +193,11 @@ fn run_words<S: System, W: Write>(
 }
 
 /// The exit status after a run with this outcome. Constant time.
-fn status_of(outcome: &Result<bool, Failure>) -> u8
+fn status_of(outcome: &Result<Answer, Failure>) -> u8
     ensures { result ≡ status_after outcome.now }
 {
     match outcome {
-        Ok(true) => 0,
-        Ok(false) => 1,
+        Ok(answer) => answer.status(),
         Err(failure) => failure.status(),
     }
 }
@@ -196,7 +216,7 @@ pub fn run<S: System, W: Write, E: Write>(
     output: &mut W,
     errors: &mut E,
 ) -> Ending
-    ensures { (outcome : Result Bool Failure)
+    ensures { (outcome : Result Answer Failure)
         × Runs (S.spoken system.now) (S.bytes system.now)
         (W.contents output.old) (W.contents output.new) outcome
         × (result.status ≡ status_after outcome)

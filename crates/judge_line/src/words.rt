@@ -10,9 +10,9 @@ ghost use Rattle.judge_engine.specs.Bases.{HasStripes};
 ghost use Rattle.judge_line.specs.declared.failure.Failure.TheVariants as failures;
 ghost use Rattle.program_host.specs.Words.{IsApp, file_word};
 ghost use Rattle.judge_line.specs.Words.{Spells, IsCallOf, HasStripesIf, asked_in, asked_of, basis_for};
-ghost use Rattle.judge_line.specs.Words.{command_line, flagged, is_set, outcomes_for, over_both};
-ghost use Rattle.judge_line.specs.Words.{over_history, serializable_word, stripes_in_word, stripes_word};
-ghost use Rattle.judge_line.specs.Words.{watching};
+ghost use Rattle.judge_line.specs.Words.{check_for, checking, command_line, explaining, flag_word};
+ghost use Rattle.judge_line.specs.Words.{flagged, is_set, outcomes_for, over_both, ruled};
+ghost use Rattle.judge_line.specs.Words.{stripes_in_word, stripes_word, watching};
 
 use crate::failure::Failure;
 use clap::error::ErrorKind;
@@ -28,6 +28,13 @@ pub enum Call<'a> {
     Check {
         /// True to judge by the order of commits, false to judge by locks.
         by_commits: bool,
+        /// The file's name.
+        file: &'a str,
+    },
+    /// To say whether the history of a file is serializable, in any order.
+    CheckSerializable {
+        /// True to show the order.
+        shows_order: bool,
         /// The file's name.
         file: &'a str,
     },
@@ -62,14 +69,12 @@ pub(crate) const STANDARD: &str = "-";
 /// The greatest number of locks, which is also the default.
 const MAX_STRIPES: u64 = 4096;
 
-/// The flag that asks for a judgement by the order of commits.
-fn serializable_flag<'a>(alloc: Global) -> Arg<'a>
-    ensures rule { rule_of result ≡ serializable_word }
+/// A flag with this name.
+fn flag<'a>(alloc: Global, name: &'a str) -> Arg<'a>
+    ensures rule { rule_of result ≡ flag_word name.entry.now }
     ensures local { result.global ≡ false }
 {
-    Arg::new(alloc, "serializable")
-        .long("serializable")
-        .action(ArgAction::SetTrue)
+    Arg::new(alloc, name).long(name).action(ArgAction::SetTrue)
 }
 
 /// The option for the number of locks, which may be left out.
@@ -94,14 +99,30 @@ fn file_name<'a>(alloc: Global, name: &'a str) -> Arg<'a>
 fn flagged_command<'a>(alloc: Global, name: &'a str) -> Result<Command<'a>, AllocError>
     ensures { IfOk result (λ command. IsApp command (flagged name.entry.now)) }
 {
-    Command::new(alloc, name).arg(serializable_flag(alloc))
+    Command::new(alloc, name).arg(flag(alloc, "commit-order"))
 }
 
-/// Makes a command with this name that takes a history file: `check` or `why`.
-fn command_on_history<'a>(alloc: Global, name: &'a str) -> Result<Command<'a>, AllocError>
-    ensures { IfOk result (λ command. IsApp command (over_history name.entry.now)) }
+/// Makes a command with this name that has the flags to judge by the order of commits and by any
+/// order.
+fn ruled_command<'a>(alloc: Global, name: &'a str) -> Result<Command<'a>, AllocError>
+    ensures { IfOk result (λ command. IsApp command (ruled name.entry.now)) }
 {
-    flagged_command(alloc, name)?.arg(file_name(alloc, "FILE"))
+    flagged_command(alloc, name)?.arg(flag(alloc, "serializable"))
+}
+
+/// The command `check`.
+fn check_command<'a>(alloc: Global) -> Result<Command<'a>, AllocError>
+    ensures { IfOk result (λ command. IsApp command checking) }
+{
+    let command = ruled_command(alloc, "check")?.arg(flag(alloc, "show-order"))?;
+    command.arg(file_name(alloc, "FILE"))
+}
+
+/// The command `why`.
+fn why_command<'a>(alloc: Global) -> Result<Command<'a>, AllocError>
+    ensures { IfOk result (λ command. IsApp command explaining) }
+{
+    flagged_command(alloc, "why")?.arg(file_name(alloc, "FILE"))
 }
 
 /// The command `outcomes`.
@@ -127,17 +148,17 @@ fn command<'a>(alloc: Global) -> Result<Command<'a>, AllocError>
     Command::new(alloc, "judge")
         .version("1.0.0")
         .subcommand_required(true)
-        .subcommand(command_on_history(alloc, "check")?)?
+        .subcommand(check_command(alloc)?)?
         .subcommand(outcomes_command(alloc)?)?
         .subcommand(watch_command(alloc)?)?
-        .subcommand(command_on_history(alloc, "why")?)
+        .subcommand(why_command(alloc)?)
 }
 
-/// Returns true if the words ask to judge by the order of commits.
-fn is_by_commits(found: &ArgMatches<'_>) -> bool
-    ensures { result ≡ is_set (first_of (codes "serializable") (rows_of (found_of found.now))) }
+/// Returns true if the words have the flag with this name.
+fn has_flag(found: &ArgMatches<'_>, name: &str) -> bool
+    ensures { result ≡ is_set (first_of name.now (rows_of (found_of found.now))) }
 {
-    match found.get_str("serializable") {
+    match found.get_str(name) {
         Some(word) => word == "true",
         None => false,
     }
@@ -176,6 +197,25 @@ fn basis_in(by_commits: bool, word: Option<&str>) -> Option<Basis>
     }
 }
 
+/// Returns the call to judge a file, given the flags. Returns `None` if two rules are asked for, or
+/// if an order is to be shown and none is looked for.
+fn check_of<'a>(
+    by_commits: bool,
+    is_serializable: bool,
+    shows_order: bool,
+    file: &'a str,
+) -> Option<Call<'a>>
+    ensures call { option_map asked_of result
+        ≡ check_for by_commits is_serializable shows_order file.entry.now }
+    ensures stripes { IfSome result (λ call. HasStripesIf (asked_of call)) }
+{
+    match (by_commits, is_serializable, shows_order) {
+        (_, false, false) => Some(Call::Check { by_commits, file }),
+        (false, true, _) => Some(Call::CheckSerializable { shows_order, file }),
+        (true, true, _) | (_, false, true) => None,
+    }
+}
+
 /// Returns the call for the outcomes of these files, or `None` if both are standard input.
 fn outcomes_of<'a>(scripts: &'a str, history: &'a str) -> Option<Call<'a>>
     ensures call { option_map asked_of result ≡ outcomes_for scripts.entry.now history.entry.now }
@@ -193,11 +233,13 @@ fn call_named<'a>(name: &str, found: &ArgMatches<'a>) -> Option<Call<'a>>
     ensures call { option_map asked_of result ≡ asked_in name.now (rows_of (found_of found.now)) }
     ensures stripes { IfSome result (λ call. HasStripesIf (asked_of call)) }
 {
-    let by_commits = is_by_commits(found);
+    let by_commits = has_flag(found, "commit-order");
+    let is_serializable = has_flag(found, "serializable");
+    let shows_order = has_flag(found, "show-order");
     match name {
         "check" => {
             let file = found.get_str("FILE")?;
-            Some(Call::Check { by_commits, file })
+            check_of(by_commits, is_serializable, shows_order, file)
         }
         "outcomes" => {
             let scripts = found.get_str("SCRIPTS")?;

@@ -1,3 +1,3 @@
 pub mod Keeps
-pub mod Moves
+pub mod WordSteps
 pub mod RightLemmas

@@ -7,7 +7,7 @@ ghost use Rattle.key_words.specs.Laws.{HeldOnce};
 ///
 /// This law is the contract of this function, which does nothing. The law follows from the rule of
 /// the words.
-#[tactic(auto, using(crate::proofs::Moves::held_once))]
+#[tactic(auto, using(crate::proofs::WordSteps::held_once))]
 pub fn held_once()
     ensures { HeldOnce }
 {}

@@ -1,12 +1,10 @@
 //! A transactional map that callers in several threads share: one core under one lock.
 //!
-//! - A *token*, a `Caller` of `core_tokens`, stands for one caller. `SharedMap::new` makes a `Pass`
-//!   for each number, which makes its token once.
-//! - A *hold* is one turn of a call, under one hold of the lock. So others may take steps between
+//! - `SharedMap::new` makes a `Pass` for each number, which makes its token, a `Caller` of
+//!   `core_tokens`, once.
+//! - A *hold*, one turn of a call, is under one hold of the lock. So others may take steps between
 //!   two turns, even of an abort. Stripes' words are tried, and rights given back, outside the
 //!   lock.
-//! - Between holds only the core's invariants and the token's own entries are known. If an answer
-//!   contradicts them, this call and each later one end with `OutOfStep`.
 //! - `SharedMap::close` takes all tokens back and compares the history with them. If it returns
 //!   `Ok`, the history is legal, and its entries are exactly those that the tokens have `seen`,
 //!   each caller's its own: a ledger counts them.

@@ -6,8 +6,7 @@
 //! given back. The sort keys rise strictly, no two nodes share a place, no dummy is marked, and no
 //! stamp is ever given twice. So a node with the same place and the same stamp as before is the
 //! same node. Each call that changes the list also promises that the new list follows the old one
-//! (`Follows`): a node that was not there before has a stamp that was out or is new, and a linked
-//! dummy stays linked.
+//! (`Follows`).
 //!
 //! Calls take constant time and no memory unless they say otherwise: a few look-ups in the slab,
 //! whatever the length of the list.

@@ -19,8 +19,8 @@ use Rattle.txn_trace.proofs.Steps.{txns_of-push, are_committed, commits_are}
 use Rattle.txn_trace.proofs.Inductions.{by_entries}
 use Rattle.txn_trace.proofs.Running.{has_txn}
 use Rattle.txn_trace.proofs.Committing.{commits_so}
-use Rattle.txn_trace.proofs.Judging.{shape_push}
-use Rattle.serial_check.specs.Serializable.{IsSerializable as IsByCommits, CommitsHold}
+use Rattle.txn_trace.proofs.BadEntries.{shape_push}
+use Rattle.serial_check.specs.Serializable.{IsSerializableByCommits, CommitsHold}
 use Rattle.order_check.specs.Lists.{IsIn, AreApart}
 use Rattle.order_check.specs.Serializable.{RunAlone, IsSerialOrder, IsSerializable}
 use Rattle.order_check.proofs.Places.{apart_push}
@@ -116,7 +116,7 @@ pub commits_run : (h : List Entry) → IsShaped h → CommitsRun h
 commits_run h shape = by_entries CommitsRun one_more (record { apart = tt; runs = λ hold. tt }) h shape
 
 -- The order of the commits is an order of the history.
-pub serializable_in_order : (h : List Entry) → IsByCommits h → IsSerialOrder h (commits h)
+pub serializable_in_order : (h : List Entry) → IsSerializableByCommits h → IsSerialOrder h (commits h)
 serializable_in_order h is =
     let run = commits_run h is.shape in
     record {
@@ -124,5 +124,5 @@ serializable_in_order h is =
       replies = run.runs is.replies;
     }
 
-pub serializable_in_some : (h : List Entry) → IsByCommits h → IsSerializable h
+pub serializable_in_some : (h : List Entry) → IsSerializableByCommits h → IsSerializable h
 serializable_in_some h is = record { shape = is.shape; order = commits h; in_order = serializable_in_order h is }

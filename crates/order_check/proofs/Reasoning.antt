@@ -20,7 +20,7 @@ use Rattle.order_check.specs.Kept.{HaveAccesses}
 use Rattle.order_check.specs.Named.{name_at, named_edge}
 use Rattle.order_check.specs.Lists.{place}
 use Rattle.std.specs.List.{range_with_len}
-use Rattle.serial_check.specs.Serializable.{IsSerializable as IsByCommits}
+use Rattle.serial_check.specs.Serializable.{IsSerializableByCommits}
 use Rattle.order_check.specs.declared.outcome.Outcome.{Outcome}
 use Rattle.order_check.specs.InTurn.{RunInTurn}
 use Rattle.order_check.specs.Orders.{IsOrderOf}
@@ -170,7 +170,7 @@ pub outcome_on : (n m : ℕ) (xs ys : List Access) (o p : Outcome) → n ≡ m �
 outcome_on n m xs ys o p count same is outcome = subst (IsOutcome m ys) is (subst (λ zs. IsOutcome m zs o) same (subst (λ k. IsOutcome k xs o) count outcome))
 
 -- If the order of the commits is a serial order, the accesses run in turn.
-pub by_commits_in_turn : (h : List Entry) (n : ℕ) (xs : List Access) → n ≡ length (commits h) → ArePlain n xs → HaveAccesses h None xs → IsByCommits h → RunInTurn no_values xs
+pub by_commits_in_turn : (h : List Entry) (n : ℕ) (xs : List Access) → n ≡ length (commits h) → ArePlain n xs → HaveAccesses h None xs → IsSerializableByCommits h → RunInTurn no_values xs
 by_commits_in_turn h n xs n_is plain have is =
     let order = order_from_history h is.shape (footprints_of xs) have (commits h) (serializable_in_order h is) in
     let all : map (λ t. place t (commits h)) (commits h) ≡ range_with_len 0 (length (commits h)) = places_all (commits h) (commits_run h is.shape).apart in

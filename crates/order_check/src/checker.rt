@@ -28,7 +28,7 @@ pub struct Checker {
 
 impl Checker {
     ghost use Rattle.history_check.specs.Callers.{HaveEntered};
-    ghost use Rattle.serial_check.specs.Serializable.{IsSerializable as IsByCommits};
+    ghost use Rattle.serial_check.specs.Serializable.{IsSerializableByCommits};
     ghost use Rattle.order_check.specs.Fed.{IsFed};
     ghost use Rattle.order_check.specs.Verdicts.{IsVerdictOn, IsOfCommits};
 
@@ -101,7 +101,7 @@ impl Checker {
     /// hashed.
     pub fn verdict(&self, alloc: Global) -> Result<Verdict, AllocError>
         ensures verdict { (h : List Entry) → IsFed h self.now → IfOk result (IsVerdictOn h) }
-        ensures commits { (h : List Entry) → IsFed h self.now → IsByCommits h →
+        ensures commits { (h : List Entry) → IsFed h self.now → IsSerializableByCommits h →
             IfOk result (IsOfCommits h) }
     {
         match self.misshapen {

@@ -2,7 +2,7 @@
 ghost use Rattle.std.specs.Prelude.{◌<◌, IfOk};
 ghost use Rattle.std.specs.List.{All};
 ghost use Rattle.txn_words.specs.Kinds.{caller_of};
-ghost use Rattle.serial_check.specs.Serializable.{IsSerializable as IsByCommits};
+ghost use Rattle.serial_check.specs.Serializable.{IsSerializableByCommits};
 ghost use Rattle.order_check.specs.Verdicts.{IsVerdictOn, IsOfCommits};
 
 use crate::checker::Checker;
@@ -24,7 +24,7 @@ use txn_trace::{Entry, SmallEntry};
 pub fn check(alloc: Global, entries: &[Entry]) -> Result<Verdict, AllocError>
     requires { All (λ entry. caller_of entry < 64) entries.now }
     ensures verdict { IfOk result (IsVerdictOn entries.now) }
-    ensures commits { IsByCommits entries.now → IfOk result (IsOfCommits entries.now) }
+    ensures commits { IsSerializableByCommits entries.now → IfOk result (IsOfCommits entries.now) }
 {
     let mut checker = Checker::new(alloc)?;
     for entry in entries {
@@ -45,7 +45,7 @@ pub fn check(alloc: Global, entries: &[Entry]) -> Result<Verdict, AllocError>
 pub fn check_packed(alloc: Global, entries: &[SmallEntry]) -> Result<Verdict, AllocError>
     requires { All (λ entry. caller_of entry < 64) entries.now }
     ensures verdict { IfOk result (IsVerdictOn entries.now) }
-    ensures commits { IsByCommits entries.now → IfOk result (IsOfCommits entries.now) }
+    ensures commits { IsSerializableByCommits entries.now → IfOk result (IsOfCommits entries.now) }
 {
     let mut checker = Checker::new(alloc)?;
     for entry in entries {

@@ -6,7 +6,7 @@ ghost use Rattle.txn_words.specs.declared.entry.Entry.{Entry};
 ghost use Rattle.txn_words.specs.declared.holder.Holder.{Holder};
 ghost use Rattle.txn_trace.specs.History.{commits};
 ghost use Rattle.txn_trace.specs.Legal.{IsLegal};
-ghost use Rattle.serial_check.specs.Serializable.{IsSerializable as IsByCommits};
+ghost use Rattle.serial_check.specs.Serializable.{IsSerializableByCommits};
 ghost use Rattle.order_check.specs.declared.edge.Edge.{Edge};
 ghost use Rattle.order_check.specs.Dependencies.{Needs, Writes};
 ghost use Rattle.order_check.specs.Footprints.{Footprint, no_values, RunsFrom};
@@ -20,8 +20,8 @@ ghost use Rattle.order_check.specs.Sources.{Sources, KeepsSources};
 /// If a history is serializable in the order of its commits, this order is a serial order. So the
 /// history is serializable. A history that is legal by locks is serializable too.
 pub fn by_commits()
-    ensures order { (h : List Entry) → IsByCommits h → IsSerialOrder h (commits h) }
-    ensures commits { (h : List Entry) → IsByCommits h → IsSerializable h }
+    ensures order { (h : List Entry) → IsSerializableByCommits h → IsSerialOrder h (commits h) }
+    ensures commits { (h : List Entry) → IsSerializableByCommits h → IsSerializable h }
     ensures legal { (holder : Holder) (stripes : ℕ) (h : List Entry) → IsLegal holder stripes h
         → IsSerializable h }
 {}

@@ -21,8 +21,7 @@
 //! By the law `by_commits`, a history that is legal by locks is serializable.
 //!
 //! A verdict takes time and memory in proportion to the accesses (not measured). Only tested: that
-//! few verdicts are undecided. Missing: a search among several sources, the entries of an edge,
-//! real time, and a command of the program `judge`.
+//! few verdicts are undecided. Missing: a search among several sources, and real time.
 #![tactic(auto)]
 
 mod access;

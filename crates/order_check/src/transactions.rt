@@ -42,7 +42,7 @@ pub(crate) struct Transactions {
 impl Transactions {
     ghost use Rattle.order_check.specs.Kept.{Shows, Stays, TakesIn, Commits};
     ghost use Rattle.order_check.specs.Verdicts.{IsVerdictOn, IsOfCommits};
-    ghost use Rattle.serial_check.specs.Serializable.{IsSerializable as IsByCommits};
+    ghost use Rattle.serial_check.specs.Serializable.{IsSerializableByCommits};
 
     /// What is kept before the first entry.
     pub(crate) fn new(alloc: Global) -> Result<Transactions, AllocError>
@@ -93,7 +93,7 @@ impl Transactions {
     pub(crate) fn verdict(&self, alloc: Global) -> Result<Verdict, AllocError>
         ensures verdict { (h : List Entry) → IsShaped h → Shows h self.now →
             IfOk result (IsVerdictOn h) }
-        ensures commits { (h : List Entry) → Shows h self.now → IsByCommits h →
+        ensures commits { (h : List Entry) → Shows h self.now → IsSerializableByCommits h →
             IfOk result (IsOfCommits h) }
     {
         if let Some(txn) = self.torn {

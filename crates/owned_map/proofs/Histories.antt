@@ -20,7 +20,7 @@ use Rattle.txn_trace.specs.Legal.{IsLegal}
 use Rattle.txn_trace.specs.Locks.{is_locked}
 use Rattle.txn_words.proofs.Effects.{after_unchanged, changes-reply}
 use Rattle.txn_trace.proofs.Pushes.{own-push_out}
-use Rattle.txn_trace.proofs.Next.{Next}
+use Rattle.txn_trace.proofs.EntrySteps.{Next}
 use Rattle.txn_trace.proofs.Entries as laws
 use Rattle.boost_core.proofs.Due.{set_at-after}
 use Rattle.owned_map.specs.Within.{taken_back, IsBasedOn}

@@ -22,7 +22,7 @@ use Rattle.txn_words.specs.Sizes.{Sizes}
 use Rattle.txn_trace.specs.Now.{now}
 use Rattle.txn_words.specs.Shape.{Seat, seat_after, own, row, is_numbered, IsShaped}
 use Rattle.txn_trace.specs.Legal.{IsLegal}
-use Rattle.txn_trace.proofs.Next.{seat-own}
+use Rattle.txn_trace.proofs.EntrySteps.{seat-own}
 use Rattle.txn_trace.proofs.Entries as laws
 use Rattle.boost_core.specs.State.{State, holder_by, seat_in}
 use Rattle.boost_core.specs.Refusals.{is_closed, is_leaving, is_waiting, has_job}
@@ -32,7 +32,7 @@ use Rattle.owned_map.specs.Within.{taken_back, IsBasedOn, IsAt, CanAbort, GoesOn
 use Rattle.owned_map.proofs.Histories.{stands_after}
 use Rattle.owned_map.proofs.Steps.{to_state, unmoved, phase_in, leaves_on, ready, unready, based}
 use Rattle.owned_map.proofs.Only as only
-use Rattle.boost_core.proofs.Refused.{first_none}
+use Rattle.boost_core.proofs.SideRefusals.{first_none}
 
 module _ {rule : Holder} (limits : Sizes) (c : ℕ) (base : Map) (h : List Entry) where
   saved_now : IsBasedOn rule limits c base Opened h → IsBasedOn rule limits c base Opened (h ++ entry.Saved c ∷ []) × (now (h ++ entry.Saved c ∷ []) ≡ now h)

@@ -2,9 +2,9 @@ pub mod Histories
 pub mod Only
 pub mod Growing
 pub mod Steps
-pub mod Trimming
+pub mod TrimmedMap
 pub mod Calls
 pub mod Levels
 pub mod Taken
-pub mod Filling
+pub mod FirstTransaction
 pub mod Savepoints

@@ -25,7 +25,7 @@ use Rattle.txn_trace.specs.Legal.{IsLegal}
 use Rattle.txn_trace.specs.Locks.{is_locked}
 use Rattle.txn_words.proofs.Effects.{after_unchanged, changes-reply}
 use Rattle.txn_words.proofs.Levels.{Leveled, IsLevelIn, seat_leveled}
-use Rattle.txn_trace.proofs.Next.{Next}
+use Rattle.txn_trace.proofs.EntrySteps.{Next}
 use Rattle.txn_trace.proofs.Entries as laws
 use Rattle.boost_core.proofs.Due.{set_at-after}
 use Rattle.boost_core.specs.State.{State, holder_by, seat_in}
@@ -36,7 +36,7 @@ use Rattle.owned_map.specs.Within.{taken_back, map_at, level_count, KeepsLevels,
 use Rattle.owned_map.proofs.Growing.{kept_by}
 use Rattle.owned_map.proofs.Steps.{to_state, unmoved, phase_in, ready, based, replied, waits}
 use Rattle.owned_map.proofs.Levels.{past, left_to_now, undone_to_now, reached_at}
-use Rattle.boost_core.proofs.Refused.{first_none}
+use Rattle.boost_core.proofs.SideRefusals.{first_none}
 
 -- The map at a level, computed from the seat, the log and the present map.
 abbrev level_map : ℕ → Seat → List (ℕ × Option ℕ) → Map → Map

@@ -28,7 +28,7 @@ use Rattle.boost_core.specs.Plain.{Operates, Aborts, Ends, Leaves, undoing, undo
 use Rattle.owned_map.specs.Within.{taken_back, IsBasedOn, IsAt, CanAbort, IsIdle, GoesOn, HasDone, IsTakenBack, IsCommitted}
 use Rattle.owned_map.proofs.Histories.{seat_there, began_now, asked_now, busy_now, did_now, left_now, undone_now, aborted_now, committed_now}
 use Rattle.owned_map.proofs.Only as only
-use Rattle.boost_core.proofs.Refused.{closed_is, first_none}
+use Rattle.boost_core.proofs.SideRefusals.{closed_is, first_none}
 
 pub to_state : (c : ℕ) (base : Map) (q : Phase) (s t : State) → t ≡ s → IsAt c base q s → IsAt c base q t
 to_state c base q s t same = subst (IsAt c base q) (sym same)

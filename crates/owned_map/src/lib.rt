@@ -2,8 +2,8 @@
 //! transaction.
 //!
 //! `OwnedMap` holds a core of `boost_core`. The owner makes every call, one after another, on
-//! behalf of a caller that is named by a number. No call leaves a transaction open. The contracts
-//! still allow that another caller has an open transaction while `transact` runs.
+//! behalf of a caller that is named by a number. `transact` leaves no transaction of its caller
+//! open; `begin` does, for an owner that keeps transactions of several callers open.
 //!
 //! ```text
 //! let kept: Result<u64, Stop> = map.transact(0, |t: &mut Transaction<'_>| {

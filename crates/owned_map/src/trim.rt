@@ -101,7 +101,7 @@ impl OwnedMap {
     /// Puts a pair whose key is new, and then grows the table if it has too few buckets. The limits
     /// accept the key, and no other caller holds its stripe. So the call fails only for lack of
     /// memory or stamps. It takes at most two stamps.
-    #[tactic(auto, using(crate::proofs::Filling::only_puts))]
+    #[tactic(auto, using(crate::proofs::FirstTransaction::only_puts))]
     fn put_new(&mut self, key: u64, value: u64) -> Result<(), Refusal>
         requires only { IsFilling self.old.core }
         requires fresh { get (now self.old.core.history) key ≡ None }
@@ -129,7 +129,7 @@ impl OwnedMap {
     }
 
     /// Commits the first transaction. This takes no memory.
-    #[tactic(auto, using(crate::proofs::Filling::only_commits))]
+    #[tactic(auto, using(crate::proofs::FirstTransaction::only_commits))]
     fn commit_first(&mut self)
         requires only { IsFilling self.old.core }
         ensures ok { self.new.core.history ≡ self.old.core.history

@@ -6,7 +6,7 @@ pub mod Numerals
 pub mod PlainElements
 pub mod Read
 pub mod Turns
-pub mod Taken
+pub mod MemberLemmas
 pub mod Values
 pub mod Whole
 pub mod PlainLemmas

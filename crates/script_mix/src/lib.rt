@@ -9,9 +9,8 @@
 //! Proved (`mix_scripts`): the core afterwards has the limits that were asked for. Each worker's
 //! committed transactions play its scripts, in order. The turns lead from a new core to this core,
 //! and each was taken by the worker drawn for it (`specs/Turns.antt`). The core's history is legal.
-//! The turns end when no worker has a step or a script left, or after 2^64 - 1 turns, a number that
-//! no run reaches. Each takes a step. `draw` returns the generator's next word modulo the number of
-//! live workers.
+//! The turns end when no worker has a script left, or after 2^64 - 1 turns. Each takes a step.
+//! `draw` returns the generator's next word modulo the number of live workers.
 //!
 //! Memory is taken at the beginning, and then only by the core's steps. A turn costs its steps and
 //! a look at one worker.

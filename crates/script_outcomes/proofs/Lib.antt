@@ -1,6 +1,6 @@
 pub mod Parts
 pub mod Strides
-pub mod Following
+pub mod OutcomeSteps
 pub mod Starting
 pub mod Running
 pub mod Searching

@@ -11,7 +11,7 @@ use Rattle.txn_words.specs.Kinds.{caller_of}
 use Rattle.script_outcomes.specs.declared.outcome.Outcome.{Outcome}
 use Rattle.script_outcomes.specs.declared.way.Way.{Way}
 use Rattle.script_outcomes.specs.Ways.{CountsAt, IsCountedFor, TakesEntry, MayCount}
-use Rattle.script_outcomes.proofs.Following.{Follows, AllFollow, own_follows, other_follows, get-set_same, get-set_other, the_one}
+use Rattle.script_outcomes.proofs.OutcomeSteps.{Follows, AllFollow, own_follows, other_follows, get-set_same, get-set_other, the_one}
 
 apart : (n m : ℕ) → n ≢ m → (n == m) ≡ false
 apart n m not = elim (cases_Bool (n == m)) [ inl is ↦ absurd (not (eqb-true n m is)) | inr is ↦ is ]

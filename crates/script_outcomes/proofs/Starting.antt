@@ -12,7 +12,7 @@ use Rattle.script_outcomes.specs.declared.outcome.Outcome.TheVariants.{Committed
 use Rattle.script_outcomes.specs.declared.way.Way.{Way}
 use Rattle.script_outcomes.specs.Outcomes.{HasCome, AreInOrder, PlayInOrder, CommitsCounted, AreOutcomesOf, AreOutcomes, committed_by, committed_from}
 use Rattle.script_outcomes.specs.Ways.{AreFresh, AreNone}
-use Rattle.script_outcomes.proofs.Following.{IsPast, Known, Follows, AllFollow, the_one}
+use Rattle.script_outcomes.proofs.OutcomeSteps.{IsPast, Known, Follows, AllFollow, the_one}
 
 pub read_push : {X : Type 0} (xs : List X) (x y : X) (n : ℕ) → slice_get (xs ++ x ∷ []) n ≡ Some y → ((n ≡ length xs) × (y ≡ x)) ⊎ (slice_get xs n ≡ Some y)
 read_push [] x y zero there = inl (refl, sym (ap (the_one x) there))

@@ -1,10 +1,8 @@
 //! Finds the outcome of each script of a file in the history that the file's workers made:
 //! committed, aborted by the script's own action, or given up.
 //!
-//! Workers run scripts as in `script_worker`: script `i` belongs to worker `i` modulo the number of
-//! workers, and is tried again at most `tries` times if it found a stripe held. `outcomes` finds
-//! each script's transaction among the worker's entries. It does not test whether the history is
-//! legal.
+//! Workers run scripts as in `script_worker`. `outcomes` finds each script's transaction among the
+//! worker's entries. It does not test whether the history is legal.
 //!
 //! The model is `AreOutcomes` of `specs/Outcomes.antt`. Proved, of any history:
 //!

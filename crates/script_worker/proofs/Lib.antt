@@ -4,6 +4,6 @@ pub mod Every
 pub mod Accounts
 pub mod Reading
 pub mod Telling
-pub mod Keeping
+pub mod WorkerSteps
 pub mod Ready
 pub mod Taking

@@ -14,7 +14,7 @@ use Rattle.txn_trace.proofs.Shaped.{callers_of, step, same, not_ended_before, en
 use Rattle.txn_trace.proofs.Seated.{are_seated, none_before}
 use Rattle.txn_trace.proofs.Steps.{serial-push_other, serial-push_commit, map_after-commit}
 use Rattle.txn_trace.proofs.Now.{open_going, going_open}
-use Rattle.txn_trace.proofs.Judging.{shape_push}
+use Rattle.txn_trace.proofs.BadEntries.{shape_push}
 use Rattle.serial_check.specs.Serializable.{txn_in}
 
 module _ (g : List Entry) (e : Entry) (shape : IsShaped g) (shaped : is_shaped g e ≡ true) where

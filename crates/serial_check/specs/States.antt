@@ -5,13 +5,13 @@ use Rattle.history_check.specs.declared.verdict.Rule.{Rule}
 use Rattle.history_check.specs.Callers.{HaveEntered}
 use Rattle.history_check.specs.Verdicts.{number_of}
 use Rattle.serial_check.specs.declared.state.State.{State}
-use Rattle.serial_check.specs.Serializable.{IsSerializable, broken}
+use Rattle.serial_check.specs.Serializable.{IsSerializableByCommits, broken}
 use Rattle.serial_check.specs.Commits.{ShowsSerial}
 
 -- The entries are a serializable history, and the state has the callers and the commits that this
 -- history leaves.
 pub record Tells (h : List Entry) (state : State) : Type 0 where
-  pub serializable : IsSerializable h
+  pub serializable : IsSerializableByCommits h
   pub entered : HaveEntered h state.callers
   pub keeps : ShowsSerial h state.commits
 

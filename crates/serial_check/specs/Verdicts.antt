@@ -9,4 +9,4 @@ use Rattle.serial_check.specs.Serializable as serializable
 -- exactly if the history is serializable in the order of its commits.
 pub record IsVerdictOn (h : List Entry) (outcome : Verdict) : Type 0 where
   pub meaning : meaning_of outcome ≡ serializable.verdict h
-  pub serializable : SaysLegal outcome ↔ serializable.IsSerializable h
+  pub serializable : SaysLegal outcome ↔ serializable.IsSerializableByCommits h

@@ -31,7 +31,7 @@ impl Checker {
     ghost use Rattle.history_check.specs.Callers.{HaveEntered};
     ghost use Rattle.serial_check.specs.Commits.{IsMisread, IsTorn, FitsOrTorn, RunsSomewhere};
     ghost use Rattle.serial_check.specs.Fed.{IsFed};
-    ghost use Rattle.serial_check.specs.Serializable.{IsSerializable, txn_in};
+    ghost use Rattle.serial_check.specs.Serializable.{IsSerializableByCommits, txn_in};
 
     /// Returns a checker that was fed no entry yet.
     ///
@@ -112,7 +112,7 @@ impl Checker {
     /// entry is bad. A caller's phase says which entries of the caller may follow.
     pub fn callers(&self) -> &Callers
         ensures { (h : List Entry) →
-            IsFed h self.now → IsSerializable h → HaveEntered h result.now }
+            IsFed h self.now → IsSerializableByCommits h → HaveEntered h result.now }
     {
         &self.state.callers
     }
@@ -125,7 +125,7 @@ impl Checker {
     /// Time in proportion to the logarithm of the number of keys in the map.
     pub fn value(&self, key: u64) -> Option<u64>
         ensures { (h : List Entry) →
-            IsFed h self.now → IsSerializable h → result ≡ get (serial h) key }
+            IsFed h self.now → IsSerializableByCommits h → result ≡ get (serial h) key }
     {
         self.state.commits.values.get(&key).copied()
     }
@@ -146,10 +146,11 @@ impl Checker {
     /// number of keys in the map.
     pub fn misread(&self, caller: u64) -> Option<Misread>
         requires { caller < 64 }
-        ensures some { (h : List Entry) (t : ℕ) → IsFed h self.now → IsSerializable h →
+        ensures some { (h : List Entry) (t : ℕ) → IsFed h self.now → IsSerializableByCommits h →
             txn_in h caller ≡ Some t → is_open t h ≡ true → IfSome result (IsMisread h t) }
         ensures none { IsNone result → (h : List Entry) (t : ℕ) → IsFed h self.now →
-            IsSerializable h → txn_in h caller ≡ Some t → is_open t h ≡ true → FitsOrTorn h t }
+            IsSerializableByCommits h → txn_in h caller ≡ Some t → is_open t h ≡ true →
+            FitsOrTorn h t }
     {
         self.state.commits.misread(caller)
     }
@@ -166,9 +167,10 @@ impl Checker {
     pub fn is_torn(&self, caller: u64) -> bool
         requires { caller < 64 }
         ensures torn { result ≡ true → (h : List Entry) (t : ℕ) → IsFed h self.now →
-            IsSerializable h → txn_in h caller ≡ Some t → is_open t h ≡ true → IsTorn h t }
+            IsSerializableByCommits h → txn_in h caller ≡ Some t → is_open t h ≡ true → IsTorn h t }
         ensures whole { result ≡ false → (h : List Entry) (t : ℕ) → IsFed h self.now →
-            IsSerializable h → txn_in h caller ≡ Some t → is_open t h ≡ true → RunsSomewhere h t }
+            IsSerializableByCommits h → txn_in h caller ≡ Some t → is_open t h ≡ true →
+            RunsSomewhere h t }
     {
         self.state.commits.is_torn(caller)
     }

@@ -1,10 +1,10 @@
 //! A judge of recorded histories by the order of their commits.
 //!
-//! A history is serializable in this order (`IsSerializable`) if each transaction that commits has
-//! the same replies as if it ran alone on the map that the earlier commits leave, and each caller's
-//! entries have the right shape. There is no rule of locks, and other transactions may have read
-//! anything. So this judges stores whose readers share locks, and stores that validate at the
-//! commit.
+//! A history is serializable in this order (`IsSerializableByCommits`) if each transaction that
+//! commits has the same replies as if it ran alone on the map that the earlier commits leave, and
+//! all entries have the right shape. There is no rule of locks, and other transactions
+//! may have read anything. So this judges stores whose readers share locks, and stores that
+//! validate at the commit.
 //!
 //! No transaction is run again. The checker keeps a *footprint* of each caller's transaction, with
 //! two values for each key that it asked for:
@@ -21,7 +21,7 @@
 //! Calls take constant time and no memory unless they say otherwise.
 //!
 //! Proved: `check`, `check_packed` and `Checker` return the `verdict`, which is legal exactly if
-//! `IsSerializable` holds. A history that is legal by locks is serializable (`serializable`).
+//! `IsSerializableByCommits` holds. A history that is legal by locks is so too (`serializable`).
 #![tactic(auto)]
 
 mod checker;

@@ -15,13 +15,13 @@ use Rattle.txn_trace.specs.Legal.{IsLegal, runs, is_running}
 use Rattle.txn_words.specs.Shape.{Seat, row, seat_after, own, IsShaped, is_shaped}
 use Rattle.txn_trace.proofs.Committing.{has_committed}
 use Rattle.txn_trace.proofs.Inductions.{by_entries}
-use Rattle.txn_trace.proofs.Next.{own-other}
+use Rattle.txn_trace.proofs.EntrySteps.{own-other}
 use Rattle.txn_trace.proofs.Pushes.{seat_after-push}
 use Rattle.txn_trace.proofs.Callers.{Callers}
 use Rattle.striped_map.specs.Lone.{RunsAlone}
 use Rattle.striped_map.specs.Steps.{Extends}
 use Rattle.striped_map.proofs.Hands.{own_extends}
-use Rattle.striped_map.proofs.Lands.{own-append}
+use Rattle.striped_map.proofs.AdditionLemmas.{own-append}
 
 -- A caller's entries, cut where its last transaction begins.
 record Cut (c : ℕ) (es : List Entry) : Type 0 where

@@ -20,7 +20,7 @@ use Rattle.striped_map.specs.Steps.{StateAfter, Extends, AddsIn, SeesIn, GainsSt
 use Rattle.striped_map.specs.Additions.{due, entries_of}
 use Rattle.striped_map.specs.declared.addition.Addition.TheVariants.{Abort, Yield}
 use Rattle.striped_map.proofs.Hands.{extends_then, extends_none, own_same}
-use Rattle.striped_map.proofs.Sounds.{due_same}
+use Rattle.striped_map.proofs.HandSoundness.{due_same}
 
 pub moved : (map : StripedMap) (a b : Hand) (es : List Entry) (left : StateAfter) → AddsIn (stripes_of map) (known a.seat) es left (known b.seat) → MovesHand map a es b
 moved map a b es left x = record { number_is = ap (λ (v : View). v.number) x.view_is; retired_is = ap (λ (v : View). v.retired) x.view_is; made_is = ap (λ (v : View). v.made) x.view_is; keep_is = ap (λ (v : View). v.keep) x.view_is; goes = x.goes }

@@ -31,7 +31,7 @@ use Rattle.striped_map.specs.Seats.{HoldsAll, LeavesOthers, part_in}
 use Rattle.striped_map.specs.Steps.{Extends, GainsStripe, lost, rolled_back}
 use Rattle.striped_map.specs.Handling.{under}
 use Rattle.striped_map.specs.Sound.{HeldPart, held_parts, stripes_in, with_part, owed_on, at_place, of_job, Change, Spot, AreHeld, AreLogged}
-use Rattle.striped_map.proofs.Lands.{asks_none, own-append, own-none}
+use Rattle.striped_map.proofs.AdditionLemmas.{asks_none, own-append, own-none}
 
 abbrev pub Job : Type 0
 Job = ℕ × Option ℕ

@@ -8,7 +8,7 @@ use Rattle.striped_map.specs.declared.record.Record.{Record}
 use Rattle.striped_map.specs.Steps.{marks}
 use Rattle.striped_map.specs.Records.{spread}
 use Rattle.striped_map.specs.Gathered.{HasParts, is_taken}
-use Rattle.striped_map.proofs.Moves.{nothing_at}
+use Rattle.striped_map.proofs.RuleSteps.{nothing_at}
 use Rattle.striped_map.proofs.Merging.{Parts}
 
 abbrev Part : Type 0

@@ -13,8 +13,8 @@ use Rattle.txn_words.proofs.Holding.{within}
 use Rattle.striped_map.specs.declared.view.View.{View}
 use Rattle.striped_map.specs.Rule.{Holds, HasSeen, IsKeptAt, IsKept}
 use Rattle.striped_map.specs.Steps.{SeesIn, witness, blank, heard}
-use Rattle.striped_map.proofs.Keeps.{St, board, stored_views, viewed}
-use Rattle.striped_map.proofs.Moves.{nothing_at}
+use Rattle.striped_map.proofs.RuleFrames.{St, board, stored_views, viewed}
+use Rattle.striped_map.proofs.RuleSteps.{nothing_at}
 
 -- The view is a witness: no caller uses it, and it has seen a beginning of the history.
 abbrev IsWitness : List Entry → View → Type 0

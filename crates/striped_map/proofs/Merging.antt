@@ -15,7 +15,7 @@ use Rattle.striped_map.specs.Rule.{HasEnded}
 use Rattle.striped_map.specs.Records.{spread, told_by}
 use Rattle.striped_map.specs.Gathered.{HasParts, is_taken, entries_in, entries_to, merged, numbered, records_of, written, written_from, written_to}
 use Rattle.striped_map.proofs.Marks.{marks_seen}
-use Rattle.striped_map.proofs.Gathering.{gathered_all}
+use Rattle.striped_map.proofs.MergedHistory.{gathered_all}
 use Rattle.striped_map.proofs.Recording.{length-placed, length-told, parts_more, written_more}
 
 abbrev pub Parts : Type 0

@@ -7,7 +7,7 @@ use Rattle.map_answers.specs.declared.stop.Stop.{Stop}
 use Rattle.map_answers.specs.declared.stop.Stop.TheVariants.{Busy, Refused}
 use Rattle.striped_map.specs.Attempts.{FailsOrNot, Fails, FailsBusy, IsWhy}
 use Rattle.striped_map.specs.Callers.{number, IsNotBegun, IsSince, IsStep, IsTakenBack, IsWithin}
-use Rattle.striped_map.proofs.Within.{by_cases, within_kept, since_began, since_then, within_taken_back}
+use Rattle.striped_map.proofs.CallSpans.{by_cases, within_kept, since_began, since_then, within_taken_back}
 
 -- After a busy attempt, the caller is in no transaction. So if a caller is in a transaction after
 -- `n` busy attempts, `n` is 0, and the caller is unchanged.

@@ -45,7 +45,7 @@ impl Caller {
     /// times. Whenever the work fails, all its changes are taken back.
     ///
     /// The contract of the work has the clause `Keeps`, which says what each call of a transaction
-    /// keeps. `keeps_stay`, `keeps_on`, `keeps_three` and `keeps_four` of `proofs/Within.antt` join
+    /// keeps. `keeps_stay`, `keeps_on`, `keeps_three` and `keeps_four` of `proofs/CallSpans.antt` join
     /// the calls of a work.
     ///
     /// # Errors

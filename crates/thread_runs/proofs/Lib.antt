@@ -3,7 +3,7 @@ pub mod Rounds
 pub mod Adding
 pub mod Seating
 pub mod Lists
-pub mod Ending
+pub mod ScriptEnds
 pub mod Reports
 pub mod Ordering
 pub mod Growing

@@ -4,7 +4,7 @@ use Rattle.std.proofs.Common.{◌≡◌, ℕ, ◌+◌, ◌*◌, ◌/◌, ◌%◌
 use Rattle.thread_runs.proofs.Vocabulary.{Each, every-fewer, every-hit, every-length, every-miss, get_within, number_at, one_remainder}
 use Rattle.script_worker.proofs.Vocabulary.{cases_eq, every, length-reverse, nil_from_length, reverse-append, slice_get_read}
 use Rattle.script_worker.proofs.Vocabulary.{slice_get_within}
-use Rattle.boost_core.proofs.Refused.{set_here}
+use Rattle.boost_core.proofs.SideRefusals.{set_here}
 use Rattle.thread_runs.proofs.Lists.{get_set_other}
 
 -- The merged list `out` has taken some elements of row `i`. The elements that remain are those of

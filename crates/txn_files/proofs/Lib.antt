@@ -1,5 +1,5 @@
 pub mod InRange
 pub mod Joined
-pub mod Kept
+pub mod KeptEntries
 pub mod PlainPieces
 pub mod Lines

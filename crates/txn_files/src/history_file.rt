@@ -165,7 +165,7 @@ impl PieceKind for EntryKind {
         MAX_ENTRIES
     }
 
-    #[tactic(auto, using(crate::proofs::Kept::none_kept))]
+    #[tactic(auto, using(crate::proofs::KeptEntries::none_kept))]
     fn read(
         _alloc: Global,
         reader: &mut Reader<'_>,

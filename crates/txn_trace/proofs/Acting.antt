@@ -27,7 +27,7 @@ use Rattle.txn_trace.proofs.Now.{same_is, running_of, now_at-holder, open_going}
 use Rattle.txn_trace.proofs.Table.{get-now}
 use Rattle.txn_trace.proofs.Fits.{Fits, PhaseFits}
 use Rattle.txn_trace.proofs.Seated.{are_seated, the_some}
-use Rattle.txn_trace.proofs.Judging.{legal_push, shape_push, locks_push}
+use Rattle.txn_trace.proofs.BadEntries.{legal_push, shape_push, locks_push}
 use Rattle.txn_trace.proofs.Others.{replies-push_other, now_at-push}
 
 added : (r : AloneRun) (op : Op) → (with_op r op).last ≡ after r.last op

@@ -24,7 +24,7 @@ use Rattle.txn_trace.proofs.Shaped.{callers_of, ended_in, not_ended_before}
 use Rattle.txn_trace.proofs.Stripes.{keys_in, are_apart}
 use Rattle.txn_trace.proofs.Now.{KeyHolder, now_at-free, now_at-holder, holder_or_none}
 use Rattle.txn_trace.proofs.Table.{get-now}
-use Rattle.txn_trace.proofs.Judging.{shape_push, locks_push}
+use Rattle.txn_trace.proofs.BadEntries.{shape_push, locks_push}
 use Rattle.txn_trace.proofs.Others.{now_at-push_mine, now_at-push_else, serial_is, entries_stay}
 use Rattle.txn_trace.proofs.Seated.{none_before, are_seated}
 

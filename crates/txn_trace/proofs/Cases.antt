@@ -16,7 +16,7 @@ use Rattle.txn_trace.specs.Log.{log_of}
 use Rattle.txn_trace.specs.Legal.{IsLegal, verdict, Legal, Illegal}
 use Rattle.txn_trace.specs.Erase.{erase}
 use Rattle.txn_words.specs.Owed.{owed}
-use Rattle.txn_trace.proofs.Judging.{legal_iff}
+use Rattle.txn_trace.proofs.BadEntries.{legal_iff}
 
 -- An abort takes a put back.
 abbrev abort_takes_back : List Entry

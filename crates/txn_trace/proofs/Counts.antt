@@ -20,7 +20,7 @@ use Rattle.txn_trace.proofs.Inductions.{by_entries}
 use Rattle.txn_trace.proofs.Running.{has_txn}
 use Rattle.txn_trace.proofs.Sums.{sum_same, sum_at, length-filter}
 use Rattle.txn_trace.proofs.Holders.{ended-push}
-use Rattle.txn_trace.proofs.Breaking.{row_active}
+use Rattle.txn_trace.proofs.RuleBreaks.{row_active}
 
 -- The number of committed transactions is the number of `Committed` entries.
 pub length-commits : (h : List Entry) → IsShaped h → length (commits h) ≡ how_many is_commit h

@@ -29,7 +29,7 @@ use Rattle.txn_trace.proofs.Shaped.{callers_of}
 use Rattle.txn_trace.proofs.Stripes.{keys_in, are_apart}
 use Rattle.txn_trace.proofs.Now.{running_of, now_at-holder, serial-commit, replies-push_commit, now_at-push_commit}
 use Rattle.txn_trace.proofs.Table.{get-now}
-use Rattle.txn_trace.proofs.Judging.{legal_push, shape_push, locks_push}
+use Rattle.txn_trace.proofs.BadEntries.{legal_push, shape_push, locks_push}
 use Rattle.txn_trace.proofs.Others.{replies-push_other, serial_is}
 use Rattle.txn_trace.proofs.Seated.{none_before, are_seated}
 use Rattle.txn_trace.proofs.Acting.{did_legal, now-did}
@@ -37,7 +37,7 @@ use Rattle.txn_trace.proofs.Undoing.{IsLogged, undone_legal, get-now_undone, get
 use Rattle.txn_trace.proofs.Bounds.{now-began, now-aborted, unchanged_run, first_map, StartsAt, alone_starts}
 use Rattle.txn_trace.proofs.Logs.{PhaseLogged, seat_logged}
 use Rattle.txn_trace.proofs.Holders.{holder_of-other, holder_of-end, holder_of-asked}
-use Rattle.txn_trace.proofs.Next.{Next, seat-other, log_of-other, txn, in_txn, going, at_txn, run, run_is, run_fits, run_logs, last_is, shaped_by_row, next_seat, next_log, legal_next, serial_next, quiet_next, still_next}
+use Rattle.txn_trace.proofs.EntrySteps.{Next, seat-other, log_of-other, txn, in_txn, going, at_txn, run, run_is, run_fits, run_logs, last_is, shaped_by_row, next_seat, next_log, legal_next, serial_next, quiet_next, still_next}
 use Rattle.txn_trace.proofs.Settled.{settled, settled_out, settled_in, same_as_first, named_passes}
 
 abbrev is_active : Seat → Type 0

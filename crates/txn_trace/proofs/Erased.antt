@@ -16,7 +16,7 @@ use Rattle.txn_trace.specs.Replies.{RepliesHold, RepliesHoldAt}
 use Rattle.txn_words.specs.Shape.{IsShaped}
 use Rattle.txn_trace.specs.Erase.{erase}
 use Rattle.txn_trace.proofs.Lists.{filter_within, fold_filter}
-use Rattle.txn_trace.proofs.Erasing.{kept, kept_of, kept_lines, no_txn, of-kept_in, of-kept_out, txns_of-kept, committed_not_aborted, serial-kept, now-kept}
+use Rattle.txn_trace.proofs.Erasure.{kept, kept_of, kept_lines, no_txn, of-kept_in, of-kept_out, txns_of-kept, committed_not_aborted, serial-kept, now-kept}
 use Rattle.txn_trace.proofs.Shaped.{callers_of, ended_whole, committed_ended, shape_front}
 
 kept_prefix : (keep : Option ℕ → Bool) (before : ℕ → Option ℕ) (h g' : List Entry) → IsPrefix g' (kept keep before h) → (g : List Entry) × IsPrefix g h × (kept keep before g ≡ g')

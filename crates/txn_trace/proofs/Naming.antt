@@ -22,7 +22,7 @@ use Rattle.txn_trace.proofs.Shaped.{shape_front}
 use Rattle.txn_trace.proofs.Now.{same_option}
 use Rattle.txn_trace.proofs.Inductions.{by_entries}
 use Rattle.txn_trace.proofs.Holders.{is_locked-busy}
-use Rattle.txn_trace.proofs.Held.{holder_txn}
+use Rattle.txn_trace.proofs.HeldStripes.{holder_txn}
 
 or_false : (b : Bool) → (b || false) ≡ b
 or_false true = refl

@@ -20,7 +20,7 @@ use Rattle.txn_words.specs.Shape.{Seat, closed_seat, changes, row, seat_after, o
 use Rattle.txn_words.specs.Owed.{owed_for, owed_in, owed_by, owed, reserved}
 use Rattle.txn_trace.proofs.Callers.{shaped_seat}
 use Rattle.txn_trace.proofs.Pushes.{own-push_in, seat_after-push}
-use Rattle.txn_trace.proofs.Next.{seat-other}
+use Rattle.txn_trace.proofs.EntrySteps.{seat-other}
 use Rattle.txn_trace.proofs.Running.{has_seat}
 use Rattle.txn_trace.proofs.Seated.{the_some}
 use Rattle.txn_trace.proofs.Sums.{sum_at}

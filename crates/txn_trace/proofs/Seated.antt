@@ -19,7 +19,7 @@ use Rattle.txn_trace.proofs.Pushes.{txn_in, txn_at, of-push_in, of-push_out, alo
 use Rattle.txn_trace.proofs.Callers.{Callers, callers_none, is_end, ended, in_or_out, shaped_seat, shaped_number, began_or_not, began_number, at_is, not_began_is}
 use Rattle.txn_trace.proofs.Shaped.{callers_push, ended_in, not_ended_before, seat_of_mine, seat_of_other, step, same}
 use Rattle.txn_trace.proofs.Now.{same_option}
-use Rattle.txn_trace.proofs.Judging.{empty_or_owned}
+use Rattle.txn_trace.proofs.BadEntries.{empty_or_owned}
 use Rattle.txn_trace.proofs.Fits.{Fits, FitsAfter, IsReply, fits_act, fits_start}
 
 -- A caller's seat, which agrees with the run of transaction t on each map.

@@ -22,7 +22,7 @@ use Rattle.txn_trace.proofs.Callers.{ended}
 use Rattle.txn_trace.proofs.Stripes.{keys_in}
 use Rattle.txn_trace.proofs.Now.{running_of}
 use Rattle.txn_trace.proofs.Table.{get-now}
-use Rattle.txn_trace.proofs.Judging.{legal_push, shape_push, locks_push}
+use Rattle.txn_trace.proofs.BadEntries.{legal_push, shape_push, locks_push}
 use Rattle.txn_trace.proofs.Others.{replies-push_other, now_at-push}
 use Rattle.txn_words.proofs.Effects.{get-after_other}
 

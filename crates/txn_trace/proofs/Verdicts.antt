@@ -8,7 +8,7 @@ use Rattle.txn_words.specs.declared.holder.Holder.{Holder}
 use Rattle.txn_words.specs.Kinds.{is_commit}
 use Rattle.txn_words.specs.Shape.{how_many}
 use Rattle.txn_trace.specs.Legal.{IsLegal, broken, first_bad, callers_in, running, Legal, Illegal, verdict}
-use Rattle.txn_trace.proofs.Judging.{legal_iff, legal_from, legal_none, none_bad}
+use Rattle.txn_trace.proofs.BadEntries.{legal_iff, legal_from, legal_none, none_bad}
 
 -- Entry `i` is the first bad entry. The entries before it are a legal history. After this history,
 -- entry `i` breaks the rule with the number `rule`.

@@ -7,8 +7,7 @@
 //! function `run` of this crate has no such engine. It is the whole program `unthreaded`, in which
 //! the command `run` fails since no thread can be started.
 //!
-//! This crate needs none of the proofs about threads. Its proof takes two thirds of the time of the
-//! proof of `boostmap`.
+//! This crate needs none of the proofs about threads.
 //!
 //! Proved (`specs/Runs.antt`): after a run, one of two things has happened.
 //!

@@ -10,7 +10,7 @@ use Rattle.txn_words.specs.declared.holder.Holder.TheVariants.{Begun}
 use Rattle.txn_words.specs.Kinds.{caller_of}
 use Rattle.txn_words.specs.Shape.{own}
 use Rattle.txn_trace.specs.Legal.{IsLegal}
-use Rattle.txn_trace.proofs.Judging.{legal_none}
+use Rattle.txn_trace.proofs.BadEntries.{legal_none}
 use Rattle.map_answers.specs.declared.stop.Stop.{Stop}
 use Rattle.striped_map.specs.declared.caller.Caller.{Caller}
 use Rattle.striped_map.specs.declared.host.Host.{Host}

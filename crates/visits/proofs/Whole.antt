@@ -23,7 +23,7 @@ use Rattle.striped_map.specs.declared.caller.Caller.{Caller}
 use Rattle.striped_map.specs.Callers.{number, seen, IsRun, IsSince, IsStep}
 use Rattle.striped_map.specs.Rule.{HasEnded}
 use Rattle.striped_map.proofs.Hands.{own_extends}
-use Rattle.striped_map.proofs.Lands.{own-append}
+use Rattle.striped_map.proofs.AdditionLemmas.{own-append}
 use Rattle.visits.specs.declared.visit.Visit.{Visit}
 use Rattle.visits.specs.Visits.{visiting, working, HasDone, HasMade, HasVisited, IsAnswered}
 

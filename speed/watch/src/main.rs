@@ -1,7 +1,7 @@
 //! The command `watch` of the program `judge` in plain Rust: reads an entry a line with typed serde, judges it, and prints the
 //! verdict. It writes what the program writes, and nothing is proved of it. See docs/SPEED.md.
 //!
-//! Usage: watch --stripes N | watch --serializable
+//! Usage: watch --stripes N | watch --commit-order
 mod entry;
 mod judge;
 mod rules;
@@ -52,7 +52,7 @@ fn verdict() -> Result<(String, bool), Box<dyn Error>> {
     let words: Vec<String> = env::args().skip(1).collect();
     match words.iter().map(String::as_str).collect::<Vec<_>>()[..] {
         ["watch", "--stripes", stripes] => watch(Locks::new(stripes.parse()?)),
-        ["watch", "--serializable"] => watch(Commits::new()),
+        ["watch", "--commit-order"] => watch(Commits::new()),
         _ => Err("no such words".into()),
     }
 }

@@ -6,7 +6,7 @@ use Rattle.piece_files.specs.declared.file_fault.FileFault.TheVariants.{NotJson}
 use Rattle.piece_files.specs.Faults.{or_fault}
 use Rattle.piece_files.specs.Json.{json_of}
 use Rattle.piece_files.proofs.Read.{json_of-is, json_of-long, json_of-unread}
-use Rattle.bad_file.proofs.Whole.{not_json, told, too_long}
+use Rattle.bad_file.proofs.Flaws.{not_json, told, too_long}
 use Rattle.bad_file.proofs.file.flaw_in.Goals as goal
 
 pub returns-then-bytes-gt-MAX_BYTES : goal.returns-then-bytes-gt-MAX_BYTES

@@ -2,7 +2,7 @@ use Rattle.std.proofs.Common.{◌≡◌, map, sym, Some, ◌∙◌}
 use Rattle.std.proofs.lemmas.Result.{IfOk-weaker}
 use Rattle.serde_json.specs.View.{view}
 use Rattle.bad_file.specs.Places.{entries_of}
-use Rattle.bad_file.proofs.Whole.{callers_tell, entries_tell, members_tell, ranges_tell}
+use Rattle.bad_file.proofs.Flaws.{callers_tell, entries_tell, members_tell, ranges_tell}
 use Rattle.bad_file.proofs.file.flaw_in_value.Goals as goal
 
 pub returns-then-is_some : goal.returns-then-is_some

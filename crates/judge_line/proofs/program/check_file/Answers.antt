@@ -10,4 +10,4 @@ returns-in_err-check g c =
     check_failed c.args.by_commits c.args.name.now (g.S.System.bytes c.args.system.now) _ _ _ c.from_residual-in_err-check.result c.in_err-check.field-0.0 c.in_ok-source.ensures.ok c.in_err-check.ensures.fault c.from_residual-in_err-check.ensures.1
 
 pub returns : goal.returns
-returns g c = check_done c.args.by_commits c.args.name.now (g.S.System.bytes c.args.system.now) _ _ _ c.in_ok-check.field-0 c.in_ok-source.ensures.ok c.in_ok-check.ensures.judges
+returns g c = rw c.from.ensures (check_done c.args.by_commits c.args.name.now (g.S.System.bytes c.args.system.now) _ _ _ c.in_ok-check.field-0 c.in_ok-source.ensures.ok c.in_ok-check.ensures.judges)

@@ -10,4 +10,4 @@ returns-in_err-why g c =
     why_failed c.args.by_commits c.args.name.now (g.S.System.bytes c.args.system.now) _ _ _ c.from_residual-in_err-why.result c.in_err-why.field-0.0 c.in_ok-source.ensures.ok c.in_err-why.ensures.fault c.from_residual-in_err-why.ensures.1
 
 pub returns : goal.returns
-returns g c = why_done c.args.by_commits c.args.name.now (g.S.System.bytes c.args.system.now) _ _ _ c.in_ok-why.field-0 c.in_ok-source.ensures.ok c.in_ok-why.ensures.judges
+returns g c = rw c.from.ensures (why_done c.args.by_commits c.args.name.now (g.S.System.bytes c.args.system.now) _ _ _ c.in_ok-why.field-0 c.in_ok-source.ensures.ok c.in_ok-why.ensures.judges)

@@ -17,5 +17,5 @@ returns-in_err-tell_outcomes g c =
 
 pub returns : goal.returns
 returns g c =
-    outcomes_done c.args.scripts.now c.args.history.now (g.S.System.bytes c.args.system.now) _ _ _ _ c.in_ok-tell_outcomes.field-0 c.in_ok-scripts.ensures.ok c.in_ok-history.ensures.ok
-    c.in_ok-tell_outcomes.ensures.tells
+    rw c.from.ensures (outcomes_done c.args.scripts.now c.args.history.now (g.S.System.bytes c.args.system.now) _ _ _ _ c.in_ok-tell_outcomes.field-0 c.in_ok-scripts.ensures.ok c.in_ok-history.ensures.ok
+    c.in_ok-tell_outcomes.ensures.tells)

@@ -10,4 +10,4 @@ returns-in_err-watch g c =
     watch_failed c.args.basis (g.S.System.bytes c.args.system.now) _ _ _ c.from_residual-in_err-watch.result c.in_err-watch.field-0.0 c.in_ok-source.ensures.ok c.in_err-watch.ensures.fault c.from_residual-in_err-watch.ensures.1
 
 pub returns : goal.returns
-returns g c = watch_done c.args.basis (g.S.System.bytes c.args.system.now) _ _ _ c.in_ok-watch.field-0 c.in_ok-source.ensures.ok c.in_ok-watch.ensures.judges
+returns g c = rw c.from.ensures (watch_done c.args.basis (g.S.System.bytes c.args.system.now) _ _ _ c.in_ok-watch.field-0 c.in_ok-source.ensures.ok c.in_ok-watch.ensures.judges)

@@ -15,7 +15,7 @@ returns c =
       ap app_of_fields fields ∙ ap (on_top (λ (s : Shape). record s { has_version = true; subcommand_required = true })) c.new.ensures.app,
       ap (λ f. f.has_globals) fields ∙ c.new.ensures.local,
     ) in
-    let check = added _ _ c.in_ok-subcommand.field-0 _ _ start c.in_ok-command_on_history.ensures c.in_ok-subcommand.ensures in
+    let check = added _ _ c.in_ok-subcommand.field-0 _ _ start c.in_ok-check_command.ensures c.in_ok-subcommand.ensures in
     let outcomes = added _ _ c.in_ok-subcommand-2.field-0 _ _ check c.in_ok-outcomes_command.ensures c.in_ok-subcommand-2.ensures in
     let watch = added _ _ c.in_ok-subcommand-3.field-0 _ _ outcomes c.in_ok-watch_command.ensures c.in_ok-subcommand-3.ensures in
-    IfOk-weaker c.subcommand-4.result _ _ (λ command adds. added _ _ command _ _ watch c.in_ok-command_on_history-2.ensures adds) c.subcommand-4.ensures
+    IfOk-weaker c.subcommand-4.result _ _ (λ command adds. added _ _ command _ _ watch c.in_ok-why_command.ensures adds) c.subcommand-4.ensures

@@ -1,7 +1,7 @@
 use Rattle.std.proofs.Common.{◌≡◌, length, arith}
 use Rattle.std.proofs.lemmas.List.{length-map}
 use Rattle.piece_files.specs.Members.{kind_named}
-use Rattle.piece_files.proofs.Taken.{nothing_found}
+use Rattle.piece_files.proofs.MemberLemmas.{nothing_found}
 use Rattle.piece_files.proofs.members.indexed_members_in.Goals as goal
 
 pub take_value-requires : goal.take_value-requires

@@ -1,7 +1,7 @@
 use Rattle.std.proofs.Common.{◌≡◌, bytes_eq, true, false, sym, ◌∙◌, arith}
 use Rattle.piece_files.specs.Files.{version}
 use Rattle.piece_files.specs.Members.{kind_named}
-use Rattle.piece_files.proofs.Taken.{apart_of, position-map, take_version, take_pieces, take_number, take_other}
+use Rattle.piece_files.proofs.MemberLemmas.{apart_of, position-map, take_version, take_pieces, take_number, take_other}
 use Rattle.piece_files.proofs.members.take_member.Goals as goal
 
 pub returns-in_ok-found-clause-ok : goal.returns-in_ok-found-clause-ok

@@ -4,7 +4,7 @@ use Rattle.serde_json.specs.Data.{no_members, put}
 use Rattle.piece_files.specs.Members.{kind_named}
 use Rattle.piece_files.specs.PlainBytes.{Comma, Finishes, OpensObject}
 use Rattle.piece_files.proofs.PlainLemmas.{no_members_taken, member_to_comma, member_to_end}
-use Rattle.piece_files.proofs.Taken.{nothing_found}
+use Rattle.piece_files.proofs.MemberLemmas.{nothing_found}
 use Rattle.piece_files.proofs.plain_members.plain_members_in.Goals as goal
 
 pub members-init : goal.members-init

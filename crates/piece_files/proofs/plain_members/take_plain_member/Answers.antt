@@ -3,7 +3,7 @@ use Rattle.piece_files.specs.Files.{version}
 use Rattle.piece_files.specs.Members.{kind_named}
 use Rattle.piece_files.specs.Plain.{data_of}
 use Rattle.piece_files.proofs.PlainLemmas.{its_some}
-use Rattle.piece_files.proofs.Taken.{apart_of, position-map, take_version, take_pieces, take_number, take_other}
+use Rattle.piece_files.proofs.MemberLemmas.{apart_of, position-map, take_version, take_pieces, take_number, take_other}
 use Rattle.piece_files.proofs.plain_members.take_plain_member.Goals as goal
 
 pub returns-then-eq-clause-taken : goal.returns-then-eq-clause-taken

@@ -3,7 +3,7 @@ use Rattle.std.specs.Prelude.{slice_get, slice_set}
 use Rattle.std.proofs.lemmas.Option.{slice_get_read}
 use Rattle.txn_words.specs.Kinds.{caller_of}
 use Rattle.script_outcomes.specs.Ways.{AreFresh, AreNone}
-use Rattle.script_outcomes.proofs.Following.{AllFollow}
+use Rattle.script_outcomes.proofs.OutcomeSteps.{AllFollow}
 use Rattle.script_outcomes.proofs.Starting.{all_start, all_end}
 use Rattle.script_outcomes.proofs.Running.{may_count, all_skip, all_step, may_same, goes_same, whole_written}
 use Rattle.script_outcomes.proofs.assigning.outcomes.Goals as goal

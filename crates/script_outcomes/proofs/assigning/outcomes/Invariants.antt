@@ -1,4 +1,4 @@
-use Rattle.script_outcomes.proofs.Following.{AllFollow}
+use Rattle.script_outcomes.proofs.OutcomeSteps.{AllFollow}
 use Rattle.script_outcomes.proofs.assigning.outcomes.Given as goal
 
 abbrev pub invariant-loop-index : goal.invariant-loop-index

@@ -5,7 +5,7 @@ use Rattle.striped_map.specs.Contents.{count_at}
 use Rattle.striped_map.specs.Seats.{part_in}
 use Rattle.striped_map.specs.Sound.{held_parts}
 use Rattle.striped_map.proofs.Hands.{read_at}
-use Rattle.striped_map.proofs.Wholes.{sum_drop}
+use Rattle.striped_map.proofs.PartPairs.{sum_drop}
 use Rattle.striped_map.proofs.contents.count_of.Goals as goal
 
 pub loop-place-preserved : goal.loop-place-preserved

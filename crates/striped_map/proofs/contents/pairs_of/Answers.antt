@@ -4,7 +4,7 @@ use Rattle.striped_map.specs.Contents.{pairs_at, pairs_in}
 use Rattle.striped_map.specs.Seats.{part_in}
 use Rattle.striped_map.specs.Sound.{held_parts, with_part}
 use Rattle.striped_map.proofs.Hands.{read_at}
-use Rattle.striped_map.proofs.Wholes.{pairs_take}
+use Rattle.striped_map.proofs.PartPairs.{pairs_take}
 use Rattle.striped_map.proofs.contents.pairs_of.Goals as goal
 
 pub loop-place-preserved : goal.loop-place-preserved

@@ -7,7 +7,7 @@ use Rattle.striped_map.specs.Seats.{known, part_in}
 use Rattle.striped_map.specs.Sound.{AreHeld, HeldPart, held_parts, stripes_in, with_part}
 use Rattle.striped_map.specs.Steps.{IsAt, lost}
 use Rattle.striped_map.proofs.Hands.{newest_stripe, newest_fits, parts_given, parts_less, with_push}
-use Rattle.striped_map.proofs.Sounds.{is_idle}
+use Rattle.striped_map.proofs.HandSoundness.{is_idle}
 use Rattle.striped_map.proofs.hand.give_all.Goals as goal
 
 pub give-requires-clause-held : goal.give-requires-clause-held

@@ -3,7 +3,7 @@ use mathlib.Core.List.{IsPrefix}
 use Rattle.txn_words.specs.declared.entry.Entry.{Entry}
 use Rattle.txn_words.specs.Shape.{own}
 use Rattle.striped_map.proofs.Hands.{own_same}
-use Rattle.striped_map.proofs.Lands.{own-append}
+use Rattle.striped_map.proofs.AdditionLemmas.{own-append}
 use Rattle.striped_map.proofs.law.caught_up.Goals as goal
 
 none_long : (es : List Entry) → length es ≡ 0 → es ≡ []

@@ -1,10 +1,10 @@
 use Rattle.std.proofs.Common.{◌≡◌, ◌<◌, ◌++◌, inr, List, refl, sym, ap, subst, ◌∙◌, arith, vec_len, vec_capacity, sum_by, option_to_list}
 use Rattle.boost_core.proofs.Vocabulary.{Entry, owed_of, Goes, reach, reserved_by, world_of, state_of, World, reserved, NoMemory}
 use Rattle.boost_core.proofs.Numbers.{noted_then, began_bound, committed_bound, when_ok, when_err}
-use Rattle.boost_core.proofs.Refused.{free_at}
+use Rattle.boost_core.proofs.SideRefusals.{free_at}
 use Rattle.boost_core.proofs.Moves.{none_of}
 use Rattle.boost_core.proofs.Starting.{some_stripe, few_callers}
-use Rattle.boost_core.proofs.Grow.{world_after, seated_as}
+use Rattle.boost_core.proofs.OneCaller.{world_after, seated_as}
 use Rattle.boost_core.proofs.NodeSteps.{lists_by_of, refused_lists, does}
 use Rattle.boost_core.proofs.GapSteps.{cursors_of, does_cursors}
 use Rattle.boost_core.proofs.Called.{called, takes, placed_cursor, changes_there}

@@ -1,7 +1,7 @@
 use Rattle.std.proofs.Common.{◌≡◌, ◌≤◌, List, Some, sym, ap, subst, ◌∙◌, arith, slice_get}
 use Rattle.boost_core.proofs.Vocabulary.{Session, State, seat_in, has_job}
 use Rattle.boost_core.proofs.Calls.{seat_past}
-use Rattle.boost_core.proofs.Refused.{index_at, seat_here}
+use Rattle.boost_core.proofs.SideRefusals.{index_at, seat_here}
 use Rattle.boost_core.proofs.machine.Core.has_job.Goals as goal
 
 pub returns-in-Some : goal.returns-in-Some

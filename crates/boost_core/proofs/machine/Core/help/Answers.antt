@@ -1,6 +1,6 @@
 use Rattle.std.proofs.Common.{◌≡◌, ◌<◌, suc, Some, None, refl, sym, ap, subst, ◌∙◌}
 use Rattle.boost_core.proofs.Vocabulary.{Drive, new_drive, sized_of, step_of, told_of, end_of, State, Drives, Helps, outcome_of}
-use Rattle.boost_core.proofs.Driving.{Fits, left, fits_first, round, help_asks_nothing, within_there, most_there, ended}
+use Rattle.boost_core.proofs.HelpOutcomes.{Fits, left, fits_first, round, help_asks_nothing, within_there, most_there, ended}
 use Rattle.boost_core.proofs.Moves.{move_over}
 use Rattle.txn_drive.specs.declared.call.Call.TheVariants as calls
 use Rattle.boost_core.proofs.machine.Core.help.Goals as goal

@@ -1,6 +1,6 @@
 use Rattle.std.proofs.Common.{◌≡◌, ℕ}
 use Rattle.boost_core.proofs.Vocabulary.{Drive, new_drive, State, Drives}
-use Rattle.boost_core.proofs.Driving.{Fits, left}
+use Rattle.boost_core.proofs.HelpOutcomes.{Fits, left}
 use Rattle.txn_drive.specs.declared.call.Call.TheVariants as calls
 use Rattle.boost_core.proofs.machine.Core.help.Given as goal
 

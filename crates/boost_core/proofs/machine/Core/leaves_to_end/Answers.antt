@@ -1,6 +1,6 @@
 use Rattle.std.proofs.Common.{◌≡◌, ◌≤◌, List, Some, sym, ap, subst, ◌∙◌, arith, slice_get}
 use Rattle.boost_core.proofs.Vocabulary.{Session, Seat, State, seat_in, is_at_end}
-use Rattle.boost_core.proofs.Refused.{index_at, seat_here}
+use Rattle.boost_core.proofs.SideRefusals.{index_at, seat_here}
 use Rattle.boost_core.proofs.Calls.{seat_past}
 use Rattle.boost_core.proofs.machine.Core.leaves_to_end.Goals as goal
 

@@ -1,5 +1,5 @@
 use Rattle.std.proofs.Common.{true, false, is_some, arith, ap, sym, ◌∙◌}
-use Rattle.boost_core.proofs.Refused.{lacking, refusal_at, or_else_some, not_some}
+use Rattle.boost_core.proofs.SideRefusals.{lacking, refusal_at, or_else_some, not_some}
 use Rattle.boost_core.proofs.machine.Core.refusal.Goals as goal
 
 pub returns-then-is_some : goal.returns-then-is_some

@@ -1,7 +1,7 @@
 use Rattle.std.proofs.Common.{Option, refl, sym, subst}
 use Rattle.boost_core.proofs.Vocabulary.{Owner, Move, Tells, world_of, state_of}
 use Rattle.boost_core.proofs.Moves.{move_of}
-use Rattle.boost_core.proofs.Helping.{served}
+use Rattle.boost_core.proofs.TableMoves.{served}
 use Rattle.boost_core.proofs.Serving.{serves}
 use Rattle.boost_core.proofs.NodeSteps.{lists_of, serves as listed}
 use Rattle.boost_core.proofs.GapSteps.{cursors_of, serves_cursors}

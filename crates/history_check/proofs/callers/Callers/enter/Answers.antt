@@ -1,7 +1,7 @@
 use Rattle.std.proofs.Common.{◌≡◌, get_or, ap, subst}
 use Rattle.std.proofs.Math.ListN.{set}
 use Rattle.txn_trace.proofs.Callers.{shaped_number}
-use Rattle.history_check.proofs.Seating.{sits_at, entered-push}
+use Rattle.history_check.proofs.CallerTable.{sits_at, entered-push}
 use Rattle.history_check.proofs.callers.Callers.enter.Goals as goal
 
 pub returns : goal.returns

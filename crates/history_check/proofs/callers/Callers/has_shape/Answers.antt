@@ -1,8 +1,8 @@
 use Rattle.std.proofs.Common.{◌<◌, ◌&&◌, ap, sym, ◌∙◌, arith}
 use Rattle.txn_words.specs.Shape.{seat_after, own, is_numbered}
-use Rattle.txn_trace.proofs.Next.{is_shaped_is}
+use Rattle.txn_trace.proofs.EntrySteps.{is_shaped_is}
 use Rattle.history_check.specs.Callers.{seat_of}
-use Rattle.history_check.proofs.Seating.{sits_at}
+use Rattle.history_check.proofs.CallerTable.{sits_at}
 use Rattle.history_check.proofs.callers.Callers.has_shape.Goals as goal
 
 pub returns-then-allows : goal.returns-then-allows

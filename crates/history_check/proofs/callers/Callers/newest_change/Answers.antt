@@ -1,6 +1,6 @@
 use Rattle.std.proofs.Common.{ℕ, List, Option, ap, sym, ◌∙◌}
 use Rattle.std.specs.Prelude.{slice_get}
-use Rattle.history_check.proofs.Seating.{sits_at}
+use Rattle.history_check.proofs.CallerTable.{sits_at}
 use Rattle.history_check.proofs.callers.Callers.newest_change.Goals as goal
 
 pub returns : goal.returns

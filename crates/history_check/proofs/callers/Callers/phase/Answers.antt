@@ -1,6 +1,6 @@
 use Rattle.std.proofs.Common.{sym}
 use Rattle.history_check.specs.Callers.{seat_of}
-use Rattle.history_check.proofs.Seating.{sits_at}
+use Rattle.history_check.proofs.CallerTable.{sits_at}
 use Rattle.history_check.proofs.callers.Callers.phase.Goals as goal
 
 pub returns : goal.returns

@@ -1,5 +1,5 @@
 use Rattle.std.proofs.Common.{◌<◌, refl, arith}
-use Rattle.history_check.proofs.Seating.{sits_at, entered-same}
+use Rattle.history_check.proofs.CallerTable.{sits_at, entered-same}
 use Rattle.history_check.proofs.callers.Callers.reserve.Goals as goal
 
 pub returns-clause-same : goal.returns-clause-same

@@ -1,9 +1,9 @@
 use Rattle.std.proofs.Common.{refl}
 use Rattle.std.proofs.lemmas.Bool.{false≢true}
 use Rattle.txn_words.specs.declared.entry.Entry.TheVariants.{Asked}
-use Rattle.history_check.proofs.EachKind.{next-asked}
+use Rattle.history_check.proofs.EntryKinds.{next-asked}
 use Rattle.history_check.proofs.Holding.{asked-granted, asked-refused, granted}
-use Rattle.history_check.proofs.Seating.{seat_there}
+use Rattle.history_check.proofs.CallerTable.{seat_there}
 use Rattle.history_check.proofs.Showing.{fine, followed}
 use Rattle.history_check.proofs.live_map.LiveMap.ask.Goals as goal
 

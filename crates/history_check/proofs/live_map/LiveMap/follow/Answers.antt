@@ -6,9 +6,9 @@ use Rattle.txn_trace.specs.Log.{log_of}
 use Rattle.txn_trace.specs.Now.{now}
 use Rattle.txn_words.specs.Shape.{is_shaped}
 use Rattle.history_check.specs.LiveMaps.{FollowsAt}
-use Rattle.history_check.proofs.EachKind.{next-did, next-undone, next-committed, next-aborted}
+use Rattle.history_check.proofs.EntryKinds.{next-did, next-undone, next-committed, next-aborted}
 use Rattle.history_check.proofs.Holding.{released}
-use Rattle.history_check.proofs.Seating.{seat_there, first_then, undone_newest}
+use Rattle.history_check.proofs.CallerTable.{seat_there, first_then, undone_newest}
 use Rattle.history_check.proofs.Showing.{fine, followed, followed_still, of_entry}
 use Rattle.history_check.proofs.live_map.LiveMap.follow.Goals as goal
 

@@ -5,7 +5,7 @@ use Rattle.txn_words.specs.Shape.{is_shaped}
 use Rattle.txn_trace.specs.Legal.{replies_hold}
 use Rattle.txn_words.specs.Map.{get}
 use Rattle.txn_trace.specs.Now.{now}
-use Rattle.history_check.proofs.EachKind.{did_right}
+use Rattle.history_check.proofs.EntryKinds.{did_right}
 use Rattle.history_check.proofs.Judged.{answered_other}
 use Rattle.history_check.proofs.live_map.LiveMap.is_answered.Goals as goal
 

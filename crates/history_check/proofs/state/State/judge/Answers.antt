@@ -1,7 +1,7 @@
 use Rattle.std.proofs.Common.{true, sym, ◌∙◌}
 use Rattle.std.specs.Prelude.{Result, Ok, Err, OnErr}
 use Rattle.txn_trace.proofs.Verdicts.{legal-push}
-use Rattle.history_check.proofs.EachKind.{broken_by}
+use Rattle.history_check.proofs.EntryKinds.{broken_by}
 use Rattle.history_check.proofs.state.State.judge.Goals as goal
 
 on_err : {A E P : Type 0} (r : Result A E) → P → OnErr r P

@@ -1,4 +1,4 @@
-use Rattle.txn_trace.proofs.Judging.{legal_none}
+use Rattle.txn_trace.proofs.BadEntries.{legal_none}
 use Rattle.history_check.proofs.state.State.new.Goals as goal
 
 pub returns : goal.returns

@@ -5,7 +5,7 @@ use Rattle.txn_words.proofs.Holding.{times_removed_le}
 use Rattle.key_words.specs.declared.view.View.{View}
 use Rattle.key_words.specs.Steps.{Sat, lost, emptied}
 use Rattle.key_words.specs.Rule.{Holds}
-use Rattle.key_words.proofs.Moves.{brings, frees}
+use Rattle.key_words.proofs.WordSteps.{brings, frees}
 use Rattle.key_words.proofs.words.KeyWords.give.Goals as goal
 
 pub load-requires : goal.load-requires

@@ -2,7 +2,7 @@ use Rattle.std.proofs.Common.{◌≡◌, ℕ, List, Some, None, length, map, ari
 use Rattle.std.specs.List.{range_with_len}
 use Rattle.txn_words.specs.declared.entry.Entry.{Entry}
 use Rattle.txn_trace.specs.History.{commits}
-use Rattle.serial_check.specs.Serializable.{IsSerializable as IsByCommits}
+use Rattle.serial_check.specs.Serializable.{IsSerializableByCommits}
 use Rattle.order_check.specs.declared.access.Access.{Access}
 use Rattle.order_check.specs.declared.outcome.Outcome.{Outcome}
 use Rattle.order_check.specs.declared.outcome.Outcome.TheVariants.{Order, Unwritten, Cycle, Ambiguous}
@@ -33,7 +33,7 @@ accesses_are h kept shows none = subst (λ o. HaveAccesses h o kept.accesses.ite
 plain_on : (h : List Entry) (kept : Transactions) → Shows h kept → ArePlain (length (commits h)) kept.accesses.items
 plain_on h kept shows = subst (λ n. ArePlain n kept.accesses.items) (count_is h kept (vec_len kept.committed) shows refl) kept.plain
 
-in_turn : (h : List Entry) (kept : Transactions) (xs : List Access) (o p : Outcome) (n : ℕ) → Shows h kept → kept.torn ≡ None → n ≡ vec_len kept.committed → xs ≡ kept.accesses.items → (RunInTurn no_values xs → IsInTurn n o) → o ≡ p → IsByCommits h → IsInTurn n p
+in_turn : (h : List Entry) (kept : Transactions) (xs : List Access) (o p : Outcome) (n : ℕ) → Shows h kept → kept.torn ≡ None → n ≡ vec_len kept.committed → xs ≡ kept.accesses.items → (RunInTurn no_values xs → IsInTurn n o) → o ≡ p → IsSerializableByCommits h → IsInTurn n p
 in_turn h kept xs o p n shows none n_is same judged is by_commits =
     subst (IsInTurn n) is (judged (subst (RunInTurn no_values) (sym same) (by_commits_in_turn h (vec_len kept.committed) kept.accesses.items (count_is h kept (vec_len kept.committed) shows refl) kept.plain (accesses_are h kept shows none) by_commits)))
 

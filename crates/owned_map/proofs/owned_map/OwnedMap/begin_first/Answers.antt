@@ -1,7 +1,7 @@
 use Rattle.std.proofs.Common.{ap}
 use Rattle.txn_words.specs.Sizes.{Sizes}
-use Rattle.owned_map.proofs.Trimming.{begun_first}
-use Rattle.owned_map.proofs.Filling.{caller_there, begun, begin_lacks}
+use Rattle.owned_map.proofs.TrimmedMap.{begun_first}
+use Rattle.owned_map.proofs.FirstTransaction.{caller_there, begun, begin_lacks}
 use Rattle.owned_map.proofs.owned_map.OwnedMap.begin_first.Goals as goal
 
 pub returns-in-Began-clause-ok : goal.returns-in-Began-clause-ok

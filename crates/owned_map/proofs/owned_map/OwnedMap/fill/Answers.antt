@@ -1,7 +1,7 @@
 use Rattle.std.proofs.Common.{◌≡◌, ◌<◌, ◌≤◌, length, ◌∙◌, sym, subst, slice_index_or, false, arith}
 use Rattle.txn_words.specs.Sizes.{Sizes, is_bad_key}
-use Rattle.owned_map.proofs.Trimming.{HasPut, fresh_at, put_at, put_all, filled, same_listed}
-use Rattle.owned_map.proofs.Filling.{taken_at}
+use Rattle.owned_map.proofs.TrimmedMap.{HasPut, fresh_at, put_at, put_all, filled, same_listed}
+use Rattle.owned_map.proofs.FirstTransaction.{taken_at}
 use Rattle.owned_map.proofs.owned_map.OwnedMap.fill.Goals as goal
 
 pub put_new-requires : goal.put_new-requires

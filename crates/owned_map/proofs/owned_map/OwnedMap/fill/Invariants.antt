@@ -1,6 +1,6 @@
 use Rattle.std.proofs.Common.{◌≡◌, ◌≤◌, ◌*◌, take}
 use Rattle.owned_map.specs.Trimmed.{IsFilling}
-use Rattle.owned_map.proofs.Trimming.{HasPut}
+use Rattle.owned_map.proofs.TrimmedMap.{HasPut}
 use Rattle.owned_map.proofs.owned_map.OwnedMap.fill.Given as goal
 
 abbrev pub invariant-loop-pair : goal.invariant-loop-pair

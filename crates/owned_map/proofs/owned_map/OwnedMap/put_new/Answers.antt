@@ -1,7 +1,7 @@
 use Rattle.std.proofs.Common.{ap, ◌∙◌}
 use Rattle.txn_trace.specs.Now.{now}
-use Rattle.owned_map.proofs.Trimming.{put_once}
-use Rattle.owned_map.proofs.Filling.{put_on, put_lacks}
+use Rattle.owned_map.proofs.TrimmedMap.{put_once}
+use Rattle.owned_map.proofs.FirstTransaction.{put_on, put_lacks}
 use Rattle.owned_map.proofs.Growing.{kept_by, stamp_put}
 use Rattle.owned_map.proofs.owned_map.OwnedMap.put_new.Goals as goal
 

@@ -1,4 +1,4 @@
-use Rattle.script_worker.proofs.Keeping.{new_keeps}
+use Rattle.script_worker.proofs.WorkerSteps.{new_keeps}
 use Rattle.script_worker.proofs.worker.Worker.new.Goals as goal
 
 pub returns-clause-keeps : goal.returns-clause-keeps

@@ -3,7 +3,7 @@ use Rattle.std.specs.Prelude.{Result, Ok, Err, OnErr}
 use Rattle.std.proofs.lemmas.Bool.{false≢true}
 use mathlib.Core.Logic.{inl}
 use Rattle.txn_words.specs.declared.entry.Entry.TheVariants.{Committed}
-use Rattle.serial_check.proofs.Turns.{commit_right, commit_wrong, commit_leaves}
+use Rattle.serial_check.proofs.FootprintSteps.{commit_right, commit_wrong, commit_leaves}
 use Rattle.serial_check.proofs.commits.Commits.commit.Goals as goal
 
 on_err : {A E P : Type 0} (r : Result A E) → P → OnErr r P

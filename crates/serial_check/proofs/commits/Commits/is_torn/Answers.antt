@@ -1,4 +1,4 @@
-use Rattle.serial_check.proofs.Turns.{torn_on_all, whole_txn}
+use Rattle.serial_check.proofs.FootprintSteps.{torn_on_all, whole_txn}
 use Rattle.serial_check.proofs.commits.Commits.is_torn.Goals as goal
 
 pub returns-clause-torn : goal.returns-clause-torn

@@ -1,5 +1,5 @@
 use Rattle.std.proofs.Common.{refl, ◌∙◌}
-use Rattle.serial_check.proofs.Turns.{torn_txn, fitting_txn, misread_is}
+use Rattle.serial_check.proofs.FootprintSteps.{torn_txn, fitting_txn, misread_is}
 use Rattle.serial_check.proofs.commits.Commits.misread.Goals as goal
 
 pub returns-then-footprint-clause-none : goal.returns-then-footprint-clause-none

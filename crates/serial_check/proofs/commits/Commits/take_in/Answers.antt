@@ -1,7 +1,7 @@
 use Rattle.std.proofs.Common.{◌≡◌, true, refl, sym, subst, ◌∙◌}
 use Rattle.std.specs.Prelude.{Result, Ok, Err, OnErr, IfOk}
 use Rattle.txn_words.specs.Shape.{is_shaped}
-use Rattle.serial_check.proofs.Turns.{of_entry, values_stay, not_commit}
+use Rattle.serial_check.proofs.FootprintSteps.{of_entry, values_stay, not_commit}
 use Rattle.serial_check.proofs.commits.Commits.take_in.Goals as goal
 
 on_err : {A E P : Type 0} (r : Result A E) → P → OnErr r P

@@ -6,10 +6,10 @@ use Rattle.txn_trace.specs.Log.{log_of}
 use Rattle.txn_words.specs.Shape.{is_shaped}
 use Rattle.txn_words.specs.declared.seat.Phase.TheVariants.{Waiting}
 use Rattle.history_check.specs.Callers.{IsIn}
-use Rattle.history_check.proofs.Seating.{first_then, undone_newest}
+use Rattle.history_check.proofs.CallerTable.{first_then, undone_newest}
 use mathlib.Core.Logic.{inl, inr}
 use Rattle.serial_check.proofs.Growth.{foot_at, kept, kept_same}
-use Rattle.serial_check.proofs.Turns.{did_foot, undone_foot, have_still, have_entry}
+use Rattle.serial_check.proofs.FootprintSteps.{did_foot, undone_foot, have_still, have_entry}
 use Rattle.serial_check.proofs.footprints.Footprints.take_in.Goals as goal
 
 on_err : {A E P : Type 0} (r : Result A E) → P → OnErr r P

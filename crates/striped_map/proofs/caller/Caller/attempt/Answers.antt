@@ -3,7 +3,7 @@ use Rattle.std.proofs.lemmas.Result.{err_from_is_err_and}
 use Rattle.txn_words.specs.declared.entry.Entry.TheVariants.{Committed}
 use Rattle.striped_map.specs.Callers.{number, IsStep, IsTakenBack}
 use Rattle.striped_map.proofs.Tries.{failed_by}
-use Rattle.striped_map.proofs.Within.{over_already}
+use Rattle.striped_map.proofs.CallSpans.{over_already}
 use Rattle.striped_map.proofs.caller.Caller.attempt.Goals as goal
 
 -- The work failed, and its transaction was dropped.

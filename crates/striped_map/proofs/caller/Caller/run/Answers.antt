@@ -1,6 +1,6 @@
 use Rattle.std.proofs.Common.{inr}
 use Rattle.striped_map.proofs.Ran.{runs_all}
-use Rattle.striped_map.proofs.Within.{taken_back_by}
+use Rattle.striped_map.proofs.CallSpans.{taken_back_by}
 use Rattle.striped_map.proofs.caller.Caller.run.Goals as goal
 
 pub returns-in-Ok-clause-ok : goal.returns-in-Ok-clause-ok

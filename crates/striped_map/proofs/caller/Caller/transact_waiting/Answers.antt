@@ -1,6 +1,6 @@
 use Rattle.std.proofs.Common.{◌≡◌, ◌-◌, suc, true, false, Bool, refl, sym, ◌∙◌, arith}
 use Rattle.striped_map.proofs.Tries.{busy_fails, still, since_failed, fails_as, one_more}
-use Rattle.striped_map.proofs.Within.{since_then}
+use Rattle.striped_map.proofs.CallSpans.{since_then}
 use Rattle.striped_map.proofs.caller.Caller.transact_waiting.Goals as goal
 
 is_closed : (b : Bool) → (b ≡ true → ⊥) → b ≡ false

@@ -16,8 +16,8 @@ use Rattle.striped_map.specs.Seats.{known, part_in}
 use Rattle.striped_map.specs.Sound.{HeldPart, Change, IsSound, held_parts, with_part}
 use Rattle.striped_map.specs.Steps.{noting, seat_of}
 use Rattle.striped_map.proofs.Hands.{read_at, with_at, holds_in, reply_right, parts_noted, logged_noted, parts_worked}
-use Rattle.striped_map.proofs.Lands.{may_note}
-use Rattle.striped_map.proofs.Sounds.{added_as, sound_added, sound_parts, sound_same}
+use Rattle.striped_map.proofs.AdditionLemmas.{may_note}
+use Rattle.striped_map.proofs.HandSoundness.{added_as, sound_added, sound_parts, sound_same}
 use Rattle.striped_map.proofs.hand.Hand.apply.Goals as goal
 
 pub apply-requires-clause-held : goal.apply-requires-clause-held

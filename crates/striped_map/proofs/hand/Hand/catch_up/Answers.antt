@@ -2,7 +2,7 @@ use Rattle.std.proofs.Common.{sym, subst}
 use Rattle.striped_map.specs.declared.seat.MapSeat.{MapSeat}
 use Rattle.striped_map.specs.Seats.{known}
 use Rattle.striped_map.specs.Sound.{IsSound, held_parts}
-use Rattle.striped_map.proofs.Sounds.{sound_looked}
+use Rattle.striped_map.proofs.HandSoundness.{sound_looked}
 use Rattle.striped_map.proofs.hand.Hand.catch_up.Goals as goal
 
 pub invariant_of-self : goal.invariant_of-self

@@ -11,7 +11,7 @@ use Rattle.striped_map.proofs.Alone.{commits_alone}
 use Rattle.striped_map.proofs.Ends.{moved_idle}
 use Rattle.striped_map.proofs.Hands.{parts_on}
 use Rattle.striped_map.proofs.Index.{indexed_none}
-use Rattle.striped_map.proofs.Sounds.{sound_ended, sound_lists, at_added, at_idle}
+use Rattle.striped_map.proofs.HandSoundness.{sound_ended, sound_lists, at_added, at_idle}
 use Rattle.striped_map.proofs.hand.Hand.commit.Goals as goal
 
 pub give_all-requires-clause-over : goal.give_all-requires-clause-over

@@ -1,4 +1,4 @@
-use Rattle.striped_map.proofs.Sounds.{sound_looked}
+use Rattle.striped_map.proofs.HandSoundness.{sound_looked}
 use Rattle.striped_map.proofs.hand.Hand.gather.Goals as goal
 
 pub invariant_of-self : goal.invariant_of-self

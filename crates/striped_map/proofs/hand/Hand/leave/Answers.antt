@@ -17,7 +17,7 @@ use Rattle.striped_map.specs.Steps.{IsAt, StateAfter, AddsIn, at_end, rolled_bac
 use Rattle.striped_map.proofs.Ends.{moved_idle}
 use Rattle.striped_map.proofs.Hands.{Job, parts_on}
 use Rattle.striped_map.proofs.Index.{indexed_none}
-use Rattle.striped_map.proofs.Sounds.{added_as, sound_ended, sound_lists, at_added, at_idle, may_end, left_end, take_all, order_length}
+use Rattle.striped_map.proofs.HandSoundness.{added_as, sound_ended, sound_lists, at_added, at_idle, may_end, left_end, take_all, order_length}
 use Rattle.striped_map.proofs.hand.Hand.leave.Goals as goal
 
 pub add-requires-clause-may : goal.add-requires-clause-may

@@ -9,8 +9,8 @@ use Rattle.striped_map.proofs.Ends.{moved_known}
 use Rattle.striped_map.specs.Seats.{known}
 use Rattle.striped_map.specs.Sound.{AreHeld, held_parts}
 use Rattle.striped_map.proofs.Hands.{holds_in}
-use Rattle.striped_map.proofs.Sounds.{sound_same}
-use Rattle.striped_map.proofs.Wholes.{all_pairs, all_counted}
+use Rattle.striped_map.proofs.HandSoundness.{sound_same}
+use Rattle.striped_map.proofs.PartPairs.{all_pairs, all_counted}
 use Rattle.striped_map.proofs.hand.Hand.len.Goals as goal
 
 pub count_of-requires : goal.count_of-requires

@@ -2,7 +2,7 @@ use Rattle.std.proofs.Common.{ap}
 use Rattle.striped_map.specs.Seats.{known}
 use Rattle.striped_map.specs.Sound.{held_parts}
 use Rattle.striped_map.proofs.Index.{indexed_none}
-use Rattle.striped_map.proofs.Sounds.{sound_new, sound_lists}
+use Rattle.striped_map.proofs.HandSoundness.{sound_new, sound_lists}
 use Rattle.striped_map.proofs.hand.Hand.new.Goals as goal
 
 pub invariant_of-result : goal.invariant_of-result

@@ -9,8 +9,8 @@ use Rattle.striped_map.proofs.Ends.{moved_known}
 use Rattle.striped_map.proofs.Hands.{holds_in}
 use Rattle.striped_map.specs.Seats.{known}
 use Rattle.striped_map.specs.Sound.{AreHeld, held_parts}
-use Rattle.striped_map.proofs.Sounds.{sound_same}
-use Rattle.striped_map.proofs.Wholes.{all_pairs}
+use Rattle.striped_map.proofs.HandSoundness.{sound_same}
+use Rattle.striped_map.proofs.PartPairs.{all_pairs}
 use Rattle.striped_map.proofs.hand.Hand.pairs.Goals as goal
 
 pub pairs_of-requires : goal.pairs_of-requires

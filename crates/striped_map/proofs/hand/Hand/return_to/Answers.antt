@@ -14,8 +14,8 @@ use Rattle.striped_map.specs.Steps.{AddsIn, returning, seat_of, rolled_back, und
 use Rattle.striped_map.proofs.Ends.{moved}
 use Rattle.striped_map.specs.declared.record.Told.TheVariants.{TellBack}
 use Rattle.striped_map.proofs.Recording.{back_told, length-back}
-use Rattle.striped_map.proofs.Lands.{may_return}
-use Rattle.striped_map.proofs.Sounds.{added_as, sound_added, sound_parts, level_within, order_length, take_first}
+use Rattle.striped_map.proofs.AdditionLemmas.{may_return}
+use Rattle.striped_map.proofs.HandSoundness.{added_as, sound_added, sound_parts, level_within, order_length, take_first}
 use Rattle.striped_map.proofs.hand.Hand.return_to.Goals as goal
 
 pub mark_of-mark-requires : goal.mark_of-mark-requires

@@ -3,8 +3,8 @@ use Rattle.striped_map.specs.Additions.{due}
 use Rattle.striped_map.specs.Seats.{known}
 use Rattle.striped_map.specs.Sound.{IsSound, held_parts}
 use Rattle.striped_map.specs.Steps.{saving, seat_of}
-use Rattle.striped_map.proofs.Lands.{may_save}
-use Rattle.striped_map.proofs.Sounds.{sound_added, sound_parts, standing_is, order_length}
+use Rattle.striped_map.proofs.AdditionLemmas.{may_save}
+use Rattle.striped_map.proofs.HandSoundness.{sound_added, sound_parts, standing_is, order_length}
 use Rattle.striped_map.proofs.hand.Hand.set_level.Goals as goal
 
 pub add-requires-clause-may : goal.add-requires-clause-may

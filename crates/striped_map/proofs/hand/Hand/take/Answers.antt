@@ -4,7 +4,7 @@ use Rattle.striped_map.specs.Seats.{known, part_in}
 use Rattle.striped_map.specs.Sound.{AreHeld, HeldPart, IsIndexed, IsSound, held_parts}
 use Rattle.striped_map.proofs.Hands.{apart_in, holds_in, none_in, not_held, parts_pushed, push_last}
 use Rattle.striped_map.proofs.Index.{few, indexed_taken}
-use Rattle.striped_map.proofs.Sounds.{sound_parts, sound_taken, sound_seen}
+use Rattle.striped_map.proofs.HandSoundness.{sound_parts, sound_taken, sound_seen}
 use Rattle.striped_map.proofs.hand.Hand.take.Goals as goal
 
 pub take-requires-clause-free : goal.take-requires-clause-free

@@ -1,7 +1,7 @@
 use Rattle.std.proofs.Common.{sym, subst}
 use Rattle.striped_map.specs.Seats.{known}
 use Rattle.striped_map.specs.Sound.{IsSound, held_parts}
-use Rattle.striped_map.proofs.Sounds.{sound_parts, sound_retired}
+use Rattle.striped_map.proofs.HandSoundness.{sound_parts, sound_retired}
 use Rattle.striped_map.proofs.hand.Hand.take_in.Goals as goal
 
 pub invariant_of-self : goal.invariant_of-self

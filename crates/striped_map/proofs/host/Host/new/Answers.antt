@@ -8,7 +8,7 @@ use Rattle.striped_map.specs.Rule.{view}
 use Rattle.striped_map.specs.Seats.{keep_of, known}
 use Rattle.striped_map.specs.Steps.{Sat}
 use Rattle.striped_map.proofs.Hosting.{none_merged}
-use Rattle.striped_map.proofs.Sounds.{at_new}
+use Rattle.striped_map.proofs.HandSoundness.{at_new}
 use Rattle.striped_map.proofs.host.Host.new.Goals as goal
 
 pub invariant_of-result : goal.invariant_of-result

@@ -12,7 +12,7 @@ use Rattle.striped_map.specs.declared.addition.Addition.{Addition}
 use Rattle.striped_map.specs.Rule.{Holds, IsKept}
 use Rattle.striped_map.specs.Additions.{appended, appended_counted, entries_of, left_of}
 use Rattle.striped_map.specs.Steps.{AddsIn}
-use Rattle.striped_map.proofs.Moves.{adds_so, adds_counted, parts_at}
+use Rattle.striped_map.proofs.RuleSteps.{adds_so, adds_counted, parts_at}
 use Rattle.striped_map.proofs.Rooms.{room_after}
 use Rattle.striped_map.proofs.map.StripedMap.add_as.Goals as goal
 

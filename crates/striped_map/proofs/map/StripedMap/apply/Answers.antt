@@ -1,7 +1,7 @@
 use Rattle.std.proofs.Common.{◌∙◌, ap}
 use Rattle.std.proofs.lemmas.Result.{on_err_weaker}
 use Rattle.striped_map.specs.Steps.{Sat}
-use Rattle.striped_map.proofs.Moves.{lends, lent_part, others_worked, parts_read}
+use Rattle.striped_map.proofs.RuleSteps.{lends, lent_part, others_worked, parts_read}
 use Rattle.striped_map.proofs.map.StripedMap.apply.Goals as goal
 
 pub slot_mut-requires : goal.slot_mut-requires

@@ -2,7 +2,7 @@ use Rattle.std.proofs.Common.{refl, ◌<◌, ◌∙◌, sym, ap, subst, arith}
 use Rattle.striped_map.specs.declared.view.View.{View}
 use Rattle.striped_map.specs.Rule.{Holds}
 use Rattle.striped_map.specs.Steps.{IsAt, Sat, marks}
-use Rattle.striped_map.proofs.Moves.{Slotted, brings, slotted_front}
+use Rattle.striped_map.proofs.RuleSteps.{Slotted, brings, slotted_front}
 use Rattle.txn_words.specs.declared.seat.Phase.TheVariants.{Opened}
 use Rattle.striped_map.proofs.map.StripedMap.bring.Goals as goal
 

@@ -7,7 +7,7 @@ use Rattle.striped_map.specs.declared.view.View.{View}
 use Rattle.striped_map.specs.Rule.{Holds, IsKept}
 use Rattle.striped_map.specs.Steps.{Sat, SeesIn, blank, heard, places}
 use Rattle.striped_map.proofs.Meets.{witnesses, hears, sees_met}
-use Rattle.striped_map.proofs.Retires.{gathers}
+use Rattle.striped_map.proofs.MergedSeats.{gathers}
 use Rattle.txn_words.specs.declared.seat.Phase.TheVariants.{Opened}
 use Rattle.striped_map.proofs.Rooms.{at_between}
 use Rattle.striped_map.proofs.map.StripedMap.catch_up.Goals as goal

@@ -1,6 +1,6 @@
 use Rattle.std.proofs.Common.{ap}
 use Rattle.striped_map.specs.Steps.{Sat}
-use Rattle.striped_map.proofs.Moves.{lends, lent_part, parts_read}
+use Rattle.striped_map.proofs.RuleSteps.{lends, lent_part, parts_read}
 use Rattle.striped_map.proofs.map.StripedMap.count.Goals as goal
 
 pub slot_mut-requires : goal.slot_mut-requires

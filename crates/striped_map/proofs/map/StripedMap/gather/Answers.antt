@@ -5,7 +5,7 @@ use Rattle.striped_map.specs.Steps.{SeesIn, places}
 use Rattle.stripe_part.specs.PartAt.{PartAt}
 use Rattle.txn_words.specs.Held.{times}
 use Rattle.striped_map.proofs.Recording.{still_marked}
-use Rattle.striped_map.proofs.Retires.{gathers}
+use Rattle.striped_map.proofs.MergedSeats.{gathers}
 use Rattle.txn_words.specs.declared.seat.Phase.TheVariants.{Opened}
 use Rattle.striped_map.proofs.Rooms.{at_between}
 use Rattle.striped_map.proofs.map.StripedMap.gather.Goals as goal

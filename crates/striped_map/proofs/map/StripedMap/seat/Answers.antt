@@ -1,6 +1,6 @@
 use Rattle.std.proofs.Common.{ap, arith}
 use Rattle.striped_map.specs.Steps.{Sat}
-use Rattle.striped_map.proofs.Moves.{splits}
+use Rattle.striped_map.proofs.RuleSteps.{splits}
 use Rattle.striped_map.proofs.map.StripedMap.seat.Goals as goal
 
 pub split_seat-seat-requires : goal.split_seat-seat-requires

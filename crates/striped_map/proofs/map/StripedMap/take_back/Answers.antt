@@ -1,6 +1,6 @@
 use Rattle.std.proofs.Common.{ap}
 use Rattle.striped_map.specs.Steps.{Sat}
-use Rattle.striped_map.proofs.Moves.{lends, others_worked}
+use Rattle.striped_map.proofs.RuleSteps.{lends, others_worked}
 use Rattle.striped_map.proofs.map.StripedMap.take_back.Goals as goal
 
 pub slot_mut-requires : goal.slot_mut-requires

@@ -1,7 +1,7 @@
 use Rattle.std.proofs.Common.{◌∙◌, ap, arith}
 use Rattle.striped_map.specs.Steps.{Sat}
-use Rattle.striped_map.proofs.Moves.{none_out}
-use Rattle.striped_map.proofs.Retires.{retires, tallies}
+use Rattle.striped_map.proofs.RuleSteps.{none_out}
+use Rattle.striped_map.proofs.MergedSeats.{retires, tallies}
 use Rattle.striped_map.proofs.map.StripedMap.take_in.Goals as goal
 
 pub join_seat-requires : goal.join_seat-requires

@@ -6,7 +6,7 @@ use Rattle.striped_map.specs.declared.caller.Caller.{Caller}
 use Rattle.map_answers.specs.declared.stop.Stop.{Stop}
 use Rattle.striped_map.specs.Callers.{number, changes_above, IsNotBack, IsStep, IsWithin}
 use Rattle.striped_map.specs.Steps.{undoing}
-use Rattle.striped_map.proofs.Within.{keeps_by, within_back, within_kept, within_same}
+use Rattle.striped_map.proofs.CallSpans.{keeps_by, within_back, within_kept, within_same}
 use Rattle.striped_map.proofs.transaction.Transaction.back.Goals as goal
 
 within_backed : {A : Type 0} (a b : Caller) (level : ℕ) (r : Result A Stop) → OnOk r (IsStep a (Leave (number a) (Some level) ∷ undoing (number a) (changes_above level a) (Returned (number a) level)) b) → IfErr r (IsNotBack level a b) → IsWithin a b

@@ -1,5 +1,5 @@
 use Rattle.std.proofs.Common.{refl}
-use Rattle.striped_map.proofs.Within.{keeps_by, within_cut}
+use Rattle.striped_map.proofs.CallSpans.{keeps_by, within_cut}
 use Rattle.striped_map.proofs.transaction.Transaction.len.Goals as goal
 
 pub returns-clause-keeps : goal.returns-clause-keeps

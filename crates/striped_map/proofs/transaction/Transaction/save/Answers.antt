@@ -3,7 +3,7 @@ use Rattle.txn_words.specs.declared.entry.Entry.TheVariants.{Saved}
 use Rattle.striped_map.specs.declared.caller.Caller.{Caller}
 use Rattle.map_answers.specs.declared.stop.Stop.{Stop}
 use Rattle.striped_map.specs.Callers.{number, IsStep, IsWithin}
-use Rattle.striped_map.proofs.Within.{keeps_by, within_saved, within_none}
+use Rattle.striped_map.proofs.CallSpans.{keeps_by, within_saved, within_none}
 use Rattle.striped_map.proofs.transaction.Transaction.save.Goals as goal
 
 within_save : (a b : Caller) (r : Result ℕ Stop) → OnOk r (IsStep a (Saved (number a) ∷ []) b) → OnErr r (IsStep a [] b) → IsWithin a b

@@ -1,0 +1,250 @@
+// The C++ header beside std::map: random transactions of two callers, each of some of its calls, which
+// commit, roll back, throw, or are left; the run is judged. Then an exception after each call of a job,
+// and at each allocation, must leave the map as it was, and no stripe held.
+// Usage: model_cpp [CALLS]
+#include "boostmap.hpp"
+#include "check.h"
+#include <cstdlib>
+#include <map>
+#include <new>
+
+using boostmap_cpp::caller;
+using boostmap_cpp::error;
+using boostmap_cpp::value;
+using contents = std::map<std::uint64_t, std::uint64_t>;
+
+static long before_refusal = -1; // the number of allocations before the one that is refused, or -1
+
+static void *allocated(std::size_t bytes) {
+    if (before_refusal >= 0 && before_refusal-- == 0) throw std::bad_alloc();
+    void *block = std::malloc(bytes ? bytes : 1);
+    if (!block) throw std::bad_alloc();
+    return block;
+}
+void *operator new(std::size_t bytes) { return allocated(bytes); }
+void operator delete(void *block) noexcept { std::free(block); }
+void operator delete(void *block, std::size_t) noexcept { std::free(block); }
+
+static std::uint64_t draw(std::uint64_t below) {
+    static std::uint64_t seed = 1;
+    seed = seed * 6364136223846793005u + 1442695040888963407u;
+    return (seed >> 33) % below;
+}
+
+static value at(const contents &all, std::uint64_t key) {
+    auto found = all.find(key);
+    return found == all.end() ? std::nullopt : value(found->second);
+}
+
+static void set(contents &all, std::uint64_t key, value to) {
+    if (to) all[key] = *to;
+    else all.erase(key);
+}
+
+static bool are_equal(const std::vector<boostmap_pair> &pairs, const contents &all) {
+    return pairs.size() == all.size() && std::equal(pairs.begin(), pairs.end(), all.begin(), [](auto &pair, auto &entry) {
+        return pair.key == entry.first && pair.value == entry.second;
+    });
+}
+
+template <class Calls> static void add(Calls &t, contents &model, std::uint64_t key) {
+    std::uint64_t by = draw(5), is = at(model, key).value_or(0);
+    bool subtracts = draw(2), fits = subtracts ? is >= by : UINT64_MAX - is >= by;
+    auto delta = static_cast<std::int64_t>(by);
+    try {
+        CHECK(t.add(key, subtracts ? -delta : delta) == at(model, key) && fits);
+        model[key] = subtracts ? is - by : is + by;
+    } catch (const error &e) {
+        CHECK(e.status == BOOSTMAP_OVERFLOW && !fits);
+    }
+}
+
+// A call on the whole map, now and then.
+template <class Calls> static void call_on_all(Calls &t, contents &model) {
+    std::uint64_t key = draw(40);
+    switch (draw(100)) {
+    case 0:
+        CHECK(t.clear() == model.size());
+        model.clear();
+        break;
+    case 1:
+        CHECK(t.count() == model.size() && are_equal(t.items(), model));
+        break;
+    case 2:
+        t.put_all({{key, 1}, {key + 1, 2}});
+        set(model, key, 1);
+        set(model, key + 1, 2);
+        break;
+    default: CHECK(t.get(key) == at(model, key));
+    }
+}
+
+// One call, of a transaction or of a caller, on the map and on its model.
+template <class Calls> static void call(Calls &t, contents &model) {
+    std::uint64_t key = draw(40), to = draw(8) ? draw(4) : UINT64_MAX - draw(2);
+    value had = at(model, key), expected = draw(2) ? had : value(draw(4));
+    auto flip = [&](value is) { return is ? value() : value(to); };
+    switch (draw(7)) {
+    case 0:
+        CHECK(t.put(key, to) == had);
+        set(model, key, to);
+        break;
+    case 1:
+        CHECK(t.take(key) == had);
+        set(model, key, std::nullopt);
+        break;
+    case 2:
+        CHECK(t.put_if(key, expected, to) == had);
+        if (had == expected) set(model, key, to);
+        break;
+    case 3: add(t, model, key); break;
+    case 4:
+        CHECK(t.get_or_put(key, to) == had.value_or(to));
+        if (!had) set(model, key, to);
+        break;
+    case 5:
+        CHECK(t.update(key, flip) == had);
+        set(model, key, flip(had));
+        break;
+    default: call_on_all(t, model);
+    }
+}
+
+// A transaction of some calls, and how many these were.
+static std::uint64_t transaction(caller &c, contents &model) {
+    std::uint64_t calls = 1 + draw(10);
+    contents changed = model;
+    switch (draw(8)) {
+    case 0:
+        call(c, model);
+        return 1;
+    case 1:
+        try {
+            c.transact(0, [&](auto &t) {
+                for (std::uint64_t i = 0; i < calls; i++) call(t, changed);
+                throw calls;
+            });
+            CHECK(false);
+        } catch (std::uint64_t) {
+        }
+        return calls;
+    case 2: {
+        auto left = c.begin();
+        for (std::uint64_t i = 0; i < calls; i++) call(left, changed);
+        return calls;
+    }
+    case 3:
+        c.transact(0, [&](auto &t) {
+            for (std::uint64_t i = 0; i < calls; i++) call(t, changed);
+            t.roll_back();
+        });
+        return calls;
+    case 4:
+        c.transact(0, [&](auto &t) {
+            contents before = changed;
+            auto level = t.save();
+            for (std::uint64_t i = 0; i < calls; i++) call(t, changed);
+            t.back(level);
+            call(t, before);
+            changed = before;
+        });
+        break;
+    default:
+        c.transact(0, [&](auto &t) {
+            for (std::uint64_t i = 0; i < calls; i++) call(t, changed);
+        });
+    }
+    model = changed;
+    return calls;
+}
+
+static boostmap_verdict judged(const std::vector<boostmap_entry> &history) {
+    boostmap_cpp::judge judge(1, BOOSTMAP_BY_COMMITS);
+    judge.feed(history);
+    return judge.verdict();
+}
+
+static void beside_a_model(std::uint64_t calls) {
+    boostmap_cpp::opening how;
+    how.keeps_entries = true;
+    auto callers = boostmap_cpp::open_striped(2, 7, how);
+    contents model;
+    for (std::uint64_t made = 0; made < calls;) made += transaction(callers[draw(2)], model);
+    CHECK(are_equal(callers[0].items(), model));
+    auto history = boostmap_cpp::history(callers);
+    auto first = callers[0].counts(), second = callers[1].counts();
+    auto verdict = judged(history);
+    std::printf("model_cpp: %zu entries, %llu commits, %llu aborts\n", history.size(),
+                static_cast<unsigned long long>(verdict.commits),
+                static_cast<unsigned long long>(first.aborts + second.aborts));
+    CHECK(verdict.is_legal && verdict.commits == first.commits + second.commits && first.busy + second.busy == 0);
+    CHECK(first.aborts > 0 && second.aborts > 0);
+    std::size_t forged = history.size() / 2;
+    while (history[forged].kind != BOOSTMAP_DID || !history[forged].has) forged++;
+    history[forged].value++;
+    CHECK(!judged(history).is_legal && judged(history).rule == 1);
+}
+
+// Every call that a transaction has. Throws before the call with the number `stop`, and returns how many
+// there are.
+static int every_call(boostmap_cpp::caller_job &t, int stop) {
+    int made = 0;
+    auto next = [&] {
+        if (made++ == stop) throw stop;
+    };
+    next(), t.put(1, 100);
+    next(), t.get(1);
+    next(), t.take(2);
+    next(), t.put_if(3, 30, 31);
+    next(), t.put_if(9, std::nullopt, 90);
+    next(), t.add(3, -1);
+    next(), t.get_or_put(8, 80);
+    next(), t.update(4, [&](value is) { next(); return is; });
+    next(), t.save();
+    next(), t.put(5, 50);
+    next(), t.back(1);
+    next(), t.put_all({{6, 60}, {7, 70}});
+    next(), t.count();
+    next(), t.items();
+    next(), t.clear();
+    next();
+    return made;
+}
+
+// After something was thrown: the map is as it was, and no stripe is held.
+static void is_unchanged(std::vector<caller> &callers, const contents &before) {
+    CHECK(are_equal(callers[1].transact(0, [](auto &t) { return t.items(); }), before));
+}
+
+static void thrown_everywhere() {
+    auto callers = boostmap_cpp::open_striped(2, 7);
+    const contents before = {{1, 10}, {2, 20}, {3, 30}, {4, 40}};
+    for (auto &entry : before) callers[0].put(entry.first, entry.second);
+    int stop = 0, calls = 17, of_memory = 0;
+    for (; stop < calls; stop++) {
+        try {
+            callers[0].transact([&](auto &t) { return every_call(t, stop); });
+            CHECK(false);
+        } catch (int stopped) {
+            CHECK(stopped == stop);
+        }
+        is_unchanged(callers, before);
+    }
+    for (bool is_done = false; !is_done; of_memory++) {
+        before_refusal = of_memory;
+        try {
+            callers[0].transact([&](auto &t) { every_call(t, calls), t.roll_back(); });
+            is_done = true;
+        } catch (const std::bad_alloc &) {
+        }
+        before_refusal = -1;
+        is_unchanged(callers, before);
+    }
+    CHECK(of_memory > 3 && callers[0].transact([&](auto &t) { return t.roll_back(), every_call(t, calls); }) == calls);
+    std::printf("model_cpp: thrown at %d places, and at %d allocations\n", stop, of_memory - 1);
+}
+
+int main(int argc, char **argv) {
+    beside_a_model(argc > 1 ? std::strtoull(argv[1], nullptr, 10) : 100000);
+    thrown_everywhere();
+}

@@ -1,0 +1,96 @@
+//! The answer to whether the history of a file is serializable, in any order of its transactions.
+//! `order_check` judges the entries, and `order_lines.rt` makes the text of its verdict.
+ghost use Rattle.std.specs.Prelude.{◌≡◌, ◌<◌, List, IfOk, IfErr, string_bytes};
+ghost use Rattle.std.specs.List.{All};
+ghost use Rattle.txn_words.specs.Kinds.{caller_of};
+ghost use Rattle.txn_words.specs.declared.entry.Entry.{Entry};
+ghost use Rattle.judge_engine.specs.Answers.{answer_of};
+ghost use Rattle.judge_engine.specs.Files.{IsUnjudgedFile};
+ghost use Rattle.judge_engine.specs.OrderLines.{order_text};
+ghost use Rattle.judge_engine.specs.Ordered.{IsAnswered, IsOrdered};
+
+use crate::answer::Answer;
+use crate::fault::Fault;
+use crate::order_lines::text_by;
+use order_check::{Checker, Verdict};
+use std::alloc::{AllocError, Global};
+use txn_files::into_packed_history;
+use txn_trace::SmallEntry;
+
+/// What the judge by any order found of a history.
+#[derive(Drop)]
+pub(crate) struct Ordered {
+    pub(crate) verdict: Verdict,
+    /// How many transactions are committed, if the history has the right shape.
+    pub(crate) commits: u64,
+    /// How many callers are in a transaction at the end, if the history has the right shape.
+    pub(crate) running: u64,
+}
+
+/// Judges entries by any order of their transactions.
+fn judge_entries(alloc: Global, entries: &[SmallEntry]) -> Result<Ordered, AllocError>
+    requires { All (λ entry. caller_of entry < 64) entries.now }
+    ensures { IfOk result (IsOrdered entries.now) }
+{
+    let mut checker = Checker::new(alloc)?;
+    for entry in entries {
+        checker.feed(&entry.entry())?;
+    }
+    let verdict = checker.verdict(alloc)?;
+    Ok(Ordered {
+        verdict,
+        commits: checker.callers().committed(),
+        running: checker.callers().running(),
+    })
+}
+
+/// The text of the verdict on a history.
+fn text_of(alloc: Global, shows: bool, ordered: &Ordered) -> Result<String, AllocError>
+    ensures { (h : List Entry) → IsOrdered h ordered.now →
+        IfOk result (λ text. string_bytes text ≡ order_text shows h ordered.now.verdict) }
+{
+    text_by(
+        alloc,
+        shows,
+        ordered.commits,
+        ordered.running,
+        &ordered.verdict,
+    )
+}
+
+/// The answer that a verdict gives. Constant time.
+fn answer_of(verdict: &Verdict) -> Answer
+    ensures { result ≡ answer_of verdict.now }
+{
+    match verdict {
+        Verdict::Serializable(_) => Answer::Yes,
+        Verdict::NotSerializable(_) => Answer::No,
+        Verdict::Undecided(..) => Answer::Undecided,
+    }
+}
+
+/// The answer and the text for the history file with these bytes. The text has the order of a
+/// serializable history if `shows` is true.
+///
+/// # Errors
+///
+/// `Input` if the bytes are no history file; `NoMemory` if memory is refused.
+///
+/// # Cost
+///
+/// The cost of the checker for each entry and of its verdict, and time and memory in proportion to
+/// the number of bytes.
+pub(crate) fn order_file(
+    alloc: Global,
+    shows: bool,
+    bytes: Vec<u8>,
+) -> Result<(Answer, String), Fault>
+    ensures ok { IfOk result (λ found.
+        IsAnswered (order_text shows) bytes.items found.0 (string_bytes found.1)) }
+    ensures err { IfErr result (IsUnjudgedFile bytes.items) }
+{
+    let (_, packed, _) = into_packed_history(alloc, bytes)?;
+    let ordered = judge_entries(alloc, packed.as_slice())?;
+    let text = text_of(alloc, shows, &ordered)?;
+    Ok((answer_of(&ordered.verdict), text))
+}
