@@ -18,7 +18,8 @@ import sys
 
 from plain_judge import alone, committed, counted, is_shaped
 
-MOST_BRANCHES = 10_000
+# How many sets of placed transactions a search meets at most, beside one for each transaction.
+MOST_SETS = 10_000
 
 
 def misshapen(history):
@@ -142,8 +143,10 @@ class Search:
         return not self.accesses.writing[value].isdisjoint(left)
 
     def order(self, most):
-        """A serial order; or None if there is none, or none was found before the bound, and whether
-        the bound was met."""
+        """A serial order, or None; and whether the search was given up at its bound.
+
+        No set of placed transactions is met twice: the map depends only on the set.
+        """
         seen, stack = set(), [((), frozenset(range(len(self.footprints))), {})]
         while stack:
             placed, left, pairs = stack.pop()
@@ -168,7 +171,7 @@ class Search:
         return None, False
 
 
-def judged(history, real_time=False, most=MOST_BRANCHES):
+def judged(history, real_time=False, most=MOST_SETS):
     """The verdict on a history, and the serial order by commit numbers if there is one."""
     at = misshapen(history)
     if at is not None:

@@ -10,7 +10,8 @@ Twelve connections run transactions of two to five gets and puts on 20 keys. The
 docs/JUDGE.md says: each entry when its caller sees it happen. At READ COMMITTED and at REPEATABLE READ
 the history must not be serializable, at SERIALIZABLE it must be. The last line is 'postgres: N passed,
 M failed', and the status is 1 if M is not 0. With --counter no two transactions overlap that both
-commit, so at REPEATABLE READ the history must be serializable too: the counter hides the write skew.
+commit, so at REPEATABLE READ the history must be serializable too: the counter hides the write skew. With
+--takes a history may be undecided, which counts as failed.
 """
 import argparse
 import collections
