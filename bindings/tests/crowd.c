@@ -162,11 +162,11 @@ static boostmap_verdict judged(size_t count) {
     return verdict;
 }
 
-/* Adds 1 to a reply of the run, the last that found a value. */
+/* Adds 1 to a reply of the run, the last to a get that found a value. */
 static void forge(long count) {
     for (; count >= 0; count--)
-        for (size_t i = callers[count].kept; i-- > 0;)
-            if (callers[count].entries[i].kind == BOOSTMAP_DID && callers[count].entries[i].has) {
+        for (size_t i = callers[count].kept; i-- > 1;)
+            if (callers[count].entries[i - 1].operation == BOOSTMAP_GET && callers[count].entries[i].has) {
                 callers[count].entries[i].value++;
                 return;
             }

@@ -141,6 +141,7 @@ static std::uint64_t transaction(caller &c, contents &model) {
         return calls;
     case 4:
         c.transact(0, [&](auto &t) {
+            call(t, changed);
             contents before = changed;
             auto level = t.save();
             for (std::uint64_t i = 0; i < calls; i++) call(t, changed);
@@ -179,8 +180,8 @@ static void beside_a_model(std::uint64_t calls) {
                 static_cast<unsigned long long>(first.aborts + second.aborts));
     CHECK(verdict.is_legal && verdict.commits == first.commits + second.commits && first.busy + second.busy == 0);
     CHECK(first.aborts > 0 && second.aborts > 0);
-    std::size_t forged = history.size() / 2;
-    while (history[forged].kind != BOOSTMAP_DID || !history[forged].has) forged++;
+    std::size_t forged = history.size() / 2; // the reply to a get that finds a value
+    while (history[forged - 1].operation != BOOSTMAP_GET || !history[forged].has) forged++;
     history[forged].value++;
     CHECK(!judged(history).is_legal && judged(history).rule == 1);
 }
