@@ -599,24 +599,6 @@ BOOSTMAP_AT_ONCE(put_all, (boostmap_caller *caller, const boostmap_pair *pairs, 
 BOOSTMAP_AT_ONCE(clear, (boostmap_caller *caller, uint64_t *word), boostmap_striped_clear(caller, word))
 #undef BOOSTMAP_AT_ONCE
 
-/* How a striped map is opened, for boostmap_striped_open_with; members that are 0 are as said at the
- * right. Later versions may add members at the end, whose 0 is what this version does. */
-typedef struct boostmap_options {
-    uint64_t callers; /* 1 */
-    uint64_t stripes; /* 64 */
-    uint64_t keys;    /* no room for keys from the start */
-    uint64_t seed;    /* the same hash in every run: only for keys that no stranger chooses */
-    uint32_t keep;    /* BOOSTMAP_KEEP_NOTHING */
-} boostmap_options;
-
-/* Opens a map as boostmap_striped_open does.    As boostmap_striped_open */
-static inline boostmap_status boostmap_striped_open_with(boostmap_caller *first, const boostmap_options *options,
-                                                         uint64_t *word) {
-    return boostmap_striped_open(first, options->callers ? options->callers : 1,
-                                 options->stripes ? options->stripes : 64, options->keys, options->keep,
-                                 options->seed, word);
-}
-
 #ifdef __cplusplus
 }
 #endif

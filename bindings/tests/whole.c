@@ -85,11 +85,10 @@ static void on_all_pairs(void) {
 }
 
 int main(void) {
-    const boostmap_options options = {.callers = 2, .stripes = 16};
     uint64_t word;
-    CHECK(boostmap_striped_open_with(&one, &options, &word) == BOOSTMAP_DONE && word == 2);
+    CHECK(boostmap_striped_open(&one, 2, 16, 0, BOOSTMAP_KEEP_NOTHING, 0, &word) == BOOSTMAP_DONE && word == 2);
     CHECK(boostmap_striped_join(&one, &other, &word) == BOOSTMAP_DONE);
-    CHECK(boostmap_striped_open_with(&held, &options, &word) == BOOSTMAP_DONE);
+    CHECK(boostmap_striped_open(&held, 2, 16, 0, BOOSTMAP_KEEP_NOTHING, 0, &word) == BOOSTMAP_DONE);
     CHECK(boostmap_striped_join(&held, &apart, &word) == BOOSTMAP_DONE);
     jobs();
     on_all_pairs();
