@@ -125,12 +125,15 @@ class Build:
 
     def find_kept(self):
         """Finds the crates whose builds are kept, as far as what is below them is built."""
-        while new := [crate for crate in self.ready() if crate not in self.keys]:
-            for crate in new:
-                self.keys[crate] = crate.sum(crate.folder, self.toolchain, self.sums)
-                if file := self.kept(crate):
-                    os.utime(file)
-                    self.sums[crate.name] = file.stem.split("-")[2]
+        found = [True]
+        while found:
+            for crate in self.ready():
+                if crate not in self.keys:
+                    self.keys[crate] = crate.sum(crate.folder, self.toolchain, self.sums)
+            found = [(crate, file) for crate in self.ready() if (file := self.kept(crate))]
+            for crate, file in found:
+                os.utime(file)
+                self.sums[crate.name] = file.stem.split("-")[2]
 
     def run(self):
         """Proves and builds what is not kept, and puts the targets into out/."""
@@ -155,8 +158,8 @@ class Build:
         for crate in self.targets:
             if not crate.is_library:
                 self.unpack(crate)
-                shutil.copy2(self.room / crate.made, OUT / "new")
-                os.replace(OUT / "new", OUT / crate.made)
+                shutil.copy2(self.room / crate.made, OUT / f"{crate.made}.{os.getpid()}")
+                os.replace(OUT / f"{crate.made}.{os.getpid()}", OUT / crate.made)
 
     def begin(self, pool):
         """Begins to prove the crates that are ready, as many as may run."""
@@ -247,6 +250,15 @@ def need(script, tool, use):
         sys.exit(125)
 
 
+def await_others(lock, title):
+    """Waits until no other build proves anything in this checkout."""
+    try:
+        fcntl.flock(lock, fcntl.LOCK_EX | fcntl.LOCK_NB)
+    except BlockingIOError:
+        print(f"{title}: another build runs in this checkout; this one waits for it", file=sys.stderr, flush=True)
+        fcntl.flock(lock, fcntl.LOCK_EX)
+
+
 def main(words):
     after_ci, names, known = "--after-ci" in words, [word for word in words if word != "--after-ci"], crates()
     if not names or not all(name in known for name in names):
@@ -258,8 +270,11 @@ def main(words):
     try:
         PROVED.mkdir(parents=True, exist_ok=True)
         with open(OUT / "lock", "w", encoding="utf-8") as lock, tempfile.TemporaryDirectory(prefix="build-") as room:
-            fcntl.flock(lock, fcntl.LOCK_EX)  # one call at a time builds in a checkout
-            Build([known[name] for name in names], after_ci, Path(room)).run()
+            build = Build([known[name] for name in names], after_ci, Path(room))
+            build.find_kept()
+            if build.missing():
+                await_others(lock, names[-1])
+            build.run()
     except NotProved as error:
         name, said = error.args
         print(f"\n{said}\n{names[-1]}: {name} is not proved. Compare the sources with git status, and rt version with the"

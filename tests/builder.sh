@@ -141,10 +141,16 @@ cp "$work/kept/lib.rt" crates/low/src
 expect 'as before the edit' 0 '' ./build.py unthreaded
 holds 'it was built of these sources' test -z "$(grep meanwhile out/unthreaded)"
 expect 'no such target' 2 '' ./build.py nothing
-echo SLEEPS >>crates/low/src/lib.rt
-expect 'a stop' 124 low timeout 3 ./build.py judge
+echo SLEEPS >>crates/mid/src/lib.rt
+timeout 8 ./build.py judge 2>/dev/null &
+sleep 1
+expect 'a second build at the same time' 124 '' timeout 3 ./build.py judge
+holds 'it says that it waits' grep -qx 'judge: another build runs in this checkout; this one waits for it' "$work/err"
+expect 'a target that is built, at the same time' 0 '' timeout 5 ./build.py unthreaded
+wait
+expect 'a stop' 124 mid timeout 3 ./build.py judge
 holds 'no process is left' test -z "$(find /proc/[0-9]*/cwd -lname "$repository/crates/*" 2>/dev/null)"
-sed -i s/SLEEPS/sleeps/ crates/low/src/lib.rt
+sed -i s/SLEEPS/sleeps/ crates/mid/src/lib.rt
 mkdir -p crates/low/out/rlib/low.rlib crates/judge/out && echo 'by ci' | tee crates/low/out/rlib/low.rlib/format >crates/judge/out/judge
 expect 'after ci' 0 mid ./build.py --after-ci judge
 holds 'the program of ci' test "$(<out/judge)" = 'by ci'

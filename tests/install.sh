@@ -87,14 +87,13 @@ CMAKE
   rm -rf "$work/by cmake"
   cmake -S "$work/project" -B "$work/by cmake" -DCMAKE_PREFIX_PATH="$prefix" && cmake --build "$work/by cmake" &&
     prints "$version" "$work/by cmake/static" && prints "$version" "$work/by cmake/shared" &&
-    ldd "$work/by cmake/shared" | grep -q libboostmap.so."${version%%.*}" &&
-    ! ldd "$work/by cmake/static" | grep -q libboostmap
+    [[ $(ldd "$work/by cmake/shared") = *libboostmap.so."${version%%.*}"* && $(ldd "$work/by cmake/static") != *libboostmap* ]]
 }
 
 by_shared() {
   local library=$prefix/lib/libboostmap.so.${version%%.*}
   cc "$work/use.c" -I"$prefix/include" "$library" -o "$work/by_shared" &&
-    LD_LIBRARY_PATH=$prefix/lib prints "$version" "$work/by_shared" && readelf -d "$library" | grep -q "SONAME.*\[${library##*/}\]" &&
+    LD_LIBRARY_PATH=$prefix/lib prints "$version" "$work/by_shared" && [[ $(readelf -d "$library") = *SONAME*"[${library##*/}]"* ]] &&
     ! nm -D --defined-only "$library" | grep -v ' boostmap_'
 }
 
@@ -110,8 +109,8 @@ assert loaded == {sys.argv[2]}, loaded' "$version" "$prefix/lib/libboostmap.so.$
 }
 
 by_cargo() {
-  cargo metadata --offline --no-deps --format-version 1 --manifest-path "$prefix/share/boostmap/rust/Cargo.toml" |
-    grep -qF "\"version\":\"$version\""
+  [[ $(cargo metadata --offline --no-deps --format-version 1 --manifest-path "$prefix/share/boostmap/rust/Cargo.toml") = \
+    *"\"version\":\"$version\""* ]]
 }
 
 # Installs what one word says, and compares the paths of the first two levels.
