@@ -38,6 +38,7 @@ OUT = ROOT / "out"
 PROVED = OUT / "proved"
 RT = os.environ.get("RT") or "rt"
 BUILDS_KEPT = 3
+PARTS = ("src", "specs", "proofs")
 PROCESSORS = len(os.sched_getaffinity(0))
 MEMORY_OF_A_PROVER = 4_000_000  # kB
 
@@ -53,21 +54,20 @@ class Crate:
         self.made = name if is_program else f"lib{name}.a" if is_archive else f"{name}.rlib"
         self.is_library = not is_program and not is_archive
 
-    def files(self):
-        paths = [path for part in ("src", "specs", "proofs") for path in (self.folder / part).rglob("*")]
-        return sorted(path for path in paths if path.suffix in (".rt", ".antt"))
+    def sources(self, folder):
+        """The texts of the crate's files below its folder, or below a copy of it, by path."""
+        paths = [path for part in PARTS for path in (folder / part).rglob("*") if path.suffix in (".rt", ".antt")]
+        return {str(path.relative_to(folder)): path.read_bytes() for path in sorted(paths)}
 
     def seconds(self):
         """About how many seconds of a processor it takes: to read what is below, to prove, and to compile."""
-        lines = sum(path.read_bytes().count(b"\n") for path in self.files() if path.suffix == ".rt")
+        lines = sum(text.count(b"\n") for path, text in self.sources(self.folder).items() if path.endswith(".rt"))
         return 15 + lines // 10 + 45 * (not self.is_library)
 
-    def sum(self, toolchain, sums):
+    def sum(self, folder, toolchain, sums):
         """A sum of all that the crate is built from. `sums` has those of the builds of the libraries."""
-        text = hashlib.sha256(repr((toolchain, self.made, [(it, sums.get(it)) for it in self.libraries])).encode())
-        for path in self.files():
-            text.update(repr((str(path.relative_to(self.folder)), path.read_bytes())).encode())
-        return text.hexdigest()[:24]
+        libraries = [(library, sums.get(library)) for library in self.libraries]
+        return sum_of(repr((toolchain, self.made, libraries, self.sources(folder))).encode())
 
     def commands(self, kit, room, jobs):
         """The commands that prove the crate over the libraries in `room`, and build it there."""
@@ -85,6 +85,10 @@ class Crate:
         link = [kit / "bin/rattle-link", "--target", "x86_64-unknown-linux-gnu", "--toolchain", kit / "toolchain", "-o",
                 room / self.made, room / f"{self.name}.o", kit / "c/libos_c.a", kit / "c/liblibc_c.a"]
         return [[*words, "src/main.rt", "-o", room / f"{self.name}.o"], link]
+
+
+def sum_of(text):
+    return hashlib.sha256(text).hexdigest()[:24]
 
 
 class NotProved(Exception):
@@ -123,7 +127,7 @@ class Build:
         """Finds the crates whose builds are kept, as far as what is below them is built."""
         while new := [crate for crate in self.ready() if crate not in self.keys]:
             for crate in new:
-                self.keys[crate] = crate.sum(self.toolchain, self.sums)
+                self.keys[crate] = crate.sum(crate.folder, self.toolchain, self.sums)
                 if file := self.kept(crate):
                     os.utime(file)
                     self.sums[crate.name] = file.stem.split("-")[2]
@@ -182,7 +186,7 @@ class Build:
         else:
             self.call(crate, jobs)
         # The format of a library has the sums of its files, and of the libraries below.
-        sum = hashlib.sha256((made / "format" if crate.is_library else made).read_bytes()).hexdigest()[:24]
+        sum = sum_of((made / "format" if crate.is_library else made).read_bytes())
         self.packing.append(self.packer.submit(self.pack, crate, sum))
         return sum
 
@@ -196,10 +200,15 @@ class Build:
             old.unlink()
 
     def call(self, crate, jobs):
-        """Calls the prover and the linker."""
-        said = ""
+        """Calls the prover and the linker, on a copy of the sources, so that edits meanwhile change nothing."""
+        said, copy = "", self.room / "sources" / crate.name
+        for part in PARTS:
+            if (crate.folder / part).is_dir():
+                shutil.copytree(crate.folder / part, copy / part)
+        if crate.sum(copy, self.toolchain, self.sums) != self.keys[crate]:
+            raise NotProved(crate.name, "its sources have changed since the build began")
         for command in crate.commands(self.kit, self.room, jobs):
-            process = subprocess.Popen([str(word) for word in command], cwd=crate.folder, start_new_session=True, text=True,
+            process = subprocess.Popen([str(word) for word in command], cwd=copy, start_new_session=True, text=True,
                                        errors="replace", stdin=subprocess.DEVNULL, stdout=subprocess.PIPE, stderr=subprocess.STDOUT)
             self.processes.add(process)
             said += process.communicate()[0]
@@ -214,7 +223,7 @@ class Build:
         # The first estimate is that of a machine whose processors do as much as `seconds` says.
         more = work(left) * (seconds + 60) / (work(self.proved) + 60 * processors) / 60
         line = f"{self.targets[-1].name}: " + "".join(f"{crate.name} proved, " for crate in self.proved[-1:])
-        line += f"{len(left)} of {len(self.order)} crates left, {seconds // 60:.0f}:{seconds % 60:02.0f} minutes"
+        line += f"{len(left)} of {len(self.order)} crates left, {seconds // 60:.0f}:{seconds % 60:02.0f} minutes so far"
         line += f", about {more + 1:.0f} more" if left else ""
         if left or self.proved:
             start, end = ("\r\033[K", "" if left else "\n") if sys.stderr.isatty() else ("", "\n")
@@ -246,16 +255,19 @@ def main(words):
     need("build.py", RT, f"prove and build {' '.join(names)}")
     for number in (signal.SIGTERM, signal.SIGHUP, signal.SIGINT):
         signal.signal(number, lambda number, _: sys.exit(128 + number))
-    PROVED.mkdir(parents=True, exist_ok=True)
-    with open(OUT / "lock", "w", encoding="utf-8") as lock, tempfile.TemporaryDirectory(prefix="build-") as room:
-        fcntl.flock(lock, fcntl.LOCK_EX)  # one call at a time builds in a checkout
-        try:
+    try:
+        PROVED.mkdir(parents=True, exist_ok=True)
+        with open(OUT / "lock", "w", encoding="utf-8") as lock, tempfile.TemporaryDirectory(prefix="build-") as room:
+            fcntl.flock(lock, fcntl.LOCK_EX)  # one call at a time builds in a checkout
             Build([known[name] for name in names], after_ci, Path(room)).run()
-        except NotProved as error:
-            name, said = error.args
-            print(f"\n{said}\n{names[-1]}: {name} is not proved. Compare the sources with git status, and rt version with"
-                  " the logic that README.md names", file=sys.stderr)
-            return 125
+    except NotProved as error:
+        name, said = error.args
+        print(f"\n{said}\n{names[-1]}: {name} is not proved. Compare the sources with git status, and rt version with the"
+              " logic that README.md names", file=sys.stderr)
+        return 125
+    except (OSError, subprocess.CalledProcessError) as error:
+        print(f"{names[-1]}: {error}", file=sys.stderr)
+        return 125
     return 0
 
 

@@ -36,6 +36,7 @@ while [ $# -gt 0 ]; do
 done
 echo "$name" >>"$KIT/log"
 grep -q SLEEPS -r src && sleep 600
+[ -z "${EDITED-}" ] || { echo 'pub meanwhile' >>"$EDITED"; }
 grep -q FAILS -r src && echo 'a goal is open' && exit 1
 case $to in
   *.rlib) mkdir "$to" && to=$to/format ;;
@@ -132,6 +133,13 @@ holds 'it says what to do' grep -q '^boostmap: mid is not proved. Compare the so
 holds 'it says what the prover said' grep -q 'a goal is open' "$work/err"
 sed -i /FAILS/d crates/mid/src/lib.rt
 expect 'mended' 0 boostmap ./build.py boostmap
+echo 'pub again' >>crates/low/src/lib.rt
+cp crates/low/src/lib.rt "$work/kept"
+expect 'an edit meanwhile' 0 'low unthreaded' env "EDITED=$PWD/crates/low/src/lib.rt" ./build.py unthreaded
+expect 'the edit is not built yet' 0 'low unthreaded' ./build.py unthreaded
+cp "$work/kept/lib.rt" crates/low/src
+expect 'as before the edit' 0 '' ./build.py unthreaded
+holds 'it was built of these sources' test -z "$(grep meanwhile out/unthreaded)"
 expect 'no such target' 2 '' ./build.py nothing
 echo SLEEPS >>crates/low/src/lib.rt
 expect 'a stop' 124 low timeout 3 ./build.py judge
@@ -143,6 +151,10 @@ holds 'the program of ci' test "$(<out/judge)" = 'by ci'
 expect 'after ci, again' 0 '' ./build.py judge
 
 rm -rf out crates/*/out
+touch out
+expect 'no folder for builds' 125 '' ./build.py judge
+holds 'it says which' grep -qF "judge: [Errno 20] Not a directory: '$repository/out" "$work/err"
+rm out
 expect 'a call without a command' 2 '' ./boostmap
 holds 'it prints the usage' prints err 'usage: it'
 expect 'a call without a file' 2 '' ./judge check

@@ -376,7 +376,8 @@ class Operations(unittest.TestCase):
             return 1, model
         try:
             with caller.transaction() as t:
-                level = t.save()
+                self.assertTrue(call(t, changed, draw))
+                level, before = t.save(), dict(changed)
                 for i in range(calls):
                     self.assertTrue(call(t, changed, draw))
                 if ending == 1:
@@ -385,7 +386,7 @@ class Operations(unittest.TestCase):
                     t.roll_back()
                 if ending == 3:
                     t.back(level)
-                    changed = dict(model)
+                    changed = before
                     self.assertTrue(call(t, changed, draw))
         except GivesUp:
             pass
@@ -405,8 +406,8 @@ class Operations(unittest.TestCase):
             if keeps_entries:
                 entries = history(callers)
                 self.assertEqual(judged(entries), Verdict(True, commits, 0, None, None))
-                forged = next(i for i in range(len(entries) // 2, len(entries)) if entries[i].kind == "did")
-                entries[forged] = Entry("did", 0, value=12345)
+                gets = (i for i in range(len(entries) // 2, len(entries)) if entries[i].operation == "get")
+                entries[next(gets) + 1] = Entry("did", 0, value=12345)
                 self.assertEqual(judged(entries)[4], "replies")
 
     def test_a_whole_transaction_in_one_call(self):

@@ -1,5 +1,7 @@
 //! The striped map beside a model, panics and errors at every call, and judged runs of threads.
-use boostmap::{history, open_striped, Caller, CallerTransaction, Counts, Entry, Error, Judge, Opening, Rule, Verdict};
+use boostmap::{
+    history, open_striped, Caller, CallerTransaction, Counts, Entry, Error, Judge, Opening, Operation, Rule, Verdict,
+};
 use std::collections::BTreeMap;
 use std::panic::{catch_unwind, resume_unwind, AssertUnwindSafe};
 use std::thread;
@@ -101,7 +103,8 @@ fn transaction(caller: &mut Caller, model: &mut Contents, draw: &mut Draw) -> Re
     let (calls, ending) = (1 + draw.below(9), draw.below(6));
     let mut changed = model.clone();
     let ended = caller.transact(|t| {
-        let level = t.save()?;
+        call(t, &mut changed, draw)?;
+        let (level, before) = (t.save()?, changed.clone());
         for _ in 0..calls {
             call(t, &mut changed, draw)?;
         }
@@ -110,7 +113,7 @@ fn transaction(caller: &mut Caller, model: &mut Contents, draw: &mut Draw) -> Re
             1 => t.roll_back(),
             2 => {
                 t.back(level)?;
-                changed.clone_from(model);
+                changed.clone_from(&before);
                 call(t, &mut changed, draw)?;
             }
             _ => {}
@@ -121,7 +124,7 @@ fn transaction(caller: &mut Caller, model: &mut Contents, draw: &mut Draw) -> Re
     if ending > 1 {
         *model = changed;
     }
-    Ok(calls)
+    Ok(calls + 1)
 }
 
 #[test]
@@ -143,7 +146,8 @@ fn calls_beside_a_model() -> Result<(), Error> {
     let commits = callers[0].counts().commits + callers[1].counts().commits;
     assert_eq!(judged(&entries)?, Verdict::Legal { commits, running: 0 });
     assert!(callers.iter().all(|caller| caller.counts().aborts > 100 && caller.counts().busy == 0));
-    let forged = (entries.len() / 2..).find(|&at| matches!(entries[at], Entry::Did(..))).unwrap();
+    let is_get = |at: &usize| matches!(entries[*at], Entry::Asked(_, Operation::Get { .. }));
+    let forged = (entries.len() / 2..).find(is_get).unwrap() + 1;
     entries[forged] = Entry::Did(0, Some(12345));
     assert!(matches!(judged(&entries)?, Verdict::Illegal { rule: Rule::Replies, .. }));
     Ok(())

@@ -1,4 +1,4 @@
-use boostmap::{open_striped, Caller, Entry, Error, Holder, Judge, NotFed, Opening, Operation, Rule, Verdict};
+use boostmap::{open_striped, Caller, Counts, Entry, Error, Holder, Judge, NotFed, Opening, Operation, Rule, Verdict};
 use std::mem;
 use std::sync::mpsc;
 use std::thread;
@@ -56,6 +56,7 @@ fn busy_ends_the_transaction() -> Result<(), Error> {
     assert_eq!(t.get(5), Err(Error::Busy(1)));
     assert_eq!(t.get(6), Err(Error::NotOpen));
     assert_eq!(t.commit(), Err(Error::NotOpen));
+    assert_eq!(other.counts(), Counts { commits: 0, aborts: 0, busy: 5 });
     mem::forget(holds);
     drop(one);
     assert_eq!(other.transact(|t| Ok::<_, Error>((t.get(5)?, t.get(6)?)))?, (None, None));

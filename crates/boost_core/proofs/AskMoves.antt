@@ -5,10 +5,10 @@ use Rattle.std.proofs.Common.{◌≡◌, ℕ, ◌+◌, ◌-◌, ◌^◌, ◌<◌
 use Rattle.boost_core.proofs.Vocabulary.{option_eq, slice_get_within, Op, Refusal, key_of, takes_node, PendingAt, Step, serial, now, Opened, Waiting, LeavingToEnd, RoomySeat, TableAt, cursor_changes, map_of, nodes_of, false≢true, cases_eq, and_from, or_right, Now, stripe_of, is_locked, holder_of, same_is, is_locked-asked, is_locked-busy, Prepares, IsRefused, entries_of, held_by, Session, Owner, Caller, Helper, holder_by, refusal_of, has_stamp_for, MayLack, times_of, times_in, IsCoveredWith, StaysCovered, World, Tells, LastPlacedFits, state_of, session_changes, gap_if, may_stand, Move, Claim, Lock, Goes, Side, side_of, KeepsPlaced, times_kept, Reach, reach, AsksIn, MeetsIn, NoMemory, StampsUsedUp, Ask, Save, log_of, last_of, or_left, StaleWord, Right, Held, Stale, is_taken, nodes_at, gap_by, helper_gaps_of, KeepsNodes}
 use Rattle.boost_core.proofs.Numbers.{no_more}
 use Rattle.boost_core.proofs.Moves.{changes_same, gaps_same, lacks, none_dropped, state_is}
-use Rattle.boost_core.proofs.Grow.{Stays, world_after, seated_as, set_cases}
+use Rattle.boost_core.proofs.OneCaller.{Stays, world_after, seated_as, set_cases}
 use Rattle.boost_core.proofs.Outcomes.{Comes, Called, CalledBy, entered, idle_cursor, nothing_waits, quiet}
 use Rattle.boost_core.proofs.Spares.{spent, given_for, open_to, nodes_then, buckets_same}
-use Rattle.boost_core.proofs.Refused.{seat_free, three_tests}
+use Rattle.boost_core.proofs.SideRefusals.{seat_free, three_tests}
 use Rattle.boost_core.proofs.Gaps.{same_fits, same_helper}
 use Rattle.txn_words.specs.declared.entry.Entry.TheVariants as entry
 use Rattle.txn_words.specs.declared.answer.Answer.TheVariants as answers

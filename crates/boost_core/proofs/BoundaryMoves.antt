@@ -7,7 +7,7 @@ use Rattle.boost_core.proofs.Numbers.{no_more}
 use Rattle.boost_core.proofs.Moves.{none_dropped}
 use Rattle.boost_core.proofs.Outcomes.{Called, entered, idle_cursor, nothing_waits, quiet, level_in, released_holders, no_newest}
 use Rattle.boost_core.proofs.Spares.{no_jobs}
-use Rattle.boost_core.proofs.Refused.{seat_here, seat_free, begin_closed, three_tests, back_open, commit_open, abort_runs}
+use Rattle.boost_core.proofs.SideRefusals.{seat_here, seat_free, begin_closed, three_tests, back_open, commit_open, abort_runs}
 use Rattle.txn_words.specs.declared.entry.Entry.TheVariants as entry
 use Rattle.txn_words.specs.declared.step.Step.TheVariants as steps
 use Rattle.txn_words.specs.declared.answer.Answer.TheVariants as answers

@@ -4,9 +4,9 @@ use Rattle.std.proofs.Common.{◌≡◌, ℕ, ◌+◌, ◌*◌, ◌-◌, ◌^◌
 use Rattle.boost_core.proofs.Vocabulary.{false≢true, Step, Answer, Drive, IsAncestor, mod_below, is_bad_key, Sizes, are_limits, Way, first_phase, step_in, sized_in, towards, told_help, told_init_seek, told_link, told_store, told_in, new_drive, step_of, sized_of, turn_in, ended_by, end_of, told_of, IsAncestor-root, child_towards-le, State, Helper, is_set, Move, IsWhole, IsOnWay, HelpSuits, is_ask, Drives, Helps, outcome_of, cases_lt, parent_of, highest_cleared, child_within, child_towards, parent_of-zero, parent_of-child_towards, BadKey, NoMemory, StampsUsedUp}
 use Rattle.txn_drive.specs.declared.call.Call.{Call}
 use Rattle.txn_drive.specs.declared.phase.Phase.{Phase}
-use Rattle.boost_core.proofs.InStep.{Sized, sized, is_double, at_towards, at_heading, at_refused, at_double, Reaches, double_reaches, seek_reaches, link_reaches, store_reaches, help_suits_told}
+use Rattle.boost_core.proofs.HelpTargets.{Sized, sized, is_double, at_towards, at_heading, at_refused, at_double, Reaches, double_reaches, seek_reaches, link_reaches, store_reaches, help_suits_told}
 use Rattle.boost_core.proofs.Moves.{just_placed}
-use Rattle.boost_core.proofs.Refused.{le_false}
+use Rattle.boost_core.proofs.SideRefusals.{le_false}
 use Rattle.std.proofs.lemmas.Bool.Decides.{eqb_tells, leb_tells}
 use Rattle.txn_words.specs.declared.step.Step.TheVariants as steps
 use Rattle.txn_words.specs.declared.answer.Answer.TheVariants as answers

@@ -5,7 +5,7 @@ use Rattle.std.proofs.Common.{◌≡◌, ◌≢◌, ℕ, ◌*◌, ◌^◌, ◌%�
 use Rattle.boost_core.proofs.Vocabulary.{false≢true, eqb-false, mod_below, unwrap_or-slice_get, Step, Answer, Refusal, Way, child_towards, step_in, sized_in, towards, heading, refused_help, told_help, told_init_seek, told_link, told_store, told_in, IsAncestor-root, IsAncestor-child_towards, parent_of-child_towards, child_towards-le, parent_of, IsAncestor, State, Help, Nothing, Sought, Dummy, is_set, with_bucket, help_in, bucket_at, refusal_of, MayLack, has_cursor, holds_dummy, first_of, Move, IsWhole, IsOnWay, HelpSuits, HelperOutOfOrder, NoMemory, NoSuchBucket, NoSuchHelper, OutOfStep, ParentMissing, StampsUsedUp}
 use Rattle.txn_drive.specs.declared.phase.Phase.{Phase}
 use Rattle.txn_drive.specs.declared.phase.Phase.TheVariants.{Doubling, Initialising, Linking, Storing, Helped, Refused}
-use Rattle.boost_core.proofs.Refused.{le_false}
+use Rattle.boost_core.proofs.SideRefusals.{le_false}
 use Rattle.boost_core.proofs.Calls.{never_refused, and_none}
 use Rattle.txn_words.specs.declared.step.Step.TheVariants as steps
 use Rattle.txn_words.specs.declared.answer.Answer.TheVariants as answers

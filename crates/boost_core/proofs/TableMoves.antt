@@ -6,7 +6,7 @@ use Rattle.map_ops.specs.Buckets.{parent_of}
 use Rattle.boost_core.specs.Machine.{after}
 use Rattle.boost_core.proofs.Tables.{Becomes, help_is, idle_becomes, sought_becomes, stored_becomes}
 use Rattle.boost_core.proofs.Spares.{still_covered}
-use Rattle.boost_core.proofs.Refused.{le_false}
+use Rattle.boost_core.proofs.SideRefusals.{le_false}
 use Rattle.boost_core.proofs.OneCaller.{table_stayed}
 use Rattle.boost_core.proofs.Moves.{refused, lacks, state_is, with_nodes}
 use Rattle.map_ops.specs.InitSeek.TheVariants as seeks

@@ -17,9 +17,9 @@ use Rattle.txn_words.specs.Shape.{Seat, row, seat_after, own, how_many, is_numbe
 use Rattle.txn_trace.specs.Log.{Log, log_of, log_after, log_step, log_did}
 use Rattle.txn_trace.proofs.Callers.{shaped_seat}
 use Rattle.txn_trace.proofs.Entries.{length-log_of}
-use Rattle.txn_trace.proofs.Judging.{shape_push}
+use Rattle.txn_trace.proofs.BadEntries.{shape_push}
 use Rattle.txn_trace.proofs.Logs.{PhaseLogged, seat_logged}
-use Rattle.txn_trace.proofs.Next.{seat-own, seat-other, log_of-own, log_of-other, is_shaped_is}
+use Rattle.txn_trace.proofs.EntrySteps.{seat-own, seat-other, log_of-own, log_of-other, is_shaped_is}
 use Rattle.txn_trace.proofs.Naming.{has_begun-own, has_begun-other}
 use Rattle.history_check.specs.declared.caller.Caller.{Caller}
 use Rattle.history_check.specs.declared.callers.Callers.{Callers}

@@ -19,9 +19,9 @@ use Rattle.txn_words.specs.declared.seat.Phase.TheVariants.{Closed, Opened, Wait
 use Rattle.txn_words.specs.Shape.{Seat, closed_seat, changes, row, seat_after, own, how_many, is_numbered, is_shaped}
 use Rattle.txn_trace.specs.Log.{log_of}
 use Rattle.txn_trace.specs.Legal.{IsLegal, replies_hold, broken}
-use Rattle.txn_trace.proofs.Breaking.{is_right_in, replies_hold-push}
+use Rattle.txn_trace.proofs.RuleBreaks.{is_right_in, replies_hold-push}
 use Rattle.txn_trace.proofs.Now.{same_option}
-use Rattle.txn_trace.proofs.Next.{Next, is_shaped_is}
+use Rattle.txn_trace.proofs.EntrySteps.{Next, is_shaped_is}
 use Rattle.txn_trace.proofs.Entries as entries
 use Rattle.txn_trace.proofs.Settled.{settled}
 use Rattle.history_check.specs.Callers.{goal_of}

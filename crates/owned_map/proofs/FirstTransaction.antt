@@ -30,7 +30,7 @@ use Rattle.txn_words.specs.Seats.{is_closed, is_leaving, is_waiting}
 use Rattle.txn_words.specs.Shape.{Seat, closed_seat, seat_after, own}
 use Rattle.txn_words.specs.Sizes.{Sizes, are_limits, is_bad_key}
 use Rattle.txn_trace.proofs.Holders.{is_locked-busy}
-use Rattle.txn_trace.proofs.Held.{holder_running}
+use Rattle.txn_trace.proofs.HeldStripes.{holder_running}
 use Rattle.txn_words.proofs.Order.{split_cmp_tied, value_at, value_at-ordered}
 use Rattle.boost_core.specs.State.{State, holder_by, seat_in}
 use Rattle.boost_core.specs.Refusals.{refusal_of, MayLack, has_stamp_for}

@@ -26,9 +26,9 @@ use Rattle.txn_trace.proofs.Callers.{not_equal}
 use Rattle.txn_words.proofs.Effects.{get-after_other, get-after_same}
 use Rattle.txn_trace.proofs.Holders.{is_locked-asked}
 use Rattle.txn_trace.proofs.Naming.{txn_begun}
-use Rattle.txn_trace.proofs.Next.{Next, in_txn}
+use Rattle.txn_trace.proofs.EntrySteps.{Next, in_txn}
 use Rattle.txn_trace.proofs.Entries.{asked, began, did, saved, left_to, left_to_end, busy, committed, returned, undone_to, undone_to_end, aborted, length-log_of}
-use Rattle.txn_trace.proofs.Held.{log_held}
+use Rattle.txn_trace.proofs.HeldStripes.{log_held}
 use Rattle.txn_words.proofs.Maps.{get-set_at}
 use Rattle.striped_map.specs.declared.view.View.{View}
 use Rattle.striped_map.specs.Rule.{Holds, HasSeen}

@@ -29,12 +29,12 @@ use Rattle.txn_trace.proofs.Stripes.{keys_in, are_apart}
 use Rattle.txn_trace.proofs.Local.{WaitsFor}
 use Rattle.txn_trace.proofs.Now.{running_of, now_at-holder, open_going, same_option, replies-push_commit}
 use Rattle.txn_trace.proofs.Table.{get-now}
-use Rattle.txn_trace.proofs.Judging.{replies_hold_from, RepliesHoldAt-from, shape_push}
+use Rattle.txn_trace.proofs.BadEntries.{replies_hold_from, RepliesHoldAt-from, shape_push}
 use Rattle.txn_trace.proofs.Others.{replies-push_other, serial_is}
 use Rattle.txn_trace.proofs.Fits.{Fits, FitsAfter, IsReply, PhaseFits, fits_act}
 use Rattle.txn_trace.proofs.Seated.{the_some}
 use Rattle.txn_trace.proofs.Running.{has_seat}
-use Rattle.txn_trace.proofs.Next.{txn, going, at_txn, run, run_is, run_fits, run_logs, last_is}
+use Rattle.txn_trace.proofs.EntrySteps.{txn, going, at_txn, run, run_is, run_fits, run_logs, last_is}
 use Rattle.txn_trace.proofs.Entries.{began, did}
 
 -- If `row` allows an entry that is not a `Began`, the caller's phase is not `Closed`.
