@@ -43,7 +43,7 @@ verdict() {
 
 as_shown './judge why samples/judge/example.json' "$judge" why samples/judge/example.json
 grep 'G2-item","level":"REPEATABLE' tests/stores/hermitage.jsonl >"${TMPDIR:-/tmp}/judge.$$"
-as_shown './judge check --serializable history.json' "$judge" check --serializable "${TMPDIR:-/tmp}/judge.$$"
+as_shown './judge why --serializable history.json' "$judge" why --serializable "${TMPDIR:-/tmp}/judge.$$"
 for seed in 1 2 3 4 5; do
   verdict --last --seed "$seed" >/dev/null
   result "the store without a bug, seed $seed" $?
