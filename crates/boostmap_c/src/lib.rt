@@ -37,6 +37,7 @@ mod member;
 mod member_handle;
 mod member_pointer;
 mod operations;
+mod options;
 mod read;
 mod referee;
 mod referee_pointer;
