@@ -40,7 +40,8 @@ usage_errors() {
   wants 2 '' "$usage" check --show-order examples/checked.json
   wants 2 '' "$usage" check --commit-order --show-order examples/checked.json
   wants 2 '' "$usage" check --serializable --serializable examples/checked.json
-  wants 2 '' "$usage" why --serializable examples/checked.json
+  wants 2 '' "$usage" why --commit-order --serializable examples/checked.json
+  wants 2 '' "$usage" why --serializable --show-order examples/checked.json
   wants 2 '' "$usage" watch --commit-order --stripes 8
   wants 2 '' "$usage" watch --serializable
   local stripes
@@ -406,6 +407,90 @@ entries of transaction 2 of caller 0:
 ["committed",0,2]'
 }
 
+# The lines on a history that is not serializable, written by hand.
+anomalies() {
+  explains 0 'serializable 0 commits 1 open' '' 'a serializable history' 3 --serializable <<<'["began",0,1]'
+  explains 1 'not serializable: cycle of 2; transaction 1 read none at key 1, which transaction 2 replaced; '\
+'transaction 2 read none at key 2, which transaction 1 replaced
+transaction 1 of caller 0 read none at key 1, which transaction 2 of caller 1 replaced:
+  2 ["asked",0,"get",1]
+  3 ["did",0,null]
+  8 ["asked",1,"put",1,6]
+  9 ["did",1,null]
+transaction 2 of caller 1 read none at key 2, which transaction 1 of caller 0 replaced:
+  4 ["asked",1,"get",2]
+  5 ["did",1,null]
+  6 ["asked",0,"put",2,5]
+  7 ["did",0,null]' '' 'a write skew' 3 --serializable <<<'["began",0,1]
+["began",1,2]
+["asked",0,"get",1]
+["did",0,null]
+["asked",1,"get",2]
+["did",1,null]
+["asked",0,"put",2,5]
+["did",0,null]
+["asked",1,"put",1,6]
+["did",1,null]
+["committed",0,1]
+["committed",1,2]'
+  explains 1 'not serializable: transaction 2 read 5 at key 1, which no committed transaction left
+entries of transaction 2 of caller 1 on key 1:
+  4 ["asked",1,"get",1]
+  5 ["did",1,5]' '' 'a value of an aborted transaction' 3 --serializable <<<'["began",0,1]
+["asked",0,"put",1,5]
+["did",0,null]
+["began",1,2]
+["asked",1,"get",1]
+["did",1,5]
+["asked",1,"get",2]
+["did",1,null]
+["leave",0,null]
+["undone",0]
+["aborted",0]
+["committed",1,1]'
+  explains 1 'not serializable: the replies of transaction 1 contradict one another
+entries of transaction 1 of caller 0:
+  0 ["began",0,1]
+  2 ["asked",0,"get",1]
+  3 ["did",0,null]
+  4 ["asked",0,"get",1]
+  5 ["did",0,5]
+  6 ["committed",0,1]' '' 'two replies that differ, in any order' 3 --serializable <<<'["began",0,1]
+["began",1,2]
+["asked",0,"get",1]
+["did",0,null]
+["asked",0,"get",1]
+["did",0,5]
+["committed",0,1]'
+  explains 1 'not serializable: entry 2 has the wrong shape
+the entry:
+  2 ["committed",0,2]
+entries of transaction 1 of caller 0:
+  0 ["began",0,1]' '' 'a wrong place, in any order' 3 --serializable <<<'["began",0,1]
+["began",1,2]
+["committed",0,2]'
+  explains 5 'undecided key 1 value 5' '' 'a value that was put twice' 3 --serializable <<<'["began",0,1]
+["asked",0,"put",1,5]
+["did",0,null]
+["committed",0,1]
+["began",0,2]
+["asked",0,"put",1,6]
+["did",0,5]
+["asked",0,"put",2,7]
+["did",0,null]
+["committed",0,2]
+["began",0,3]
+["asked",0,"put",1,5]
+["did",0,6]
+["committed",0,3]
+["began",0,4]
+["asked",0,"get",1]
+["did",0,5]
+["asked",0,"get",2]
+["did",0,null]
+["committed",0,4]'
+}
+
 # flawed PLACE FAULT LINE VERSION: runs `judge why` on a history of this version, whose entries are
 # the lines of standard input, and which is refused with this fault. The line gives the value at the
 # place, and the one that is expected there.
@@ -475,6 +560,7 @@ refusals() {
   local version='a whole number from 1 to 3' no='$: no JSON, or nested more than 127 deep, at line'
   flawed_entries
   wants 3 "$no 1 column 1" 'refused 20' why README.md
+  wants 3 "$no 1 column 1" 'refused 20' why --serializable README.md
   refuses 20 "$no 1 column 13" '{"version":1,'
   refuses 20 "$no 1 column 0" ''
   refuses 20 "$no 1 column 12" '{"version":NaN}'
@@ -497,6 +583,7 @@ print(*["[\"saved\",0]"] * 1000001, sep=",", end="]}")' >"$work/refused.json"
   head -c 16777217 /dev/zero >"$work/refused.json"
   wants 3 '$: more than 16777216 bytes' 'refused 22' why "$work/refused.json"
   wants 4 '' 'read failed' why examples/missing.json
+  wants 4 '' 'read failed' why --serializable examples/missing.json
   wants 2 '' "$usage" why
   wants 2 '' "$usage" why --stripes 8 examples/checked.json
   wants 0 'legal 2 commits 0 open' '' why examples/checked.json
@@ -506,6 +593,10 @@ print(*["[\"saved\",0]"] * 1000001, sep=",", end="]}")' >"$work/refused.json"
     echo $? >"$work/status"
     : >"$work/out"
     judge "why $of to a full device" 4 '' 'write failed'
+    "$program" why --serializable "$of" >/dev/full 2>"$work/err"
+    echo $? >"$work/status"
+    : >"$work/out"
+    judge "why --serializable $of to a full device" 4 '' 'write failed'
   done
 }
 
@@ -597,7 +688,8 @@ little_memory() {
     wants 0 'legal 0 commits 1 open' '' $words "$work/long.json"
   done
   wants 0 'serializable 0 commits 1 open' '' check --serializable "$work/long.json"
-  for words in check 'check --commit-order' 'check --serializable' why 'why --commit-order' 'outcomes examples/scripts.json'; do
+  wants 0 'serializable 0 commits 1 open' '' why --serializable "$work/long.json"
+  for words in check 'check --commit-order' 'check --serializable' 'why --serializable' why 'why --commit-order' 'outcomes examples/scripts.json'; do
     for limit in 8000 16000 24000 32000; do
       # The words are several.
       # shellcheck disable=SC2086
@@ -693,6 +785,7 @@ orders
 reasons
 shapes
 commits
+anomalies
 refusals
 script_outcomes
 input

@@ -16,7 +16,7 @@ use Rattle.judge_engine.specs.Files.{FailsToCheck, IsExplainedFile, IsUnjudgedFi
 use Rattle.judge_engine.specs.Ordered.{IsAnswered, WritesAnswer}
 use Rattle.judge_engine.specs.Outputs.{FailsToWrite, IsLineOf, LeavesOutput, LeavesText}
 use Rattle.judge_engine.specs.Watching.{FailsToWatch, IsJudgedLines, IsRefusedLine, IsUnjudged, Watches}
-use Rattle.judge_engine.specs.Whys.{LeavesExplanation, Tells}
+use Rattle.judge_engine.specs.Whys.{IsExplained, LeavesExplanation, Tells}
 use Rattle.judge_engine.proofs.Known.{OfAll-early, OfAll-read, keeps_all}
 
 -- ---- results
@@ -87,17 +87,20 @@ answer_written text_of remaining old new bytes answer text (Err fault) known is 
 
 -- ---- what `why` leaves at a fault
 
-module _ (by_commits : Bool) (remaining old new : Option (List ℕ)) (bytes : List ℕ) (known : IfSome remaining (λ all. bytes ≡ take max_read all)) where
-  pub leaves_told : (fault : Fault) → Tells bytes old new fault → LeavesExplanation by_commits remaining old new fault
-  leaves_told (Input fault) h = (bytes, known, h)
-  leaves_told NoMemory h = h
-  leaves_told Read h = h
-  leaves_told Write h = (bytes, known, (h.0, inr h.1, h.2))
-  leaves_told (Line number fault) h = absurd h
+module _ (remaining old new : Option (List ℕ)) (bytes : List ℕ) (known : IfSome remaining (λ all. bytes ≡ take max_read all)) where
+  pub leaves_told : (IsText : List ℕ → List ℕ → Type 0) (fault : Fault) → Tells bytes old new fault → LeavesExplanation IsText remaining old new fault
+  leaves_told IsText (Input fault) h = (bytes, known, h)
+  leaves_told IsText NoMemory h = h
+  leaves_told IsText Read h = h
+  leaves_told IsText Write h = (bytes, known, (h.0, inr h.1, h.2))
+  leaves_told IsText (Line number fault) h = absurd h
 
-  pub leaves_explained : (outcome : Verdict) (lines : List ℕ) (fault : Fault) → IsExplainedFile by_commits bytes outcome lines → FailsToWrite old new (verdict_line outcome ++ lines) fault → LeavesExplanation by_commits remaining old new fault
-  leaves_explained outcome lines Write is h = (bytes, known, (verdict_line outcome ++ lines, inl (says_legal outcome, (outcome, lines, is, refl, refl)), h))
-  leaves_explained outcome lines NoMemory is h = h
-  leaves_explained outcome lines Read is h = absurd h
-  leaves_explained outcome lines (Input fault) is h = absurd h
-  leaves_explained outcome lines (Line number fault) is h = absurd h
+  pub leaves_text : (IsText : List ℕ → List ℕ → Type 0) (text : List ℕ) (fault : Fault) → IsText bytes text → FailsToWrite old new text fault → LeavesExplanation IsText remaining old new fault
+  leaves_text IsText text Write is h = (bytes, known, (text, inl is, h))
+  leaves_text IsText text NoMemory is h = h
+  leaves_text IsText text Read is h = absurd h
+  leaves_text IsText text (Input fault) is h = absurd h
+  leaves_text IsText text (Line number fault) is h = absurd h
+
+  pub leaves_explained : (by_commits : Bool) (outcome : Verdict) (lines : List ℕ) (fault : Fault) → IsExplainedFile by_commits bytes outcome lines → FailsToWrite old new (verdict_line outcome ++ lines) fault → LeavesExplanation (IsExplained by_commits) remaining old new fault
+  leaves_explained by_commits outcome lines fault is = leaves_text (IsExplained by_commits) (verdict_line outcome ++ lines) fault (says_legal outcome, (outcome, lines, is, refl, refl))

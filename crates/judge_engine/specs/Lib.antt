@@ -10,6 +10,7 @@ pub mod Ordered
 pub mod Outcomes
 pub mod Outputs
 pub mod ReasonLines
+pub mod WhyLines
 pub mod Watching
 pub mod Watchers
 pub mod Whys

@@ -45,7 +45,11 @@ WritesAnswer text_of remaining answer old new =
     OfFile remaining (λ bytes.
     (text : List ℕ) × IsAnswered text_of bytes answer text × Appends old new text)
 
+-- The text, with some answer, for the history file with these bytes.
+abbrev pub IsTextFor : (List Entry → Verdict → List ℕ) → List ℕ → List ℕ → Type 0
+IsTextFor text_of bytes text = (answer : Answer) × IsAnswered text_of bytes answer text
+
 -- The text for the history file that a reader gives.
 abbrev pub IsAnswerText : (List Entry → Verdict → List ℕ) → Option (List ℕ) → List ℕ → Type 0
 IsAnswerText text_of remaining text =
-    OfFile remaining (λ bytes. (answer : Answer) × IsAnswered text_of bytes answer text)
+    OfFile remaining (λ bytes. IsTextFor text_of bytes text)

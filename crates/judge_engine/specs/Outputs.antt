@@ -27,8 +27,8 @@ WritesLine IsRight legal old new =
     × Appends old new (verdict_line outcome)
 
 -- The output after a fault. If a write failed, the output grew by a proper prefix of a text for
--- which `IsRight` holds. After any other fault nothing was written. If a file or a line was refused,
--- `IsWrong` holds for the fault.
+-- which `IsRight` holds. After any other fault nothing was written. If a file or a line was
+-- refused, `IsWrong` holds for the fault.
 abbrev pub LeavesText : (List ℕ → Type 0) → (Fault → Type 0) → Option (List ℕ) → Option (List ℕ)
     → Fault → Type 0
 LeavesText IsRight IsWrong old new Write =

@@ -20,6 +20,10 @@ IsExplanation by_commits bytes legal text =
     (outcome : Verdict) × (lines : List ℕ) × IsExplainedFile by_commits bytes outcome lines
     × (legal ≡ says_legal outcome) × (text ≡ verdict_line outcome ++ lines)
 
+-- The text is an explanation of the history file with these bytes.
+abbrev pub IsExplained : Bool → List ℕ → List ℕ → Type 0
+IsExplained by_commits bytes text = (legal : Bool) × IsExplanation by_commits bytes legal text
+
 -- The text is the line of the flaw of the history file with these bytes.
 abbrev pub IsFlawLine : List ℕ → List ℕ → Type 0
 IsFlawLine bytes text =
@@ -58,22 +62,23 @@ Tells bytes old new Read = Keeps old new
 Tells bytes old new Write = (text : List ℕ) × IsFlawLine bytes text × AppendsPart old new text
 Tells bytes old new (Line number fault) = ⊥
 
--- A proper prefix of the text for the file with these bytes was written.
-abbrev pub LeavesPart : Bool → List ℕ → Option (List ℕ) → Option (List ℕ) → Type 0
-LeavesPart by_commits bytes old new =
-    (text : List ℕ)
-    × (((legal : Bool) × IsExplanation by_commits bytes legal text) ⊎ IsFlawLine bytes text)
-    × AppendsPart old new text
+-- A proper prefix of the text for the file with these bytes was written. `IsText` holds for the
+-- bytes and the text, or the text is the line of the file's flaw.
+abbrev pub LeavesPart : (List ℕ → List ℕ → Type 0) → List ℕ → Option (List ℕ) → Option (List ℕ)
+    → Type 0
+LeavesPart IsText bytes old new =
+    (text : List ℕ) × (IsText bytes text ⊎ IsFlawLine bytes text) × AppendsPart old new text
 
 -- The output after `why` has failed. If the file is refused, the line of its flaw was written. If a
 -- write failed, the output grew by a proper prefix of what would have been written. After any other
--- fault nothing was written.
-abbrev pub LeavesExplanation : Bool → Option (List ℕ) → Option (List ℕ) → Option (List ℕ) → Fault
-    → Type 0
-LeavesExplanation by_commits remaining old new (Input fault) =
+-- fault nothing was written. `IsText` holds for the bytes of the file and the text that was to be
+-- written.
+abbrev pub LeavesExplanation : (List ℕ → List ℕ → Type 0) → Option (List ℕ) → Option (List ℕ)
+    → Option (List ℕ) → Fault → Type 0
+LeavesExplanation IsText remaining old new (Input fault) =
     OfFile remaining (λ bytes. (history_of bytes ≡ Err fault) × WritesFlaw bytes old new)
-LeavesExplanation by_commits remaining old new NoMemory = Keeps old new
-LeavesExplanation by_commits remaining old new Read = Keeps old new
-LeavesExplanation by_commits remaining old new Write =
-    OfFile remaining (λ bytes. LeavesPart by_commits bytes old new)
-LeavesExplanation by_commits remaining old new (Line number fault) = ⊥
+LeavesExplanation IsText remaining old new NoMemory = Keeps old new
+LeavesExplanation IsText remaining old new Read = Keeps old new
+LeavesExplanation IsText remaining old new Write =
+    OfFile remaining (λ bytes. LeavesPart IsText bytes old new)
+LeavesExplanation IsText remaining old new (Line number fault) = ⊥

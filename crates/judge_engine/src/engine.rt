@@ -7,16 +7,17 @@ ghost use Rattle.std.specs.Prelude.{IfOk, IfErr};
 ghost use Rattle.judge_engine.specs.Bases.{HasStripes};
 ghost use Rattle.judge_engine.specs.Files.{Checks, FailsToCheck};
 ghost use Rattle.judge_engine.specs.OrderLines.{order_text};
-ghost use Rattle.judge_engine.specs.Ordered.{IsAnswerText, WritesAnswer};
+ghost use Rattle.judge_engine.specs.Ordered.{IsAnswerText, IsTextFor, WritesAnswer};
 ghost use Rattle.judge_engine.specs.Outputs.{LeavesOutput, LeavesText, WritesLine};
 ghost use Rattle.judge_engine.specs.Watching.{FailsToWatch, Watches};
-ghost use Rattle.judge_engine.specs.Whys.{LeavesExplanation, WritesExplanation};
+ghost use Rattle.judge_engine.specs.WhyLines.{why_text};
+ghost use Rattle.judge_engine.specs.Whys.{IsExplained, LeavesExplanation, WritesExplanation};
 
 use crate::answer::Answer;
 use crate::basis::Basis;
 use crate::fault::Fault;
 use crate::file::{explain_file, judge_file};
-use crate::order::order_file;
+use crate::order::{explain_order, order_file};
 use crate::output::{tell, write_answer, write_explained, write_verdict};
 use crate::reading::{read_file, watch_lines};
 use std::alloc::Global;
@@ -102,10 +103,10 @@ pub fn check<R: Read + Drop, W: Write>(
 }
 
 /// Reads a history file to its end, judges the history by any order of its transactions, and writes
-/// the verdict as one line. The line is `serializable C commits O open`, or `not serializable: ` and
-/// the reason, or `undecided key K value V`. If the history is serializable and `shows_order` is
-/// true, the transactions of a serial order follow, one in a line. Nothing else is written. Returns
-/// the answer that the verdict gives.
+/// the verdict as one line. The line is `serializable C commits O open`, or `not serializable: `
+/// and the reason, or `undecided key K value V`. If the history is serializable and `shows_order`
+/// is true, the transactions of a serial order follow, one in a line. Nothing else is written.
+/// Returns the answer that the verdict gives.
 ///
 /// If the order of the commits is a serial order, the verdict is `serializable`. If it is
 /// `undecided`, the value named comes more than once at its key.
@@ -172,12 +173,48 @@ pub fn why<R: Read + Drop, W: Write>(
 ) -> Result<bool, Fault>
     ensures judges { IfOk result (λ legal. WritesExplanation by_commits (R.remaining input) legal
         (W.contents output.old) (W.contents output.new)) }
-    ensures fault { IfErr result (LeavesExplanation by_commits (R.remaining input)
+    ensures fault { IfErr result (LeavesExplanation (IsExplained by_commits) (R.remaining input)
         (W.contents output.old) (W.contents output.new)) }
 {
     let bytes = read_file(alloc, input)?;
     match explain_file(alloc, by_commits, &bytes) {
         Ok((verdict, lines)) => write_explained(alloc, verdict, lines.as_str(), output),
+        Err(fault) => Err(tell(alloc, fault, &bytes, output)),
+    }
+}
+
+/// Judges a history file and writes the verdict's line, like `check_serializable`. If the history
+/// is not serializable, lines that explain the reason follow. For a cycle, each edge has a line
+/// with the two transactions, their callers and the key, and then the requests of both at this key
+/// with their replies. Returns the answer that the verdict gives.
+///
+/// If the file is refused, the line of its flaw is written instead, as by `why`.
+///
+/// # Errors
+///
+/// - `Read` if a read fails. Nothing was written.
+/// - `Input` if the file is refused. The line of the flaw was written.
+/// - `NoMemory` if memory is refused. Nothing was written.
+/// - `Write` if a write fails or takes nothing. Then the beginning of the lines may be written, but
+///   not all of them.
+///
+/// # Cost
+///
+/// The cost of `check_serializable`, and four passes over the entries for each edge. For a file
+/// that is refused, the cost of `bad_file`.
+pub fn why_serializable<R: Read + Drop, W: Write>(
+    alloc: Global,
+    input: R,
+    output: &mut W,
+) -> Result<Answer, Fault>
+    ensures answers { IfOk result (λ answer. WritesAnswer why_text (R.remaining input) answer
+        (W.contents output.old) (W.contents output.new)) }
+    ensures fault { IfErr result (LeavesExplanation (IsTextFor why_text) (R.remaining input)
+        (W.contents output.old) (W.contents output.new)) }
+{
+    let bytes = read_file(alloc, input)?;
+    match explain_order(alloc, &bytes) {
+        Ok((answer, text)) => write_answer(answer, text.as_str(), output),
         Err(fault) => Err(tell(alloc, fault, &bytes, output)),
     }
 }

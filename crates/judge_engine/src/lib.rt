@@ -24,6 +24,7 @@ mod judge;
 mod lines;
 mod order;
 mod order_lines;
+mod order_why;
 mod outcomes;
 mod output;
 mod reading;
@@ -31,6 +32,6 @@ mod watcher;
 
 pub use answer::Answer;
 pub use basis::Basis;
-pub use engine::{check, check_serializable, watch, why};
+pub use engine::{check, check_serializable, watch, why, why_serializable};
 pub use fault::Fault;
 pub use outcomes::{OutcomesFault, tell_outcomes};

@@ -130,7 +130,12 @@ impl fmt::Display for Allowed {
 }
 
 /// Adds the line of an entry, with the entry's index in front.
-fn put_entry(alloc: Global, text: &mut String, index: u64, entry: Entry) -> Result<(), AllocError>
+pub(crate) fn put_entry(
+    alloc: Global,
+    text: &mut String,
+    index: u64,
+    entry: Entry,
+) -> Result<(), AllocError>
     ensures { OnOk result (string_bytes text.new
         ≡ string_bytes text.old ++ entry_line index entry) }
 {
@@ -139,7 +144,7 @@ fn put_entry(alloc: Global, text: &mut String, index: u64, entry: Entry) -> Resu
 }
 
 /// Adds the line of an entry if it is chosen.
-fn put_if(
+pub(crate) fn put_if(
     alloc: Global,
     text: &mut String,
     is_chosen: bool,
@@ -298,7 +303,7 @@ fn put_entries_of(
 }
 
 /// Adds the entries of a caller's transaction.
-fn put_transaction(
+pub(crate) fn put_transaction(
     alloc: Global,
     text: &mut String,
     entries: &[SmallEntry],

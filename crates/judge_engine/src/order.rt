@@ -1,5 +1,6 @@
 //! The answer to whether the history of a file is serializable, in any order of its transactions.
-//! `order_check` judges the entries, and `order_lines.rt` makes the text of its verdict.
+//! `order_check` judges the entries, `order_lines.rt` makes the text of its verdict, and
+//! `order_why.rt` the lines that explain it.
 ghost use Rattle.std.specs.Prelude.{◌≡◌, ◌<◌, List, IfOk, IfErr, string_bytes};
 ghost use Rattle.std.specs.List.{All};
 ghost use Rattle.txn_words.specs.Kinds.{caller_of};
@@ -8,13 +9,15 @@ ghost use Rattle.judge_engine.specs.Answers.{answer_of};
 ghost use Rattle.judge_engine.specs.Files.{IsUnjudgedFile};
 ghost use Rattle.judge_engine.specs.OrderLines.{order_text};
 ghost use Rattle.judge_engine.specs.Ordered.{IsAnswered, IsOrdered};
+ghost use Rattle.judge_engine.specs.WhyLines.{why_text};
 
 use crate::answer::Answer;
 use crate::fault::Fault;
 use crate::order_lines::text_by;
+use crate::order_why::put_why;
 use order_check::{Checker, Verdict};
 use std::alloc::{AllocError, Global};
-use txn_files::into_packed_history;
+use txn_files::{into_packed_history, read_packed_history};
 use txn_trace::SmallEntry;
 
 /// What the judge by any order found of a history.
@@ -92,5 +95,42 @@ pub(crate) fn order_file(
     let (_, packed, _) = into_packed_history(alloc, bytes)?;
     let ordered = judge_entries(alloc, packed.as_slice())?;
     let text = text_of(alloc, shows, &ordered)?;
+    Ok((answer_of(&ordered.verdict), text))
+}
+
+/// The text that explains the verdict on a history.
+fn why_text_of(
+    alloc: Global,
+    entries: &[SmallEntry],
+    ordered: &Ordered,
+) -> Result<String, AllocError>
+    requires { All (λ entry. caller_of entry < 64) entries.now }
+    ensures { IsOrdered entries.now ordered.now → IfOk result (λ text.
+        string_bytes text ≡ why_text entries.now ordered.now.verdict) }
+{
+    let mut text = text_of(alloc, false, ordered)?;
+    put_why(alloc, &mut text, entries, &ordered.verdict)?;
+    Ok(text)
+}
+
+/// The answer for the history file with these bytes, and the text that explains it.
+///
+/// # Errors
+///
+/// `Input` if the bytes are no history file; `NoMemory` if memory is refused.
+///
+/// # Cost
+///
+/// The cost of `order_file`, and a few passes over the entries for each transaction that the text
+/// names.
+pub(crate) fn explain_order(alloc: Global, bytes: &[u8]) -> Result<(Answer, String), Fault>
+    ensures ok { IfOk result (λ found.
+        IsAnswered why_text bytes.now found.0 (string_bytes found.1)) }
+    ensures err { IfErr result (IsUnjudgedFile bytes.now) }
+{
+    let (_, packed, _) = read_packed_history(alloc, bytes)?;
+    let entries = packed.as_slice();
+    let ordered = judge_entries(alloc, entries)?;
+    let text = why_text_of(alloc, entries, &ordered)?;
     Ok((answer_of(&ordered.verdict), text))
 }

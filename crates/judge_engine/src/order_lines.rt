@@ -12,7 +12,7 @@ use std::fmt;
 
 /// What the first transaction of an edge did.
 #[derive(Clone, Copy)]
-struct FirstDid(Kind);
+pub(crate) struct FirstDid(pub(crate) Kind);
 
 impl fmt::Display for FirstDid {
     ghost use Rattle.std.specs.Prelude.{Some};
@@ -30,7 +30,7 @@ impl fmt::Display for FirstDid {
 
 /// What the second transaction of an edge did.
 #[derive(Clone, Copy)]
-struct SecondDid(Kind);
+pub(crate) struct SecondDid(pub(crate) Kind);
 
 impl fmt::Display for SecondDid {
     ghost use Rattle.std.specs.Prelude.{Some};
@@ -71,7 +71,7 @@ impl fmt::Display for Link {
 }
 
 /// The transaction from which the edge at this index comes, or `end` if there is no such edge.
-fn from_at(edges: &[Edge], index: usize, end: u64) -> u64
+pub(crate) fn from_at(edges: &[Edge], index: usize, end: u64) -> u64
     ensures { result ≡ from_or (slice_get edges.now index) end }
 {
     match edges.get(index) {

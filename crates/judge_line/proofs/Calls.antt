@@ -4,7 +4,7 @@ use Rattle.std.specs.Prelude.{option_and_then, option_map}
 use Rattle.clap.specs.declared.parser.matches.Found.{Found}
 use Rattle.clap.specs.Words.{Text, first_of, first_value, rows_of}
 use Rattle.clap.proofs.WalkLemmas.{first_value-rows}
-use Rattle.judge_line.specs.Words.{Asked, Why, Watch, asked_in, basis_for, check_for, is_set, outcomes_for}
+use Rattle.judge_line.specs.Words.{Asked, Watch, asked_in, basis_for, check_for, is_set, outcomes_for, why_for}
 
 abbrev pub set_in : Text → Found → Bool
 set_in name found = is_set (first_of name (rows_of found))
@@ -20,10 +20,11 @@ check_is name found flag any shows file named set any_set shows_set is =
     ∙ ap (option_and_then (check_for (flag_in found) (set_in (codes "serializable") found) (set_in (codes "show-order") found))) (is ∙ first_value-rows found (codes "FILE"))
     ∙ ap (λ given. asked_in given (rows_of found)) (sym named)
 
-pub why_is : (name : Text) (found : Found) (flag : Bool) (file : Option Text) → name ≡ codes "why" → flag ≡ flag_in found → file ≡ first_value found (codes "FILE")
-    → option_map (Why flag) file ≡ asked_in name (rows_of found)
-why_is name found flag file named set is =
-    ap₂ (λ (b : Bool) (f : Option Text). option_map (Why b) f) set (is ∙ first_value-rows found (codes "FILE"))
+pub why_is : (name : Text) (found : Found) (flag any : Bool) (file : Option Text) → name ≡ codes "why" → flag ≡ flag_in found → any ≡ set_in (codes "serializable") found → file ≡ first_value found (codes "FILE")
+    → option_and_then (why_for flag any) file ≡ asked_in name (rows_of found)
+why_is name found flag any file named set any_set is =
+    ap₂ (λ (b s : Bool). option_and_then (why_for b s) file) set any_set
+    ∙ ap (option_and_then (why_for (flag_in found) (set_in (codes "serializable") found))) (is ∙ first_value-rows found (codes "FILE"))
     ∙ ap (λ given. asked_in given (rows_of found)) (sym named)
 
 pub watch_is : (name : Text) (found : Found) (flag : Bool) (word : Option Text) → name ≡ codes "watch" → flag ≡ flag_in found → word ≡ first_value found (codes "stripes")

@@ -13,11 +13,12 @@ use Rattle.judge_engine.specs.declared.outcomes.OutcomesFault.TheVariants as bot
 use Rattle.judge_engine.specs.Answers.{answer_if}
 use Rattle.judge_engine.specs.Files.{Checks, FailsToCheck}
 use Rattle.judge_engine.specs.OrderLines.{order_text}
-use Rattle.judge_engine.specs.Ordered.{IsAnswerText, WritesAnswer}
+use Rattle.judge_engine.specs.Ordered.{IsAnswerText, IsTextFor, WritesAnswer}
 use Rattle.judge_engine.specs.Outcomes.{LeavesOutcomes, WritesOutcomes}
 use Rattle.judge_engine.specs.Outputs.{IsLineOf, LeavesOutput, LeavesText, WritesLine}
 use Rattle.judge_engine.specs.Watching.{FailsToWatch, Watches}
-use Rattle.judge_engine.specs.Whys.{LeavesExplanation, WritesExplanation}
+use Rattle.judge_engine.specs.WhyLines.{why_text}
+use Rattle.judge_engine.specs.Whys.{IsExplained, LeavesExplanation, WritesExplanation}
 use Rattle.judge_line.specs.declared.failure.Failure.{Failure}
 use Rattle.judge_line.specs.declared.failure.Failure.TheVariants.{Fault, Outcomes}
 use Rattle.judge_line.specs.Words as asked
@@ -87,15 +88,31 @@ pub why_done : (by_commits : Bool) (name : Text) (files : Files) (bytes old new 
 why_done by_commits name files bytes old new well same wrote =
     by_well (λ w. WritesExplanation by_commits (files name) w old new) well (writes_explanation by_commits (files name) bytes old new well same wrote)
 
-pub why_failed : (by_commits : Bool) (name : Text) (files : Files) (bytes old new : Option (List ℕ)) (outcome : RunResult) (fault : EngineFault) → Holds (files name) bytes → LeavesExplanation by_commits bytes old new fault
+pub why_failed : (by_commits : Bool) (name : Text) (files : Files) (bytes old new : Option (List ℕ)) (outcome : RunResult) (fault : EngineFault) → Holds (files name) bytes → LeavesExplanation (IsExplained by_commits) bytes old new fault
     → IsErrAnd outcome (λ e. e ≡ Fault fault) → RunsCall (asked.Why by_commits name) files old new outcome
 why_failed by_commits name files bytes old new outcome fault same fails =
-    failed (ByWell (λ well. WritesExplanation by_commits (files name) well old new)) (LeavesExplanation by_commits (files name) old new) outcome fault (leaves_explanation by_commits (files name) bytes old new fault same fails)
+    failed (ByWell (λ well. WritesExplanation by_commits (files name) well old new)) (LeavesExplanation (IsExplained by_commits) (files name) old new) outcome fault (leaves_explanation (IsExplained by_commits) (files name) bytes old new fault same fails)
 
 pub why_not_opened : (by_commits : Bool) (name : Text) (files : Files) (old : Option (List ℕ)) (outcome : RunResult) (failure : Failure) → (failure ≡ Fault faults.NoMemory) ⊎ (failure ≡ Fault faults.Read)
     → IsErrAnd outcome (λ e. e ≡ failure) → RunsCall (asked.Why by_commits name) files old old outcome
 why_not_opened by_commits name files old outcome failure =
-    not_opened (ByWell (λ well. WritesExplanation by_commits (files name) well old old)) (LeavesExplanation by_commits (files name) old old) outcome failure (keeps_same old) (keeps_same old)
+    not_opened (ByWell (λ well. WritesExplanation by_commits (files name) well old old)) (LeavesExplanation (IsExplained by_commits) (files name) old old) outcome failure (keeps_same old) (keeps_same old)
+
+-- If `why_serializable` has written its text for the source with this name, `RunsCall` holds for
+-- this run.
+pub reason_done : (name : Text) (files : Files) (bytes old new : Option (List ℕ)) (answer : Answer) → Holds (files name) bytes → WritesAnswer why_text bytes answer old new
+    → RunsCall (asked.WhySerializable name) files old new (Ok answer)
+reason_done name files bytes old new answer same = of_file (files name) bytes _ same
+
+pub reason_failed : (name : Text) (files : Files) (bytes old new : Option (List ℕ)) (outcome : RunResult) (fault : EngineFault) → Holds (files name) bytes → LeavesExplanation (IsTextFor why_text) bytes old new fault
+    → IsErrAnd outcome (λ e. e ≡ Fault fault) → RunsCall (asked.WhySerializable name) files old new outcome
+reason_failed name files bytes old new outcome fault same fails =
+    failed (λ answer. WritesAnswer why_text (files name) answer old new) (LeavesExplanation (IsTextFor why_text) (files name) old new) outcome fault (leaves_explanation (IsTextFor why_text) (files name) bytes old new fault same fails)
+
+pub reason_not_opened : (name : Text) (files : Files) (old : Option (List ℕ)) (outcome : RunResult) (failure : Failure) → (failure ≡ Fault faults.NoMemory) ⊎ (failure ≡ Fault faults.Read)
+    → IsErrAnd outcome (λ e. e ≡ failure) → RunsCall (asked.WhySerializable name) files old old outcome
+reason_not_opened name files old outcome failure =
+    not_opened (λ answer. WritesAnswer why_text (files name) answer old old) (LeavesExplanation (IsTextFor why_text) (files name) old old) outcome failure (keeps_same old) (keeps_same old)
 
 -- If `watch` has written the line of a verdict on the entries of standard input, `RunsCall` holds
 -- for this run.

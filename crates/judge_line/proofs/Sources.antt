@@ -49,12 +49,12 @@ fails_to_check known bytes Write same h = h
 pub writes_explanation : (by_commits : Bool) (known bytes old new : Option (List ℕ)) (well : Bool) → Holds known bytes → WritesExplanation by_commits bytes well old new → WritesExplanation by_commits known well old new
 writes_explanation by_commits known bytes old new well same h = of_file known bytes _ same h
 
-pub leaves_explanation : (by_commits : Bool) (known bytes old new : Option (List ℕ)) (fault : Fault) → Holds known bytes → LeavesExplanation by_commits bytes old new fault → LeavesExplanation by_commits known old new fault
-leaves_explanation by_commits known bytes old new (Input fault) same h = of_file known bytes _ same h
-leaves_explanation by_commits known bytes old new (Line number fault) same h = h
-leaves_explanation by_commits known bytes old new NoMemory same h = h
-leaves_explanation by_commits known bytes old new Read same h = h
-leaves_explanation by_commits known bytes old new Write same h = of_file known bytes _ same h
+pub leaves_explanation : (IsText : List ℕ → List ℕ → Type 0) (known bytes old new : Option (List ℕ)) (fault : Fault) → Holds known bytes → LeavesExplanation IsText bytes old new fault → LeavesExplanation IsText known old new fault
+leaves_explanation IsText known bytes old new (Input fault) same h = of_file known bytes _ same h
+leaves_explanation IsText known bytes old new (Line number fault) same h = h
+leaves_explanation IsText known bytes old new NoMemory same h = h
+leaves_explanation IsText known bytes old new Read same h = h
+leaves_explanation IsText known bytes old new Write same h = of_file known bytes _ same h
 
 pub fails_to_watch : (basis : Basis) (known bytes : Option (List ℕ)) (fault : Fault) → Holds known bytes → FailsToWatch basis bytes fault → FailsToWatch basis known fault
 fails_to_watch basis known bytes (Line number fault) same h = of_all known bytes _ same h

@@ -6,7 +6,7 @@ use Rattle.clap.specs.Words.{Text}
 use Rattle.clap.proofs.OnLiterals.{clap_on_literals}
 use Rattle.txn_words.specs.declared.holder.Holder.TheVariants.{Begun}
 use Rattle.judge_engine.specs.declared.basis.Basis.TheVariants.{Locks, Commits}
-use Rattle.judge_line.specs.Words.{Spells, Check, CheckSerializable, Why, Watch, Outcomes, Help, Version}
+use Rattle.judge_line.specs.Words.{Spells, Check, CheckSerializable, Why, WhySerializable, Watch, Outcomes, Help, Version}
 
 abbrev call : List Text → List Text
 call words = codes "judge" ∷ words
@@ -50,6 +50,10 @@ why = refl
 why_by_commits : Spells (call (codes "why" ∷ codes "--commit-order" ∷ codes "a.json" ∷ [])) (Some (Why true (codes "a.json")))
 unfolding clap_on_literals
 why_by_commits = refl
+
+why_serializable : Spells (call (codes "why" ∷ codes "--serializable" ∷ codes "a.json" ∷ [])) (Some (WhySerializable (codes "a.json")))
+unfolding clap_on_literals
+why_serializable = refl
 
 watch : Spells (call (codes "watch" ∷ [])) (Some (Watch (Locks 4096 Begun)))
 unfolding clap_on_literals

@@ -13,17 +13,18 @@ use Rattle.judge_engine.specs.declared.fault.Fault.TheVariants as faults
 use Rattle.judge_engine.specs.Answers as answers
 use Rattle.judge_engine.specs.Files.{Checks, FailsToCheck}
 use Rattle.judge_engine.specs.OrderLines.{order_text}
-use Rattle.judge_engine.specs.Ordered.{IsAnswerText, WritesAnswer}
+use Rattle.judge_engine.specs.Ordered.{IsAnswerText, IsTextFor, WritesAnswer}
 use Rattle.judge_engine.specs.Outcomes.{LeavesOutcomes, WritesOutcomes}
 use Rattle.judge_engine.specs.Outputs.{LeavesOutput, LeavesText, WritesLine}
 use Rattle.judge_engine.specs.Watching.{FailsToWatch, Watches}
-use Rattle.judge_engine.specs.Whys.{LeavesExplanation, WritesExplanation}
+use Rattle.judge_engine.specs.WhyLines.{why_text}
+use Rattle.judge_engine.specs.Whys.{IsExplained, LeavesExplanation, WritesExplanation}
 use Rattle.judge_line.specs.declared.failure.TheConstants.{USAGE}
 use Rattle.judge_line.specs.declared.failure.Failure.{Failure}
 use Rattle.judge_line.specs.declared.failure.Failure.TheVariants as failures
 use Rattle.judge_line.specs.declared.program.TheConstants.{VERSION}
 use Rattle.judge_line.specs.Failures.{message_of, status_of}
-use Rattle.judge_line.specs.Words.{Asked, Spells, Check, CheckSerializable, Why, Watch, Outcomes, Help, Version}
+use Rattle.judge_line.specs.Words.{Asked, Spells, Check, CheckSerializable, Why, WhySerializable, Watch, Outcomes, Help, Version}
 
 -- The outcome of a run: an answer or a failure.
 abbrev pub RunResult : Type 0
@@ -73,7 +74,10 @@ RunsCall (CheckSerializable shows file) files old new = EndsWith
     (LeavesText (IsAnswerText (order_text shows) (files file)) (FailsToCheck (files file)) old new)
 RunsCall (Why by_commits file) files old new = EndsWith
     (ByWell (λ well. WritesExplanation by_commits (files file) well old new))
-    (LeavesExplanation by_commits (files file) old new)
+    (LeavesExplanation (IsExplained by_commits) (files file) old new)
+RunsCall (WhySerializable file) files old new = EndsWith
+    (λ answer. WritesAnswer why_text (files file) answer old new)
+    (LeavesExplanation (IsTextFor why_text) (files file) old new)
 RunsCall (Watch basis) files old new = EndsWith
     (ByWell (λ well. WritesLine (Watches basis (files (codes "-"))) well old new))
     (LeavesOutput (Watches basis (files (codes "-")))

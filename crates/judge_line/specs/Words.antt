@@ -21,13 +21,15 @@ use Rattle.judge_line.specs.declared.words.Call.TheVariants as calls
 
 -- A call of the program. `Check` judges the history file with this name, by the order of commits or
 -- by locks. `CheckSerializable` says whether it is serializable in any order, and shows the order
--- if the flag is true. `Why` does what `Check` does, and says what leads to the bad entry. `Watch`
+-- if the flag is true. `Why` does what `Check` does, and says what leads to the bad entry.
+-- `WhySerializable` does what `CheckSerializable` does, and says what leads to the reason. `Watch`
 -- judges the entries of standard input by these rules. `Outcomes` reads a script file and a history
 -- file, and says what became of each script. `Help` and `Version` show the usage and the version.
 pub data Asked : Type 0 where
   Check : Bool → Text → Asked
   CheckSerializable : Bool → Text → Asked
   Why : Bool → Text → Asked
+  WhySerializable : Text → Asked
   Watch : Basis → Asked
   Outcomes : Text → Text → Asked
   Help : Asked
@@ -37,6 +39,7 @@ abbrev pub asked_of : Call → Asked
 asked_of (calls.Check by_commits file) = Check by_commits file.now
 asked_of (calls.CheckSerializable shows file) = CheckSerializable shows file.now
 asked_of (calls.Why by_commits file) = Why by_commits file.now
+asked_of (calls.WhySerializable file) = WhySerializable file.now
 asked_of (calls.Watch basis) = Watch basis
 asked_of (calls.Outcomes scripts history) = Outcomes scripts.now history.now
 asked_of calls.Help = Help
@@ -49,8 +52,8 @@ HasStripesIf asked = Unit {0}
 
 -- The command line: `check [--commit-order] [--serializable] [--show-order] FILE`,
 -- `outcomes SCRIPTS HISTORY`, `watch [--commit-order] [--stripes N]` and
--- `why [--commit-order] FILE`. Each command is an application of `clap`, and the definitions of
--- `clap` say how its words are read.
+-- `why [--commit-order] [--serializable] FILE`. Each command is an application of `clap`, and the
+-- definitions of `clap` say how its words are read.
 abbrev pub flag_word : Text → Rule
 flag_word name = record (new_rule name) { long = Some name; action = Some SetTrue }
 
@@ -72,7 +75,7 @@ checking =
     with_rule shows (file_word (codes "FILE"))
 
 abbrev pub explaining : App
-explaining = with_rule (flagged (codes "why")) (file_word (codes "FILE"))
+explaining = with_rule (ruled (codes "why")) (file_word (codes "FILE"))
 
 abbrev pub over_both : App
 over_both =
@@ -117,6 +120,13 @@ check_for false true shows file = Some (CheckSerializable shows file)
 check_for true true shows file = None
 check_for by_commits false true file = None
 
+-- The call to explain a verdict on a file, given the flags for the order of commits and for any
+-- order. If both are given, the command line is a usage error.
+abbrev pub why_for : Bool → Bool → Text → Option Asked
+why_for by_commits false file = Some (Why by_commits file)
+why_for false true file = Some (WhySerializable file)
+why_for true true file = None
+
 -- The rules to judge by. The arguments are the flag, and the word for the number of locks if there
 -- is one. If both the flag and the word are given, the command line is a usage error.
 abbrev pub basis_for : Bool → Option Text → Option Basis
@@ -145,7 +155,7 @@ asked_in name rows =
     else if bytes_eq name (codes "watch")
     then option_map Watch (basis_for by_commits (first_of (codes "stripes") rows))
     else if bytes_eq name (codes "why")
-    then option_map (Why by_commits) (first_of (codes "FILE") rows)
+    then option_and_then (why_for by_commits is_serializable) (first_of (codes "FILE") rows)
     else None
 
 -- The call that a command line asks for if `clap` returns an error of this kind. If the words ask

@@ -14,12 +14,13 @@ use std::fmt;
 pub(crate) const USAGE: &str = "usage: judge check [--commit-order] FILE
        judge check --serializable [--show-order] FILE
        judge watch [--commit-order | --stripes N]
-       judge why [--commit-order] FILE
+       judge why [--commit-order | --serializable] FILE
        judge outcomes SCRIPTS HISTORY
 
   check FILE  says whether the history of a file is legal, or which entry breaks which rule
   watch       says so of the entries that standard input has, one a line, as each comes
-  why FILE    says what check says, and what leads to the entry, or to the fault of the file
+  why FILE    says what check says, and what leads to the entry, to the reason, or to the fault of
+              the file
   outcomes SCRIPTS HISTORY
               says what became of each script of a file in the history that was printed of it
 

@@ -16,6 +16,7 @@ use crate::failure::{Failure, USAGE};
 use crate::words::{Call, STANDARD, call_in};
 use judge_engine::{
     Answer, Basis, Fault, OutcomesFault, check, check_serializable, tell_outcomes, watch, why,
+    why_serializable,
 };
 use program_host::System;
 use std::alloc::Global;
@@ -116,6 +117,21 @@ fn explain_file<S: System, W: Write>(
     Ok(Answer::from(why(alloc, by_commits, source, output)?))
 }
 
+/// Judges the history file with this name by any order of its transactions, and writes what leads
+/// to the reason.
+fn explain_order<S: System, W: Write>(
+    alloc: Global,
+    system: &S,
+    name: &str,
+    output: &mut W,
+) -> Result<Answer, Failure>
+    ensures { RunsCall (asked.WhySerializable name.now) (S.bytes system.now)
+        (W.contents output.old) (W.contents output.new) result }
+{
+    let source = open(system, name, Failure::Fault(Fault::Read))?;
+    Ok(why_serializable(alloc, source, output)?)
+}
+
 /// Judges the entries on standard input.
 fn watch_standard<S: System, W: Write>(
     alloc: Global,
@@ -172,6 +188,7 @@ fn answer<S: System, W: Write>(
         }
         Call::Watch { basis } => watch_standard(alloc, system, basis, output),
         Call::Why { by_commits, file } => explain_file(alloc, system, by_commits, file, output),
+        Call::WhySerializable { file } => explain_order(alloc, system, file, output),
     }
 }
 

@@ -12,7 +12,7 @@ ghost use Rattle.program_host.specs.Words.{IsApp, file_word};
 ghost use Rattle.judge_line.specs.Words.{Spells, IsCallOf, HasStripesIf, asked_in, asked_of, basis_for};
 ghost use Rattle.judge_line.specs.Words.{check_for, checking, command_line, explaining, flag_word};
 ghost use Rattle.judge_line.specs.Words.{flagged, is_set, outcomes_for, over_both, ruled};
-ghost use Rattle.judge_line.specs.Words.{stripes_in_word, stripes_word, watching};
+ghost use Rattle.judge_line.specs.Words.{stripes_in_word, stripes_word, watching, why_for};
 
 use crate::failure::Failure;
 use clap::error::ErrorKind;
@@ -58,6 +58,12 @@ pub enum Call<'a> {
     Why {
         /// True to judge by the order of commits, false to judge by locks.
         by_commits: bool,
+        /// The file's name.
+        file: &'a str,
+    },
+    /// To say whether the history of a file is serializable, in any order, and what leads to the
+    /// reason if it is not.
+    WhySerializable {
         /// The file's name.
         file: &'a str,
     },
@@ -122,7 +128,7 @@ fn check_command<'a>(alloc: Global) -> Result<Command<'a>, AllocError>
 fn why_command<'a>(alloc: Global) -> Result<Command<'a>, AllocError>
     ensures { IfOk result (λ command. IsApp command explaining) }
 {
-    flagged_command(alloc, "why")?.arg(file_name(alloc, "FILE"))
+    ruled_command(alloc, "why")?.arg(file_name(alloc, "FILE"))
 }
 
 /// The command `outcomes`.
@@ -216,6 +222,20 @@ fn check_of<'a>(
     }
 }
 
+/// Returns the call to explain the verdict on a file, given the flags. Returns `None` if two rules
+/// are asked for.
+fn why_of<'a>(by_commits: bool, is_serializable: bool, file: &'a str) -> Option<Call<'a>>
+    ensures call { option_map asked_of result
+        ≡ why_for by_commits is_serializable file.entry.now }
+    ensures stripes { IfSome result (λ call. HasStripesIf (asked_of call)) }
+{
+    match (by_commits, is_serializable) {
+        (_, false) => Some(Call::Why { by_commits, file }),
+        (false, true) => Some(Call::WhySerializable { file }),
+        (true, true) => None,
+    }
+}
+
 /// Returns the call for the outcomes of these files, or `None` if both are standard input.
 fn outcomes_of<'a>(scripts: &'a str, history: &'a str) -> Option<Call<'a>>
     ensures call { option_map asked_of result ≡ outcomes_for scripts.entry.now history.entry.now }
@@ -252,7 +272,7 @@ fn call_named<'a>(name: &str, found: &ArgMatches<'a>) -> Option<Call<'a>>
         }
         "why" => {
             let file = found.get_str("FILE")?;
-            Some(Call::Why { by_commits, file })
+            why_of(by_commits, is_serializable, file)
         }
         _ => None,
     }

@@ -27,7 +27,7 @@ pub returns-in_ok-basis-in-watch-clause-call : goal.returns-in_ok-basis-in-watch
 returns-in_ok-basis-in-watch-clause-call c = ap (option_map Watch) c.in_ok-basis-in-watch.ensures.basis ∙ watch_is c.args.name.now (found_of c.args.found.now) c.has_flag-by_commits.result _ c.in-watch.is c.has_flag-by_commits.ensures c.get_str-in-watch.ensures
 
 pub returns-in_err-file-in-why-clause-call : goal.returns-in_err-file-in-why-clause-call
-returns-in_err-file-in-why-clause-call c = ap (option_map asked_of) c.from_residual-in_err-file-in-why.ensures ∙ why_is c.args.name.now (found_of c.args.found.now) c.has_flag-by_commits.result None c.in-why.is c.has_flag-by_commits.ensures c.in_err-file-in-why.ensures
+returns-in_err-file-in-why-clause-call c = ap (option_map asked_of) c.from_residual-in_err-file-in-why.ensures ∙ why_is c.args.name.now (found_of c.args.found.now) c.has_flag-by_commits.result c.has_flag-is_serializable.result None c.in-why.is c.has_flag-by_commits.ensures c.has_flag-is_serializable.ensures c.in_err-file-in-why.ensures
 
 pub returns-in_ok-file-in-why-clause-call : goal.returns-in_ok-file-in-why-clause-call
-returns-in_ok-file-in-why-clause-call c = why_is c.args.name.now (found_of c.args.found.now) c.has_flag-by_commits.result (Some c.in_ok-file-in-why.file.now) c.in-why.is c.has_flag-by_commits.ensures c.in_ok-file-in-why.ensures
+returns-in_ok-file-in-why-clause-call c = c.why_of.ensures.call ∙ why_is c.args.name.now (found_of c.args.found.now) c.has_flag-by_commits.result c.has_flag-is_serializable.result (Some c.in_ok-file-in-why.file.now) c.in-why.is c.has_flag-by_commits.ensures c.has_flag-is_serializable.ensures c.in_ok-file-in-why.ensures
