@@ -77,6 +77,38 @@ class Calls(unittest.TestCase):
             self.assertGreater(interrupted(moves, 0.5), 10)
             moves()
 
+    def test_the_history_of_a_map_is_legal(self):
+        with Map(callers=2, stripes=16) as m:
+            with m.transaction(0) as t:
+                t.put(1, 10)
+                level = t.save()
+                t.put_if(1, 10, 11)
+                t.put_if(2, None, 20)
+                t.back(level)
+                with self.assertRaises(Busy), m.transaction(1) as u:
+                    u.take(1)
+                t.take(2)
+            with m.transaction(1) as t:
+                t.put(3, 30)
+                t.roll_back()
+            entries = m.history()
+            self.assertEqual(entries[:3], [
+                Entry("began", 0, number=1), Entry("asked", 0, "put", key=1, value=10), Entry("did", 0)])
+            self.assertEqual({entry.kind for entry in entries}, {
+                "began", "asked", "did", "saved", "leave", "undone", "returned", "committed", "busy", "aborted"})
+            self.assertEqual(len(entries), m.entries())
+            for verdict in (Verdict(True, 1, 0, None, None),) * 2:
+                with Judge(stripes=16) as judge:
+                    judge.feed_all(m.history())
+                    self.assertEqual(judge.verdict(), verdict)
+                m.trim()
+            self.assertEqual((m.entries(), m.items()), (4, {1: 10}))
+            m.trim_above(1)
+            for _ in range(100):
+                with m.transaction() as t:
+                    t.put(1, 10)
+            self.assertLess(m.entries(), 20)
+
     def test_a_transaction_is_over_after_its_with(self):
         with Map() as m:
             with m.transaction() as first:
