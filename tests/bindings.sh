@@ -82,6 +82,7 @@ c_test() {
 in_c() {
   c_test statuses c99
   c_test read c99
+  c_test owned c99
   c_test judge c99
   c_test recorded c99
   c_test threads c11 -D_GNU_SOURCE -pthread
@@ -109,7 +110,7 @@ in_c() {
 in_c_again() {
   local name checked=(within valgrind -q --error-exitcode=9 --leak-check=full)
   if has valgrind 'the tests in C under it'; then
-    for name in statuses read no_memory threads striped whole; do
+    for name in statuses read owned no_memory threads striped whole; do
       try "$name under valgrind" "${checked[@]}" "$work/$name"
     done
     try 'model of 40000 calls under valgrind' "${checked[@]}" "$work/model" 40000

@@ -6,36 +6,47 @@
  * SYNOPSIS
  *     #include <boostmap.h>            cc program.c $(pkg-config --cflags --libs boostmap)
  *
- *     boostmap map = BOOSTMAP_INIT;
+ *     boostmap_caller mine = BOOSTMAP_INIT, yours = BOOSTMAP_INIT;   a striped map for two threads
  *     uint64_t word;
- *     if (boostmap_new(&map, 2, 64, 1024) != BOOSTMAP_DONE)      2 callers, 64 stripes, 1024 buckets
- *         return 1;
- *     boostmap_begin(&map, 0, &word);                            caller 0 begins a transaction
- *     boostmap_put(&map, 0, 7, 70, &word);                       BOOSTMAP_ABSENT: 7 had no value
- *     boostmap_get(&map, 0, 7, &word);                           BOOSTMAP_DONE: word is 70
- *     boostmap_commit(&map, 0, &word);                           word is 1: the first commit
- *     boostmap_free(&map);
- *
- *     boostmap_caller mine = BOOSTMAP_INIT, yours = BOOSTMAP_INIT;   a map for two threads
- *     boostmap_striped_open(&mine, 2, 64, 0, BOOSTMAP_KEEP_NOTHING, 0, &word);   2 callers, 64 stripes
+ *     if (boostmap_striped_open(&mine, 2, 64, 0, BOOSTMAP_KEEP_NOTHING, 0, &word) != BOOSTMAP_DONE)
+ *         return 1;                                              2 callers, 64 stripes
  *     boostmap_striped_join(&mine, &yours, &word);               `yours` goes to the other thread
  *     boostmap_striped_begin(&mine);
  *     boostmap_striped_put(&mine, 7, 70, &word);                 BOOSTMAP_BUSY if the other has it
  *     boostmap_striped_commit(&mine, &word);
  *     boostmap_striped_free(&mine);
  *
+ *     boostmap map = BOOSTMAP_INIT;                              a map with one owner
+ *     boostmap_new(&map, 2, 64, 1024);                           2 callers, 64 stripes, 1024 buckets
+ *     boostmap_begin(&map, 0, &word);                            caller 0 begins a transaction
+ *     boostmap_put(&map, 0, 7, 70, &word);                       BOOSTMAP_ABSENT: 7 had no value
+ *     boostmap_get(&map, 0, 7, &word);                           BOOSTMAP_DONE: word is 70
+ *     boostmap_commit(&map, 0, &word);                           word is 1: the first commit
+ *     boostmap_free(&map);
+ *
  * DESCRIPTION
- *     A map has 1 to 64 callers, numbered from 0. Each may have one transaction open, and the calls
- *     of several callers may be made in any order. Keys belong to stripes. An operation takes the
- *     stripe of its key, and its transaction keeps the stripe to the end, so committed transactions
- *     have the replies of running one after another, in the order of their commits. A caller that
- *     finds a stripe held by another never waits: the call returns BOOSTMAP_BUSY, and the
- *     transaction can only abort.
+ *     There are two kinds of maps. Use the striped map, with one caller or with many, unless you
+ *     want a history.
  *
  *     A striped map is for threads: each of its 1 to 4096 callers has its own handle, a
- *     `boostmap_caller`, and callers run in parallel without a lock. It grows by itself and keeps no
- *     history, so it may run forever. If a caller finds a stripe held, the call returns
- *     BOOSTMAP_BUSY, and the transaction has been aborted, with all its changes taken back.
+ *     `boostmap_caller`, and callers run in parallel without a lock. It grows by itself, hashes its
+ *     keys and keeps no history, so it may run forever. If a caller finds a stripe held, the call
+ *     returns BOOSTMAP_BUSY, and the transaction has been aborted, with all its changes taken back.
+ *
+ *     A map with one owner, a `boostmap`, is for a program that wants to see each step of up to 64
+ *     callers and to keep the history of their transactions: for tests, for simulations, for a log
+ *     that is judged (boostmap_history). The program makes the calls of all callers, numbered from 0, in any order.
+ *     Each caller may have one transaction open. If a caller finds a stripe held, the call returns
+ *     BOOSTMAP_BUSY, and the transaction can only abort.
+ *       Its memory grows with its history: 32 bytes an entry, 320 bytes for a transaction of four
+ *     operations, also of gets. boostmap_trim cuts the history off, and after boostmap_trim_above the
+ *     map does so by itself. The map also grows by itself, but it does not hash: a key belongs to the
+ *     bucket that its low bits name. Consecutive and random keys are fast. Keys whose low bits are all
+ *     alike, as multiples of 65536, form one long list: mix such keys before.
+ *
+ *     In both maps keys belong to stripes. An operation takes the stripe of its key, and its
+ *     transaction keeps the stripe to the end, so committed transactions have the replies of running
+ *     one after another, in the order of their commits. No call ever waits for a stripe.
  *
  * RETURN VALUE
  *     Every call returns a status. Most take a pointer `word`: with BOOSTMAP_DONE and BOOSTMAP_BUSY
@@ -170,8 +181,13 @@ static inline const char *boostmap_text(boostmap_status status) {
     }
 }
 
+/* ---- the map with one owner ---------------------------------------------------------------------
+ *
+ * Its memory grows with its history, and its keys should differ in their low bits: see above. */
+
 /* Makes a map for 1 to 64 callers, with 1 to 4096 stripes and at most `buckets` buckets, a power of
- * two from 2 to 65536.    0; 4; 38; 30 */
+ * two from 2 to 65536. The table grows by itself up to this size; with more than about eight keys a
+ * bucket, operations get slower.    0; 4; 38; 30 */
 boostmap_status boostmap_new(boostmap *map, uint64_t callers, uint64_t stripes, uint64_t buckets);
 
 /* Frees the map, also if transactions are open.    0; 3 */
@@ -191,15 +207,31 @@ typedef struct boostmap_pair {
  * After 7 the array is unchanged, and *word is the number of places that it needs.    0; 3; 7; 30 */
 boostmap_status boostmap_read(boostmap *map, boostmap_pair *pairs, size_t places, uint64_t *word);
 
-/* Doubles the table if it has more than two keys a bucket, and initialises the key's bucket. Nothing
- * else doubles the table: call this from time to time when you put keys, or they form one long list.
- * After 30 and 32 the table may have grown all the same.    0; 3; 28; 32; 30 */
+/* *word: the number of entries of the map's history. An operation has two entries, and the begin, the
+ * commit, a savepoint, and each change that is taken back has one; each takes 32 bytes.    0; 3 */
+boostmap_status boostmap_entries(boostmap *map, uint64_t *word);
+
+/* Cuts the history off and frees its memory, in the time of a put for each key. The map and its keys
+ * stay. Instead of the old history there is one transaction that puts the pairs of the map, by caller 0:
+ * it has number 1 and commit number 1, and the next ones have 2. After 20 (a caller has a transaction)
+ * and 30 the map and its history are unchanged.    0; 3; 20; 30; 32 */
+boostmap_status boostmap_trim(boostmap *map);
+
+/* From now on boostmap_commit and boostmap_abort trim the map by themselves, if its history has more
+ * than `entries` entries and more than four for each key, and no caller has a transaction. So the memory
+ * stays bounded. If there is no memory for that, they end the transaction all the same, and the next
+ * one tries again. With 0, as in a new map, the map never trims by itself.    0; 3 */
+boostmap_status boostmap_trim_above(boostmap *map, uint64_t entries);
+
+/* Doubles the table if it has more than two keys a bucket, and initialises the key's bucket. The table
+ * grows by itself, so no program needs this call. After 30 and 32 the table may have grown all the same.
+ * 0; 3; 28; 32; 30 */
 boostmap_status boostmap_help(boostmap *map, uint64_t caller, uint64_t key);
 
-/* Begins a transaction; *word: its number, from 1.    0; 3; 18; 20; 22; 30 */
+/* Begins a transaction; *word: its number in the history, from 1.    0; 3; 18; 20; 22; 30 */
 boostmap_status boostmap_begin(boostmap *map, uint64_t caller, uint64_t *word);
 
-/* Commits; *word: the place in the order of commits, from 1.    0; 3; 18; 19; 22 */
+/* Commits; *word: the place in the order of commits of the history, from 1.    0; 3; 18; 19; 22 */
 boostmap_status boostmap_commit(boostmap *map, uint64_t caller, uint64_t *word);
 
 /* Aborts: takes every change back, and gives the stripes back. It writes no word.    0; 3; 18; 19 */
@@ -404,6 +436,12 @@ boostmap_status boostmap_judge_verdict(boostmap_judge *judge, boostmap_verdict *
 
 /* Frees the judge.    0; 3 */
 boostmap_status boostmap_judge_free(boostmap_judge *judge);
+
+/* Writes the history of a map with one owner, oldest entry first, from the entry with index `first` on:
+ * as many entries as there are and as the array of `places` elements has room for. *word: the number of
+ * entries of the whole history. It may be fed to a judge of the map's number of stripes. Members that
+ * the kind of an entry does not have are 0.    0; 3 */
+boostmap_status boostmap_history(boostmap *map, uint64_t first, boostmap_entry *entries, size_t places, uint64_t *word);
 
 /* ---- whole transactions, and more operations ------------------------------------------------------
  *

@@ -60,6 +60,9 @@ typedef struct boostmap_door {
 BOOSTMAP_CHECKED(new, (boostmap_door *door, uint64_t callers, uint64_t stripes, uint64_t buckets),
                  boostmap_new(&door->map, callers, stripes, buckets))
 BOOSTMAP_CHECKED(free, (boostmap_door *door), boostmap_free(&door->map))
+BOOSTMAP_CHECKED(trim, (boostmap_door *door), boostmap_trim(&door->map))
+BOOSTMAP_CHECKED(trim_above, (boostmap_door *door, uint64_t entries), boostmap_trim_above(&door->map, entries))
+BOOSTMAP_CHECKED_WORD(entries, (boostmap_door *door, uint64_t *word), boostmap_entries(&door->map, word))
 BOOSTMAP_CHECKED(help, (boostmap_door *door, uint64_t caller, uint64_t key), boostmap_help(&door->map, caller, key))
 BOOSTMAP_CHECKED_WORD(count, (boostmap_door *door, uint64_t *word), boostmap_count(&door->map, word))
 BOOSTMAP_CHECKED_WORD(read, (boostmap_door *door, boostmap_pair *pairs, size_t places, uint64_t *word),
@@ -143,6 +146,9 @@ BOOSTMAP_CHECKED(judge_feed, (boostmap_judge_door *door, const boostmap_entry *e
 BOOSTMAP_CHECKED_WORD(judge_feed_all,
                       (boostmap_judge_door *door, const boostmap_entry *entries, size_t count, uint64_t *word),
                       entries ? boostmap_judge_feed_all(&door->judge, entries, count, word) : (boostmap_status)BOOSTMAP_NULL)
+BOOSTMAP_CHECKED_WORD(history,
+                      (boostmap_door *door, uint64_t first, boostmap_entry *entries, size_t places, uint64_t *word),
+                      entries ? boostmap_history(&door->map, first, entries, places, word) : (boostmap_status)BOOSTMAP_NULL)
 BOOSTMAP_CHECKED(judge_verdict, (boostmap_judge_door *door, boostmap_verdict *verdict),
                  verdict ? boostmap_judge_verdict(&door->judge, verdict) : (boostmap_status)BOOSTMAP_NULL)
 

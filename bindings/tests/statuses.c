@@ -1,5 +1,6 @@
 /* Each status of each call on a map with one owner, once: what the call returns, what it writes, and what
- * it leaves unchanged. Status 7 is in read.c, 30 in no_memory.c, and 32 needs 2^64 - 2 nodes. */
+ * it leaves unchanged. Status 7 is in read.c, 30 in no_memory.c, and 32 needs 2^64 - 2 nodes.
+ * What trims leave is in owned.c. */
 #include "boostmap.h"
 #include "check.h"
 #include <string.h>
@@ -19,6 +20,9 @@ static void an_empty_handle(boostmap *m) {
     uint64_t w;
     ANSWERS(boostmap_free(m), BOOSTMAP_EMPTY, UNTOUCHED);
     ANSWERS(boostmap_count(m, &w), BOOSTMAP_EMPTY, UNTOUCHED);
+    ANSWERS(boostmap_entries(m, &w), BOOSTMAP_EMPTY, UNTOUCHED);
+    ANSWERS(boostmap_trim(m), BOOSTMAP_EMPTY, UNTOUCHED);
+    ANSWERS(boostmap_trim_above(m, 1), BOOSTMAP_EMPTY, UNTOUCHED);
     ANSWERS(boostmap_help(m, 0, 1), BOOSTMAP_EMPTY, UNTOUCHED);
     ANSWERS(boostmap_begin(m, 0, &w), BOOSTMAP_EMPTY, UNTOUCHED);
     ANSWERS(boostmap_commit(m, 0, &w), BOOSTMAP_EMPTY, UNTOUCHED);
@@ -123,6 +127,12 @@ static void two_callers(boostmap *m) {
     ANSWERS(boostmap_begin(m, 1, &w), BOOSTMAP_DONE, 8);
     ANSWERS(boostmap_get(m, 1, 5, &w), BOOSTMAP_DONE, 52);
     ANSWERS(boostmap_commit(m, 1, &w), BOOSTMAP_DONE, 2);
+    ANSWERS(boostmap_begin(m, 0, &w), BOOSTMAP_DONE, 9);
+    ANSWERS(boostmap_trim(m), BOOSTMAP_ALREADY_OPEN, UNTOUCHED);
+    ANSWERS(boostmap_abort(m, 0, &w), BOOSTMAP_DONE, UNTOUCHED);
+    ANSWERS(boostmap_trim(m), BOOSTMAP_DONE, UNTOUCHED);
+    ANSWERS(boostmap_entries(m, &w), BOOSTMAP_DONE, 4);
+    ANSWERS(boostmap_trim_above(m, 1), BOOSTMAP_DONE, UNTOUCHED);
     ANSWERS(boostmap_help(m, 0, 5), BOOSTMAP_DONE, UNTOUCHED);
     ANSWERS(boostmap_help(m, 2, 5), BOOSTMAP_NO_SUCH_HELPER, UNTOUCHED);
 }

@@ -193,6 +193,23 @@ static void freeing(boostmap_caller c[3]) {
     IS(boostmap_striped_free(&c[2]), BOOSTMAP_DONE);
 }
 
+/* What the callers of a map write does not lie side by side: between two callers there is twice 128 bytes
+ * that no call writes, besides the callers themselves. */
+static void apart(void) {
+    enum { CALLERS = 64, PADS = 2 * 128, LEAST = 64 };
+    static boostmap_caller c[CALLERS];
+    uint64_t w;
+    IS(boostmap_striped_open(&c[0], CALLERS, 1, 0, BOOSTMAP_KEEP_NOTHING, 0, &w), BOOSTMAP_DONE);
+    for (int i = 1; i < CALLERS; i++) IS(boostmap_striped_join(&c[0], &c[i], &w), BOOSTMAP_DONE);
+    for (int i = 0; i < CALLERS; i++) {
+        for (int j = 0; j < i; j++) {
+            uintptr_t one = (uintptr_t)c[i].held, other = (uintptr_t)c[j].held;
+            CHECK((one < other ? other - one : one - other) >= PADS + LEAST);
+        }
+    }
+    for (int i = 0; i < CALLERS; i++) IS(boostmap_striped_free(&c[i]), BOOSTMAP_DONE);
+}
+
 int main(void) {
     boostmap_caller c[3] = {BOOSTMAP_INIT, BOOSTMAP_INIT, BOOSTMAP_INIT};
     an_empty_handle(&c[0]);
@@ -204,5 +221,6 @@ int main(void) {
     two_callers(&c[0], &c[1], &c[2]);
     contents(&c[0], &c[1]);
     freeing(c);
+    apart();
     return 0;
 }

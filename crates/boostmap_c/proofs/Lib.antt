@@ -1,5 +1,6 @@
-pub mod CoreWords
+pub mod MapWords
 pub mod RefereeWords
 pub mod MemberWords
 pub mod Referees
 pub mod Feeding
+pub mod Back

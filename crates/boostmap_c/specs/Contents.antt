@@ -1,9 +1,9 @@
 -- The result of reading a map for C.
 use Rattle.std.specs.Prelude.{◌≡◌, ◌<◌, ◌⊎◌, ℕ, zero, suc, List, length, map, take, drop, Option, Some, None}
 use Rattle.txn_words.specs.declared.refusal.Refusal.TheVariants.{NoMemory}
-use Rattle.boost_core.specs.State.{State}
 use Rattle.txn_trace.specs.Now.{now}
 use Rattle.txn_words.specs.Ordered.{ordered}
+use Rattle.boostmap_c.specs.declared.held_map.HeldMap.{HeldMap}
 use Rattle.boostmap_c.specs.declared.read.CPair.{CPair}
 use Rattle.boostmap_c.specs.Replies.{empty_handle, short, refused}
 
@@ -30,9 +30,9 @@ ReadsOf pairs status before after was word =
     LaysOf pairs status before after word
     ⊎ ((status ≡ refused NoMemory) × (after ≡ before) × (word ≡ was))
 
-abbrev pub Reads : Option State → ℕ → List CPair → List CPair → ℕ → ℕ → Option State → Type 0
+abbrev pub Reads : Option HeldMap → ℕ → List CPair → List CPair → ℕ → ℕ → Option HeldMap → Type 0
 Reads (Some old) status before after was word (Some new) =
-    (new ≡ old) × ReadsOf (ordered (now old.history)) status before after was word
+    (new ≡ old) × ReadsOf (ordered (now old.map.core.history)) status before after was word
 Reads None status before after was word None =
     (status ≡ empty_handle) × (after ≡ before) × (word ≡ was)
 Reads old status before after was word new = ⊥

@@ -1,4 +1,4 @@
--- The numbers given by C stand for this entry of a history.
+-- The numbers given by C stand for this entry of a history, and the numbers that C gets for an entry.
 use Rattle.std.specs.Prelude.{ℕ, nat_eq, nat_le, Option, Some, None, if◌then◌else◌}
 use Rattle.txn_words.specs.declared.op.Op.{Op}
 use Rattle.txn_words.specs.declared.op.Op.TheVariants.{Put, PutIf, Take, Get}
@@ -51,3 +51,91 @@ accepted_entry (Some entry) = if nat_le 64 (caller_of entry) then None else Some
 
 abbrev pub judged_entry : CEntry → Option Entry
 judged_entry e = accepted_entry (entry_of e)
+
+-- The numbers that C gets for an entry which is not Asked or Busy. Members that no parameter gives
+-- are 0.
+abbrev pub numbers : ℕ → ℕ → ℕ → ℕ → ℕ → CEntry
+numbers kind caller value number has =
+    record {
+      kind = kind;
+      operation = 0;
+      caller = caller;
+      key = 0;
+      value = value;
+      expected = 0;
+      number = number;
+      has = has;
+    }
+
+-- The numbers that C gets for an entry with this operation.
+abbrev pub asking : ℕ → ℕ → ℕ → Op → CEntry
+asking kind caller number (Put key value) =
+    record {
+      kind = kind;
+      operation = 1;
+      caller = caller;
+      key = key;
+      value = value;
+      expected = 0;
+      number = number;
+      has = 0;
+    }
+asking kind caller number (PutIf key None value) =
+    record {
+      kind = kind;
+      operation = 2;
+      caller = caller;
+      key = key;
+      value = value;
+      expected = 0;
+      number = number;
+      has = 0;
+    }
+asking kind caller number (PutIf key (Some expected) value) =
+    record {
+      kind = kind;
+      operation = 2;
+      caller = caller;
+      key = key;
+      value = value;
+      expected = expected;
+      number = number;
+      has = 1;
+    }
+asking kind caller number (Take key) =
+    record {
+      kind = kind;
+      operation = 3;
+      caller = caller;
+      key = key;
+      value = 0;
+      expected = 0;
+      number = number;
+      has = 0;
+    }
+asking kind caller number (Get key) =
+    record {
+      kind = kind;
+      operation = 4;
+      caller = caller;
+      key = key;
+      value = 0;
+      expected = 0;
+      number = number;
+      has = 0;
+    }
+
+-- The numbers that C gets for an entry. By the law `reads_back`, `entry_of` gives the entry back.
+abbrev pub c_entry_of : Entry → CEntry
+c_entry_of (Began c transaction) = numbers 1 c 0 transaction 0
+c_entry_of (Asked c op) = asking 2 c 0 op
+c_entry_of (Did c None) = numbers 3 c 0 0 0
+c_entry_of (Did c (Some value)) = numbers 3 c value 0 1
+c_entry_of (Saved c) = numbers 4 c 0 0 0
+c_entry_of (Leave c None) = numbers 5 c 0 0 0
+c_entry_of (Leave c (Some level)) = numbers 5 c 0 level 1
+c_entry_of (Undone c) = numbers 6 c 0 0 0
+c_entry_of (Returned c level) = numbers 7 c 0 level 0
+c_entry_of (Committed c place) = numbers 8 c 0 place 0
+c_entry_of (Busy c op holder) = asking 9 c holder op
+c_entry_of (Aborted c) = numbers 10 c 0 0 0

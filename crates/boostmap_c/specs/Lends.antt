@@ -1,10 +1,24 @@
--- The pointer of a handle after a reference to the member has ended.
+-- The pointer of a handle after a reference to what it owns has ended.
 use Rattle.std.specs.Prelude.{Some}
 use Rattle.std.specs.Borrow.{Fml, MutBor, Lends}
+use Rattle.boostmap_c.specs.declared.held_map.HeldMap.{HeldMap}
+use Rattle.boostmap_c.specs.contracts.held_map.HeldMap.{the_row as held_map_row}
+use Rattle.boostmap_c.specs.declared.map_pointer.MapPointer.{MapPointer}
+use Rattle.boostmap_c.specs.contracts.map_pointer.MapPointer.{the_row as map_pointer_row}
 use Rattle.boostmap_c.specs.declared.member.Member.{Member}
 use Rattle.boostmap_c.specs.contracts.member.Member.{the_row as member_row}
 use Rattle.boostmap_c.specs.declared.member_pointer.MemberPointer.{MemberPointer}
 use Rattle.boostmap_c.specs.contracts.member_pointer.MemberPointer.{the_row}
+
+-- A pointer that has the same address as `pointer`, and the given map behind it.
+abbrev pub with_map : MapPointer → HeldMap → MapPointer
+with_map pointer held = record { at = pointer.at; map = Some held }
+
+-- When the reference ends, the pointer's map is the map that the reference has at that moment. The
+-- address is unchanged.
+abbrev pub LendsMap : MutBor MapPointer → MutBor HeldMap → Fml
+LendsMap pointer reference =
+    Lends map_pointer_row held_map_row pointer reference (with_map pointer.now)
 
 -- A pointer that has the same address as `pointer`, and the given member behind it.
 abbrev pub with_member : MemberPointer → Member → MemberPointer

@@ -6,6 +6,7 @@ pub mod Entries
 pub mod Referees
 pub mod Judges
 pub mod Contents
+pub mod Histories
 pub mod Stops
 pub mod Striped
 pub mod Members

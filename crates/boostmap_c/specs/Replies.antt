@@ -1,7 +1,5 @@
--- How an answer is reported to C: by a status, and for some answers also by a word.
-use Rattle.std.specs.Prelude.{ℕ, ◌+◌, Some, None, Result, Ok, Err}
-use Rattle.txn_words.specs.declared.answer.Answer.{Answer}
-use Rattle.txn_words.specs.declared.answer.Answer.TheVariants.{Began, Busy, Done, Returned, Aborted, Saved, Committed, Refused}
+-- The statuses by which the result of a call is reported to C.
+use Rattle.std.specs.Prelude.{ℕ, ◌+◌, Result, Ok, Err}
 use Rattle.txn_words.specs.declared.refusal.Refusal.{Refusal}
 use Rattle.txn_words.specs.Refusals.{number_of}
 
@@ -36,29 +34,6 @@ no_entry = 8
 -- The status of a refusal.
 abbrev pub refused : Refusal → ℕ
 refused refusal = 16 + number_of refusal
-
--- The status of an answer. It is 63 for the answers that no call from C can get.
-abbrev pub status_of_answer : Answer → ℕ
-status_of_answer (Done None) = absent
-status_of_answer (Done (Some value)) = done
-status_of_answer (Began transaction) = done
-status_of_answer (Saved level) = done
-status_of_answer (Returned level) = done
-status_of_answer (Committed number) = done
-status_of_answer Aborted = done
-status_of_answer (Busy holder) = busy
-status_of_answer (Refused refusal) = refused refusal
-status_of_answer other = 63
-
--- The word after an answer. It is still `before` if the answer has no word.
-abbrev pub word_after : ℕ → Answer → ℕ
-word_after before (Done (Some value)) = value
-word_after before (Began transaction) = transaction
-word_after before (Saved level) = level
-word_after before (Returned level) = level
-word_after before (Committed number) = number
-word_after before (Busy holder) = holder
-word_after before other = before
 
 -- The status of a call that either succeeds or is refused.
 abbrev pub status_of_result : Result Unit Refusal → ℕ

@@ -1,5 +1,4 @@
--- How the result of a striped map's call is reported to C: by a status, and for some results also
--- by a word.
+-- How the result of a map's call is reported to C: by a status, and for some results also by a word.
 use Rattle.std.specs.Prelude.{ℕ, Option, Some, None, Result, Ok, Err}
 use Rattle.map_answers.specs.declared.stop.Stop.{Stop}
 use Rattle.map_answers.specs.declared.stop.Stop.TheVariants.{Busy, Refused}

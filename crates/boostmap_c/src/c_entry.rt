@@ -1,10 +1,11 @@
-//! An entry of a history as numbers that C writes, and the entry that these numbers stand for. C
-//! passes numbers and no enum. If the numbers stand for no entry, nothing is fed and the call
+//! An entry of a history as numbers that C writes or gets, and the entry that these numbers stand
+//! for. C passes numbers and no enum. If the numbers stand for no entry, nothing is fed and the call
 //! returns 8. Only this module reads the numbers, so a checker is fed only entries whose caller is
 //! below 64, as the checker requires.
 ghost use Rattle.std.specs.Prelude.{◌≡◌, ◌<◌, Some, IfSome};
 ghost use Rattle.txn_words.specs.Kinds.{caller_of};
-ghost use Rattle.boostmap_c.specs.Entries.{asked_entry_of, busy_entry_of, entry_of, judged_entry, op_of, optional, accepted_entry};
+ghost use Rattle.boostmap_c.specs.Entries.{asked_entry_of, asking, busy_entry_of, c_entry_of, entry_of, judged_entry, numbers, op_of, optional, accepted_entry};
+ghost use Rattle.txn_words.specs.declared.entry.Entry.{Entry};
 
 use txn_trace::{Entry, Op};
 
@@ -62,6 +63,26 @@ pub struct CEntry {
 }
 
 impl CEntry {
+    /// The numbers that stand for an entry. Members that its kind does not have are 0.
+    pub(crate) fn of(entry: Entry) -> CEntry
+        ensures { result ≡ c_entry_of entry }
+    {
+        match entry {
+            Entry::Began(caller, transaction) => numbers(BEGAN, caller, 0, transaction, 0),
+            Entry::Asked(caller, op) => asking(ASKED, caller, 0, op),
+            Entry::Did(caller, None) => numbers(DID, caller, 0, 0, 0),
+            Entry::Did(caller, Some(value)) => numbers(DID, caller, value, 0, 1),
+            Entry::Saved(caller) => numbers(SAVED, caller, 0, 0, 0),
+            Entry::Leave(caller, None) => numbers(LEAVE, caller, 0, 0, 0),
+            Entry::Leave(caller, Some(level)) => numbers(LEAVE, caller, 0, level, 1),
+            Entry::Undone(caller) => numbers(UNDONE, caller, 0, 0, 0),
+            Entry::Returned(caller, level) => numbers(RETURNED, caller, 0, level, 0),
+            Entry::Committed(caller, place) => numbers(COMMITTED, caller, 0, place, 0),
+            Entry::Busy(caller, op, holder) => asking(BUSY, caller, holder, op),
+            Entry::Aborted(caller) => numbers(ABORTED, caller, 0, 0, 0),
+        }
+    }
+
     /// The entry that these numbers stand for, if the kind and the operation exist and the caller
     /// is below 64.
     pub(crate) fn judged(&self) -> Option<Entry>
@@ -161,6 +182,45 @@ impl CEntry {
     }
 }
 
+/// The numbers of an entry that is not Asked or Busy. The other members are 0.
+fn numbers(kind: u32, caller: u64, value: u64, number: u64, has: u64) -> CEntry
+    ensures { result ≡ numbers kind caller value number has }
+{
+    CEntry {
+        kind,
+        operation: 0,
+        caller,
+        key: 0,
+        value,
+        expected: 0,
+        number,
+        has,
+    }
+}
+
+/// The numbers of an entry with this operation.
+fn asking(kind: u32, caller: u64, number: u64, op: Op) -> CEntry
+    ensures { result ≡ asking kind caller number op }
+{
+    let (operation, key, value, expected, has) = match op {
+        Op::Put(key, value) => (PUT, key, value, 0, 0),
+        Op::PutIf(key, None, value) => (PUT_IF, key, value, 0, 0),
+        Op::PutIf(key, Some(expected), value) => (PUT_IF, key, value, expected, 1),
+        Op::Take(key) => (TAKE, key, 0, 0, 0),
+        Op::Get(key) => (GET, key, 0, 0, 0),
+    };
+    CEntry {
+        kind,
+        operation,
+        caller,
+        key,
+        value,
+        expected,
+        number,
+        has,
+    }
+}
+
 /// Returns the entry if its caller is below 64, and `None` if not.
 fn taken(entry: Entry) -> Option<Entry>
     ensures value { result ≡ accepted_entry (Some entry) }
@@ -171,3 +231,9 @@ fn taken(entry: Entry) -> Option<Entry>
     }
     Some(entry)
 }
+
+/// A law: the numbers that C gets for an entry stand for that entry.
+#[tactic(auto, using(crate::proofs::Back::read_back))]
+pub(crate) fn reads_back()
+    ensures { (entry : Entry) → entry_of (c_entry_of entry) ≡ Some entry }
+{}

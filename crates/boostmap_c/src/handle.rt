@@ -1,11 +1,10 @@
-//! The handle that C keeps, and the functions that take a map out of it and put a map into it. No
-//! export sees the pointer: the tag says whether there is a map. So a call on an empty handle,
-//! except `boostmap_new`, returns 3 and changes nothing.
-ghost use Rattle.std.specs.Prelude.{◌≡◌, Some, None, IfSome, IsNone, true, false, is_some};
-ghost use Rattle.boostmap_c.specs.Held.{takes_stripes};
+//! The handle of a map with one owner, and the functions that put a map into it and take one out of
+//! it. By the invariants `live` and `dead`, the tag is "bmap" exactly if the pointer owns a map. A
+//! call borrows the map through the pointer, so it leaves the handle's bytes unchanged.
+ghost use Rattle.std.specs.Prelude.{◌≡◌, Some, None, IfSome, IsNone, IsSome, true, false, is_some};
 
-use crate::core_pointer::CorePointer;
-use boost_core::Core;
+use crate::held_map::HeldMap;
+use crate::map_pointer::MapPointer;
 use owned_pointer::OwnedPointer;
 use std::alloc::Global;
 use std::mem;
@@ -19,15 +18,18 @@ const LIVE: u64 = 0x7061_6d62;
 #[derive(Drop)]
 pub struct Handle {
     tag: u64,
-    pub(crate) held: CorePointer,
-    ghost live: { tag ≡ 0x7061_6d62 → takes_stripes held.core ≡ true },
-    ghost dead: { is_some held.core ≡ true → tag ≡ 0x7061_6d62 },
+    pub(crate) held: MapPointer,
+    ghost live: { tag ≡ 0x7061_6d62 → is_some held.map ≡ true },
+    ghost dead: { is_some held.map ≡ true → tag ≡ 0x7061_6d62 },
 }
 
 impl Handle {
     /// Returns true if the handle has a map.
     pub(crate) fn is_live(&self) -> bool
-        ensures { result ≡ is_some self.now.held.core }
+        ensures value { result ≡ is_some self.now.held.map }
+        ensures some { result ≡ true → IsSome self.now.held.map }
+        ensures tag { result ≡ true → self.now.tag ≡ 0x7061_6d62 }
+        ensures none { result ≡ false → self.now.held.map ≡ None }
     {
         self.tag == LIVE
     }
@@ -35,31 +37,29 @@ impl Handle {
 
 /// If the handle has a map, takes the map out and leaves the handle all zeros. If it has none,
 /// returns `None`.
-pub(crate) fn open(alloc: Global, handle: &mut Handle) -> Option<Box<Core, Global>>
-    ensures some { IfSome result (λ core. (handle.old.held.core ≡ Some core.value)
-        × (core.value.words ≡ false)) }
-    ensures none { IsNone result → handle.old.held.core ≡ None }
-    ensures zeros { handle.new.held.core ≡ None }
+pub(crate) fn take_out(alloc: Global, handle: &mut Handle) -> Option<Box<HeldMap, Global>>
+    ensures some { IfSome result (λ map. handle.old.held.map ≡ Some map.value) }
+    ensures none { IsNone result → handle.old.held.map ≡ None }
+    ensures zeros { handle.new.held.map ≡ None }
 {
     if handle.tag != LIVE {
         return None;
     }
     let zeros = Handle {
         tag: 0,
-        held: CorePointer::null(),
+        held: MapPointer::null(),
     };
     let Handle { tag: _, held } = mem::replace(handle, zeros);
     Some(held.restore().into_box(alloc))
 }
 
 /// Puts a map into a handle.
-pub(crate) fn close(handle: &mut Handle, core: Box<Core, Global>)
-    requires { core.value.words ≡ false }
-    ensures { handle.new.held.core ≡ Some core.value }
+pub(crate) fn put_in(handle: &mut Handle, map: Box<HeldMap, Global>)
+    ensures { handle.new.held.map ≡ Some map.value }
 {
     *handle = Handle {
         tag: LIVE,
-        held: CorePointer::erase(OwnedPointer::from_box(core)),
+        held: MapPointer::erase(OwnedPointer::from_box(map)),
     };
 }
 
@@ -70,9 +70,9 @@ pub(crate) fn sends<T: Send>(value: T) -> T
     value
 }
 
-/// A core may go to another thread, and so may a handle that owns one.
-pub(crate) fn sends_core(core: Core) -> Core
-    ensures { result ≡ core }
+/// A map may go to another thread, and so may a handle that owns one.
+pub(crate) fn sends_map(map: HeldMap) -> HeldMap
+    ensures { result ≡ map }
 {
-    sends(core)
+    sends(map)
 }

@@ -1,16 +1,16 @@
-//! Transactional maps for C, and the judge of their histories. The crate puts `boost_core`'s
-//! `Core`, `striped_map`'s `Caller`, and the checkers of `history_check` and `serial_check` each
+//! Transactional maps for C, and the judge of their histories. The crate puts `owned_map`'s
+//! `OwnedMap`, `striped_map`'s `Caller`, and the checkers of `history_check` and `serial_check` each
 //! behind a handle that C keeps. It has the exports by which C calls them.
 //!
 //! C cannot name a type that holds a `Vec`, so a handle is a struct of two words, all zeros at
 //! first: a tag, and a pointer whose type is erased. A ghost field says what the pointer owns: for
-//! instance a core, or nothing.
+//! instance a map, or nothing.
 //!
 //! ```text
 //!   C's memory             the heap
 //!   +------------+
 //!   | tag        |   "bmap", or 0
-//!   | held       | ----> core: history, table, stripes, callers     (tag 0: nothing)
+//!   | held       | ----> map: history, table, stripes, callers      (tag 0: nothing)
 //!   +------------+
 //!   +------------+
 //!   | tag        |   "bmca", or 0
@@ -19,11 +19,10 @@
 //!                          +---> the striped map, which it shares with the other callers
 //! ```
 //!
-//! A call takes the object out of the handle, makes the library's call and puts the object back. A
-//! call on a striped map's caller instead borrows the member through the pointer. Each call returns
-//! a status to C, and writes at most one word. In addition, `boostmap_read` and
-//! `boostmap_striped_read` write pairs into an array, and `boostmap_judge_verdict` writes a
-//! `CVerdict`. The statuses:
+//! A call borrows the object through the pointer, and makes the library's call. A call on a judge
+//! instead takes the object out of the handle, and puts it back. Each call returns a status to C,
+//! and writes at most one word. In addition, `boostmap_read` and `boostmap_striped_read` write pairs
+//! into an array, and `boostmap_judge_verdict` writes a `CVerdict`. The statuses:
 //!
 //! | Status | Meaning | The transaction then |
 //! |---|---|---|
@@ -64,10 +63,12 @@
 #![tactic(auto)]
 
 mod c_entry;
-mod core_pointer;
 mod handle;
+mod held_map;
+mod history;
 mod judge;
 mod map;
+mod map_pointer;
 mod member;
 mod member_handle;
 mod member_pointer;

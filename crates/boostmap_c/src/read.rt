@@ -4,7 +4,7 @@
 ghost use Rattle.std.specs.Prelude.{◌≡◌, ◌≤◌, length};
 ghost use Rattle.boostmap_c.specs.Contents.{LaysOf, Lie, Reads};
 
-use crate::handle::{Handle, close, open};
+use crate::handle::Handle;
 use crate::status::{DONE, EMPTY, SHORT, refused};
 use std::alloc::Global;
 use txn_trace::Refusal;
@@ -37,15 +37,14 @@ pub extern "C" fn boostmap_read(
     pairs: &mut [CPair],
     word: &mut u64,
 ) -> u32
-    ensures { Reads map.old.held.core result pairs.old pairs.new word.old word.new
-        map.new.held.core }
+    ensures { Reads map.old.held.map result pairs.old pairs.new word.old word.new
+        map.new.held.map }
 {
-    let Some(core) = open(alloc, map) else {
+    if !map.is_live() {
         return EMPTY;
-    };
-    let listed = core.regular_list(alloc);
-    close(map, core);
-    let Ok(listed) = listed else {
+    }
+    let held = map.held.get_mut();
+    let Ok(listed) = held.map.core().regular_list(alloc) else {
         return refused(Refusal::NoMemory);
     };
     lay_all(&listed, pairs, word)

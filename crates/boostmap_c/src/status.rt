@@ -1,10 +1,9 @@
-//! The statuses of all exports, and functions that report a core's result to C: a status, and for
-//! some results a word. The numbers are in one module because the calls of maps, striped maps and
-//! judges share them. If a result has no word, C's word is unchanged.
+//! The statuses of all exports. The numbers are in one module because the calls of maps, striped
+//! maps and judges share them.
 ghost use Rattle.std.specs.Prelude.{◌≡◌};
-ghost use Rattle.boostmap_c.specs.Replies.{refused, status_of_answer, status_of_result, word_after};
+ghost use Rattle.boostmap_c.specs.Replies.{refused, status_of_result};
 
-use txn_trace::{Answer, Refusal};
+use txn_trace::Refusal;
 
 /// The call is done. Its word is a value, a number or a count. Some calls have no word.
 pub(crate) const DONE: u32 = 0;
@@ -31,9 +30,6 @@ pub(crate) const NO_ENTRY: u32 = 8;
 /// The status of a refusal is this number plus the refusal's number.
 const REFUSED: u32 = 16;
 
-/// No call that C can make has this status.
-const OTHER: u32 = 63;
-
 /// The status of a refusal.
 pub(crate) fn refused(refusal: Refusal) -> u32
     ensures { result ≡ refused refusal }
@@ -48,30 +44,5 @@ pub(crate) fn status_of(outcome: Result<(), Refusal>) -> u32
     match outcome {
         Ok(()) => DONE,
         Err(refusal) => refused(refusal),
-    }
-}
-
-/// Writes an answer's word, if the answer has one, and returns the answer's status.
-pub(crate) fn tell(answer: Answer, word: &mut u64) -> u32
-    ensures status { result ≡ status_of_answer answer }
-    ensures word { word.new ≡ word_after word.old answer }
-{
-    match answer {
-        Answer::Done(None) => ABSENT,
-        Answer::Done(Some(number))
-        | Answer::Began(number)
-        | Answer::Saved(number)
-        | Answer::Returned(number)
-        | Answer::Committed(number) => {
-            *word = number;
-            DONE
-        }
-        Answer::Busy(holder) => {
-            *word = holder;
-            BUSY
-        }
-        Answer::Aborted => DONE,
-        Answer::Refused(refusal) => refused(refusal),
-        _ => OTHER,
     }
 }

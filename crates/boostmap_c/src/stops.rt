@@ -1,6 +1,5 @@
-//! Functions that report a striped map's result to C: a status, and for some results a word. The
-//! calls of a striped map return a `Result` with a `Stop`, not an `Answer` of a core, so `tell` in
-//! `status` cannot report them. If a result has no word, C's word is unchanged.
+//! Functions that report the result of a map's call to C: a status, and for some results a word. If
+//! a result has no word, C's word is unchanged.
 ghost use Rattle.std.specs.Prelude.{◌≡◌};
 ghost use Rattle.boostmap_c.specs.Stops.{status_of_end, status_of_number, status_of_place, status_of_reply, status_of_stop, word_of_number, word_of_place, word_of_reply, word_of_stop};
 

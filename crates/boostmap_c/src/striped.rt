@@ -65,7 +65,7 @@ fn first_member(
     let Some(caller) = waiting.pop() else {
         unreachable!()
     };
-    let Ok(member) = Box::new(alloc, Member { caller, waiting }) else {
+    let Ok(member) = Box::new(alloc, Member::new(caller, waiting)) else {
         return Err(Refusal::NoMemory);
     };
     Ok(member)
@@ -83,11 +83,7 @@ fn next_member(alloc: Global, first: &mut Member) -> Result<Box<Member, Global>,
     let Some(caller) = first.waiting.pop() else {
         return Err(Refusal::NoSuchCaller);
     };
-    let next = Member {
-        caller,
-        waiting: Vec::new(alloc),
-    };
-    match Box::new(alloc, next) {
+    match Box::new(alloc, Member::new(caller, Vec::new(alloc))) {
         Ok(member) => Ok(member),
         Err(failed) => {
             first.waiting.push_reserved(failed.value.caller);

@@ -2,14 +2,14 @@
 //! no key and ask for no stripe, so none of them is busy. By their contracts a commit and an abort
 //! are never refused with `NoMemory`. So a transaction can be ended even while other calls are
 //! refused memory.
-ghost use Rattle.boost_core.specs.Machine.{Happens};
-ghost use Rattle.boost_core.specs.Plain.{Aborts, Returns};
-ghost use Rattle.boostmap_c.specs.Calls.{TellsAnswer};
+ghost use Rattle.std.specs.Prelude.{◌≡◌};
+ghost use Rattle.boostmap_c.specs.Calls.{Aborts, Commits, Returns, Takes, TellsEnd, TellsNumber};
 
-use crate::handle::{Handle, close, open};
-use crate::status::{EMPTY, tell};
+use crate::handle::Handle;
+use crate::status::{EMPTY, status_of};
+use crate::stops::tell_number;
 use std::alloc::Global;
-use txn_trace::Step;
+use txn_trace::{Answer, Step};
 
 /// Begins a transaction. The word is the transaction's number, counted from 1.
 ///
@@ -27,21 +27,16 @@ use txn_trace::Step;
 ///
 /// Amortized constant time; may take memory for the history.
 #[unsafe(no_mangle)]
-pub extern "C" fn boostmap_begin(
-    alloc: Global,
-    map: &mut Handle,
-    caller: u64,
-    word: &mut u64,
-) -> u32
-    ensures { TellsAnswer (λ old answer new. Happens old (Step.Begin caller) answer new)
-        map.old.held.core result word.old word.new map.new.held.core }
+pub extern "C" fn boostmap_begin(map: &mut Handle, caller: u64, word: &mut u64) -> u32
+    ensures { TellsNumber (λ bound. Takes (Step.Begin caller) Answer.Began) map.old.held.map
+        result word.old word.new map.new.held.map }
 {
-    let Some(mut core) = open(alloc, map) else {
+    if !map.is_live() {
         return EMPTY;
-    };
-    let answer = core.step(Step::Begin(caller));
-    close(map, core);
-    tell(answer, word)
+    }
+    let held = map.held.get_mut();
+    let answer = held.map.begin(caller);
+    tell_number(answer, word)
 }
 
 /// Sets a savepoint. The word is the savepoint's level, counted from 1.
@@ -60,16 +55,16 @@ pub extern "C" fn boostmap_begin(
 ///
 /// Amortized constant time; may take memory for the history and the level.
 #[unsafe(no_mangle)]
-pub extern "C" fn boostmap_save(alloc: Global, map: &mut Handle, caller: u64, word: &mut u64) -> u32
-    ensures { TellsAnswer (λ old answer new. Happens old (Step.Save caller) answer new)
-        map.old.held.core result word.old word.new map.new.held.core }
+pub extern "C" fn boostmap_save(map: &mut Handle, caller: u64, word: &mut u64) -> u32
+    ensures { TellsNumber (λ bound. Takes (Step.Save caller) Answer.Saved) map.old.held.map
+        result word.old word.new map.new.held.map }
 {
-    let Some(mut core) = open(alloc, map) else {
+    if !map.is_live() {
         return EMPTY;
-    };
-    let answer = core.step(Step::Save(caller));
-    close(map, core);
-    tell(answer, word)
+    }
+    let held = map.held.get_mut();
+    let answer = held.map.save(caller);
+    tell_number(answer, word)
 }
 
 /// Takes back every change since a level was set, newest first. Level 0 is the beginning of the
@@ -91,22 +86,16 @@ pub extern "C" fn boostmap_save(alloc: Global, map: &mut Handle, caller: u64, wo
 /// The cost of an operation for each change that is taken back, and a step for each savepoint that
 /// is dropped. May take memory, but only for the history.
 #[unsafe(no_mangle)]
-pub extern "C" fn boostmap_back(
-    alloc: Global,
-    map: &mut Handle,
-    caller: u64,
-    level: u64,
-    word: &mut u64,
-) -> u32
-    ensures { TellsAnswer (λ old answer new. Returns old caller level answer new)
-        map.old.held.core result word.old word.new map.new.held.core }
+pub extern "C" fn boostmap_back(map: &mut Handle, caller: u64, level: u64, word: &mut u64) -> u32
+    ensures { TellsNumber (λ bound. Returns caller level) map.old.held.map
+        result word.old word.new map.new.held.map }
 {
-    let Some(mut core) = open(alloc, map) else {
+    if !map.is_live() {
         return EMPTY;
-    };
-    let answer = core.back(caller, level);
-    close(map, core);
-    tell(answer, word)
+    }
+    let held = map.held.get_mut();
+    let answer = held.back(caller, level);
+    tell_number(answer, word)
 }
 
 /// Commits the transaction. The word is the transaction's commit number, counted from 1.
@@ -122,7 +111,8 @@ pub extern "C" fn boostmap_back(
 ///
 /// # Cost
 ///
-/// A step for each change, each savepoint and each stripe; takes no memory.
+/// A step for each change, each savepoint and each stripe; takes no memory. If the map then trims
+/// its history by itself, also the cost of `boostmap_trim`.
 #[unsafe(no_mangle)]
 pub extern "C" fn boostmap_commit(
     alloc: Global,
@@ -130,15 +120,15 @@ pub extern "C" fn boostmap_commit(
     caller: u64,
     word: &mut u64,
 ) -> u32
-    ensures { TellsAnswer (λ old answer new. Happens old (Step.Commit caller) answer new)
-        map.old.held.core result word.old word.new map.new.held.core }
+    ensures { TellsNumber (Commits caller) map.old.held.map
+        result word.old word.new map.new.held.map }
 {
-    let Some(mut core) = open(alloc, map) else {
+    if !map.is_live() {
         return EMPTY;
-    };
-    let answer = core.step(Step::Commit(caller));
-    close(map, core);
-    tell(answer, word)
+    }
+    let held = map.held.get_mut();
+    let answer = held.commit(alloc, caller);
+    tell_number(answer, word)
 }
 
 /// Aborts the transaction: takes back every change, newest first, and gives back all stripes. No
@@ -152,7 +142,7 @@ pub extern "C" fn boostmap_commit(
 /// # Cost
 ///
 /// The cost of an operation for each change, and a step for each savepoint and each stripe; takes
-/// no memory.
+/// no memory. If the map then trims its history by itself, also the cost of `boostmap_trim`.
 #[unsafe(no_mangle)]
 pub extern "C" fn boostmap_abort(
     alloc: Global,
@@ -160,13 +150,13 @@ pub extern "C" fn boostmap_abort(
     caller: u64,
     word: &mut u64,
 ) -> u32
-    ensures { TellsAnswer (λ old answer new. Aborts old caller answer new)
-        map.old.held.core result word.old word.new map.new.held.core }
+    ensures ends { TellsEnd (Aborts caller) map.old.held.map result map.new.held.map }
+    ensures word { word.new ≡ word.old }
 {
-    let Some(mut core) = open(alloc, map) else {
+    if !map.is_live() {
         return EMPTY;
-    };
-    let answer = core.abort(caller);
-    close(map, core);
-    tell(answer, word)
+    }
+    let held = map.held.get_mut();
+    let outcome = held.abort(alloc, caller);
+    status_of(outcome)
 }

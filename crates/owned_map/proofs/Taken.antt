@@ -1,9 +1,10 @@
 -- No operation asks for a key that the limits refuse, so the map has no such key.
-use Rattle.std.proofs.Common.{◌≡◌, ℕ, Bool, true, false, cond, List, [], ◌∷◌, ◌++◌, map, Option, Some, None, refl, sym, ap, subst, ◌∙◌}
-use Rattle.std.specs.Prelude.{not, ◌&&◌}
+use Rattle.std.proofs.Common.{◌≡◌, ℕ, zero, suc, Bool, true, false, cond, List, [], ◌∷◌, ◌++◌, map, Option, Some, None, refl, sym, ap, subst, ◌∙◌}
+use Rattle.std.specs.Prelude.{not, ◌&&◌, Result, Ok, Err}
 use Rattle.std.specs.List.{filter, fold}
 use Rattle.std.proofs.lemmas.Bool.{and_from, and_parts}
 use Rattle.txn_words.specs.declared.op.Op.{Op}
+use Rattle.txn_words.specs.declared.refusal.Refusal.{Refusal}
 use Rattle.txn_words.specs.declared.refusal.Refusal.TheVariants as refusals
 use Rattle.txn_words.specs.declared.step.Step.{Step}
 use Rattle.txn_words.specs.declared.step.Step.TheVariants.{Begin, Ask, Seek, Act, Save, Back, Commit, Abort}
@@ -24,7 +25,7 @@ use Rattle.txn_trace.proofs.Table.{get-now}
 use Rattle.boost_core.specs.State.{State, seat_in}
 use Rattle.boost_core.specs.Answers.{is_at_end}
 use Rattle.boost_core.specs.Machine.{IsAllowed, Move, Moves}
-use Rattle.boost_core.specs.Plain.{Operates, Returns, Aborts, Ends, Leaves, undoing, undone}
+use Rattle.boost_core.specs.Plain.{Operates, Returns, Aborts, Ends, Leaves, Drives, Helps, HelpsTo, undoing, undone}
 use Rattle.owned_map.specs.Taken.{is_well, asks_well, HasTakenKeys}
 use Rattle.owned_map.proofs.Levels.{past}
 use Rattle.boost_core.proofs.Refused.{first_none}
@@ -96,6 +97,21 @@ returned old new c n (answers.Returned m) (reached, between, event, ends) well =
     ended c between new (answers.Returned m) ends (moved old between (Back c n) answers.Leaving event.move well)
 returned old new c n answers.Leaving none well = absurd none
 returned old new c n answer event well = moved old new (Back c n) answer event.move well
+
+driven : (moves : ℕ) (drive last : _) (old new : State) → Drives moves drive old last new → IsWell old → IsWell new
+driven zero drive last old new (ended, is) well = subst IsWell (sym is) well
+driven (suc moves) drive last old new (step, answer, between, named, event, rest) well = driven moves _ last between new rest (moved old between step answer event.move well)
+
+to_end : (c key : ℕ) (outcome : _) (old new : State) → HelpsTo outcome old c key new → IsWell old → IsWell new
+to_end c key outcome old new helps well = driven helps.moves _ helps.last old new helps.drives well
+
+pub helped : (old new : State) (c key : ℕ) (outcome : Result Unit Refusal) → Helps old c key outcome new → asks_well old.limits.half old.history ≡ true → asks_well new.limits.half new.history ≡ true
+helped old new c key (Ok done) (helps, stored) well = to_end c key _ old new helps well
+helped old new c key (Err refusals.NoSuchHelper) (none, is) well = subst IsWell (sym is) well
+helped old new c key (Err refusals.BadKey) helps well = to_end c key _ old new helps well
+helped old new c key (Err refusals.NoMemory) helps well = to_end c key _ old new helps well
+helped old new c key (Err refusals.StampsUsedUp) helps well = to_end c key _ old new helps well
+helped old new c key (Err refusal) none well = absurd none
 
 -- True if the key is not refused.
 abbrev keys_of : Bool → ℕ → Bool

@@ -3,8 +3,9 @@
 //!
 //! `OwnedMap` holds a core of `boost_core`. The owner makes every call, on behalf of a caller that
 //! is named by a number below the limits' `callers`. The calls are made one after another, so no
-//! other call interrupts a transaction that `transact` runs. No call leaves a transaction open. The
-//! contracts still allow that another caller has an open transaction while `transact` runs.
+//! other call interrupts a transaction that `transact` runs. `transact` leaves no transaction of its
+//! caller open. An owner that keeps transactions of several callers open, as `boostmap_c` does for
+//! C, makes the calls `begin`, `operate`, `save`, `back`, `commit` and `abort`.
 //!
 //! ```text
 //! let kept: Result<u64, Stop> = map.transact(0, |t: &mut Transaction<'_>| {

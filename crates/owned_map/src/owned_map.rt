@@ -12,7 +12,7 @@ ghost use Rattle.txn_words.specs.declared.answer.Answer.TheVariants as answers;
 ghost use Rattle.txn_words.specs.declared.step.Step.TheVariants as steps;
 ghost use Rattle.boost_core.specs.Machine.{Happens, Move, Moves};
 ghost use Rattle.boost_core.specs.State.{start};
-ghost use Rattle.boost_core.specs.Plain.{Operates, Returns};
+ghost use Rattle.boost_core.specs.Plain.{Aborts, Helps, Operates, Returns};
 ghost use Rattle.owned_map.specs.Effects.{HasAborted, HasBegun, HasOperated, IsNotCommitted, IsStopped};
 ghost use Rattle.owned_map.specs.Taken.{asks_well};
 ghost use Rattle.owned_map.specs.Within.{CanAbort, GoesOn, HasDone, IsBackAt, OnlyWorked, IsCommitted, IsGrown, IsRun, IsSameMap, IsSaved, IsTakenBack, KeepsSavepoints, OnlyDid, initialising};
@@ -104,28 +104,63 @@ impl OwnedMap {
         core
     }
 
-    /// Begins a transaction for a caller.
-    fn begin(&mut self, caller: u64) -> Result<(), Stop>
+    /// Begins a transaction for a caller, and returns the number of the transaction in the history.
+    /// The transaction stays open until `commit` or `abort` ends it. This call and the following
+    /// ones are for an owner that keeps transactions of several callers open. To run one work from
+    /// its beginning to its end, call `transact`.
+    ///
+    /// # Errors
+    ///
+    /// Each error leaves the core unchanged.
+    ///
+    /// - `Refused` with `NoSuchCaller` if the map has no caller with this number.
+    /// - `Refused` with `Leaving` if the caller has a transaction in which an operation was `Busy`.
+    /// - `Refused` with `AlreadyOpen` if the caller has another transaction.
+    /// - `Refused` with `NoMemory` if memory is refused.
+    ///
+    /// # Cost
+    ///
+    /// Amortized constant time. May take memory for the history.
+    pub fn begin(&mut self, caller: u64) -> Result<u64, Stop>
         ensures ok { OnOk result (CanAbort caller (now self.old.core.history) self.new.core) }
         ensures same { now self.new.core.history ≡ now self.old.core.history }
         ensures beside { OnlyWorked caller self.old.core self.new.core }
         ensures began { OnOk result (HasBegun caller self.old.core self.new.core) }
+        ensures did { IfOk result (λ transaction. Happens self.old.core (steps.Begin caller)
+            (answers.Began transaction) self.new.core) }
         ensures stopped { IfErr result (λ stop. IsStopped self.old.core (steps.Begin caller) stop
             self.new.core) }
     {
         // For the proof: the history is legal.
         let _legal = self.core.trace();
         match self.take_step(Step::Begin(caller)) {
-            Answer::Began(_) => Ok(()),
+            Answer::Began(transaction) => Ok(transaction),
             Answer::Refused(refusal) => Err(Stop::Refused(refusal)),
             _ => unreachable!(),
         }
     }
 
-    /// Does an operation. If the key was absent and the table has too few buckets, the table then
-    /// grows.
+    /// Does an operation in a caller's open transaction. If the key was absent and the table has too
+    /// few buckets, the table then grows.
+    ///
+    /// # Errors
+    ///
+    /// Each error leaves the map unchanged.
+    ///
+    /// - `Busy` if another caller's open transaction holds the key's stripe. The transaction can then
+    ///   only be aborted.
+    /// - `Refused` with `NoSuchCaller` if the map has no caller with this number.
+    /// - `Refused` with `NotOpen` if the caller has no transaction.
+    /// - `Refused` with `Leaving` if an earlier operation of the transaction was `Busy`.
+    /// - `Refused` with `BadKey` if the limits allow only half keys and the key is 2^63 or more.
+    /// - `Refused` with `NoMemory` if memory is refused.
+    /// - `Refused` with `StampsUsedUp` if no stamp is left. A get never needs one.
+    ///
+    /// # Cost
+    ///
+    /// The cost of `Transaction::get` or `Transaction::put`.
     #[tactic(auto, using(crate::proofs::Savepoints::keeps_operated))]
-    pub(crate) fn operate(&mut self, caller: u64, op: Op) -> Result<Reply, Stop>
+    pub fn operate(&mut self, caller: u64, op: Op) -> Result<Reply, Stop>
         ensures goes_on { GoesOn caller self.old.core self.new.core }
         ensures savepoints { KeepsSavepoints caller self.old.core self.new.core }
         ensures ok { IfOk result (λ reply. HasDone op reply self.old.core self.new.core) }
@@ -163,8 +198,17 @@ impl OwnedMap {
         }
     }
 
-    /// Sets a savepoint in a caller's transaction, and returns its level.
-    pub(crate) fn save(&mut self, caller: u64) -> Result<u64, Stop>
+    /// Sets a savepoint in a caller's open transaction, and returns its level.
+    ///
+    /// # Errors
+    ///
+    /// Those of `Transaction::save`, and `Refused` with `NoSuchCaller` or `NotOpen`. Each leaves the
+    /// core unchanged.
+    ///
+    /// # Cost
+    ///
+    /// The cost of `Transaction::save`.
+    pub fn save(&mut self, caller: u64) -> Result<u64, Stop>
         ensures goes_on { GoesOn caller self.old.core self.new.core }
         ensures ok { IfOk result (λ level. IsSaved caller level self.old.core self.new.core) }
         ensures same { now self.new.core.history ≡ now self.old.core.history }
@@ -182,9 +226,18 @@ impl OwnedMap {
         }
     }
 
-    /// Takes back a caller's changes since a level was set.
+    /// Takes back a caller's changes since a level was set, as `Transaction::back` does.
+    ///
+    /// # Errors
+    ///
+    /// Those of `Transaction::back`, and `Refused` with `NoSuchCaller` or `NotOpen`. Each leaves the
+    /// core unchanged.
+    ///
+    /// # Cost
+    ///
+    /// The cost of `Transaction::back`.
     #[tactic(auto, using(crate::proofs::Taken::returned))]
-    pub(crate) fn back(&mut self, caller: u64, level: u64) -> Result<(), Stop>
+    pub fn back(&mut self, caller: u64, level: u64) -> Result<(), Stop>
         ensures goes_on { GoesOn caller self.old.core self.new.core }
         ensures ok { OnOk result (IsBackAt caller level self.old.core self.new.core) }
         ensures err { OnErr result (now self.new.core.history ≡ now self.old.core.history) }
@@ -204,8 +257,21 @@ impl OwnedMap {
         }
     }
 
-    /// Commits a caller's transaction, and returns its commit number.
-    pub(crate) fn commit(&mut self, caller: u64) -> Result<u64, Stop>
+    /// Commits a caller's open transaction, and returns its commit number.
+    ///
+    /// # Errors
+    ///
+    /// Each error leaves the core unchanged: the transaction stays open.
+    ///
+    /// - `Refused` with `NoSuchCaller` if the map has no caller with this number.
+    /// - `Refused` with `NotOpen` if the caller has no transaction.
+    /// - `Refused` with `Leaving` if an operation of the transaction was `Busy`. It can then only be
+    ///   aborted.
+    ///
+    /// # Cost
+    ///
+    /// A step for each change, savepoint and stripe of the transaction. Takes no memory.
+    pub fn commit(&mut self, caller: u64) -> Result<u64, Stop>
         ensures ok { IfOk result (λ place. IsCommitted caller place self.old.core self.new.core) }
         ensures err { OnErr result (GoesOn caller self.old.core self.new.core) }
         ensures did { IfOk result (λ place. Happens self.old.core (steps.Commit caller)
@@ -222,13 +288,49 @@ impl OwnedMap {
         }
     }
 
-    /// Aborts a caller's transaction.
+    /// Aborts a caller's open transaction: takes back every change, newest first, and gives back all
+    /// stripes.
+    ///
+    /// # Errors
+    ///
+    /// `NoSuchCaller` if the map has no caller with this number, and `NotOpen` if the caller has no
+    /// transaction. The core is then unchanged.
+    ///
+    /// # Cost
+    ///
+    /// A seek and an act for each change, and a step for each savepoint and each stripe. Takes no
+    /// memory.
     #[tactic(auto, using(crate::proofs::Steps::taken_back_by, crate::proofs::Taken::aborted))]
-    pub(crate) fn abort(&mut self, caller: u64)
+    pub fn abort(&mut self, caller: u64) -> Result<(), Refusal>
         ensures back { IsTakenBack caller self.old.core self.new.core }
         ensures did { HasAborted caller self.old.core self.new.core }
+        ensures aborted { OnOk result (Aborts self.old.core caller answers.Aborted self.new.core) }
+        ensures refused { IfErr result (λ refusal. Aborts self.old.core caller
+            (answers.Refused refusal) self.new.core) }
     {
-        self.core.abort(caller);
+        match self.core.abort(caller) {
+            Answer::Aborted => Ok(()),
+            Answer::Refused(refusal) => Err(refusal),
+            _ => unreachable!(),
+        }
+    }
+
+    /// Helps the table to grow beyond what it does by itself: doubles the table if it has more than
+    /// two keys for each bucket and is not at its largest size, and initialises the bucket of a key,
+    /// as `Core::help` does. No map needs this call.
+    ///
+    /// # Errors
+    ///
+    /// Those of `Core::help`. Buckets that were initialised before the error stay initialised.
+    ///
+    /// # Cost
+    ///
+    /// The cost of `Core::help`.
+    #[tactic(auto, using(crate::proofs::Taken::helped))]
+    pub fn help(&mut self, caller: u64, key: u64) -> Result<(), Refusal>
+        ensures { Helps self.old.core caller key result self.new.core }
+    {
+        self.core.help(caller, key)
     }
 
     /// The number of buckets that should be initialised for the present keys.
@@ -254,19 +356,22 @@ impl OwnedMap {
         if bucket >= buckets {
             self.take_step(Step::Double(buckets));
         }
-        if let Answer::Stored = self.initialise(caller, bucket) {
+        if self.initialise(caller, bucket) {
             self.grown = bucket + 1;
         }
     }
 
-    /// Takes the three steps that initialise a bucket. Returns the answer to the last one.
-    fn initialise(&mut self, caller: u64, bucket: u64) -> Answer
-        ensures { (sought linked : Answer) × Moves self.old.core (initialising caller bucket)
-            (sought ∷ linked ∷ result ∷ []) self.new.core }
+    /// Takes the three steps that initialise a bucket. Returns whether the bucket is initialised. If
+    /// `help` has initialised it before, the first answer is `Ready`, and the other two steps are
+    /// refused.
+    fn initialise(&mut self, caller: u64, bucket: u64) -> bool
+        ensures { (sought linked stored : Answer) × Moves self.old.core (initialising caller bucket)
+            (sought ∷ linked ∷ stored ∷ []) self.new.core }
     {
-        self.take_step(Step::InitSeek(caller, bucket));
+        let sought = self.take_step(Step::InitSeek(caller, bucket));
         self.take_step(Step::InitLink(caller));
-        self.take_step(Step::InitStore(caller))
+        let stored = self.take_step(Step::InitStore(caller));
+        sought == Answer::Ready || stored == Answer::Stored
     }
 
     /// Takes a step of the core.

@@ -318,7 +318,7 @@ impl Transaction<'_> {
         match map.commit(caller) {
             Ok(place) => Ok(place),
             Err(stop) => {
-                map.abort(caller);
+                let _aborted = map.abort(caller);
                 Err(stop)
             }
         }
@@ -345,6 +345,6 @@ impl Drop for Transaction<'_> {
         ensures did { HasAborted self.entry.caller self.entry.map.now.core self.exit.0.now.core }
     {
         let Transaction { map, caller } = self;
-        map.abort(caller);
+        let _aborted = map.abort(caller);
     }
 }

@@ -7,8 +7,8 @@ use Rattle.boostmap_c.proofs.read.boostmap_read.Goals as goal
 
 pub returns : goal.returns
 returns c =
-    rw (c.in-Some.ensures.some.0, c.close.ensures) (
+    rw (c.get_mut-held.ensures.value) (
       refl,
       inl (subst (λ (xs : List (ℕ × ℕ)). LaysOf xs c.lay_all.result c.args.pairs.now c.lay_all.new.pairs c.lay_all.new.word)
-          (c.deref-2.ensures.value ∙ c.in-Ok.ensures ∙ ap (λ (s : State). ordered (now s.history)) c.deref.ensures) c.lay_all.ensures),
+          (c.deref.ensures.value ∙ c.in-Ok.ensures ∙ ap (λ (s : State). ordered (now s.history)) c.core.ensures) c.lay_all.ensures),
     )

@@ -4,9 +4,11 @@ use Rattle.boostmap_c.proofs.striped.first_member.Goals as goal
 
 pub returns-clause-ok : goal.returns-clause-ok
 returns-clause-ok c =
-    let items : c.in-Ok.waiting.items ≡ c.pop.new.self.items ++ c.in-Some-pop.caller ∷ [] = c.in-Some-pop.ensures.items in record {
+    let items : c.in-Ok.waiting.items ≡ c.pop.new.self.items ++ c.in-Some-pop.caller ∷ [] = c.in-Some-pop.ensures.items in
+    let waiting = ap (λ v. v.items ++ c.in-Some-pop.caller ∷ []) (sym c.new.ensures.waiting) in
+    let caller = ap (λ a. c.new.result.waiting.items ++ a ∷ []) (sym c.new.ensures.caller) in record {
       kept = c.in-Some.kept;
       keep_is = sym c.keep_of.ensures ∙ c.in-Some.is;
       host = c.in-Ok._host;
-      opened = subst (IsOpened _ c.in-Ok._host) (items ∙ ap (λ m. m.waiting.items ++ m.caller ∷ []) (sym c.in-Ok-new.ensures.ok)) c.in-Ok.ensures.ok;
+      opened = subst (IsOpened _ c.in-Ok._host) (items ∙ waiting ∙ caller ∙ ap (λ m. m.waiting.items ++ m.caller ∷ []) (sym c.in-Ok-new.ensures.ok)) c.in-Ok.ensures.ok;
     }

@@ -15,11 +15,11 @@ use denote.Steps.{nothing}
 use denote.Triple.Walked.{Stays, walk_of}
 use Rattle.std.proofs.raw_atomic.Walks.{proved_at, leaves}
 use Rattle.owned_pointer.proofs.Words.{word}
-use Rattle.boostmap_c.proofs.CoreWords.{makes_core}
-use Rattle.boostmap_c.specs.contracts.core_pointer.CorePointer.null.{ended, clauses}
-use Rattle.boostmap_c.specs.contracts.core_pointer.CorePointer.null.Key.{name as #self}
-use Rattle.boostmap_c.proofs.core_pointer.CorePointer.null.Statement.{statement}
-use Rattle.boostmap_c.proofs.core_pointer.CorePointer.null.Code as code
+use Rattle.boostmap_c.proofs.MapWords.{makes_map}
+use Rattle.boostmap_c.specs.contracts.map_pointer.MapPointer.null.{ended, clauses}
+use Rattle.boostmap_c.specs.contracts.map_pointer.MapPointer.null.Key.{name as #self}
+use Rattle.boostmap_c.proofs.map_pointer.MapPointer.null.Statement.{statement}
+use Rattle.boostmap_c.proofs.map_pointer.MapPointer.null.Code as code
 
 pub null_spec : {M : Type 1} → statement M
 null_spec 𝓤 𝓛 𝓜 𝓡 wired =
@@ -32,5 +32,5 @@ null_spec 𝓤 𝓛 𝓜 𝓡 wired =
     sets ! (agg ! (and_then ! (lit ! tt) (no_more !))) refl (tt, (record { fits = lit< tt }, tt)) $
     -- The end of the function needs an empty resource, the pointer and the fact that the contract
     -- ensures.
-    nothing ! $ makes_core ! null_ptr None $ use0 𝓛 (raw (fact 𝓤 (None ≡ None))) (fact_i 𝓤 (None ≡ None) (emp 𝓤) refl) $ nothing ! $ nothing ! $
-    returns ! (look_at ! 0 refl) $ free_all ! refl $ keep ! (0 ∷ 1 ∷ 3 ∷ 2 ∷ []) $ by ! (leaves 𝓛 ended hs c z (word null_ptr) (record { at = null_ptr; core = None }) tt tt)))
+    nothing ! $ makes_map ! null_ptr None $ use0 𝓛 (raw (fact 𝓤 (None ≡ None))) (fact_i 𝓤 (None ≡ None) (emp 𝓤) refl) $ nothing ! $ nothing ! $
+    returns ! (look_at ! 0 refl) $ free_all ! refl $ keep ! (0 ∷ 1 ∷ 3 ∷ 2 ∷ []) $ by ! (leaves 𝓛 ended hs c z (word null_ptr) (record { at = null_ptr; map = None }) tt tt)))

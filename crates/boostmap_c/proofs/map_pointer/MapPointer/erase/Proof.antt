@@ -23,28 +23,28 @@ use Rattle.core.proofs.alloc.Calls.{Goes-blank}
 use Rattle.std.proofs.raw_atomic.Walks.{proved_at, leaves}
 use Rattle.std_alloc.specs.Box.Ownership.{box_owns}
 use Rattle.owned_pointer.proofs.Words.{Pointer, word, opens_pointer}
-use Rattle.boost_core.specs.contracts.machine.Core as core
-use Rattle.boostmap_c.proofs.CoreWords.{makes_core}
-use Rattle.boostmap_c.specs.contracts.core_pointer.CorePointer.erase.{ended, clauses}
-use Rattle.boostmap_c.specs.contracts.core_pointer.CorePointer.erase.Key.{name as #self}
-use Rattle.boostmap_c.proofs.core_pointer.CorePointer.erase.Statement.{statement}
-use Rattle.boostmap_c.proofs.core_pointer.CorePointer.erase.Code as code
+use Rattle.boostmap_c.specs.contracts.held_map.HeldMap as held_map
+use Rattle.boostmap_c.proofs.MapWords.{makes_map}
+use Rattle.boostmap_c.specs.contracts.map_pointer.MapPointer.erase.{ended, clauses}
+use Rattle.boostmap_c.specs.contracts.map_pointer.MapPointer.erase.Key.{name as #self}
+use Rattle.boostmap_c.proofs.map_pointer.MapPointer.erase.Statement.{statement}
+use Rattle.boostmap_c.proofs.map_pointer.MapPointer.erase.Code as code
 
 pub erase_spec : {M : Type 1} → statement M
 erase_spec 𝓤 𝓛 𝓜 𝓡 wired =
-    let 𝓣 = tables 𝓤 𝓛.H 𝓜 𝓡 𝓡.env in let c = clauses 𝓛 𝓜.mem 𝓡.returns in let fn = code.function in let P : RattleType = Pointer core.the_row in
+    let 𝓣 = tables 𝓤 𝓛.H 𝓜 𝓡 𝓡.env in let c = clauses 𝓛 𝓜.mem 𝓡.returns in let fn = code.function in let P : RattleType = Pointer held_map.the_row in
     let hs : Stays ended.signature.params ended.kept = (stay_dropped (plain (λ _. P)) yes, tt) in
     proved_at 𝓛 ended hs c 𝓜 𝓡 (Goes-blank 𝓛 0 (plain (λ _. P)) yes (λ κs x f. tt), tt) #self fn (code.unfolded 𝓤 𝓛.H 𝓜 𝓡 wired) (λ z are.
     let v = z.0.3.0 in let Post : Val → SProp 𝓤 = (walk_of 𝓛 ended hs c).post z in let runs : List Val → SProp 𝓤 = λ ws. WpFn 𝓤 𝓛.H 𝓣.C 𝓣.Λ fn ws Post in
     qed 𝓛 ((‵ ftrue ⊛ ‵ (owns (types_at ended.signature.params z.0.0) z.0.3 z.0.4)) ∷ ‵ ftrue ∷ []) ∵
-    split ! $ move ! (1 ∷ []) $ fsplit ! $ opens_pointer core.the_row ! v z.0.4.0 (λ heap b o here spelled. keep ! (0 ∷ []) $
+    split ! $ move ! (1 ∷ []) $ fsplit ! $ opens_pointer held_map.the_row ! v z.0.4.0 (λ heap b o here spelled. keep ! (0 ∷ []) $
     let p = block_ptr b o in let ws = word p ∷ [] in
     suffices ! (runs ws) (subst (λ (us : List Val). ent 𝓤 (runs ws) (runs us)) (sym (λ i. spelled i ++ [])) (id⊢ 𝓤 (runs ws))) $
     enter ! 𝓣.C 𝓣.Λ fn ws Post $ alloc_all ! (λ l. pass_all ! refl ((tt, (tt, tt)), tt) $
     sets ! (of_opd ! (get_in ! (fld ! refl (stop !)) (sub ! 0 refl (whole !)))) refl (tt, tt) $ sets ! (of_opd ! (get ! refl)) refl (tt, tt) $
     sets ! (agg ! (and_then ! (get ! refl) (no_more !))) refl (tt, (tt, tt)) $
-    fpack ! Global (λ (a : Global). box_owns (ghosts.dealloc_token a) core.the_row p v.value) heap $ makes_core ! p (Some v.value) $
+    fpack ! Global (λ (a : Global). box_owns (ghosts.dealloc_token a) held_map.the_row p v.value) heap $ makes_map ! p (Some v.value) $
     -- The end of the function needs the pointer and the fact that the contract ensures. No resource
     -- of the parameter remains.
     use0 𝓛 (raw (fact 𝓤 (Some v.value ≡ Some v.value))) (fact_i 𝓤 (Some v.value ≡ Some v.value) (emp 𝓤) refl) $ nothing ! $ nothing ! $ fjoin ! $ nothing ! $
-    returns ! (look_at ! 0 refl) $ free_all ! refl $ keep ! (0 ∷ 1 ∷ 3 ∷ 2 ∷ []) $ by ! (leaves 𝓛 ended hs c z (word p) (record { at = p; core = Some v.value }) (tt, tt) (tt, tt)))))
+    returns ! (look_at ! 0 refl) $ free_all ! refl $ keep ! (0 ∷ 1 ∷ 3 ∷ 2 ∷ []) $ by ! (leaves 𝓛 ended hs c z (word p) (record { at = p; map = Some v.value }) (tt, tt) (tt, tt)))))

@@ -25,14 +25,14 @@ use Rattle.core.proofs.alloc.Calls.{Goes-blank}
 use Rattle.std.proofs.raw_atomic.Walks.{proved_at, leaves}
 use Rattle.std_alloc.specs.Box.Ownership.{box_owns}
 use Rattle.owned_pointer.proofs.Words.{word, makes_pointer}
-use Rattle.boost_core.specs.State.{State}
-use Rattle.boost_core.specs.contracts.machine.Core as core
-use Rattle.boostmap_c.specs.Held.{owns_core}
-use Rattle.boostmap_c.proofs.CoreWords.{Row, opens_core, core_of}
-use Rattle.boostmap_c.specs.contracts.core_pointer.CorePointer.restore.{ended, clauses}
-use Rattle.boostmap_c.specs.contracts.core_pointer.CorePointer.restore.Key.{name as #self}
-use Rattle.boostmap_c.proofs.core_pointer.CorePointer.restore.Statement.{statement}
-use Rattle.boostmap_c.proofs.core_pointer.CorePointer.restore.Code as code
+use Rattle.boostmap_c.specs.declared.held_map.HeldMap.{HeldMap}
+use Rattle.boostmap_c.specs.contracts.held_map.HeldMap as held_map
+use Rattle.boostmap_c.specs.Held.{owns_map}
+use Rattle.boostmap_c.proofs.MapWords.{Row, opens_map, map_of}
+use Rattle.boostmap_c.specs.contracts.map_pointer.MapPointer.restore.{ended, clauses}
+use Rattle.boostmap_c.specs.contracts.map_pointer.MapPointer.restore.Key.{name as #self}
+use Rattle.boostmap_c.proofs.map_pointer.MapPointer.restore.Statement.{statement}
+use Rattle.boostmap_c.proofs.map_pointer.MapPointer.restore.Code as code
 
 pub restore_spec : {M : Type 1} → statement M
 restore_spec 𝓤 𝓛 𝓜 𝓡 wired =
@@ -40,16 +40,16 @@ restore_spec 𝓤 𝓛 𝓜 𝓡 wired =
     let hs : Stays ended.signature.params ended.kept = (stay_dropped (plain (λ _. Row)) yes, tt) in
     proved_at 𝓛 ended hs c 𝓜 𝓡 (Goes-blank 𝓛 0 (plain (λ _. Row)) yes (λ κs x f. tt), tt) #self fn (code.unfolded 𝓤 𝓛.H 𝓜 𝓡 wired) (λ z are.
     let v = z.0.3.0 in let Post : Val → SProp 𝓤 = (walk_of 𝓛 ended hs c).post z in let runs : List Val → SProp 𝓤 = λ ws. WpFn 𝓤 𝓛.H 𝓣.C 𝓣.Λ fn ws Post in
-    qed 𝓛 ((‵ ftrue ⊛ ‵ (owns (types_at ended.signature.params z.0.0) z.0.3 z.0.4)) ∷ raw (fact 𝓤 (IsSome v.core)) ∷ []) ∵
-    move ! (1 ∷ []) $ heard ! (IsSome v.core) (λ is. let x = (core_of v.core is).0 in let there : v.core ≡ Some x = (core_of v.core is).1 in
-    split ! $ move ! (1 ∷ []) $ fsplit ! $ opens_core ! v z.0.4.0 (λ spelled. rewrite ! 0 (λ (held : Option State). ‵ (owns_core v.at held)) there refl $ fpick ! (λ heap.
-    in_a_block ! v.at (λ p. box_owns (ghosts.dealloc_token heap) core.the_row p x) (fst∗ 𝓤 (never 𝓤) (sem 𝓛 (ghosts.dealloc_token heap (bare (lone core.the_row.mir)) null_ptr))) (λ b o here. keep ! (0 ∷ []) $
+    qed 𝓛 ((‵ ftrue ⊛ ‵ (owns (types_at ended.signature.params z.0.0) z.0.3 z.0.4)) ∷ raw (fact 𝓤 (IsSome v.map)) ∷ []) ∵
+    move ! (1 ∷ []) $ heard ! (IsSome v.map) (λ is. let x = (map_of v.map is).0 in let there : v.map ≡ Some x = (map_of v.map is).1 in
+    split ! $ move ! (1 ∷ []) $ fsplit ! $ opens_map ! v z.0.4.0 (λ spelled. rewrite ! 0 (λ (held : Option HeldMap). ‵ (owns_map v.at held)) there refl $ fpick ! (λ heap.
+    in_a_block ! v.at (λ p. box_owns (ghosts.dealloc_token heap) held_map.the_row p x) (fst∗ 𝓤 (never 𝓤) (sem 𝓛 (ghosts.dealloc_token heap (bare (lone held_map.the_row.mir)) null_ptr))) (λ b o here. keep ! (0 ∷ []) $
     let p = block_ptr b o in let ws = word p ∷ [] in
     suffices ! (runs ws) (subst (λ (us : List Val). ent 𝓤 (runs ws) (runs us)) (sym (λ i. (spelled ∙ ap (λ (a : Ptr). word a ∷ []) here) i ++ [])) (id⊢ 𝓤 (runs ws))) $
     enter ! 𝓣.C 𝓣.Λ fn ws Post $ alloc_all ! (λ l. pass_all ! refl ((tt, (tt, tt)), tt) $
     sets ! (of_opd ! (get_in ! (fld ! refl (stop !)) (sub ! 0 refl (whole !)))) refl (tt, tt) $ sets ! (of_opd ! (get ! refl)) refl (tt, tt) $
-    sets ! (agg ! (and_then ! (get ! refl) (no_more !))) refl (tt, (tt, tt)) $ makes_pointer core.the_row ! heap b o x $
+    sets ! (agg ! (and_then ! (get ! refl) (no_more !))) refl (tt, (tt, tt)) $ makes_pointer held_map.the_row ! heap b o x $
     -- The end of the function needs the pointer and the fact that the contract ensures. No resource
     -- of the parameter remains.
-    use0 𝓛 (raw (fact 𝓤 (v.core ≡ Some x))) (fact_i 𝓤 (v.core ≡ Some x) (emp 𝓤) there) $ nothing ! $ nothing ! $ fjoin ! $ nothing ! $
+    use0 𝓛 (raw (fact 𝓤 (v.map ≡ Some x))) (fact_i 𝓤 (v.map ≡ Some x) (emp 𝓤) there) $ nothing ! $ nothing ! $ fjoin ! $ nothing ! $
     returns ! (look_at ! 0 refl) $ free_all ! refl $ keep ! (0 ∷ 1 ∷ 3 ∷ 2 ∷ []) $ by ! (leaves 𝓛 ended hs c z (word p) (record { at = p; value = x }) (tt, tt) (tt, tt))))))))
