@@ -20,7 +20,9 @@ static boostmap_status move_one(boostmap_recorded *accounts, void *nothing) {
 static void *run(void *caller) {
     uint64_t place;
     for (int i = 0; i < ROUNDS; i++)
-        if (boostmap_recorded_transact(caller, UINT64_MAX, move_one, NULL, &place) > BOOSTMAP_ABSENT) return caller;
+        if (boostmap_recorded_transact(caller, UINT64_MAX, move_one, NULL, &place) >
+            BOOSTMAP_ABSENT)
+            return caller;
     return NULL;
 }
 

@@ -19,7 +19,8 @@ static boostmap_status move_one(boostmap_caller *accounts, void *nothing) {
 static void *run(void *caller) {
     uint64_t place;
     for (int i = 0; i < ROUNDS; i++)
-        if (boostmap_caller_transact(caller, UINT64_MAX, move_one, NULL, &place) != BOOSTMAP_DONE) return caller;
+        if (boostmap_caller_transact(caller, UINT64_MAX, move_one, NULL, &place) != BOOSTMAP_DONE)
+            return caller;
     return NULL;
 }
 
@@ -28,7 +29,9 @@ int main(void) {
     const boostmap_pair accounts[] = {{1, 5000}, {2, 0}};
     pthread_t threads[THREADS];
     uint64_t word, one = 0, two = 0;
-    if (boostmap_striped_open(&callers[0], THREADS, 64, 0, BOOSTMAP_KEEP_NOTHING, 0, &word) != BOOSTMAP_DONE) return 1;
+    if (boostmap_striped_open(&callers[0], THREADS, 64, 0, BOOSTMAP_KEEP_NOTHING, 0, &word) !=
+        BOOSTMAP_DONE)
+        return 1;
     for (int i = 1; i < THREADS; i++)
         if (boostmap_striped_join(&callers[0], &callers[i], &word) != BOOSTMAP_DONE) return 1;
     if (boostmap_caller_put_all(&callers[0], accounts, 2) != BOOSTMAP_DONE) return 1;

@@ -21,13 +21,16 @@ static boostmap_status moves(boostmap_caller *accounts, void *with) {
 static int transfer(boostmap_caller *accounts, uint64_t from, uint64_t to, int64_t sum) {
     order wanted = {from, to, sum};
     uint64_t place;
-    return boostmap_caller_transact(accounts, UINT64_MAX, moves, &wanted, &place) <= BOOSTMAP_ABSENT;
+    return boostmap_caller_transact(accounts, UINT64_MAX, moves, &wanted, &place) <=
+           BOOSTMAP_ABSENT;
 }
 
 int main(void) {
     boostmap_caller accounts = BOOSTMAP_INIT;
     uint64_t word, one = 0, two = 0;
-    if (boostmap_striped_open(&accounts, 1, 64, 0, BOOSTMAP_KEEP_NOTHING, 0, &word) != BOOSTMAP_DONE) return 1;
+    if (boostmap_striped_open(&accounts, 1, 64, 0, BOOSTMAP_KEEP_NOTHING, 0, &word) !=
+        BOOSTMAP_DONE)
+        return 1;
     boostmap_caller_put(&accounts, 1, 100, &word);
     boostmap_caller_put(&accounts, 2, 50, &word);
     printf("moved 30: %s\n", transfer(&accounts, 1, 2, 30) ? "yes" : "no");

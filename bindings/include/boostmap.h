@@ -488,9 +488,11 @@ static inline boostmap_counts boostmap_caller_counts(const boostmap_caller *call
 
 /* Ends a transaction whose operations returned `*status`: commits after 0 and 1, and else aborts. Is 0
  * if a call of this transaction was busy. */
-static inline int boostmap_caller_ends(boostmap_caller *caller, boostmap_status *status, uint64_t *place) {
+static inline int boostmap_caller_ends(boostmap_caller *caller, boostmap_status *status,
+                                       uint64_t *place) {
     uint64_t commits = *status <= BOOSTMAP_ABSENT;
-    boostmap_status end = commits ? boostmap_striped_commit(caller, place) : boostmap_striped_abort(caller);
+    boostmap_status end =
+        commits ? boostmap_striped_commit(caller, place) : boostmap_striped_abort(caller);
     if (end == BOOSTMAP_DONE) {
         caller->commits += commits;
         caller->aborts += 1 - commits;
@@ -510,8 +512,9 @@ typedef boostmap_status boostmap_job(boostmap_caller *caller, void *with);
  * `tries` times (UINT64_MAX: for ever); a busy call of another map is returned at once. *word: the
  * place of the commit, as boostmap_striped_commit has it.
  * What the job returns; 2; 3; 19, if the job went on after a busy call and returned 0 or 1; 20 */
-static inline boostmap_status boostmap_caller_transact(boostmap_caller *caller, uint64_t tries, boostmap_job *job,
-                                                       void *with, uint64_t *word) {
+static inline boostmap_status boostmap_caller_transact(boostmap_caller *caller, uint64_t tries,
+                                                       boostmap_job *job, void *with,
+                                                       uint64_t *word) {
     uint64_t waits = 0;
     for (;;) {
         boostmap_status status = boostmap_striped_begin(caller);
@@ -524,8 +527,8 @@ static inline boostmap_status boostmap_caller_transact(boostmap_caller *caller, 
 
 /* Adds to the value of the key, 0 if it has none; *word: the value that it had, or 0. After 9 nothing
  * has changed.    0; 1: it had none; 9; as boostmap_striped_put */
-static inline boostmap_status boostmap_striped_add(boostmap_caller *caller, uint64_t key, int64_t delta,
-                                                   uint64_t *word) {
+static inline boostmap_status boostmap_striped_add(boostmap_caller *caller, uint64_t key,
+                                                   int64_t delta, uint64_t *word) {
     uint64_t by = delta < 0 ? 0 - (uint64_t)delta : (uint64_t)delta;
     boostmap_status status = boostmap_striped_get(caller, key, word);
     if (status == BOOSTMAP_ABSENT) *word = 0;
@@ -536,8 +539,8 @@ static inline boostmap_status boostmap_striped_add(boostmap_caller *caller, uint
 
 /* Puts only if the key has no value; *word: the value that it has now.
  * 0; 1: it has been put; as boostmap_striped_put */
-static inline boostmap_status boostmap_striped_get_or_put(boostmap_caller *caller, uint64_t key, uint64_t value,
-                                                          uint64_t *word) {
+static inline boostmap_status boostmap_striped_get_or_put(boostmap_caller *caller, uint64_t key,
+                                                          uint64_t value, uint64_t *word) {
     boostmap_status status = boostmap_striped_put_if_absent(caller, key, value, word);
     if (status == BOOSTMAP_ABSENT) *word = value;
     return status;
@@ -550,7 +553,8 @@ typedef boostmap_status boostmap_change(void *with, boostmap_status found, uint6
 /* Lets `change` say the key's new value; *word: the value that it had.
  * 0; 1: it had none; what `change` returns; as boostmap_striped_put */
 static inline boostmap_status boostmap_striped_update(boostmap_caller *caller, uint64_t key,
-                                                      boostmap_change *change, void *with, uint64_t *word) {
+                                                      boostmap_change *change, void *with,
+                                                      uint64_t *word) {
     uint64_t value = 0;
     boostmap_status found = boostmap_striped_get(caller, key, word), wanted;
     if (found > BOOSTMAP_ABSENT) return found;
@@ -564,7 +568,8 @@ static inline boostmap_status boostmap_striped_update(boostmap_caller *caller, u
 /* All pairs of the map by rising keys, in a new array that the program frees by free(); *word: their
  * number. Takes every stripe, as boostmap_striped_read: no call reads only a part of a map.
  * 0; as boostmap_striped_count */
-static inline boostmap_status boostmap_striped_items(boostmap_caller *caller, boostmap_pair **pairs, uint64_t *word) {
+static inline boostmap_status boostmap_striped_items(boostmap_caller *caller, boostmap_pair **pairs,
+                                                     uint64_t *word) {
     boostmap_status status = boostmap_striped_count(caller, word);
     if (status != BOOSTMAP_DONE) return status;
     *pairs = (boostmap_pair *)malloc((*word + 1) * sizeof **pairs);
@@ -575,8 +580,8 @@ static inline boostmap_status boostmap_striped_items(boostmap_caller *caller, bo
 }
 
 /* Puts the pairs of an array, in their order.    0; as boostmap_striped_put, with some of them put */
-static inline boostmap_status boostmap_striped_put_all(boostmap_caller *caller, const boostmap_pair *pairs,
-                                                       size_t count) {
+static inline boostmap_status boostmap_striped_put_all(boostmap_caller *caller,
+                                                       const boostmap_pair *pairs, size_t count) {
     size_t i;
     for (i = 0; i < count; i++) {
         uint64_t had;
@@ -593,22 +598,23 @@ static inline boostmap_status boostmap_striped_clear(boostmap_caller *caller, ui
     uint64_t i, had;
     boostmap_status status = boostmap_striped_items(caller, &pairs, word);
     if (status != BOOSTMAP_DONE) return status;
-    for (i = 0; i < *word && status == BOOSTMAP_DONE; i++) status = boostmap_striped_take(caller, pairs[i].key, &had);
+    for (i = 0; i < *word && status == BOOSTMAP_DONE; i++)
+        status = boostmap_striped_take(caller, pairs[i].key, &had);
     free(pairs);
     return status;
 }
 
 /* Defines boostmap_caller_NAME by its parameters after the caller and by the operation. */
-#define BOOSTMAP_AT_ONCE(NAME, PARAMETERS, OPERATION)                                                \
-    static inline boostmap_status boostmap_caller_##NAME PARAMETERS {                               \
-        uint64_t waits = 0, place;                                                                  \
-        for (;;) {                                                                                  \
-            boostmap_status status = boostmap_striped_begin(caller);                                \
-            if (status != BOOSTMAP_DONE) return status;                                             \
-            status = OPERATION;                                                                     \
-            if (boostmap_caller_ends(caller, &status, &place)) return status;                       \
-            boostmap_wait(&waits);                                                                  \
-        }                                                                                           \
+#define BOOSTMAP_AT_ONCE(NAME, PARAMETERS, OPERATION)                                              \
+    static inline boostmap_status boostmap_caller_##NAME PARAMETERS {                              \
+        uint64_t waits = 0, place;                                                                 \
+        for (;;) {                                                                                 \
+            boostmap_status status = boostmap_striped_begin(caller);                               \
+            if (status != BOOSTMAP_DONE) return status;                                            \
+            status = OPERATION;                                                                    \
+            if (boostmap_caller_ends(caller, &status, &place)) return status;                      \
+            boostmap_wait(&waits);                                                                 \
+        }                                                                                          \
     }
 
 BOOSTMAP_AT_ONCE(get, (boostmap_caller *caller, uint64_t key, uint64_t *word),
@@ -617,24 +623,30 @@ BOOSTMAP_AT_ONCE(take, (boostmap_caller *caller, uint64_t key, uint64_t *word),
                  boostmap_striped_take(caller, key, word))
 BOOSTMAP_AT_ONCE(put, (boostmap_caller *caller, uint64_t key, uint64_t value, uint64_t *word),
                  boostmap_striped_put(caller, key, value, word))
-BOOSTMAP_AT_ONCE(put_if_absent, (boostmap_caller *caller, uint64_t key, uint64_t value, uint64_t *word),
+BOOSTMAP_AT_ONCE(put_if_absent,
+                 (boostmap_caller *caller, uint64_t key, uint64_t value, uint64_t *word),
                  boostmap_striped_put_if_absent(caller, key, value, word))
 BOOSTMAP_AT_ONCE(put_if_equal,
-                 (boostmap_caller *caller, uint64_t key, uint64_t expected, uint64_t value, uint64_t *word),
+                 (boostmap_caller *caller, uint64_t key, uint64_t expected, uint64_t value,
+                  uint64_t *word),
                  boostmap_striped_put_if_equal(caller, key, expected, value, word))
 BOOSTMAP_AT_ONCE(add, (boostmap_caller *caller, uint64_t key, int64_t delta, uint64_t *word),
                  boostmap_striped_add(caller, key, delta, word))
-BOOSTMAP_AT_ONCE(get_or_put, (boostmap_caller *caller, uint64_t key, uint64_t value, uint64_t *word),
+BOOSTMAP_AT_ONCE(get_or_put,
+                 (boostmap_caller *caller, uint64_t key, uint64_t value, uint64_t *word),
                  boostmap_striped_get_or_put(caller, key, value, word))
 BOOSTMAP_AT_ONCE(update,
-                 (boostmap_caller *caller, uint64_t key, boostmap_change *change, void *with, uint64_t *word),
+                 (boostmap_caller *caller, uint64_t key, boostmap_change *change, void *with,
+                  uint64_t *word),
                  boostmap_striped_update(caller, key, change, with, word))
-BOOSTMAP_AT_ONCE(count, (boostmap_caller *caller, uint64_t *word), boostmap_striped_count(caller, word))
+BOOSTMAP_AT_ONCE(count, (boostmap_caller *caller, uint64_t *word),
+                 boostmap_striped_count(caller, word))
 BOOSTMAP_AT_ONCE(items, (boostmap_caller *caller, boostmap_pair **pairs, uint64_t *word),
                  boostmap_striped_items(caller, pairs, word))
 BOOSTMAP_AT_ONCE(put_all, (boostmap_caller *caller, const boostmap_pair *pairs, size_t count),
                  boostmap_striped_put_all(caller, pairs, count))
-BOOSTMAP_AT_ONCE(clear, (boostmap_caller *caller, uint64_t *word), boostmap_striped_clear(caller, word))
+BOOSTMAP_AT_ONCE(clear, (boostmap_caller *caller, uint64_t *word),
+                 boostmap_striped_clear(caller, word))
 #undef BOOSTMAP_AT_ONCE
 
 #ifdef __cplusplus

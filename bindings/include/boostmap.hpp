@@ -312,7 +312,8 @@ public:
 
 private:
     friend class caller_calls;
-    friend std::vector<caller> open_striped(std::uint64_t callers, std::uint64_t stripes, const opening &how);
+    friend std::vector<caller> open_striped(std::uint64_t callers, std::uint64_t stripes,
+                                            const opening &how);
     friend std::vector<boostmap_entry> history(const std::vector<caller> &callers);
     caller() = default;
     void swap(caller &other) noexcept {
@@ -325,14 +326,15 @@ private:
 
 // Opens a striped map with no keys, for 1 to 4096 callers and with 1 to 4096 stripes, and returns its
 // callers in the order of their numbers, from 1. Each thread takes one.
-inline std::vector<caller> open_striped(std::uint64_t callers, std::uint64_t stripes, const opening &how = {}) {
+inline std::vector<caller> open_striped(std::uint64_t callers, std::uint64_t stripes,
+                                        const opening &how = {}) {
     std::vector<caller> all;
     caller first;
     bool keeps = how.keeps_commits || how.keeps_entries;
     first.handle_.is_recorded = how.keeps_entries;
     detail::check(boostmap_striped_open(&first.handle_.caller, callers, stripes, how.keys,
-                                        keeps ? BOOSTMAP_KEEP_COMMITS : BOOSTMAP_KEEP_NOTHING, how.seed,
-                                        &first.number_));
+                                        keeps ? BOOSTMAP_KEEP_COMMITS : BOOSTMAP_KEEP_NOTHING,
+                                        how.seed, &first.number_));
     all.reserve(callers);
     for (std::uint64_t i = 1; i < callers; i++) {
         caller next;
@@ -360,7 +362,8 @@ inline std::vector<boostmap_entry> history(const std::vector<caller> &callers) {
                 from = i + 1;
             }
     }
-    std::sort(parts.begin(), parts.end(), [](part a, part b) { return a.first->number < b.first->number; });
+    std::sort(parts.begin(), parts.end(),
+              [](part a, part b) { return a.first->number < b.first->number; });
     std::vector<boostmap_entry> all;
     for (const auto &each : parts) all.insert(all.end(), each.first, each.end);
     return all;
@@ -379,7 +382,9 @@ public:
     value get(std::uint64_t key) { return call(boostmap_recorded_get, key); }
     value take(std::uint64_t key) { return call(boostmap_recorded_take, key); }
     value put(std::uint64_t key, std::uint64_t to) { return call(boostmap_recorded_put, key, to); }
-    value put_if_absent(std::uint64_t key, std::uint64_t to) { return call(boostmap_recorded_put_if_absent, key, to); }
+    value put_if_absent(std::uint64_t key, std::uint64_t to) {
+        return call(boostmap_recorded_put_if_absent, key, to);
+    }
     value put_if_equal(std::uint64_t key, std::uint64_t expected, std::uint64_t to) {
         return call(boostmap_recorded_put_if_equal, key, expected, to);
     }
@@ -397,7 +402,9 @@ public:
         return put(key, to);
     }
     // Puts only if the key has no value; returns the value that it has now.
-    std::uint64_t get_or_put(std::uint64_t key, std::uint64_t to) { return put_if_absent(key, to).value_or(to); }
+    std::uint64_t get_or_put(std::uint64_t key, std::uint64_t to) {
+        return put_if_absent(key, to).value_or(to);
+    }
 
     // Puts what `change` makes of the key's value, or, if it makes none, takes the key out; returns the
     // value before.
@@ -431,7 +438,9 @@ public:
     }
 
 protected:
-    explicit caller_calls(caller *owner) : caller_(owner) { detail::check(boostmap_recorded_begin(&owner->handle_)); }
+    explicit caller_calls(caller *owner) : caller_(owner) {
+        detail::check(boostmap_recorded_begin(&owner->handle_));
+    }
     caller_calls(caller_calls &&other) noexcept : caller_(std::exchange(other.caller_, nullptr)) {}
 
     value end_by_commit() {

@@ -45,7 +45,8 @@ static inline boostmap_status boostmap_record_room(boostmap_recorded *r, size_t 
 }
 
 /* Keeps an entry, for which there is room, and returns it. */
-static inline boostmap_entry *boostmap_record_note(boostmap_recorded *r, uint32_t kind, uint64_t number) {
+static inline boostmap_entry *boostmap_record_note(boostmap_recorded *r, uint32_t kind,
+                                                   uint64_t number) {
     boostmap_entry *entry = &r->entries[r->count++];
     memset(entry, 0, sizeof *entry);
     entry->kind = kind;
@@ -74,7 +75,8 @@ static inline size_t boostmap_record_above(const boostmap_recorded *r, uint64_t 
     uint64_t levels = 0;
     for (i = r->kept; i < r->count; i++) {
         const boostmap_entry *entry = &r->entries[i];
-        if (entry->kind == BOOSTMAP_DID) standing += (size_t)boostmap_record_changes(entry - 1, entry);
+        if (entry->kind == BOOSTMAP_DID)
+            standing += (size_t)boostmap_record_changes(entry - 1, entry);
         if (entry->kind == BOOSTMAP_UNDONE) standing--;
         if (entry->kind == BOOSTMAP_RETURNED) levels = entry->number;
         if (entry->kind == BOOSTMAP_SAVED && ++levels == level) below = standing;
@@ -82,14 +84,16 @@ static inline size_t boostmap_record_above(const boostmap_recorded *r, uint64_t 
     return standing - below;
 }
 
-static inline boostmap_status boostmap_recorded_open(boostmap_recorded *first, uint64_t callers, uint64_t stripes,
-                                                     uint64_t keys, uint64_t seed, uint64_t *word) {
+static inline boostmap_status boostmap_recorded_open(boostmap_recorded *first, uint64_t callers,
+                                                     uint64_t stripes, uint64_t keys, uint64_t seed,
+                                                     uint64_t *word) {
     first->is_recorded = 1;
-    return boostmap_striped_open(&first->caller, callers, stripes, keys, BOOSTMAP_KEEP_COMMITS, seed, word);
+    return boostmap_striped_open(&first->caller, callers, stripes, keys, BOOSTMAP_KEEP_COMMITS,
+                                 seed, word);
 }
 
-static inline boostmap_status boostmap_recorded_join(boostmap_recorded *first, boostmap_recorded *next,
-                                                     uint64_t *word) {
+static inline boostmap_status boostmap_recorded_join(boostmap_recorded *first,
+                                                     boostmap_recorded *next, uint64_t *word) {
     next->is_recorded = first->is_recorded;
     return boostmap_striped_join(&first->caller, &next->caller, word);
 }
@@ -122,9 +126,9 @@ static inline boostmap_status boostmap_recorded_abort(boostmap_recorded *r) {
 }
 
 /* Keeps an operation that is done. */
-static inline boostmap_status boostmap_record_did(boostmap_recorded *r, boostmap_status status, uint32_t operation,
-                                                  boostmap_pair pair, const uint64_t *expected,
-                                                  const uint64_t *had) {
+static inline boostmap_status boostmap_record_did(boostmap_recorded *r, boostmap_status status,
+                                                  uint32_t operation, boostmap_pair pair,
+                                                  const uint64_t *expected, const uint64_t *had) {
     boostmap_entry *entry;
     if (!r->is_recorded || status > BOOSTMAP_ABSENT) return status;
     entry = boostmap_record_note(r, BOOSTMAP_ASKED, 0);
@@ -140,13 +144,13 @@ static inline boostmap_status boostmap_record_did(boostmap_recorded *r, boostmap
 }
 
 /* Defines an operation by its parameters after the caller, its call, and its entry. */
-#define BOOSTMAP_RECORDED(NAME, PARAMETERS, CALL, OPERATION, KEY, VALUE, EXPECTED)                    \
-    static inline boostmap_status boostmap_recorded_##NAME PARAMETERS {                             \
-        boostmap_pair pair = {KEY, VALUE};                                                          \
-        boostmap_status status = boostmap_record_room(r, 2);                                        \
-        if (status != BOOSTMAP_DONE) return status;                                                 \
-        status = CALL;                                                                              \
-        return boostmap_record_did(r, status, OPERATION, pair, EXPECTED, word);                     \
+#define BOOSTMAP_RECORDED(NAME, PARAMETERS, CALL, OPERATION, KEY, VALUE, EXPECTED)                 \
+    static inline boostmap_status boostmap_recorded_##NAME PARAMETERS {                            \
+        boostmap_pair pair = {KEY, VALUE};                                                         \
+        boostmap_status status = boostmap_record_room(r, 2);                                       \
+        if (status != BOOSTMAP_DONE) return status;                                                \
+        status = CALL;                                                                             \
+        return boostmap_record_did(r, status, OPERATION, pair, EXPECTED, word);                    \
     }
 
 BOOSTMAP_RECORDED(get, (boostmap_recorded *r, uint64_t key, uint64_t *word),
@@ -154,13 +158,17 @@ BOOSTMAP_RECORDED(get, (boostmap_recorded *r, uint64_t key, uint64_t *word),
 BOOSTMAP_RECORDED(take, (boostmap_recorded *r, uint64_t key, uint64_t *word),
                   boostmap_striped_take(&r->caller, key, word), BOOSTMAP_TAKE, key, 0, NULL)
 BOOSTMAP_RECORDED(put, (boostmap_recorded *r, uint64_t key, uint64_t value, uint64_t *word),
-                  boostmap_striped_put(&r->caller, key, value, word), BOOSTMAP_PUT, key, value, NULL)
-BOOSTMAP_RECORDED(put_if_absent, (boostmap_recorded *r, uint64_t key, uint64_t value, uint64_t *word),
-                  boostmap_striped_put_if_absent(&r->caller, key, value, word), BOOSTMAP_PUT_IF, key, value, NULL)
+                  boostmap_striped_put(&r->caller, key, value, word), BOOSTMAP_PUT, key, value,
+                  NULL)
+BOOSTMAP_RECORDED(put_if_absent,
+                  (boostmap_recorded *r, uint64_t key, uint64_t value, uint64_t *word),
+                  boostmap_striped_put_if_absent(&r->caller, key, value, word), BOOSTMAP_PUT_IF,
+                  key, value, NULL)
 BOOSTMAP_RECORDED(put_if_equal,
-                  (boostmap_recorded *r, uint64_t key, uint64_t expected, uint64_t value, uint64_t *word),
-                  boostmap_striped_put_if_equal(&r->caller, key, expected, value, word), BOOSTMAP_PUT_IF, key, value,
-                  &expected)
+                  (boostmap_recorded *r, uint64_t key, uint64_t expected, uint64_t value,
+                   uint64_t *word),
+                  boostmap_striped_put_if_equal(&r->caller, key, expected, value, word),
+                  BOOSTMAP_PUT_IF, key, value, &expected)
 #undef BOOSTMAP_RECORDED
 
 static inline boostmap_status boostmap_recorded_save(boostmap_recorded *r, uint64_t *word) {
@@ -187,8 +195,8 @@ static inline boostmap_status boostmap_recorded_count(boostmap_recorded *r, uint
 }
 
 /* Keeps a get of each pair. */
-static inline boostmap_status boostmap_recorded_read(boostmap_recorded *r, boostmap_pair *pairs, size_t places,
-                                                     uint64_t *word) {
+static inline boostmap_status boostmap_recorded_read(boostmap_recorded *r, boostmap_pair *pairs,
+                                                     size_t places, uint64_t *word) {
     boostmap_status status = boostmap_record_room(r, 2 * places);
     uint64_t i;
     if (status == BOOSTMAP_DONE) status = boostmap_striped_read(&r->caller, pairs, places, word);
@@ -204,7 +212,8 @@ typedef boostmap_status boostmap_recorded_job(boostmap_recorded *r, void *with);
 
 /* Runs a job in a transaction, as boostmap_caller_transact does. */
 static inline boostmap_status boostmap_recorded_transact(boostmap_recorded *r, uint64_t tries,
-                                                         boostmap_recorded_job *job, void *with, uint64_t *word) {
+                                                         boostmap_recorded_job *job, void *with,
+                                                         uint64_t *word) {
     uint64_t waits = 0;
     for (;;) {
         boostmap_status status = boostmap_recorded_begin(r);
@@ -219,19 +228,21 @@ static inline boostmap_status boostmap_recorded_transact(boostmap_recorded *r, u
 }
 
 /* The caller whose next transaction, from the entry `at[i]` on, committed first, or `count`. */
-static inline size_t boostmap_record_first(const boostmap_recorded *callers, size_t count, const size_t *at) {
+static inline size_t boostmap_record_first(const boostmap_recorded *callers, size_t count,
+                                           const size_t *at) {
     size_t first = count, i;
     for (i = 0; i < count; i++)
         if (at[i] < callers[i].kept &&
-            (first == count || callers[i].entries[at[i]].number < callers[first].entries[at[first]].number))
+            (first == count ||
+             callers[i].entries[at[i]].number < callers[first].entries[at[first]].number))
             first = i;
     return first;
 }
 
 /* Feeds the committed transactions of all callers of a map, which are in no transaction, to a new judge
  * by the order of commits. Each is fed as a whole, as caller 0.    0; 3; 30 */
-static inline boostmap_status boostmap_recorded_feed(boostmap_judge *judge, const boostmap_recorded *callers,
-                                                     size_t count) {
+static inline boostmap_status
+boostmap_recorded_feed(boostmap_judge *judge, const boostmap_recorded *callers, size_t count) {
     size_t *at = (size_t *)calloc(count + 1, sizeof *at), next;
     boostmap_status status = at ? BOOSTMAP_DONE : BOOSTMAP_NO_MEMORY;
     while (status == BOOSTMAP_DONE && (next = boostmap_record_first(callers, count, at)) < count) {

@@ -9,7 +9,16 @@
 #include <stdatomic.h>
 #include <time.h>
 
-enum { MOST = 16, VISITS = 400, MOVES = 40, KEYS = 24, STRIPES = 11, BALANCE = 100, AUDITS = 20, MOST_VISITS = 4000 };
+enum {
+    MOST = 16,
+    VISITS = 400,
+    MOVES = 40,
+    KEYS = 24,
+    STRIPES = 11,
+    BALANCE = 100,
+    AUDITS = 20,
+    MOST_VISITS = 4000
+};
 
 static atomic_long live, refusals, refused_calls, visits, audits, broken_off;
 static atomic_ulong one_in;
@@ -55,19 +64,23 @@ void __wrap_free(void *block) {
     __real_free(block);
 }
 
-static boostmap_recorded callers[MOST_VISITS + 2]; /* the first, the auditor, and one for each visit */
+static boostmap_recorded
+    callers[MOST_VISITS + 2]; /* the first, the auditor, and one for each visit */
 static pthread_mutex_t joining = PTHREAD_MUTEX_INITIALIZER;
 
 static void joins(boostmap_recorded *r) {
     boostmap_status status;
     uint64_t w;
     CHECK(!pthread_mutex_lock(&joining));
-    while ((status = boostmap_recorded_join(&callers[0], r, &w)) == BOOSTMAP_NO_MEMORY) refused_calls++;
+    while ((status = boostmap_recorded_join(&callers[0], r, &w)) == BOOSTMAP_NO_MEMORY)
+        refused_calls++;
     CHECK(!pthread_mutex_unlock(&joining));
     CHECK(status == BOOSTMAP_DONE);
 }
 
-typedef struct { uint64_t from, to; } move;
+typedef struct {
+    uint64_t from, to;
+} move;
 
 /* Moves 1, if there is 1, at times by a savepoint and back. */
 static boostmap_status moves(boostmap_recorded *r, void *with) {
@@ -166,7 +179,8 @@ static boostmap_verdict judged(size_t count) {
 static void forge(long count) {
     for (; count >= 0; count--)
         for (size_t i = callers[count].kept; i-- > 1;)
-            if (callers[count].entries[i - 1].operation == BOOSTMAP_GET && callers[count].entries[i].has) {
+            if (callers[count].entries[i - 1].operation == BOOSTMAP_GET &&
+                callers[count].entries[i].has) {
                 callers[count].entries[i].value++;
                 return;
             }
@@ -190,10 +204,13 @@ int main(int argc, char **argv) {
     one_in = 0;
     CHECK(boostmap_recorded_transact(&callers[0], 0, audit, 0, &w) == BOOSTMAP_DONE);
     boostmap_verdict verdict = judged((size_t)count + 2);
-    printf("crowd: %d at a time, %ld visits, %ld broken off, %llu commits, %ld audits, %ld allocations refused\n", at_once,
-           (long)visits, (long)broken_off, (unsigned long long)w, (long)audits, (long)refusals);
+    printf("crowd: %d at a time, %ld visits, %ld broken off, %llu commits, %ld audits, %ld "
+           "allocations refused\n",
+           at_once, (long)visits, (long)broken_off, (unsigned long long)w, (long)audits,
+           (long)refusals);
     CHECK(verdict.is_legal && verdict.commits == w && verdict.running == 0);
-    CHECK(audits >= AUDITS && broken_off > 0 && (refusals > 0) == refuses && (refused_calls > 0) == refuses);
+    CHECK(audits >= AUDITS && broken_off > 0 && (refusals > 0) == refuses &&
+          (refused_calls > 0) == refuses);
     forge(count + 1);
     verdict = judged((size_t)count + 2);
     CHECK(!verdict.is_legal && verdict.rule == 1);

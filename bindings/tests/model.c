@@ -7,14 +7,20 @@
 
 enum { CALLERS = 3, KEYS = 60, MOST_STRIPES = 9, LEVELS = 4, CHANGES = 4096, A_MAP = 20000 };
 
-typedef struct { int has; uint64_t value; } cell;
+typedef struct {
+    int has;
+    uint64_t value;
+} cell;
 
 /* For each caller: the keys that its open transaction changed, with what they had before, and the
  * number of changes below each level. */
 typedef struct {
     boostmap_recorded r;
     int is_open;
-    struct { uint64_t key; cell before; } changed[CHANGES];
+    struct {
+        uint64_t key;
+        cell before;
+    } changed[CHANGES];
     size_t changes, below[LEVELS + 1];
     uint64_t levels, number;
 } caller;
@@ -70,7 +76,8 @@ static boostmap_status models(caller *c, const boostmap_entry *e, uint64_t *had)
     *had = before.value;
     if (e->operation == BOOSTMAP_PUT) set(c, e->key, put);
     if (e->operation == BOOSTMAP_TAKE) set(c, e->key, none);
-    if (e->operation == BOOSTMAP_PUT_IF && before.has == (int)e->has && (!e->has || before.value == e->expected))
+    if (e->operation == BOOSTMAP_PUT_IF && before.has == (int)e->has &&
+        (!e->has || before.value == e->expected))
         set(c, e->key, put);
     return before.has ? BOOSTMAP_DONE : BOOSTMAP_ABSENT;
 }
@@ -122,12 +129,14 @@ static void save(caller *c) {
 }
 
 /* Checks the pairs of the map, which is read with all stripes taken. */
-static void reads(caller *c, boostmap_status (*items)(boostmap_caller *, boostmap_pair **, uint64_t *)) {
+static void reads(caller *c,
+                  boostmap_status (*items)(boostmap_caller *, boostmap_pair **, uint64_t *)) {
     boostmap_pair *pairs;
     uint64_t count, at = 0;
     CHECK(items(&c->r.caller, &pairs, &count) == BOOSTMAP_DONE);
     for (uint64_t k = 0; k < KEYS; k++)
-        if (cells[k].has) CHECK(at < count && pairs[at].key == k && pairs[at++].value == cells[k].value);
+        if (cells[k].has)
+            CHECK(at < count && pairs[at].key == k && pairs[at++].value == cells[k].value);
     CHECK(at == count);
     free(pairs);
 }
@@ -161,7 +170,9 @@ static void call_at_once(caller *c) {
     at_once++;
     switch (draw(8)) {
     case 0: status = boostmap_caller_get(at, e.key, &w); break;
-    case 1: status = boostmap_caller_put(at, e.key, e.value, &w), on->has = 1, on->value = e.value; break;
+    case 1:
+        status = boostmap_caller_put(at, e.key, e.value, &w), on->has = 1, on->value = e.value;
+        break;
     case 2: status = boostmap_caller_take(at, e.key, &w), on->has = 0; break;
     case 3:
         status = boostmap_caller_put_if_equal(at, e.key, e.expected, e.value, &w);
@@ -235,7 +246,8 @@ static void close_map(int is_recorded) {
     CHECK(boostmap_judge_new(&judge, 1, BOOSTMAP_BY_COMMITS) == BOOSTMAP_DONE);
     CHECK(boostmap_recorded_feed(&judge, all, CALLERS) == BOOSTMAP_DONE);
     CHECK(boostmap_judge_verdict(&judge, &verdict) == BOOSTMAP_DONE);
-    CHECK(verdict.is_legal && verdict.running == 0 && verdict.commits == (is_recorded ? commits : 0));
+    CHECK(verdict.is_legal && verdict.running == 0 &&
+          verdict.commits == (is_recorded ? commits : 0));
     CHECK(boostmap_judge_free(&judge) == BOOSTMAP_DONE);
     for (int i = 0; i < CALLERS; i++) CHECK(boostmap_recorded_free(&callers[i].r) == BOOSTMAP_DONE);
 }
@@ -251,8 +263,8 @@ static void one_map(int is_recorded) {
         c->r = none;
         c->r.is_recorded = is_recorded;
         CHECK((i ? boostmap_recorded_join(&callers[0].r, &c->r, &w)
-                 : boostmap_striped_open(&c->r.caller, CALLERS, stripes, draw(100), (uint32_t)keep, draw(1000), &w)) ==
-              BOOSTMAP_DONE);
+                 : boostmap_striped_open(&c->r.caller, CALLERS, stripes, draw(100), (uint32_t)keep,
+                                         draw(1000), &w)) == BOOSTMAP_DONE);
         c->number = w;
     }
     for (int i = 0; i < A_MAP; i++) call(&callers[draw(CALLERS)]);
@@ -266,8 +278,8 @@ int main(int argc, char **argv) {
         one_map(maps % 2 == 0);
         all += commits;
     }
-    printf("model: %ld calls, %ld maps, %llu committed, %llu busy, %llu at once\n", maps * A_MAP, maps,
-           (unsigned long long)all, (unsigned long long)busy, (unsigned long long)at_once);
+    printf("model: %ld calls, %ld maps, %llu committed, %llu busy, %llu at once\n", maps * A_MAP,
+           maps, (unsigned long long)all, (unsigned long long)busy, (unsigned long long)at_once);
     CHECK(all > 0 && busy > 0 && at_once > 0);
     return 0;
 }

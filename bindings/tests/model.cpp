@@ -42,9 +42,10 @@ static void set(contents &all, std::uint64_t key, value to) {
 }
 
 static bool are_equal(const std::vector<boostmap_pair> &pairs, const contents &all) {
-    return pairs.size() == all.size() && std::equal(pairs.begin(), pairs.end(), all.begin(), [](auto &pair, auto &entry) {
-        return pair.key == entry.first && pair.value == entry.second;
-    });
+    return pairs.size() == all.size() &&
+           std::equal(pairs.begin(), pairs.end(), all.begin(), [](auto &pair, auto &entry) {
+               return pair.key == entry.first && pair.value == entry.second;
+           });
 }
 
 template <class Calls> static void add(Calls &t, contents &model, std::uint64_t key) {
@@ -54,9 +55,7 @@ template <class Calls> static void add(Calls &t, contents &model, std::uint64_t 
     try {
         CHECK(t.add(key, subtracts ? -delta : delta) == at(model, key) && fits);
         model[key] = subtracts ? is - by : is + by;
-    } catch (const error &e) {
-        CHECK(e.status == BOOSTMAP_OVERFLOW && !fits);
-    }
+    } catch (const error &e) { CHECK(e.status == BOOSTMAP_OVERFLOW && !fits); }
 }
 
 // A call on the whole map, now and then.
@@ -67,9 +66,7 @@ template <class Calls> static void call_on_all(Calls &t, contents &model) {
         CHECK(t.clear() == model.size());
         model.clear();
         break;
-    case 1:
-        CHECK(t.count() == model.size() && are_equal(t.items(), model));
-        break;
+    case 1: CHECK(t.count() == model.size() && are_equal(t.items(), model)); break;
     case 2:
         t.put_all({{key, 1}, {key + 1, 2}});
         set(model, key, 1);
@@ -115,9 +112,7 @@ static std::uint64_t transaction(caller &c, contents &model) {
     std::uint64_t calls = 1 + draw(10);
     contents changed = model;
     switch (draw(8)) {
-    case 0:
-        call(c, model);
-        return 1;
+    case 0: call(c, model); return 1;
     case 1:
         try {
             c.transact(0, [&](auto &t) {
@@ -125,8 +120,7 @@ static std::uint64_t transaction(caller &c, contents &model) {
                 throw calls;
             });
             CHECK(false);
-        } catch (std::uint64_t) {
-        }
+        } catch (std::uint64_t) {}
         return calls;
     case 2: {
         auto left = c.begin();
@@ -178,7 +172,8 @@ static void beside_a_model(std::uint64_t calls) {
     std::printf("model_cpp: %zu entries, %llu commits, %llu aborts\n", history.size(),
                 static_cast<unsigned long long>(verdict.commits),
                 static_cast<unsigned long long>(first.aborts + second.aborts));
-    CHECK(verdict.is_legal && verdict.commits == first.commits + second.commits && first.busy + second.busy == 0);
+    CHECK(verdict.is_legal && verdict.commits == first.commits + second.commits &&
+          first.busy + second.busy == 0);
     CHECK(first.aborts > 0 && second.aborts > 0);
     std::size_t forged = history.size() / 2; // the reply to a get that finds a value
     while (history[forged - 1].operation != BOOSTMAP_GET || !history[forged].has) forged++;
@@ -200,7 +195,10 @@ static int every_call(boostmap_cpp::caller_job &t, int stop) {
     next(), t.put_if(9, std::nullopt, 90);
     next(), t.add(3, -1);
     next(), t.get_or_put(8, 80);
-    next(), t.update(4, [&](value is) { next(); return is; });
+    next(), t.update(4, [&](value is) {
+        next();
+        return is;
+    });
     next(), t.save();
     next(), t.put(5, 50);
     next(), t.back(1);
@@ -226,9 +224,7 @@ static void thrown_everywhere() {
         try {
             callers[0].transact([&](auto &t) { return every_call(t, stop); });
             CHECK(false);
-        } catch (int stopped) {
-            CHECK(stopped == stop);
-        }
+        } catch (int stopped) { CHECK(stopped == stop); }
         is_unchanged(callers, before);
     }
     for (bool is_done = false; !is_done; of_memory++) {
@@ -236,12 +232,13 @@ static void thrown_everywhere() {
         try {
             callers[0].transact([&](auto &t) { every_call(t, calls), t.roll_back(); });
             is_done = true;
-        } catch (const std::bad_alloc &) {
-        }
+        } catch (const std::bad_alloc &) {}
         before_refusal = -1;
         is_unchanged(callers, before);
     }
-    CHECK(of_memory > 3 && callers[0].transact([&](auto &t) { return t.roll_back(), every_call(t, calls); }) == calls);
+    CHECK(of_memory > 3 && callers[0].transact([&](auto &t) {
+        return t.roll_back(), every_call(t, calls);
+    }) == calls);
     std::printf("model_cpp: thrown at %d places, and at %d allocations\n", stop, of_memory - 1);
 }
 
