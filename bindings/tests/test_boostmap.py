@@ -310,7 +310,7 @@ class Callers(unittest.TestCase):
         runs = []
         with self.assertRaises(Busy) as busy:
             other.transact(lambda t: runs.append(t.put(6, 60)) or t.get(5 + 16), tries=3)
-        self.assertEqual((busy.exception.holder, len(runs)), (1, 4))
+        self.assertEqual((busy.exception.holder, len(runs), other.counts()), (1, 4, Counts(0, 0, 4)))
         with self.assertRaises(Refused) as refused:
             with other.transaction() as t:
                 with self.assertRaises(Busy):
@@ -436,6 +436,7 @@ class Operations(unittest.TestCase):
             commits = sum(caller.counts().commits for caller in callers)
             self.assertGreater(min(caller.counts().aborts for caller in callers), 10)
             if keeps_entries:
+                self.assertEqual(sum(len(caller._record) for caller in callers), commits)
                 entries = history(callers)
                 self.assertEqual(judged(entries), Verdict(True, commits, 0, None, None))
                 gets = (i for i in range(len(entries) // 2, len(entries)) if entries[i].operation == "get")
@@ -449,7 +450,8 @@ class Operations(unittest.TestCase):
                                ("take", 1), ("put_if", 3, None, 30), ("get", 3)])
             self.assertEqual(replies, [None, 10, 10, 6, 20, 7, None, 30])
             self.assertEqual((other.items(), one.run([])), ({2: 20, 3: 30}, []))
-            rows = [(OverflowError, [("put", 4, 1), ("add", 2, -21)]), (ValueError, [("put", 4, 1), ("clear",)]),
+            rows = [(OverflowError, [("put", 4, 1), ("add", 2, -21)]), (OverflowError, [("add", 2, -21), ("put", 4, 1)]),
+                    (ValueError, [("put", 4, 1), ("clear",)]),
                     (ValueError, [()]), (TypeError, [("put", 4, 1), ("get", "x")]), (TypeError, [("get",)]), (TypeError, [5]),
                     (OverflowError, [("add", 2, 2**63)]), (OverflowError, [("put", 2, 2**64)])]
             for error, operations in rows:
@@ -472,6 +474,38 @@ class Operations(unittest.TestCase):
         waits.join()
         self.assertEqual((replies, one.get(5), one.counts()), ([50, [50]], 51, Counts(2, 0, 0)))
         self.assertEqual(other.counts().commits, 2)
+
+    def test_an_exception_ends_the_transaction_at_once(self):
+        for keeps_entries in (False, True):
+            one, other = open_striped(callers=2, keeps_entries=keeps_entries)
+
+            def fails(t):
+                t.put(5, 50)
+                raise GivesUp
+
+            try:
+                one.transact(fails)
+            except GivesUp:  # whose traceback holds the transaction
+                self.assertIsNone(other.transact(lambda t: t.get(5), tries=0))
+            self.assertEqual(one.counts(), Counts(0, 1, 0))
+
+    def test_an_interrupt_ends_a_wait(self):
+        def handle(*_):
+            raise Interrupt
+
+        one, other = open_striped(callers=2)
+        before = signal.signal(signal.SIGALRM, handle)
+        try:
+            with one.transaction() as holds:
+                holds.put(5, 50)
+                for waits in (lambda: other.get(5), lambda: other.run([("get", 5)]), lambda: other.transact(lambda t: t.get(5))):
+                    signal.setitimer(signal.ITIMER_REAL, 0.02)
+                    with self.assertRaises(Interrupt):
+                        waits()
+        finally:
+            signal.setitimer(signal.ITIMER_REAL, 0)
+            signal.signal(signal.SIGALRM, before)
+        self.assertEqual(other.get(5), 50)
 
     def test_an_interrupt_leaves_all_or_nothing(self):
         jobs = [
