@@ -280,6 +280,14 @@ public:
     std::uint64_t number() const { return number_; }
     boostmap_cpp::counts counts() const { return boostmap_caller_counts(&handle_.caller); }
 
+    // With what the map was opened.
+    boostmap_options options() {
+        boostmap_options all = {};
+        std::uint64_t *members[] = {&all.callers, &all.stripes, &all.keys, &all.keep, &all.seed}, option = 0;
+        for (auto *member : members) detail::check(boostmap_striped_option(&handle_.caller, option++, member));
+        return all;
+    }
+
     // Begins a transaction, which aborts if it is destroyed before it is committed.
     [[nodiscard]] caller_transaction begin();
 

@@ -32,7 +32,7 @@ except ImportError:
     _boostmap = None
 
 __all__ = [
-    "open_striped", "Caller", "CallerTransaction", "Counts", "history", "Map", "Transaction", "Judge", "Entry", "Verdict",
+    "open_striped", "Caller", "CallerTransaction", "Counts", "Options", "history", "Map", "Transaction", "Judge", "Entry", "Verdict",
     "Error", "Busy", "Refused", "NotFed",
 ]
 
@@ -73,7 +73,7 @@ _CALLS = {
     "striped_commit": (0, True), "striped_abort": (0, False), "striped_save": (0, True), "striped_back": (1, False),
     "striped_get": (1, True), "striped_take": (1, True), "striped_put": (2, True),
     "striped_put_if_absent": (2, True), "striped_put_if_equal": (3, True),
-    "striped_count": (0, True),
+    "striped_count": (0, True), "striped_option": (1, True),
     "judge_free": (0, False),
 }
 
@@ -348,6 +348,10 @@ Counts = collections.namedtuple("Counts", "commits aborts busy")
 Counts.__doc__ = """How a caller's transactions ended: by a commit, by an abort, and by a busy call, which aborts too."""
 
 
+Options = collections.namedtuple("Options", "callers stripes keys keeps_commits seed")
+Options.__doc__ = """With what a striped map was opened."""
+
+
 def open_striped(callers=1, stripes=64, keys=0, keeps_commits=False, seed=None, keeps_entries=False):
     """Opens a striped map with no keys, for 1 to 4096 callers and with 1 to 4096 stripes, and returns its callers, in
     the order of their numbers from 1. It has room for so many keys from the start. If it keeps its commits, each
@@ -474,6 +478,9 @@ class _CtypesCaller(_AtOnce, _Owned):
 
     def _counts(self):
         return self._ended
+
+    def _options(self):
+        return [self._call("striped_option", i) for i in range(5)]
 
     def abort(self):
         """Aborts the caller's transaction, and returns whether there was one."""
@@ -618,6 +625,11 @@ class Caller(_boostmap.Caller if _boostmap else _CtypesCaller):
     def counts(self):
         """How the caller's transactions ended, as Counts."""
         return Counts(*self._counts())
+
+    def options(self):
+        """With what the map was opened, as Options."""
+        callers, stripes, keys, keep, seed = self._options()
+        return Options(callers, stripes, keys, bool(keep), seed)
 
 
 class CallerTransaction(_boostmap.Transaction if _boostmap else _CtypesTransaction):

@@ -219,6 +219,15 @@ class Callers(unittest.TestCase):
             t.put(1, 10)
         self.assertIsNone(t.commit_number)
 
+    def test_a_map_tells_how_it_was_opened(self):
+        for caller in open_striped(callers=3, stripes=16, keys=100, keeps_commits=True, seed=7):
+            self.assertEqual(caller.options(), (3, 16, 100, True, 7))
+        caller, = open_striped()
+        self.assertEqual(caller.options()[:4], (1, 64, 0, False))
+        caller.close()
+        with self.assertRaises(Refused):
+            caller.options()
+
     def test_a_job_can_roll_back_and_return(self):
         one, other = open_striped(callers=2, stripes=16)
 

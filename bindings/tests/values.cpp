@@ -137,6 +137,13 @@ static void of_callers() {
     CHECK(moved.begin().commit() == 7u);
     CHECK(!boostmap_cpp::open_striped(1, 16)[0].begin().commit());
     CHECK(thrown([] { boostmap_cpp::open_striped(0, 16); }) == BOOSTMAP_LIMIT);
+    boostmap_cpp::opening how;
+    how.keys = 100;
+    how.keeps_commits = true;
+    how.seed = 7;
+    auto options = boostmap_cpp::open_striped(3, 16, how)[0].options();
+    CHECK(options.callers == 3 && options.stripes == 16 && options.keys == 100 && options.seed == 7);
+    CHECK(options.keep == BOOSTMAP_KEEP_COMMITS);
 }
 
 // A job may roll back and return a value, and only a busy call of its own transaction is tried again.

@@ -157,6 +157,7 @@ mod sys {
             seed: u64,
             word: *mut u64,
         ) -> u32;
+        pub fn boostmap_striped_option(caller: *mut Handle, option: u64, word: *mut u64) -> u32;
         pub fn boostmap_striped_join(first: *mut Handle, next: *mut Handle, word: *mut u64) -> u32;
         pub fn boostmap_striped_free(caller: *mut Handle) -> u32;
         pub fn boostmap_striped_begin(caller: *mut Handle) -> u32;
