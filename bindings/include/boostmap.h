@@ -219,8 +219,9 @@ boostmap_status boostmap_trim(boostmap *map);
 
 /* From now on boostmap_commit and boostmap_abort trim the map by themselves, if its history has more
  * than `entries` entries and more than four for each key, and no caller has a transaction. So the memory
- * stays bounded. If there is no memory for that, they end the transaction all the same, and the next
- * one tries again. With 0, as in a new map, the map never trims by itself.    0; 3 */
+ * stays bounded. Give ten entries for each key or more: then trimming takes next to no time. If there is no
+ * memory for a trim, they end the transaction all the same, and the next one tries again. With 0, as in a
+ * new map, the map never trims by itself.    0; 3 */
 boostmap_status boostmap_trim_above(boostmap *map, uint64_t entries);
 
 /* Doubles the table if it has more than two keys a bucket, and initialises the key's bucket. The table
@@ -299,6 +300,36 @@ enum { BOOSTMAP_KEEP_NOTHING = 0, BOOSTMAP_KEEP_COMMITS = 1 };
  * 0; 4; 38; 30 */
 boostmap_status boostmap_striped_open(boostmap_caller *first, uint64_t callers, uint64_t stripes, uint64_t keys,
                                       uint32_t keep, uint64_t seed, uint64_t *word);
+
+/* How a striped map is opened. A member that is 0 has its default. Later versions may have further members
+ * at the end. */
+typedef struct boostmap_options {
+    uint64_t callers; /* 1 to 4096; by default 1 */
+    uint64_t stripes; /* 1 to 4096; by default 1024 */
+    uint64_t keys;    /* the map has room for so many keys; by default for none */
+    uint64_t keep;    /* BOOSTMAP_KEEP_NOTHING or BOOSTMAP_KEEP_COMMITS; by default nothing */
+    uint64_t seed;    /* see boostmap_striped_open; by default 0 */
+} boostmap_options;
+
+/* The call behind boostmap_striped_open_with, for other languages: the members of the options as `count`
+ * words. Members that are missing are 0. There may not be more words than the archive knows members.
+ * 0; 4; 38; 30 */
+boostmap_status boostmap_striped_open_words(boostmap_caller *first, const uint64_t *words, size_t count, uint64_t *word);
+
+/* Opens a map as boostmap_striped_open does.    0; 4; 38; 30 */
+static inline boostmap_status boostmap_striped_open_with(boostmap_caller *first, const boostmap_options *options,
+                                                         uint64_t *word) {
+    return boostmap_striped_open_words(first, (const uint64_t *)options, sizeof *options / sizeof(uint64_t), word);
+}
+
+/* Which member of the options. */
+enum {
+    BOOSTMAP_OPTION_CALLERS = 0, BOOSTMAP_OPTION_STRIPES = 1, BOOSTMAP_OPTION_KEYS = 2, BOOSTMAP_OPTION_KEEP = 3,
+    BOOSTMAP_OPTION_SEED = 4
+};
+
+/* *word: with what the caller's map was opened, also by boostmap_striped_open.    0; 3; 38: no such option */
+boostmap_status boostmap_striped_option(boostmap_caller *caller, uint64_t option, uint64_t *word);
 
 /* Makes `next` the handle of the next caller that waits; *word: its number, counted down to 1. Both
  * handles are in this call. A caller that is freed does not wait again: if threads come and go, keep the

@@ -101,6 +101,11 @@ BOOSTMAP_CHECKED_WORD(striped_open,
                       (boostmap_caller_door *door, uint64_t callers, uint64_t stripes, uint64_t keys, uint32_t keep,
                        uint64_t seed, uint64_t *word),
                       boostmap_striped_open(&door->caller, callers, stripes, keys, keep, seed, word))
+BOOSTMAP_CHECKED_WORD(striped_open_with,
+                      (boostmap_caller_door *door, const boostmap_options *options, uint64_t *word),
+                      options ? boostmap_striped_open_with(&door->caller, options, word) : (boostmap_status)BOOSTMAP_NULL)
+BOOSTMAP_CHECKED_WORD(striped_option, (boostmap_caller_door *door, uint64_t option, uint64_t *word),
+                      boostmap_striped_option(&door->caller, option, word))
 BOOSTMAP_CHECKED(striped_free, (boostmap_caller_door *door), boostmap_striped_free(&door->caller))
 BOOSTMAP_CHECKED(striped_begin, (boostmap_caller_door *door), boostmap_striped_begin(&door->caller))
 BOOSTMAP_CHECKED(striped_abort, (boostmap_caller_door *door), boostmap_striped_abort(&door->caller))

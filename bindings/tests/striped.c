@@ -64,6 +64,43 @@ static void keeping(void) {
     IS(boostmap_striped_free(&c), BOOSTMAP_DONE);
 }
 
+static uint64_t option(boostmap_caller *c, uint64_t number) {
+    uint64_t w;
+    IS(boostmap_striped_option(c, number, &w), BOOSTMAP_DONE);
+    return w;
+}
+
+/* A map that is opened with options: the given ones, defaults for those that are 0 or missing, and not more
+ * than there are. Every caller of the map tells them. */
+static void options(void) {
+    static const uint64_t more[] = {1, 1, 0, 0, 0, 0};
+    boostmap_options some = {.callers = 2, .keys = 1000, .keep = BOOSTMAP_KEEP_COMMITS, .seed = 7}, none = {.callers = 0};
+    boostmap_caller c = BOOSTMAP_INIT, next = BOOSTMAP_INIT;
+    uint64_t w;
+    ANSWERS(boostmap_striped_option(&c, 0, &w), BOOSTMAP_EMPTY, UNTOUCHED);
+    ANSWERS(boostmap_striped_open_with(&c, &some, &w), BOOSTMAP_DONE, 2);
+    ANSWERS(boostmap_striped_open_with(&c, &some, &w), BOOSTMAP_FULL, UNTOUCHED);
+    ANSWERS(boostmap_striped_open_words(&c, more, 6, &w), BOOSTMAP_FULL, UNTOUCHED);
+    ANSWERS(boostmap_striped_join(&c, &next, &w), BOOSTMAP_DONE, 1);
+    IS(boostmap_striped_free(&c), BOOSTMAP_DONE);
+    CHECK(option(&next, BOOSTMAP_OPTION_CALLERS) == 2 && option(&next, BOOSTMAP_OPTION_STRIPES) == 1024);
+    CHECK(option(&next, BOOSTMAP_OPTION_KEYS) == 1000 && option(&next, BOOSTMAP_OPTION_SEED) == 7);
+    CHECK(option(&next, BOOSTMAP_OPTION_KEEP) == BOOSTMAP_KEEP_COMMITS);
+    ANSWERS(boostmap_striped_option(&next, 5, &w), BOOSTMAP_LIMIT, UNTOUCHED);
+    IS(boostmap_striped_free(&next), BOOSTMAP_DONE);
+    ANSWERS(boostmap_striped_open_words(&c, more, 6, &w), BOOSTMAP_LIMIT, UNTOUCHED);
+    ANSWERS(boostmap_striped_open_words(&c, more, 1, &w), BOOSTMAP_DONE, 1);
+    CHECK(option(&c, BOOSTMAP_OPTION_STRIPES) == 1024);
+    IS(boostmap_striped_free(&c), BOOSTMAP_DONE);
+    ANSWERS(boostmap_striped_open_with(&c, &none, &w), BOOSTMAP_DONE, 1);
+    CHECK(option(&c, BOOSTMAP_OPTION_CALLERS) == 1 && option(&c, BOOSTMAP_OPTION_KEEP) == BOOSTMAP_KEEP_NOTHING);
+    IS(boostmap_striped_free(&c), BOOSTMAP_DONE);
+    none.keep = 2;
+    ANSWERS(boostmap_striped_open_with(&c, &none, &w), BOOSTMAP_LIMIT, UNTOUCHED);
+    none.keep = ((uint64_t)1 << 32);
+    ANSWERS(boostmap_striped_open_with(&c, &none, &w), BOOSTMAP_LIMIT, UNTOUCHED);
+}
+
 static void joining(boostmap_caller c[3]) {
     uint64_t w;
     boostmap_caller fourth = BOOSTMAP_INIT;
@@ -215,6 +252,7 @@ int main(void) {
     an_empty_handle(&c[0]);
     limits();
     keeping();
+    options();
     joining(c);
     order(&c[0]);
     operations(&c[0]);

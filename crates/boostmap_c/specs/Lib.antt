@@ -10,4 +10,5 @@ pub mod Histories
 pub mod Stops
 pub mod Striped
 pub mod Members
+pub mod Options
 pub mod StripedContents

@@ -16,44 +16,45 @@ use Rattle.boostmap_c.specs.Striped.{Aborts}
 use Rattle.boostmap_c.specs.Stops.{status_of_reply, word_of_reply, status_of_number, word_of_number, status_of_place, word_of_place, status_of_end}
 
 -- The member's caller makes a call that returns a value or none. The status and the word report
--- the result to C. The waiting callers are unchanged.
+-- the result to C. The waiting callers and the opening are unchanged.
 abbrev pub TellsReply : (Caller → Result (Option ℕ) Stop → Caller → Type 0) → Option Member → ℕ → ℕ
     → ℕ → Option Member → Type 0
 TellsReply Calls (Some old) status before after (Some new) =
     (answer : Result (Option ℕ) Stop) × Calls old.caller answer new.caller
-    × (new.waiting ≡ old.waiting)
+    × (new.waiting ≡ old.waiting) × (new.opening ≡ old.opening)
     × (status ≡ status_of_reply answer) × (after ≡ word_of_reply before answer)
 TellsReply Calls None status before after None = (status ≡ empty_handle) × (after ≡ before)
 TellsReply Calls old status before after new = ⊥
 
 -- The member's caller makes a call that returns a number. The status and the word report the
--- result to C. The waiting callers are unchanged.
+-- result to C. The waiting callers and the opening are unchanged.
 abbrev pub TellsNumber : (Caller → Result ℕ Stop → Caller → Type 0) → Option Member → ℕ → ℕ → ℕ
     → Option Member → Type 0
 TellsNumber Calls (Some old) status before after (Some new) =
-    (answer : Result ℕ Stop) × Calls old.caller answer new.caller × (new.waiting ≡ old.waiting)
+    (answer : Result ℕ Stop) × Calls old.caller answer new.caller
+    × (new.waiting ≡ old.waiting) × (new.opening ≡ old.opening)
     × (status ≡ status_of_number answer) × (after ≡ word_of_number before answer)
 TellsNumber Calls None status before after None = (status ≡ empty_handle) × (after ≡ before)
 TellsNumber Calls old status before after new = ⊥
 
 -- The member's caller commits. The status and the word report the result to C. The waiting callers
--- are unchanged.
+-- and the opening are unchanged.
 abbrev pub TellsPlace : (Caller → Result (Option ℕ) Stop → Caller → Type 0) → Option Member → ℕ → ℕ
     → ℕ → Option Member → Type 0
 TellsPlace Calls (Some old) status before after (Some new) =
     (answer : Result (Option ℕ) Stop) × Calls old.caller answer new.caller
-    × (new.waiting ≡ old.waiting)
+    × (new.waiting ≡ old.waiting) × (new.opening ≡ old.opening)
     × (status ≡ status_of_place answer) × (after ≡ word_of_place before answer)
 TellsPlace Calls None status before after None = (status ≡ empty_handle) × (after ≡ before)
 TellsPlace Calls old status before after new = ⊥
 
 -- The member's caller makes a call that returns no value. The status reports the result to C. The
--- waiting callers are unchanged.
+-- waiting callers and the opening are unchanged.
 abbrev pub TellsEnd : (Caller → Result Unit Stop → Caller → Type 0) → Option Member → ℕ
     → Option Member → Type 0
 TellsEnd Calls (Some old) status (Some new) =
     (answer : Result Unit Stop) × Calls old.caller answer new.caller
-    × (new.waiting ≡ old.waiting) × (status ≡ status_of_end answer)
+    × (new.waiting ≡ old.waiting) × (new.opening ≡ old.opening) × (status ≡ status_of_end answer)
 TellsEnd Calls None status None = status ≡ empty_handle
 TellsEnd Calls old status new = ⊥
 
@@ -77,10 +78,10 @@ are_striped_limits callers stripes keep = are_numbers callers stripes && is_some
 pub record IsFirstMember (callers stripes keys keep seed : ℕ) (m : Member) : Type 0 where
   pub kept : Keep
   pub keep_is : keep_at keep ≡ Some kept
+  pub opening : m.opening
+      ≡ record { stripes = stripes; callers = callers; keys = keys; keep = kept; seed = seed }
   pub host : Host
-  pub opened : IsOpened
-      (record { stripes = stripes; callers = callers; keys = keys; keep = kept; seed = seed }) host
-      (m.waiting.items ++ m.caller ∷ [])
+  pub opened : IsOpened m.opening host (m.waiting.items ++ m.caller ∷ [])
 
 -- The call makes the first member of a new map, unless the map's limits or memory are refused.
 abbrev pub OpensAt : ℕ → ℕ → ℕ → ℕ → ℕ → ℕ → ℕ → ℕ → Option Member → Type 0
@@ -99,9 +100,10 @@ Opens None callers stripes keys keep seed status before after new =
 Opens (Some old) callers stripes keys keep seed status before after new =
     (status ≡ full) × (after ≡ before) × (new ≡ Some old)
 
--- The caller of the member and the callers that wait are unchanged.
+-- The caller of the member, the callers that wait and the opening are unchanged.
 abbrev pub IsSame : Member → Member → Type 0
 IsSame old new = (new.caller ≡ old.caller) × (new.waiting.items ≡ old.waiting.items)
+    × (new.opening ≡ old.opening)
 
 -- The last waiting caller gets its own member, in which no caller waits. The word is the number of
 -- callers that waited before the call, which by `IsFirstMember` is the number of this caller. If
@@ -109,7 +111,8 @@ IsSame old new = (new.caller ≡ old.caller) × (new.waiting.items ≡ old.waiti
 abbrev pub JoinsOf : Member → ℕ → ℕ → ℕ → Member → Option Member → Type 0
 JoinsOf old status before after new (Some made) =
     (new.caller ≡ old.caller) × (old.waiting.items ≡ new.waiting.items ++ made.caller ∷ [])
-    × (made.waiting.items ≡ []) × (status ≡ done) × (after ≡ length old.waiting.items)
+    × (made.waiting.items ≡ []) × (made.opening ≡ old.opening) × (new.opening ≡ old.opening)
+    × (status ≡ done) × (after ≡ length old.waiting.items)
 JoinsOf old status before after new None =
     IsSame old new × (after ≡ before)
     × (status ≡ refused (if nat_le 1 (length old.waiting.items) then NoMemory else NoSuchCaller))

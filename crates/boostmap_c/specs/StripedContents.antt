@@ -26,7 +26,7 @@ Counts a (Err stop) b = IsCut a b stop
 -- the number of pairs. If the call was not done, the status gives the reason.
 abbrev pub ReadsMap : Option Member → ℕ → List CPair → List CPair → ℕ → ℕ → Option Member → Type 0
 ReadsMap (Some old) status before after was word (Some new) =
-    (new.waiting ≡ old.waiting)
+    (new.waiting ≡ old.waiting) × (new.opening ≡ old.opening)
     × ((Looks old.caller new.caller
     × LaysOf (now (seen new.caller)).rows status before after word)
     ⊎ ((stop : Stop) × IsCut old.caller new.caller stop × (status ≡ status_of_stop stop)

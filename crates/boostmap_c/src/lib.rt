@@ -22,7 +22,8 @@
 //! A call borrows the object through the pointer, and makes the library's call. A call on a judge
 //! instead takes the object out of the handle, and puts it back. Each call returns a status to C,
 //! and writes at most one word. In addition, `boostmap_read` and `boostmap_striped_read` write pairs
-//! into an array, and `boostmap_judge_verdict` writes a `CVerdict`. The statuses:
+//! into an array, `boostmap_history` writes entries, and `boostmap_judge_verdict` writes a
+//! `CVerdict`. The statuses:
 //!
 //! | Status | Meaning | The transaction then |
 //! |---|---|---|
@@ -47,7 +48,7 @@
 //! and no call on it takes a lock or waits.
 //!
 //! Proved of each export, with the definitions of `specs/Calls.antt`, `Contents.antt`,
-//! `Striped.antt`, `Members.antt` and `Judges.antt`:
+//! `Histories.antt`, `Striped.antt`, `Members.antt`, `Options.antt` and `Judges.antt`:
 //! - The contract of the library's call holds for the handle's object before and after the call,
 //!   and for the result of the library's call.
 //! - The status and the word are those of this result. If the result has no word, none is written.
@@ -73,6 +74,7 @@ mod member;
 mod member_handle;
 mod member_pointer;
 mod operations;
+mod options;
 mod read;
 mod referee;
 mod referee_pointer;

@@ -7,9 +7,10 @@
 //! for the caller.
 ghost use Rattle.std.specs.Prelude.{◌≡◌};
 
-use striped_map::Caller;
+use striped_map::{Caller, Opening};
 
-/// A caller of a striped map, and the callers of the map that wait for their handles.
+/// A caller of a striped map, the callers of the map that wait for their handles, and how the map
+/// was opened.
 ///
 /// Every call writes to the caller. So no other thread may write to the same line of the cache, or
 /// each of its writes would slow the call down. Processors fetch lines of 64 bytes in pairs, so two
@@ -23,19 +24,22 @@ pub struct Member {
     before: [u64; 16],
     pub(crate) caller: Caller,
     pub(crate) waiting: Vec<Caller>,
+    pub(crate) opening: Opening,
     behind: [u64; 16],
 }
 
 impl Member {
-    /// A member with this caller, and with these callers that wait.
-    pub(crate) fn new(caller: Caller, waiting: Vec<Caller>) -> Member
+    /// A member with this caller, and with these callers that wait, of a map that was opened so.
+    pub(crate) fn new(caller: Caller, waiting: Vec<Caller>, opening: Opening) -> Member
         ensures caller { result.caller ≡ caller }
         ensures waiting { result.waiting ≡ waiting }
+        ensures opening { result.opening ≡ opening }
     {
         Member {
             before: [0; 16],
             caller,
             waiting,
+            opening,
             behind: [0; 16],
         }
     }

@@ -15,7 +15,7 @@ use striped_map::{Keep, MOST, Opening, Stop};
 use txn_trace::Refusal;
 
 /// What a map keeps of its history, by its number in C.
-fn keep_of(keep: u32) -> Option<Keep>
+fn keep_of(keep: u64) -> Option<Keep>
     ensures { result ≡ keep_at keep }
 {
     match keep {
@@ -38,7 +38,7 @@ fn first_member(
     callers: u64,
     stripes: u64,
     keys: u64,
-    keep: u32,
+    keep: u64,
     seed: u64,
 ) -> Result<Box<Member, Global>, Refusal>
     ensures limits { OnOk result (are_striped_limits callers stripes keep ≡ true) }
@@ -65,7 +65,7 @@ fn first_member(
     let Some(caller) = waiting.pop() else {
         unreachable!()
     };
-    let Ok(member) = Box::new(alloc, Member::new(caller, waiting)) else {
+    let Ok(member) = Box::new(alloc, Member::new(caller, waiting, opening)) else {
         return Err(Refusal::NoMemory);
     };
     Ok(member)
@@ -74,8 +74,10 @@ fn first_member(
 /// Takes out the last caller that waits, and puts it in a member of its own.
 fn next_member(alloc: Global, first: &mut Member) -> Result<Box<Member, Global>, Refusal>
     ensures caller { first.new.caller ≡ first.old.caller }
+    ensures opening { first.new.opening ≡ first.old.opening }
     ensures ok { IfOk result (λ member. (first.old.waiting.items
-        ≡ first.new.waiting.items ++ member.value.caller ∷ []) × (member.value.waiting.items ≡ [])) }
+        ≡ first.new.waiting.items ++ member.value.caller ∷ []) × (member.value.waiting.items ≡ [])
+        × (member.value.opening ≡ first.old.opening)) }
     ensures err { IfErr result (λ refusal. refusal
         ≡ (if nat_le 1 (length first.old.waiting.items) then NoMemory else NoSuchCaller)) }
     ensures unchanged { OnErr result (first.new.waiting.items ≡ first.old.waiting.items) }
@@ -83,7 +85,8 @@ fn next_member(alloc: Global, first: &mut Member) -> Result<Box<Member, Global>,
     let Some(caller) = first.waiting.pop() else {
         return Err(Refusal::NoSuchCaller);
     };
-    match Box::new(alloc, Member::new(caller, Vec::new(alloc))) {
+    let next = Member::new(caller, Vec::new(alloc), first.opening);
+    match Box::new(alloc, next) {
         Ok(member) => Ok(member),
         Err(failed) => {
             first.waiting.push_reserved(failed.value.caller);
@@ -115,6 +118,32 @@ pub extern "C" fn boostmap_striped_open(
     stripes: u64,
     keys: u64,
     keep: u32,
+    seed: u64,
+    word: &mut u64,
+) -> u32
+    ensures { Opens caller.old.held.member callers stripes keys keep seed result word.old word.new
+        caller.new.held.member }
+{
+    open_first(
+        alloc,
+        caller,
+        callers,
+        stripes,
+        keys,
+        u64::from(keep),
+        seed,
+        word,
+    )
+}
+
+/// Opens a map with these options, and gives the handle to its first caller.
+pub(crate) fn open_first(
+    alloc: Global,
+    caller: &mut CallerHandle,
+    callers: u64,
+    stripes: u64,
+    keys: u64,
+    keep: u64,
     seed: u64,
     word: &mut u64,
 ) -> u32
