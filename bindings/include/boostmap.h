@@ -476,6 +476,7 @@ boostmap_status boostmap_judge_free(boostmap_judge *judge);
  * entries of the whole history. It may be fed to a judge of the map's number of stripes. Members that
  * the kind of an entry does not have are 0.    0; 3 */
 boostmap_status boostmap_history(boostmap *map, uint64_t first, boostmap_entry *entries, size_t places, uint64_t *word);
+
 /* ---- whole transactions, and more operations ------------------------------------------------------
  *
  * These functions are compiled with the program, and only tested. They make calls of the striped map,

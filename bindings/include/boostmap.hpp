@@ -107,9 +107,30 @@ public:
         boostmap_status status = boostmap_count(&handle_, &word);
         return *detail::value_or_throw(status, word);
     }
-    // Doubles the table if it has more than two keys a bucket, and initialises the key's bucket. Nothing
-    // else doubles the table, so call this from time to time when you put keys.
+    // Doubles the table if it has more than two keys a bucket, and initialises the key's bucket. The table
+    // grows by itself, so no program needs this call.
     void help(std::uint64_t caller, std::uint64_t key) { detail::check(boostmap_help(&handle_, caller, key)); }
+
+    // The number of entries of the map's history, each of which takes 32 bytes.
+    std::uint64_t entries() {
+        std::uint64_t word = 0;
+        boostmap_status status = boostmap_entries(&handle_, &word);
+        return *detail::value_or_throw(status, word);
+    }
+    // The map's history, for a judge of the map's number of stripes.
+    std::vector<boostmap_entry> history() {
+        std::vector<boostmap_entry> all(entries() + 1); // one more, so that data() is not null
+        std::uint64_t word = 0;
+        boostmap_status status = boostmap_history(&handle_, 0, all.data(), all.size(), &word);
+        all.resize(*detail::value_or_throw(status, word));
+        return all;
+    }
+    // Cuts the history off: one transaction, which puts the pairs of the map, stands instead. No caller
+    // may be in a transaction.
+    void trim() { detail::check(boostmap_trim(&handle_)); }
+    // From now on the end of a transaction trims a history of more than so many entries, if no caller is
+    // in a transaction, so that the memory stays bounded; 0: never.
+    void trim_above(std::uint64_t entries) { detail::check(boostmap_trim_above(&handle_, entries)); }
 
     // The pairs of the map, with the changes of open transactions, in no particular order.
     std::vector<boostmap_pair> items() {
@@ -258,6 +279,14 @@ public:
 
     std::uint64_t number() const { return number_; }
     boostmap_cpp::counts counts() const { return boostmap_caller_counts(&handle_.caller); }
+
+    // With what the map was opened.
+    boostmap_options options() {
+        boostmap_options all = {};
+        std::uint64_t *members[] = {&all.callers, &all.stripes, &all.keys, &all.keep, &all.seed}, option = 0;
+        for (auto *member : members) detail::check(boostmap_striped_option(&handle_.caller, option++, member));
+        return all;
+    }
 
     // Begins a transaction, which aborts if it is destroyed before it is committed.
     [[nodiscard]] caller_transaction begin();

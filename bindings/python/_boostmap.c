@@ -270,6 +270,21 @@ static PyObject *caller_counts(PyObject *self, PyObject *none) {
                          (unsigned long long)counts.busy);
 }
 
+/* A tuple of the options with which the map was opened. */
+static PyObject *caller_options(PyObject *self, PyObject *none) {
+    enum { MEMBERS = BOOSTMAP_OPTION_SEED + 1 };
+    unsigned long long all[MEMBERS];
+    (void)none;
+    enter((Caller *)self);
+    for (uint64_t i = 0; i < MEMBERS; i++) {
+        uint64_t word = 0;
+        boostmap_status status = boostmap_striped_option(((Caller *)self)->handle, i, &word);
+        if (status != BOOSTMAP_DONE) return raise_status(status, 0);
+        all[i] = word;
+    }
+    return Py_BuildValue("KKKKK", all[0], all[1], all[2], all[3], all[4]);
+}
+
 /* One operation in a transaction of its own. */
 static PyObject *at_once(PyObject *self, int kind, PyObject *const *given, Py_ssize_t count) {
     Operation op;
@@ -329,6 +344,7 @@ static PyMethodDef caller_methods[] = {
     {"_open", caller_open, METH_VARARGS, NULL},
     {"_join", caller_join, METH_O, NULL},
     {"_counts", caller_counts, METH_NOARGS, NULL},
+    {"_options", caller_options, METH_NOARGS, NULL},
     FAST("get", caller_get, "The value at the key, in a transaction of its own, as are all operations of a caller."),
     FAST("take", caller_take, "Takes the key out, and returns the value that it had."),
     FAST("put", caller_put, "Puts the value at the key, and returns the value before."),

@@ -32,7 +32,7 @@ except ImportError:
     _boostmap = None
 
 __all__ = [
-    "open_striped", "Caller", "CallerTransaction", "Counts", "history", "Map", "Transaction", "Judge", "Entry", "Verdict",
+    "open_striped", "Caller", "CallerTransaction", "Counts", "Options", "history", "Map", "Transaction", "Judge", "Entry", "Verdict",
     "Error", "Busy", "Refused", "NotFed",
 ]
 
@@ -68,13 +68,14 @@ _DONE, _ABSENT, _BUSY, _SHORT, _NOT_OPEN = 0, 1, 2, 7, 19
 # is a word.
 _CALLS = {
     "new": (3, False), "free": (0, False), "count": (0, True), "help": (2, False),
+    "entries": (0, True), "trim": (0, False), "trim_above": (1, False),
     "begin": (1, True), "commit": (1, True), "abort": (1, True), "save": (1, True), "back": (2, True),
     "get": (2, True), "take": (2, True), "put": (3, True), "put_if_absent": (3, True), "put_if_equal": (4, True),
     "striped_open": (5, True), "striped_free": (0, False), "striped_begin": (0, False),
     "striped_commit": (0, True), "striped_abort": (0, False), "striped_save": (0, True), "striped_back": (1, False),
     "striped_get": (1, True), "striped_take": (1, True), "striped_put": (2, True),
     "striped_put_if_absent": (2, True), "striped_put_if_equal": (3, True),
-    "striped_count": (0, True),
+    "striped_count": (0, True), "striped_option": (1, True),
     "judge_free": (0, False),
 }
 
@@ -103,11 +104,12 @@ def _load():
     library.boostmap_read.argtypes = [_HANDLE, ctypes.POINTER(_Pair), ctypes.c_size_t, _WORD]
     library.boostmap_striped_read.argtypes = library.boostmap_read.argtypes
     library.boostmap_striped_join.argtypes = [_HANDLE, _HANDLE, _WORD]
+    library.boostmap_history.argtypes = [_HANDLE, _U64, ctypes.POINTER(_Entry), ctypes.c_size_t, _WORD]
     library.boostmap_judge_new.argtypes = [_HANDLE, _U64, ctypes.c_uint32]
     library.boostmap_judge_feed.argtypes = [_HANDLE, ctypes.POINTER(_Entry)]
     library.boostmap_judge_feed_all.argtypes = [_HANDLE, ctypes.POINTER(_Entry), ctypes.c_size_t, _WORD]
     library.boostmap_judge_verdict.argtypes = [_HANDLE, ctypes.POINTER(_Verdict)]
-    for name in ("read", "striped_read", "striped_join", "judge_new", "judge_feed", "judge_feed_all", "judge_verdict"):
+    for name in ("read", "history", "striped_read", "striped_join", "judge_new", "judge_feed", "judge_feed_all", "judge_verdict"):
         getattr(library, "boostmap_" + name).restype = ctypes.c_uint32
     return library
 
@@ -235,9 +237,32 @@ class Map(_Owned):
             places = word.value
 
     def help(self, key, caller=0):
-        """Doubles the table if it has more than two keys a bucket, and initialises the key's bucket. Nothing else
-        doubles the table, so call this from time to time when you put keys."""
+        """Doubles the table if it has more than two keys a bucket, and initialises the key's bucket. The table grows
+        by itself, so no program needs this call."""
         self._call("help", caller, key)
+
+    def entries(self):
+        """The number of entries of the map's history, each of which takes 32 bytes."""
+        return self._call("entries")
+
+    def history(self):
+        """The map's history, as a list of Entry, for a Judge of the map's number of stripes."""
+        places, word = self.entries(), _U64(0)
+        array = (_Entry * places)()
+        with self._lock:
+            status = _library.boostmap_history(self._handle, 0, array, places, word)
+        _check(status)
+        return [Entry._from_c(entry) for entry in array[:word.value]]
+
+    def trim(self):
+        """Cuts the history off: one transaction, which puts the pairs of the map, stands instead. No caller may be in a
+        transaction."""
+        self._call("trim")
+
+    def trim_above(self, entries):
+        """From now on the end of a transaction trims a history of more than so many entries, if no caller is in a
+        transaction, so that the memory stays bounded; 0: never."""
+        self._call("trim_above", entries)
 
     def transaction(self, caller=0):
         """A transaction of a caller, which begins at `with`, commits at its end, and aborts at an exception."""
@@ -323,6 +348,10 @@ class Transaction:
 
 Counts = collections.namedtuple("Counts", "commits aborts busy")
 Counts.__doc__ = """How a caller's transactions ended: by a commit, by an abort, and by a busy call, which aborts too."""
+
+
+Options = collections.namedtuple("Options", "callers stripes keys keeps_commits seed")
+Options.__doc__ = """With what a striped map was opened."""
 
 
 def open_striped(callers=1, stripes=64, keys=0, keeps_commits=False, seed=None, keeps_entries=False):
@@ -451,6 +480,9 @@ class _CtypesCaller(_AtOnce, _Owned):
 
     def _counts(self):
         return self._ended
+
+    def _options(self):
+        return [self._call("striped_option", i) for i in range(5)]
 
     def abort(self):
         """Aborts the caller's transaction, and returns whether there was one."""
@@ -595,6 +627,11 @@ class Caller(_boostmap.Caller if _boostmap else _CtypesCaller):
     def counts(self):
         """How the caller's transactions ended, as Counts."""
         return Counts(*self._counts())
+
+    def options(self):
+        """With what the map was opened, as Options."""
+        callers, stripes, keys, keep, seed = self._options()
+        return Options(callers, stripes, keys, bool(keep), seed)
 
 
 class CallerTransaction(_boostmap.Transaction if _boostmap else _CtypesTransaction):
@@ -746,6 +783,9 @@ _KINDS = {
     "aborted": 10,
 }
 _OPERATIONS = {"put": 1, "put_if": 2, "take": 3, "get": 4}
+_KIND_NAMES = {number: name for name, number in _KINDS.items()}
+_OPERATION_NAMES = {number: name for name, number in _OPERATIONS.items()}
+_NUMBERED = {"began", "returned", "committed", "busy"}
 
 
 class Entry(collections.namedtuple("Entry", "kind caller operation key value expected number")):
@@ -761,6 +801,17 @@ class Entry(collections.namedtuple("Entry", "kind caller operation key value exp
         optional = {"did": self.value, "leave": self.number}.get(self.kind, self.expected)
         numbers = [_number(n or 0) for n in (self.caller, self.key, self.value, self.expected, self.number)]
         return _Entry(_KINDS[self.kind], _OPERATIONS.get(self.operation, 0), *numbers, optional is not None)
+
+    @classmethod
+    def _from_c(cls, entry):
+        kind, operation = _KIND_NAMES[entry.kind], _OPERATION_NAMES.get(entry.operation)
+        has_operation = kind in ("asked", "busy")
+        return cls(
+            kind, entry.caller, operation if has_operation else None,
+            key=entry.key if has_operation else None,
+            value=entry.value if entry.has and kind == "did" or operation in ("put", "put_if") else None,
+            expected=entry.expected if has_operation and entry.has else None,
+            number=entry.number if kind in _NUMBERED or kind == "leave" and entry.has else None)
 
 
 Verdict = collections.namedtuple("Verdict", "is_legal commits running entry rule")

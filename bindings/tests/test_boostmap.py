@@ -77,6 +77,38 @@ class Calls(unittest.TestCase):
             self.assertGreater(interrupted(moves, 0.5), 10)
             moves()
 
+    def test_the_history_of_a_map_is_legal(self):
+        with Map(callers=2, stripes=16) as m:
+            with m.transaction(0) as t:
+                t.put(1, 10)
+                level = t.save()
+                t.put_if(1, 10, 11)
+                t.put_if(2, None, 20)
+                t.back(level)
+                with self.assertRaises(Busy), m.transaction(1) as u:
+                    u.take(1)
+                t.take(2)
+            with m.transaction(1) as t:
+                t.put(3, 30)
+                t.roll_back()
+            entries = m.history()
+            self.assertEqual(entries[:3], [
+                Entry("began", 0, number=1), Entry("asked", 0, "put", key=1, value=10), Entry("did", 0)])
+            self.assertEqual({entry.kind for entry in entries}, {
+                "began", "asked", "did", "saved", "leave", "undone", "returned", "committed", "busy", "aborted"})
+            self.assertEqual(len(entries), m.entries())
+            for verdict in (Verdict(True, 1, 0, None, None),) * 2:
+                with Judge(stripes=16) as judge:
+                    judge.feed_all(m.history())
+                    self.assertEqual(judge.verdict(), verdict)
+                m.trim()
+            self.assertEqual((m.entries(), m.items()), (4, {1: 10}))
+            m.trim_above(1)
+            for _ in range(100):
+                with m.transaction() as t:
+                    t.put(1, 10)
+            self.assertLess(m.entries(), 20)
+
     def test_a_transaction_is_over_after_its_with(self):
         with Map() as m:
             with m.transaction() as first:
@@ -187,6 +219,15 @@ class Callers(unittest.TestCase):
             t.put(1, 10)
         self.assertIsNone(t.commit_number)
 
+    def test_a_map_tells_how_it_was_opened(self):
+        for caller in open_striped(callers=3, stripes=16, keys=100, keeps_commits=True, seed=7):
+            self.assertEqual(caller.options(), (3, 16, 100, True, 7))
+        caller, = open_striped()
+        self.assertEqual(caller.options()[:4], (1, 64, 0, False))
+        caller.close()
+        with self.assertRaises(Refused):
+            caller.options()
+
     def test_a_job_can_roll_back_and_return(self):
         one, other = open_striped(callers=2, stripes=16)
 
@@ -278,7 +319,7 @@ class Callers(unittest.TestCase):
         runs = []
         with self.assertRaises(Busy) as busy:
             other.transact(lambda t: runs.append(t.put(6, 60)) or t.get(5 + 16), tries=3)
-        self.assertEqual((busy.exception.holder, len(runs)), (1, 4))
+        self.assertEqual((busy.exception.holder, len(runs), other.counts()), (1, 4, Counts(0, 0, 4)))
         with self.assertRaises(Refused) as refused:
             with other.transaction() as t:
                 with self.assertRaises(Busy):
@@ -404,6 +445,7 @@ class Operations(unittest.TestCase):
             commits = sum(caller.counts().commits for caller in callers)
             self.assertGreater(min(caller.counts().aborts for caller in callers), 10)
             if keeps_entries:
+                self.assertEqual(sum(len(caller._record) for caller in callers), commits)
                 entries = history(callers)
                 self.assertEqual(judged(entries), Verdict(True, commits, 0, None, None))
                 gets = (i for i in range(len(entries) // 2, len(entries)) if entries[i].operation == "get")
@@ -417,7 +459,8 @@ class Operations(unittest.TestCase):
                                ("take", 1), ("put_if", 3, None, 30), ("get", 3)])
             self.assertEqual(replies, [None, 10, 10, 6, 20, 7, None, 30])
             self.assertEqual((other.items(), one.run([])), ({2: 20, 3: 30}, []))
-            rows = [(OverflowError, [("put", 4, 1), ("add", 2, -21)]), (ValueError, [("put", 4, 1), ("clear",)]),
+            rows = [(OverflowError, [("put", 4, 1), ("add", 2, -21)]), (OverflowError, [("add", 2, -21), ("put", 4, 1)]),
+                    (ValueError, [("put", 4, 1), ("clear",)]),
                     (ValueError, [()]), (TypeError, [("put", 4, 1), ("get", "x")]), (TypeError, [("get",)]), (TypeError, [5]),
                     (OverflowError, [("add", 2, 2**63)]), (OverflowError, [("put", 2, 2**64)])]
             for error, operations in rows:
@@ -440,6 +483,38 @@ class Operations(unittest.TestCase):
         waits.join()
         self.assertEqual((replies, one.get(5), one.counts()), ([50, [50]], 51, Counts(2, 0, 0)))
         self.assertEqual(other.counts().commits, 2)
+
+    def test_an_exception_ends_the_transaction_at_once(self):
+        for keeps_entries in (False, True):
+            one, other = open_striped(callers=2, keeps_entries=keeps_entries)
+
+            def fails(t):
+                t.put(5, 50)
+                raise GivesUp
+
+            try:
+                one.transact(fails)
+            except GivesUp:  # whose traceback holds the transaction
+                self.assertIsNone(other.transact(lambda t: t.get(5), tries=0))
+            self.assertEqual(one.counts(), Counts(0, 1, 0))
+
+    def test_an_interrupt_ends_a_wait(self):
+        def handle(*_):
+            raise Interrupt
+
+        one, other = open_striped(callers=2)
+        before = signal.signal(signal.SIGALRM, handle)
+        try:
+            with one.transaction() as holds:
+                holds.put(5, 50)
+                for waits in (lambda: other.get(5), lambda: other.run([("get", 5)]), lambda: other.transact(lambda t: t.get(5))):
+                    signal.setitimer(signal.ITIMER_REAL, 0.02)
+                    with self.assertRaises(Interrupt):
+                        waits()
+        finally:
+            signal.setitimer(signal.ITIMER_REAL, 0)
+            signal.signal(signal.SIGALRM, before)
+        self.assertEqual(other.get(5), 50)
 
     def test_an_interrupt_leaves_all_or_nothing(self):
         jobs = [

@@ -56,6 +56,25 @@ static void of_one_owner() {
     CHECK(map(1, 16, 64).items().empty());
 }
 
+// The history of a map is legal; trimmed, it is that of one transaction.
+static void of_histories() {
+    map kept(2, 16, 64);
+    kept.transact(0, [](auto &t) { t.put(1, 10), t.put(2, 20), t.take(2); });
+    kept.transact(1, [](auto &t) { t.put(3, 30), t.roll_back(); });
+    for (int trimmed = 0; trimmed < 2; trimmed++) {
+        auto history = kept.history();
+        CHECK(history.size() == kept.entries() && kept.count() == 1);
+        judge judge(16);
+        judge.feed(history);
+        CHECK(judge.verdict().is_legal && judge.verdict().commits == 1);
+        kept.trim();
+    }
+    CHECK(kept.entries() == 4);
+    kept.trim_above(1);
+    for (int i = 0; i < 100; i++) kept.transact(0, [](auto &t) { t.put(1, 10); });
+    CHECK(kept.entries() < 20);
+}
+
 template <class T> constexpr bool is_moved_only =
     std::is_nothrow_move_constructible_v<T> && !std::is_copy_constructible_v<T> && !std::is_copy_assignable_v<T>;
 static_assert(is_moved_only<map> && is_moved_only<boostmap_cpp::transaction>);
@@ -118,6 +137,13 @@ static void of_callers() {
     CHECK(moved.begin().commit() == 7u);
     CHECK(!boostmap_cpp::open_striped(1, 16)[0].begin().commit());
     CHECK(thrown([] { boostmap_cpp::open_striped(0, 16); }) == BOOSTMAP_LIMIT);
+    boostmap_cpp::opening how;
+    how.keys = 100;
+    how.keeps_commits = true;
+    how.seed = 7;
+    auto options = boostmap_cpp::open_striped(3, 16, how)[0].options();
+    CHECK(options.callers == 3 && options.stripes == 16 && options.keys == 100 && options.seed == 7);
+    CHECK(options.keep == BOOSTMAP_KEEP_COMMITS);
 }
 
 // A job may roll back and return a value, and only a busy call of its own transaction is tried again.
@@ -191,6 +217,7 @@ static void of_judges() {
 int main() {
     of_the_head();
     of_one_owner();
+    of_histories();
     of_callers();
     of_jobs();
     of_threads();

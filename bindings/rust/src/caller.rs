@@ -130,6 +130,19 @@ impl Caller {
         self.counts
     }
 
+    /// With what the map was opened. It never fails.
+    pub fn options(&mut self) -> Result<Opening> {
+        let keeps_entries = self.keeps_entries;
+        let mut option = |number| {
+            // SAFETY: see `call`.
+            let told = self.call(|at, word| unsafe { sys::boostmap_striped_option(at, number, word) });
+            told.map(Option::unwrap_or_default)
+        };
+        let (callers, stripes, keys) = (option(0)?, option(1)?, option(2)?);
+        let (keeps_commits, seed) = (option(3)? != 0, option(4)?);
+        Ok(Opening { callers, stripes, keys, keeps_commits, keeps_entries, seed })
+    }
+
     fn empty(keeps_entries: bool) -> Caller {
         let (counts, committed) = (Counts::default(), Vec::new());
         Caller { handle: Handle::EMPTY, number: 0, counts, committed, keeps_entries }

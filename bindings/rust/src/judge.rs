@@ -92,7 +92,38 @@ impl Entry {
     }
 }
 
+impl Entry {
+    /// The entry that the archive wrote, which is one.
+    pub(crate) fn from_c(entry: &sys::Entry) -> Option<Entry> {
+        let (caller, number) = (entry.caller, entry.number);
+        Some(match entry.kind {
+            1 => Entry::Began(caller, number),
+            2 => Entry::Asked(caller, Operation::from_c(entry)?),
+            3 => Entry::Did(caller, (entry.has != 0).then_some(entry.value)),
+            4 => Entry::Saved(caller),
+            5 => Entry::Leave(caller, (entry.has != 0).then_some(number)),
+            6 => Entry::Undone(caller),
+            7 => Entry::Returned(caller, number),
+            8 => Entry::Committed(caller, number),
+            9 => Entry::Busy(caller, Operation::from_c(entry)?, number),
+            10 => Entry::Aborted(caller),
+            _ => return None,
+        })
+    }
+}
+
 impl Operation {
+    fn from_c(entry: &sys::Entry) -> Option<Operation> {
+        let &sys::Entry { key, value, .. } = entry;
+        Some(match entry.operation {
+            1 => Operation::Put { key, value },
+            2 => Operation::PutIf { key, expected: (entry.has != 0).then_some(entry.expected), value },
+            3 => Operation::Take { key },
+            4 => Operation::Get { key },
+            _ => return None,
+        })
+    }
+
     fn to_c(self, of: sys::Entry) -> sys::Entry {
         match self {
             Operation::Put { key, value } => sys::Entry { operation: 1, key, value, ..of },

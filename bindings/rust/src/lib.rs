@@ -120,6 +120,16 @@ mod sys {
         pub fn boostmap_count(map: *mut Handle, word: *mut u64) -> u32;
         pub fn boostmap_read(map: *mut Handle, pairs: *mut Pair, places: usize, word: *mut u64) -> u32;
         pub fn boostmap_help(map: *mut Handle, caller: u64, key: u64) -> u32;
+        pub fn boostmap_entries(map: *mut Handle, word: *mut u64) -> u32;
+        pub fn boostmap_history(
+            map: *mut Handle,
+            first: u64,
+            entries: *mut Entry,
+            places: usize,
+            word: *mut u64,
+        ) -> u32;
+        pub fn boostmap_trim(map: *mut Handle) -> u32;
+        pub fn boostmap_trim_above(map: *mut Handle, entries: u64) -> u32;
         pub fn boostmap_begin(map: *mut Handle, caller: u64, word: *mut u64) -> u32;
         pub fn boostmap_commit(map: *mut Handle, caller: u64, word: *mut u64) -> u32;
         pub fn boostmap_abort(map: *mut Handle, caller: u64, word: *mut u64) -> u32;
@@ -147,6 +157,7 @@ mod sys {
             seed: u64,
             word: *mut u64,
         ) -> u32;
+        pub fn boostmap_striped_option(caller: *mut Handle, option: u64, word: *mut u64) -> u32;
         pub fn boostmap_striped_join(first: *mut Handle, next: *mut Handle, word: *mut u64) -> u32;
         pub fn boostmap_striped_free(caller: *mut Handle) -> u32;
         pub fn boostmap_striped_begin(caller: *mut Handle) -> u32;
@@ -291,8 +302,37 @@ impl Map {
         Ok(pairs.iter().map(|pair| (pair.key, pair.value)).collect())
     }
 
-    /// Doubles the table if it has more than two keys a bucket, and initialises the key's bucket.
-    /// Nothing else doubles the table, so call this from time to time when you put keys.
+    /// The number of entries of the map's history, each of which takes 32 bytes. It never fails.
+    pub fn entries(&mut self) -> Result<u64> {
+        self.call(|map, word| unsafe { sys::boostmap_entries(map, word) }).map(Option::unwrap_or_default)
+    }
+
+    /// The map's history, for a [`Judge`] of the map's number of stripes. It never fails.
+    pub fn history(&mut self) -> Result<Vec<Entry>> {
+        let mut entries = vec![sys::Entry::default(); self.entries()? as usize];
+        let (start, places) = (entries.as_mut_ptr(), entries.len());
+        // SAFETY: the array has as many places as its length says, one for each entry.
+        self.call(|map, word| unsafe { sys::boostmap_history(map, 0, start, places, word) })?;
+        Ok(entries.iter().filter_map(Entry::from_c).collect())
+    }
+
+    /// Cuts the history off: one transaction, which puts the pairs of the map, stands instead.
+    ///
+    /// # Errors
+    ///
+    /// `AlreadyOpen` if a caller is in a transaction, `StampsUsedUp` and `NoMemory`.
+    pub fn trim(&mut self) -> Result<()> {
+        self.call(|map, _| unsafe { sys::boostmap_trim(map) }).map(drop)
+    }
+
+    /// From now on the end of a transaction trims a history of more than so many entries, if no caller is
+    /// in a transaction, so that the memory stays bounded; 0: never. It never fails.
+    pub fn trim_above(&mut self, entries: u64) -> Result<()> {
+        self.call(|map, _| unsafe { sys::boostmap_trim_above(map, entries) }).map(drop)
+    }
+
+    /// Doubles the table if it has more than two keys a bucket, and initialises the key's bucket. The
+    /// table grows by itself, so no program needs this call.
     ///
     /// # Errors
     ///

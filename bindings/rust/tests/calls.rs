@@ -1,4 +1,4 @@
-use boostmap::{Error, Map};
+use boostmap::{Entry, Error, Holder, Judge, Map, Operation, Verdict};
 use std::sync::{Arc, Mutex};
 use std::thread;
 
@@ -31,6 +31,41 @@ fn the_pairs_are_those_that_stand() -> Result<(), Error> {
     let mut pairs = map.items()?;
     pairs.sort();
     assert_eq!(pairs, [(0, 0), (1, 10), (2, 20), (3, 30), (4, 40)]);
+    Ok(())
+}
+
+#[test]
+fn the_history_of_a_map_is_legal() -> Result<(), Error> {
+    let mut map = Map::new(2, 16, 64)?;
+    map.begin_caller(0)?;
+    map.put(0, 1, 10)?;
+    map.save(0)?;
+    map.put_if(0, 1, Some(10), 11)?;
+    map.put_if(0, 2, None, 20)?;
+    map.back(0, 1)?;
+    map.begin_caller(1)?;
+    assert_eq!(map.take(1, 1), Err(Error::Busy(0)));
+    assert_eq!(map.trim(), Err(Error::AlreadyOpen));
+    map.abort_caller(1)?;
+    map.get(0, 2)?;
+    map.commit_caller(0)?;
+    drop(map.begin(1)?);
+    let history = map.history()?;
+    let put = Operation::Put { key: 1, value: 10 };
+    assert_eq!(history[..3], [Entry::Began(0, 1), Entry::Asked(0, put), Entry::Did(0, None)]);
+    assert_eq!(history.len() as u64, map.entries()?);
+    for _ in 0..2 {
+        let mut judge = Judge::new(16, Holder::Now)?;
+        judge.feed_all(&map.history()?)?;
+        assert_eq!(judge.verdict(), Verdict::Legal { commits: 1, running: 0 });
+        map.trim()?;
+    }
+    assert_eq!((map.entries()?, map.items()?), (4, vec![(1, 10)]));
+    map.trim_above(1)?;
+    for _ in 0..100 {
+        map.transact(0, |t| t.put(1, 10))?;
+    }
+    assert!(map.entries()? < 20);
     Ok(())
 }
 

@@ -41,6 +41,14 @@ fn a_transaction_commits_or_leaves_nothing() -> Result<(), Error> {
 }
 
 #[test]
+fn a_map_tells_how_it_was_opened() -> Result<(), Error> {
+    let how = Opening { callers: 3, stripes: 16, keys: 100, keeps_commits: true, seed: 7, ..Opening::default() };
+    assert!(how.open()?.iter_mut().all(|caller| caller.options() == Ok(how)));
+    assert_eq!(open_striped(2, 8)?[1].options()?.stripes, 8);
+    Ok(())
+}
+
+#[test]
 fn busy_ends_the_transaction() -> Result<(), Error> {
     let (mut one, mut other) = two()?;
     let mut holds = one.begin()?;
