@@ -57,7 +57,7 @@
 //!   fed. These are the entries that C's numbers stand for.
 //!
 //! Crossing from C to Rattle and back takes no memory and little time: `boostmap_count`, with its
-//! caller's loop, is 23 instructions. Calls take constant time and no memory unless they say
+//! caller's loop, is 18 instructions. Calls take constant time and no memory unless they say
 //! otherwise.
 //!
 //! Only tested: headers and bindings (`tests/bindings.sh`).
