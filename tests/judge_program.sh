@@ -756,6 +756,12 @@ real_stores() {
       judge "sqlite.py $words --seed $seed" 0 'legal N commits 0 open' ''
     done
   done
+  for seed in 1 2; do
+    samples/judge/sqlite.py --no-counter --transactions 400 --seed $seed >"$work/sqlite.json"
+    run check --serializable "$work/sqlite.json"
+    sed -i 's/serializable [0-9]* commits/serializable N commits/' "$work/out"
+    judge "sqlite.py --no-counter --seed $seed" 0 'serializable N commits 0 open' ''
+  done
   for words in '--bug cut' '--shared-cache --bug read_uncommitted'; do
     found='not found'
     for seed in 1 2 3 4; do
