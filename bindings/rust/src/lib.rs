@@ -18,7 +18,7 @@
 //! crate, with its declarations of the archive's calls, is only tested.
 //!
 //! A map, a caller and a judge may move to another thread, since what their handles own is `Send`
-//! (proved by `sends_core`, `sends_member` and `sends_referee`). A map may be shared behind a `Mutex`.
+//! (proved by `sends_map`, `sends_member` and `sends_referee`). A map may be shared behind a `Mutex`.
 
 use std::error;
 use std::fmt;
@@ -264,7 +264,7 @@ pub type Result<T, E = Error> = std::result::Result<T, E>;
 /// time.
 pub struct Map(sys::Handle);
 
-// SAFETY: `sends_core` of the archive proves `Send` of what a handle owns, and `&mut self` puts the
+// SAFETY: `sends_map` of the archive proves `Send` of what a handle owns, and `&mut self` puts the
 // calls one after another.
 unsafe impl Send for Map {}
 

@@ -8,7 +8,7 @@ use Rattle.script_worker.proofs.Vocabulary.{Action, Answer, append_quiet, BadKey
 use Rattle.script_worker.proofs.Vocabulary.{false≢true, first_heard, Heard, heard_then, is_bad_key, IsChunk, IsMade, Outcome, outcome_by}
 use Rattle.script_worker.proofs.Vocabulary.{OutOfStep, progress_of, Seat, seat_after}
 use Rattle.locked_map.proofs.Calling.{sound_if_free}
-use Rattle.thread_runs.proofs.{Adding.adds_of, Ending.MayLeave, Ending.Stands, Ending.stands_at, Ending.if_bad}
+use Rattle.thread_runs.proofs.{Adding.adds_of, ScriptEnds.MayLeave, ScriptEnds.Stands, ScriptEnds.stands_at, ScriptEnds.if_bad}
 
 -- The state of the loop over a script's calls: the caller saw the entries `base` before the loop,
 -- and the script has added the entries `chunk` since.

@@ -1,6 +1,6 @@
 use Rattle.std.proofs.Common.{ap, ◌∙◌}
 use Rattle.script_worker.proofs.Vocabulary.{Standing, step_by}
-use Rattle.script_worker.proofs.{Keeping.told_keeps, Keeping.told_on, Ready.told_ready}
+use Rattle.script_worker.proofs.{WorkerSteps.told_keeps, WorkerSteps.told_on, Ready.told_ready}
 use Rattle.script_worker.proofs.worker.Worker.told.Goals as goal
 
 pub invariant_of-self : goal.invariant_of-self
