@@ -20,7 +20,7 @@ use Rattle.order_check.specs.Orders.{IsOrderOf, HasNoOrder}
 use Rattle.order_check.specs.Tables.{Version, version_eq, DoesWrite, DoesReplace, ReplacesValue, IsAmong, ToldOf, Told, AreTold, AreBelow}
 use Rattle.order_check.specs.Joined.{NeedsAt, DoesAt, SourceIs, AreDistinct, meaning_of, AreMeant, IsEdge, IsJoined}
 use Rattle.order_check.specs.Outcomes.{cell_of, footprints_of, sources_of, AreAccesses, IsTxn, comes_once, IsOnce, IsRepeated}
-use Rattle.order_check.proofs.Joining.{told_some}
+use Rattle.order_check.proofs.AccessEdges.{told_some}
 use Rattle.order_check.specs.Sources.{Gives}
 use Rattle.order_check.proofs.Versions.{runs_by_sources}
 use Rattle.order_check.proofs.Cycles.{cycle_no_order}

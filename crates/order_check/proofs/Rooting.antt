@@ -13,8 +13,8 @@ use Rattle.order_check.specs.declared.search.Visit.{Visit}
 use Rattle.order_check.specs.Lists.{IsIn, HasEachOnce}
 use Rattle.order_check.specs.Graphs.{Graph, edges_of, KeepsEdges}
 use Rattle.order_check.specs.Search.{unvisited, mark_in, next_in, Searches, IsSearch, StaysVisited}
-use Rattle.order_check.proofs.Moves.{opened}
-use Rattle.order_check.proofs.Following.{visit_is, wrote, next_all, stays_visited, not_new_open, Kept}
+use Rattle.order_check.proofs.SearchSteps.{opened}
+use Rattle.order_check.proofs.SearchTurns.{visit_is, wrote, next_all, stays_visited, not_new_open, Kept}
 
 all_fresh : (n u : ℕ) → get_or (replicate n unvisited) u unvisited ≡ unvisited
 all_fresh zero u = refl

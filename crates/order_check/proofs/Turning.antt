@@ -13,7 +13,7 @@ use Rattle.order_check.specs.Tables.{Version, IsAmong}
 use Rattle.order_check.specs.Joined.{IsJoined, Keeps, EdgesOne}
 use Rattle.order_check.specs.Outcomes.{IsOnce}
 use Rattle.order_check.proofs.Noting.{among_cases, no_access}
-use Rattle.order_check.proofs.Joining.{more_edge}
+use Rattle.order_check.proofs.AccessEdges.{more_edge}
 
 pub among_at : (xs : List Access) (i : ℕ) (d : Access) → i < length xs → IsAmong (get_or xs i d) xs
 among_at [] i d below = absurd (omega arith)

@@ -3,7 +3,7 @@ use Rattle.std.specs.Option.{option_eq}
 use Rattle.std.specs.Prelude.{nat_eq}
 use Rattle.std.proofs.lemmas.Bool.{false≢true, not-false}
 use Rattle.txn_trace.proofs.Now.{same_option, same_is}
-use Rattle.order_check.proofs.Joining.{Reads, reads_nothing, reads_from, other_replaces, both_replace}
+use Rattle.order_check.proofs.AccessEdges.{Reads, reads_nothing, reads_from, other_replaces, both_replace}
 use Rattle.order_check.proofs.edges.add_edges.Goals as goal
 use Rattle.order_check.proofs.edges.add_edges.Goals.{in-Some+in_ok-add, in_default}
 

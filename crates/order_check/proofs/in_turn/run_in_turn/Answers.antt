@@ -3,7 +3,7 @@ use Rattle.std.specs.Option.{option_eq}
 use Rattle.std.specs.Prelude.{nat_eq}
 use Rattle.std.proofs.lemmas.Bool.{false≢true, not-false}
 use Rattle.txn_trace.proofs.Now.{same_option, same_is}
-use Rattle.order_check.proofs.InTurn.{turns_begin, turns_more, turns_stop, turns_end}
+use Rattle.order_check.proofs.AccessOrder.{turns_begin, turns_more, turns_stop, turns_end}
 use Rattle.order_check.specs.InTurn.{value_in}
 use Rattle.order_check.proofs.Noting.{no_access}
 use Rattle.order_check.proofs.in_turn.run_in_turn.Goals as goal

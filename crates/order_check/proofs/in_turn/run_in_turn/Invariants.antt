@@ -1,6 +1,6 @@
 use Rattle.std.proofs.Common.{drop}
 use Rattle.order_check.specs.InTurn.{value_in}
-use Rattle.order_check.proofs.InTurn.{Turns}
+use Rattle.order_check.proofs.AccessOrder.{Turns}
 use Rattle.order_check.proofs.in_turn.run_in_turn.Given as goal
 
 abbrev pub invariant-loop-access : goal.invariant-loop-access

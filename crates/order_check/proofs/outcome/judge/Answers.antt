@@ -1,7 +1,7 @@
 use Rattle.std.proofs.Common.{sym, subst}
 use Rattle.order_check.specs.Orders.{IsOrderOf}
 use Rattle.order_check.specs.Outcomes.{IsTxn, footprints_of}
-use Rattle.order_check.proofs.InTurn.{order_in_turn}
+use Rattle.order_check.proofs.AccessOrder.{order_in_turn}
 use Rattle.order_check.proofs.outcome.judge.Goals as goal
 
 pub returns-then-branch-clause-outcome : goal.returns-then-branch-clause-outcome

@@ -1,5 +1,5 @@
 use Rattle.std.proofs.Common.{◌∷◌, ◌++◌, [], ap, sym, ◌∙◌}
-use Rattle.order_check.proofs.InTurn.{range_more}
+use Rattle.order_check.proofs.AccessOrder.{range_more}
 use Rattle.order_check.proofs.outcome.places.Goals as goal
 
 pub loop-place-preserved : goal.loop-place-preserved

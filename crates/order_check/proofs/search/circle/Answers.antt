@@ -1,5 +1,5 @@
 use Rattle.std.proofs.Common.{◌<◌, ◌≤◌, ◌-◌, length, arith, subst, get_or}
-use Rattle.order_check.proofs.Circling.{may_start, circle_here, at_back, u_below, u_visited, u_may_read, u_read, Trail, trail_more, collected_more, comes_round}
+use Rattle.order_check.proofs.CycleSearch.{may_start, circle_here, at_back, u_below, u_visited, u_may_read, u_read, Trail, trail_more, collected_more, comes_round}
 use Rattle.order_check.proofs.search.circle.Goals as goal
 
 pub index-requires : goal.index-requires

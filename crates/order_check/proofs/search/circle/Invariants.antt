@@ -1,4 +1,4 @@
-use Rattle.order_check.proofs.Circling.{Collected}
+use Rattle.order_check.proofs.CycleSearch.{Collected}
 use Rattle.order_check.proofs.search.circle.Given as goal
 
 abbrev pub invariant-loop-back : goal.invariant-loop-back

@@ -2,7 +2,7 @@ use Rattle.std.proofs.Common.{◌≡◌, ◌<◌, ◌+◌, length, arith, sym, a
 use Rattle.order_check.specs.declared.search.Mark.TheVariants.{New}
 use Rattle.order_check.specs.declared.search.Visit.{Visit}
 use Rattle.order_check.specs.Search.{mark_in}
-use Rattle.order_check.proofs.Following.{visit_is}
+use Rattle.order_check.proofs.SearchTurns.{visit_is}
 use Rattle.order_check.proofs.Rooting.{rooting, root_open, visited_more, each_once, keeps_edges, same_search, same_visited}
 use Rattle.order_check.proofs.search.find_order.Goals as goal
 use Rattle.order_check.proofs.search.find_order.Goals.{in-New+in_ok-push+in_ok-follow+else-not-branch, in_default}

@@ -3,7 +3,7 @@ use Rattle.order_check.specs.declared.search.Mark.TheVariants.{New, Open, Done}
 use Rattle.order_check.specs.declared.search.Visit.{Visit}
 use Rattle.order_check.specs.Graphs.{edges_of}
 use Rattle.order_check.specs.Search.{mark_in, next_in}
-use Rattle.order_check.proofs.Following.{turn, visit_is, closing, opening, passing, edge_there, next_within, closing_falls, opening_falls, passing_falls, stuck_at}
+use Rattle.order_check.proofs.SearchTurns.{turn, visit_is, closing, opening, passing, edge_there, next_within, closing_falls, opening_falls, passing_falls, stuck_at}
 use Rattle.order_check.proofs.search.follow.Goals as goal
 
 pub index-requires : goal.index-requires

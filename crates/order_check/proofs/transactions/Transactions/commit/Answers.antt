@@ -8,7 +8,7 @@ use Rattle.order_check.specs.Accesses.{accesses_of, first_torn}
 use Rattle.order_check.specs.Kept.{HaveAccesses}
 use Rattle.order_check.specs.Outcomes.{ArePlain}
 use Rattle.order_check.proofs.Gathering.{plain_more}
-use Rattle.order_check.proofs.Keeping.{same_default, newest_same, commits_more, accessed_more}
+use Rattle.order_check.proofs.EntrySteps.{same_default, newest_same, commits_more, accessed_more}
 use Rattle.order_check.proofs.transactions.Transactions.commit.Goals as goal
 
 pub invariant_of-self-2 : goal.invariant_of-self-2

@@ -3,7 +3,7 @@ use Rattle.std.proofs.Math.ListN.{set}
 use Rattle.txn_words.specs.declared.entry.Entry.{Entry}
 use Rattle.txn_words.specs.Kinds.{caller_of}
 use Rattle.serial_check.proofs.FootprintSteps.{not_commit}
-use Rattle.order_check.proofs.Keeping.{AreNewest, newest_same, newest_began, commits_same, accessed_same}
+use Rattle.order_check.proofs.EntrySteps.{AreNewest, newest_same, newest_began, commits_same, accessed_same}
 use Rattle.order_check.proofs.transactions.Transactions.take_in.Goals as goal
 
 pub returns-in_default-entry : goal.returns-in_default-entry

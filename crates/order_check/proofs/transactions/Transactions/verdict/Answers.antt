@@ -18,8 +18,8 @@ use Rattle.order_check.specs.Serializable.{IsCommitted, IsSerialOrder}
 use Rattle.order_check.proofs.Alike.{torn_no_order}
 use Rattle.order_check.proofs.ByCommits.{serializable_in_order}
 use Rattle.order_check.proofs.Histories.{order_by_places, none_by_places}
-use Rattle.order_check.proofs.InTurn.{names_all}
-use Rattle.order_check.proofs.Reasoning.{outcome_on, by_commits_in_turn, cycle_is, unwritten_is, repeated_is}
+use Rattle.order_check.proofs.AccessOrder.{names_all}
+use Rattle.order_check.proofs.AccessOutcomes.{outcome_on, by_commits_in_turn, cycle_is, unwritten_is, repeated_is}
 use Rattle.order_check.specs.Outcomes.{footprints_of}
 use Rattle.order_check.proofs.transactions.Transactions.verdict.Goals as goal
 

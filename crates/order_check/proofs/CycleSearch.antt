@@ -12,7 +12,7 @@ use Rattle.order_check.specs.declared.search.Visit.{Visit}
 use Rattle.order_check.specs.Lists.{IsIn}
 use Rattle.order_check.specs.Graphs.{Graph, edges_of, HasEdge, IsWay, IsCycle}
 use Rattle.order_check.specs.Search.{unvisited, next_in, Follows, AreChained, IsSearch, MeetsOpen}
-use Rattle.order_check.proofs.Following.{edge_there, visit_is}
+use Rattle.order_check.proofs.SearchTurns.{edge_there, visit_is}
 use Rattle.order_check.proofs.Work.{row_is}
 
 in_at : (xs : List ℕ) (k : ℕ) → k < length xs → IsIn (get_or xs k 0) xs

@@ -15,7 +15,7 @@ use Rattle.order_check.specs.declared.search.Visit.{Visit}
 use Rattle.order_check.specs.Lists.{IsIn}
 use Rattle.order_check.specs.Graphs.{Graph, edges_of}
 use Rattle.order_check.specs.Search.{unvisited, mark_in, next_in, Searches, IsSearch, StaysVisited, MeetsOpen}
-use Rattle.order_check.proofs.Moves.{opened, passed, closed, open_new}
+use Rattle.order_check.proofs.SearchSteps.{opened, passed, closed, open_new}
 use Rattle.order_check.proofs.Work.{left_over, falls, row_is, weight}
 
 last_parts : (path : List ℕ) (n d : ℕ) → length path ≡ n + 1 → path ≡ take n path ++ get_or path n d ∷ []

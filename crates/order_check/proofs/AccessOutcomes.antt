@@ -30,7 +30,7 @@ use Rattle.order_check.specs.Serializable.{IsCommitted}
 use Rattle.order_check.specs.Tables.{DoesWrite, IsAmong}
 use Rattle.order_check.proofs.ByCommits.{commits_run, serializable_in_order}
 use Rattle.order_check.proofs.Histories.{order_from_history}
-use Rattle.order_check.proofs.InTurn.{runs_in_turn, places_all}
+use Rattle.order_check.proofs.AccessOrder.{runs_in_turn, places_all}
 use Rattle.order_check.proofs.Meanings.{comes_from, foot_there}
 use Rattle.order_check.proofs.Numbers.{name_at as name_of, place_below, in_names, place_at}
 
