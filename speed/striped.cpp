@@ -4,7 +4,8 @@
 // again. The callers are joined one after the other, by one thread.
 // Usage: striped nothing|commits|tbb THREADS KEYS TRANSACTIONS shared|own. With `own` each thread has its own stripes.
 // Prints the transactions that were not busy a second, in millions, the nanoseconds of processor time of one, and the part that
-// was busy.
+// was busy. Or: striped audit THREADS KEYS COUNTS, where one more thread counts all pairs so often beside the others' transactions,
+// each time in a transaction of its own; prints the part of these that were busy.
 #include "boostmap.h"
 
 #include <atomic>
@@ -88,6 +89,12 @@ public:
         if (made.commits) boostmap_striped_commit(caller, &w);
         else boostmap_striped_abort(caller);
         return true;
+    }
+    bool count(word me) {
+        word w = 0;
+        if (boostmap_striped_begin(&callers_[me]) != BOOSTMAP_DONE) std::exit(3);
+        if (boostmap_striped_count(&callers_[me], &w) == BOOSTMAP_BUSY) return false;
+        return boostmap_striped_commit(&callers_[me], &w) == BOOSTMAP_DONE;
     }
 };
 
@@ -174,7 +181,31 @@ template <class Map> static void measure(word threads, word keys, word count, bo
     std::printf("%.4f %.0f %.5f %llu\n", done / seconds / 1e6, spent * 1e9 / done, double(busy) / all, (unsigned long long)sums);
 }
 
+static void audit(word threads, word keys, word counts) {
+    boosted map(threads, keys, BOOSTMAP_KEEP_NOTHING);
+    std::atomic<bool> over{false};
+    std::vector<std::thread> running;
+    for (word me = 0; me < threads; me++)
+        running.emplace_back([&, me] {
+            draws drawn(me, keys, 0);
+            word sum = 0;
+            while (!over) map.run(me, drawn.one(), sum);
+        });
+    word busy = 0;
+    for (word i = 0; i < counts; i++) {
+        busy += !map.count(threads);
+        std::this_thread::sleep_for(std::chrono::microseconds(100));
+    }
+    over = true;
+    for (auto &thread : running) thread.join();
+    std::printf("%.5f\n", double(busy) / double(counts));
+}
+
 int main(int argc, char **argv) {
+    if (argc == 5 && !std::strcmp(argv[1], "audit")) {
+        audit(std::strtoull(argv[2], nullptr, 10), std::strtoull(argv[3], nullptr, 10), std::strtoull(argv[4], nullptr, 10));
+        return 0;
+    }
     if (argc != 6) return 2;
     word threads = std::strtoull(argv[2], nullptr, 10), keys = std::strtoull(argv[3], nullptr, 10);
     word count = std::strtoull(argv[4], nullptr, 10);

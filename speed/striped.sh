@@ -66,3 +66,7 @@ median() {
   done | sort -t "$(printf '\t')" -k2,2r -k1,1nr -k3,3n -k4,4
 } >speed/striped.tsv
 column -t speed/striped.tsv
+
+for threads in 1 2 4; do
+  echo "of 10,000 counts of all pairs beside $threads writers on 100,000 keys, busy: $("$work/striped" audit $threads 100000 10000)"
+done
