@@ -1,7 +1,7 @@
 #!/usr/bin/env bash
 # Installs the library for C, C++, Rust and Python in a temporary folder, and runs each language's tests and its example,
 # whose output must be bindings/examples/stdout. It needs rt and cc, and uses c++, cargo, python3, valgrind and a compiler
-# with ThreadSanitizer if they are there. Nothing is downloaded. If the archive is not built yet, `rt lib` proves and builds
+# with ThreadSanitizer if they are there. Nothing is downloaded. If the archive is not built yet, build.py proves and builds
 # it first; the rest takes two minutes.
 # The last line is 'bindings: N passed, M failed', and '; not run: ..' names the tests whose tools are missing. The status
 # is 1 if M is not 0.
