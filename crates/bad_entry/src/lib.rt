@@ -1,5 +1,4 @@
-//! Finds the events that led to a bad entry of a recorded history. These are the reasons of an
-//! illegal verdict.
+//! Finds the events that led to a bad entry of a recorded history.
 //!
 //! `history_check` and `serial_check` say which entry of a history is the first that breaks a rule.
 //! This crate answers what a person asks next: Which reply would have been right? Who last changed
@@ -9,10 +8,8 @@
 //! Each question is answered by separate passes over the entries before the bad one. A pass takes
 //! constant time for each entry, unless it feeds a checker. Nothing is kept between two questions.
 //!
-//! Proved, if the bad entry is the first one that is bad: each answer is what the definitions give.
-//! The right reply is that of the present map or of the committed map. The holder of a lock is
-//! `holder_of`. The last change of a key, its fate, and the entry since which a lock is held are as
-//! defined in `specs/`.
+//! Proved, if the bad entry is the first one that is bad: each answer is what the definitions give
+//! (`specs/`).
 #![tactic(auto)]
 
 mod change;

@@ -1,6 +1,5 @@
 //! The core of a transactional map for 1 to 64 callers, which takes one step at a time. It runs
-//! boosted transactions (Herlihy and Koskinen, "Transactional Boosting", 2008) over a split-ordered
-//! hash table (Shalev and Shavit, "Split-Ordered Lists", 2006).
+//! boosted transactions (`undo_log`, `key_locks`) over a split-ordered hash table (`map_ops`).
 //!
 //! An operation takes its key's stripe. A seek and an act do it on the table; others may act in
 //! between. A change leaves an inverse. A commit drops the inverses; an abort or a return to a

@@ -11,8 +11,6 @@
 //! bad entry are those of a right reason (`specs/Explained.antt`). The line of a flaw is that of
 //! the file's flaw (`specs/Whys.antt`). At a fault nothing is written, with two exceptions: `why`
 //! writes the flaw of a refused file, and a failed write may leave a proper prefix of the text.
-//!
-//! `watch` keeps a checker and a part of the input in memory, and the others keep whole files.
 #![tactic(auto)]
 
 mod answer;

@@ -1,5 +1,4 @@
-//! The linked nodes of a split-ordered list (Shalev and Shavit, "Split-Ordered Lists", 2006), in
-//! one slab.
+//! The linked nodes of a split-ordered list, in one slab.
 //!
 //! A contract sees a `NodeList` as the list of its linked nodes in their order, the stamp of each
 //! spare that is out, the change number and the last stamp. A spare is out until it is linked or
@@ -11,11 +10,8 @@
 //! Calls take constant time and no memory unless they say otherwise: a few look-ups in the slab,
 //! whatever the length of the list.
 //!
-//! A sweep has to find the first marked node, and there may be many unmarked nodes in front of it.
-//! So the split keys are divided into 4,096 regions of equal size. The marked nodes are counted in
-//! each region, in each group of 64 regions and in the whole list (`Tally`).
-//! `NodeList::marks_begin` looks only at these counts. A mark adds one to the counts and an unlink
-//! subtracts one.
+//! Marked nodes are counted by regions of the order (`Tally`), so that a sweep finds the first one
+//! behind many unmarked nodes.
 #![tactic(auto)]
 
 mod list;

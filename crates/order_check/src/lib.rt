@@ -12,11 +12,8 @@
 //! that replace what it needs. These are the dependencies of Adya, "Weak Consistency" (1999). An
 //! order that keeps them is serial.
 //!
-//! Proved of each verdict:
-//! - Its order is a serial order.
-//! - Its reason holds, and the history is not serializable.
-//! - If it is undecided, the value that it names comes more than once.
-//! - If the order of the commits is a serial order, the verdict names this order.
+//! Proved: each verdict is right (`IsVerdictOn`), and names the order of the commits if that is a
+//! serial order.
 //!
 //! By the law `by_commits`, a history that is legal by locks is serializable.
 //!

@@ -7,12 +7,6 @@
 //! functions are plain calls with plain contracts. Their proof by hand is done once, in this crate,
 //! for all types.
 //!
-//! ```text
-//!   Box<T>  --from_box-->  OwnedPointer<T>  --into_box-->  Box<T>
-//!                          at: *mut T
-//!                          owns: the T at it, and the right to free its block
-//! ```
-//!
 //! The model of a pointer is the value that it owns. Proved: a box that is turned into a pointer
 //! and back has the same value, and nothing is freed meanwhile. A pointer cannot be lost without a
 //! call of `into_box`, since the type is not `Drop`.

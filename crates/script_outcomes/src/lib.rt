@@ -11,10 +11,7 @@
 //!   a committed transaction by the definitions of `txn_trace` (`laws::committed_plays`).
 //! - If a script has the outcome aborted, its worker has an Aborted entry with the outcome's index,
 //!   whose transaction did exactly the script's actions up to its own abort.
-//! - A worker's commits are in the order of its scripts, and so are its aborts, so each transaction
-//!   is counted for at most one script.
-//! - If a worker's commits play its scripts in order, each is counted. So none is missed in a
-//!   history that `mix` prints (`laws::commits_are_counted`).
+//! - Commits are counted as `laws::commits_are_counted` says.
 //!
 //! Only tested: each script that aborts itself in a run has the outcome aborted.
 //!

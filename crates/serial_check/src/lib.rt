@@ -13,9 +13,9 @@
 //! - `now`, the value that it sees there after its changes. Each later reply must be `now`.
 //!
 //! If one is not, no map gives the transaction its replies. Otherwise a map does exactly if it has
-//! the value `need` at each key. No commit of another caller changes a footprint, since it is about
-//! all maps. At a Committed each `need` is compared with the committed map, which then gets the
-//! values `now` (Kung and Robinson, "On Optimistic Methods for Concurrency Control", 1981).
+//! the value `need` at each key. At a Committed each `need` is compared with the committed map,
+//! which then gets the values `now` (Kung and Robinson, "On Optimistic Methods for Concurrency
+//! Control", 1981).
 //!
 //! Memory: the committed map, and the keys, savepoints and standing changes of open transactions.
 //! Calls take constant time and no memory unless they say otherwise.

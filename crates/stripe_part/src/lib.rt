@@ -8,8 +8,8 @@
 //!
 //! - `apply` does an operation as on a plain map. A change is then owed. A refusal leaves the part
 //!   unchanged; a get is never refused.
-//! - `take_back` gives a change's key the value from before. This is an inverse of boosting
-//!   (Herlihy and Koskinen, "Transactional Boosting", 2008); inverses are run newest first.
+//! - `take_back` gives a change's key the value from before. This is an inverse of boosting;
+//!   inverses are run newest first.
 //! - `settle` keeps all changes.
 //!
 //! Invariant: for each change owed the map has room for one more key, which the change has

@@ -1,9 +1,8 @@
 //! Scripts on threads. Each worker has its own thread and is a caller of one shared map.
 //!
 //! Worker `w` is caller `w`, and script `i` belongs to worker `i mod workers`. A worker runs its
-//! scripts in their order, by the rules of `script_worker`. A gate is called when a worker reaches
-//! certain points, and may make this worker wait. After some new keys without a help, a worker
-//! helps the table to grow by itself.
+//! scripts in their order, by the rules of `script_worker`. After some new keys without a help, a
+//! worker helps the table to grow by itself.
 //!
 //! A contract sees the result of a run: the history, and an outcome for each script. Proved
 //! (`run_scripts`, by `IsRunOf` of `specs/Runs.antt`): the history is legal by the rule that a Busy

@@ -6,7 +6,7 @@
 //! finally says how the call ended. It takes no lock, no memory and no step itself. An operation is
 //! asked for, its position is sought, and a step acts there; if the position no longer fits, it is
 //! sought again. A call that goes back takes back one change after the other. A helper initialises
-//! a bucket after the bucket's ancestors (Shalev and Shavit, "Split-Ordered Lists", 2006).
+//! a bucket after the bucket's ancestors.
 //!
 //! A contract sees a drive as a caller, a call and a phase. `turn_of` and `told_of` of
 //! `specs/Drives.antt` define the turn of a phase and the phase after an answer. Proved:

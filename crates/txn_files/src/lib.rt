@@ -6,9 +6,6 @@
 //! and has the loop over the pieces. This crate says what a step, an entry, an action and a script
 //! are, and which members each kind of file has.
 //!
-//! Each kind has versions 1 and 2, and history files a version 3. Version 1 has no `put_if`, and
-//! its step and script files allow only half keys, below 2^63.
-//!
 //! Proved: `read_steps`, `read_scripts`, `read_history` and the packed readers compute these
 //! functions, or report that memory was refused. `history_text` makes the text of a history, as
 //! `text_of_history` defines it. `HistoryPieces` hands out the same text and a line feed, piece by

@@ -7,8 +7,6 @@
 //! function `run` of this crate has no such engine. It is the whole program `unthreaded`, in which
 //! the command `run` fails since no thread can be started.
 //!
-//! This crate needs none of the proofs about threads.
-//!
 //! Proved (`specs/Runs.antt`): after a run, one of two things has happened.
 //!
 //! - The engine of the command that the words ask for ran on the file that they name. Standard
