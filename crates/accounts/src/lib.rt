@@ -48,7 +48,7 @@ pub fn transfer(caller: &mut Caller, tries: u64, from: u64, to: u64, sum: u64) -
 }
 
 /// Reads both accounts, and writes both if the sum can be moved.
-#[tactic(auto, using(striped_map::proofs::Within::keeps_on, striped_map::proofs::Within::keeps_three, striped_map::proofs::Within::keeps_four))]
+#[tactic(auto, using(striped_map::proofs::CallSpans::keeps_on, striped_map::proofs::CallSpans::keeps_three, striped_map::proofs::CallSpans::keeps_four))]
 fn move_sum(t: &mut Transaction<'_>, from: u64, to: u64, sum: u64) -> Result<bool, Stop>
     ensures keeps { Keeps t.old t.new }
     ensures ok { IfOk result (λ moved. HasWorked from to sum moved t.old.me.now t.new.me.now) }

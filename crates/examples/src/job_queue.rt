@@ -24,7 +24,7 @@ const CLAIMED: u64 = 2;
 const FINISHED: u64 = 3;
 
 /// Puts all jobs into the queue.
-#[tactic(auto, using(striped_map::proofs::Within::keeps_stay, striped_map::proofs::Within::keeps_on))]
+#[tactic(auto, using(striped_map::proofs::CallSpans::keeps_stay, striped_map::proofs::CallSpans::keeps_on))]
 fn fill(t: &mut Transaction<'_>) -> Result<(), Stop>
     ensures { Keeps t.old t.new }
 {
@@ -42,7 +42,7 @@ fn claim(t: &mut Transaction<'_>, job: u64) -> Result<bool, Stop>
 }
 
 /// Finishes a job that was claimed, and counts it.
-#[tactic(auto, using(striped_map::proofs::Within::keeps_on, striped_map::proofs::Within::keeps_three))]
+#[tactic(auto, using(striped_map::proofs::CallSpans::keeps_on, striped_map::proofs::CallSpans::keeps_three))]
 fn finish(t: &mut Transaction<'_>, job: u64) -> Result<(), Stop>
     ensures { Keeps t.old t.new }
 {

@@ -20,7 +20,7 @@ const OPENING: u64 = 100;
 const TRANSFERS: u64 = 50;
 
 /// Puts the opening sum into each account.
-#[tactic(auto, using(striped_map::proofs::Within::keeps_stay, striped_map::proofs::Within::keeps_on))]
+#[tactic(auto, using(striped_map::proofs::CallSpans::keeps_stay, striped_map::proofs::CallSpans::keeps_on))]
 fn open(t: &mut Transaction<'_>) -> Result<(), Stop>
     ensures { Keeps t.old t.new }
 {

@@ -37,7 +37,7 @@ impl Visit {
     /// # Errors
     ///
     /// The first `Stop` that one of these two calls returns.
-    #[tactic(auto, using(striped_map::proofs::Within::keeps_on, crate::proofs::Whole::has_done))]
+    #[tactic(auto, using(striped_map::proofs::CallSpans::keeps_on, crate::proofs::Whole::has_done))]
     fn put_and_get(self, t: &mut Transaction<'_>) -> Result<Reply, Stop>
         ensures keeps { Keeps t.old t.new }
         ensures done { IfOk result (λ reply. HasDone self reply t.old.me.now t.new.me.now) }
