@@ -81,7 +81,7 @@ library_page() {
 if wants programs; then
   for name in boostmap judge; do put 755 "$root/out/$name" bin/$name; done
   program_page boostmap crates/boostmap_engine/src/fault.rt >"$work/page" && put 644 "$work/page" share/man/man1/boostmap.1
-  program_page judge crates/judge_line/src/failure.rt >"$work/page" && put 644 "$work/page" share/man/man1/judge.1
+  program_page judge crates/judge_program/src/failure.rt >"$work/page" && put 644 "$work/page" share/man/man1/judge.1
 fi
 
 if wants 'c|python|rust'; then

@@ -10,6 +10,7 @@ NAMES = {  # What the table calls a line, its title, and its colour and dashes.
     "mutexes": ("plain Rust, a mutex a stripe", "#c8553d", ""),
     "one": ("plain Rust, one mutex", "#c8553d", "5 4"),
     "tbb": ("oneTBB, boosted", "#5b5f97", ""),
+    "rocksdb": ("RocksDB", "#8a6d3b", ""),
 }
 WIDTH, HEIGHT, LEFT, TOP = 300, 220, 50, 40
 THREADS = [1, 2, 4]

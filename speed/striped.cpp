@@ -1,8 +1,8 @@
-// Transactions on the striped map through boostmap.h, and on oneTBB's concurrent_unordered_map boosted by try-locks and an undo
-// log, for striped.sh. Each thread makes transactions of four operations: half puts, a quarter takes, a quarter gets, keys drawn
+// Transactions on the striped map through boostmap.h, on oneTBB's concurrent_unordered_map boosted by try-locks and an undo log,
+// and on RocksDB's TransactionDB, which locks keys and not stripes, without a log on disk; for striped.sh. Each thread makes transactions of four operations: half puts, a quarter takes, a quarter gets, keys drawn
 // evenly, two keys in three there at the beginning. A tenth abort. A transaction that finds a stripe held aborts, and is not tried
 // again. The callers are joined one after the other, by one thread.
-// Usage: striped nothing|commits|tbb THREADS KEYS TRANSACTIONS shared|own. With `own` each thread has its own stripes.
+// Usage: striped nothing|commits|tbb|rocksdb THREADS KEYS TRANSACTIONS shared|own. With `own` each thread has its own stripes.
 // Prints the transactions that were not busy a second, in millions, the nanoseconds of processor time of one, and the part that
 // was busy. Or: striped audit THREADS KEYS COUNTS, where one more thread counts all pairs so often beside the others' transactions,
 // each time in a transaction of its own; prints the part of these that were busy.
@@ -15,12 +15,19 @@
 #include <cstdlib>
 #include <cstring>
 #include <ctime>
+#include <filesystem>
 #include <memory>
+#include <string>
 #include <thread>
 #include <vector>
 #if __has_include(<tbb/concurrent_unordered_map.h>)
 #include <tbb/concurrent_unordered_map.h>
 #define HAS_TBB 1
+#endif
+#if __has_include(<rocksdb/utilities/transaction_db.h>)
+#include <rocksdb/utilities/transaction.h>
+#include <rocksdb/utilities/transaction_db.h>
+#define HAS_ROCKSDB 1
 #endif
 
 using word = std::uint64_t;
@@ -153,6 +160,55 @@ public:
 };
 #endif
 
+#ifdef HAS_ROCKSDB
+// Each thread keeps its transaction, which the next one uses again.
+class rocksdb_locked {
+    std::string folder_ = std::filesystem::temp_directory_path() / "striped-XXXXXX";
+    std::unique_ptr<rocksdb::TransactionDB> db_;
+    std::vector<std::unique_ptr<rocksdb::Transaction>> own_;
+
+    static rocksdb::Slice bytes(const word &number) { return {reinterpret_cast<const char *>(&number), sizeof number}; }
+
+public:
+    rocksdb_locked(word threads, word, word) : own_(threads) {
+        rocksdb::Options options;
+        options.create_if_missing = true;
+        rocksdb::TransactionDB *db = nullptr;
+        if (!mkdtemp(folder_.data()) || !rocksdb::TransactionDB::Open(options, {}, folder_, &db).ok()) std::exit(3);
+        db_.reset(db);
+    }
+    ~rocksdb_locked() {
+        own_.clear();
+        db_.reset();
+        std::filesystem::remove_all(folder_);
+    }
+    bool run(word me, const transaction &made, word &sum) {
+        rocksdb::WriteOptions unlogged;
+        unlogged.disableWAL = true;
+        rocksdb::TransactionOptions options;
+        options.lock_timeout = 0;
+        auto &own = own_[me];
+        own.reset(db_->BeginTransaction(unlogged, options, own.release()));
+        std::string found;
+        for (const auto &op : made.ops) {
+            rocksdb::Status status = own->GetForUpdate({}, bytes(op.key), &found);
+            if (!status.ok() && !status.IsNotFound()) {
+                if (!status.IsBusy() && !status.IsTimedOut()) std::exit(3);
+                own->Rollback();
+                return false;
+            }
+            word before = NONE;
+            if (status.ok()) std::memcpy(&before, found.data(), sizeof before);
+            if (op.what == PUT) status = own->Put(bytes(op.key), bytes(op.value));
+            else if (op.what == TAKE && before != NONE) status = own->Delete(bytes(op.key));
+            sum += before;
+        }
+        if (!(made.commits ? own->Commit() : own->Rollback()).ok()) std::exit(3);
+        return true;
+    }
+};
+#endif
+
 template <class Map> static void measure(word threads, word keys, word count, bool own, word keep) {
     Map map(threads, keys, keep);
     word filled = 0;
@@ -214,6 +270,9 @@ int main(int argc, char **argv) {
     else if (!std::strcmp(argv[1], "commits")) measure<boosted>(threads, keys, count, own, BOOSTMAP_KEEP_COMMITS);
 #ifdef HAS_TBB
     else if (!std::strcmp(argv[1], "tbb")) measure<tbb_boosted>(threads, keys, count, own, BOOSTMAP_KEEP_NOTHING);
+#endif
+#ifdef HAS_ROCKSDB
+    else if (!std::strcmp(argv[1], "rocksdb")) measure<rocksdb_locked>(threads, keys, count, own, BOOSTMAP_KEEP_NOTHING);
 #endif
     else return 2;
 }

@@ -1,7 +1,7 @@
 #!/usr/bin/env bash
 # Runs the same transactions of four operations on the striped map from C (striped.cpp), which keeps nothing or the number of its
-# commits, on plain Rust (striped.rs: a mutex a stripe, and one mutex), and, where libtbb-dev is installed, on oneTBB boosted. The
-# programs take turns in random order in each round. Prints the medians: millions of transactions a second that were not busy, by
+# commits, on plain Rust (striped.rs: a mutex a stripe, and one mutex), and, where libtbb-dev and librocksdb-dev are installed, on
+# oneTBB boosted and on RocksDB's TransactionDB, which makes a tenth of the transactions. The programs take turns in random order in each round. Prints the medians: millions of transactions a second that were not busy, by
 # the clock; nanoseconds of processor time of one; and how many percent were busy. `own` gives each thread its own stripes.
 # With one thread all must give the same replies. Writes the table to striped.tsv, of which picture.py draws docs/striped.svg.
 # Usage: speed/striped.sh [TRANSACTIONS_A_THREAD [ROUNDS]]
@@ -17,14 +17,23 @@ if [ -e /usr/include/tbb/concurrent_unordered_map.h ]; then
 else
   echo "not measured: tbb, whose header is not here (Debian's package libtbb-dev)" >&2
 fi
+if [ -e /usr/include/rocksdb/utilities/transaction_db.h ]; then
+  libraries+=(-lrocksdb)
+  names+=' rocksdb'
+else
+  echo "not measured: rocksdb, whose header is not here (Debian's package librocksdb-dev)" >&2
+fi
 quietly "${CXX:-c++}" -std=c++17 -O2 -I"$work/usr/include" speed/striped.cpp "${libraries[@]}" -o "$work/striped"
 rustc -O -o "$work/plain" speed/striped.rs
 
 # One run: name, keys, who shares them, threads, millions a second, nanoseconds, part that was busy, sum of the replies.
 run_one() {
-  local program=$work/striped
-  case $1 in mutexes | one) program=$work/plain ;; esac
-  echo "$1 $2 $3 $4 $("$program" "$1" "$4" "$2" "$count" "$3")"
+  local program=$work/striped many=$count
+  case $1 in
+    mutexes | one) program=$work/plain ;;
+    rocksdb) many=$((count / 10)) ;;
+  esac
+  echo "$1 $2 $3 $4 $("$program" "$1" "$4" "$2" "$many" "$3")"
 }
 
 while read -r keys who; do
@@ -47,7 +56,13 @@ done >"$work/runs" <<'END'
 END
 
 # The replies of one thread do not depend on the map.
-[ "$(awk '$4 == 1 { print $2, $3, $8 }' "$work/runs" | sort -u | wc -l)" = 6 ] || { echo 'the replies differ' >&2; exit 1; }
+{
+  grep -v '^rocksdb ' "$work/runs"
+  [ "${names% rocksdb}" = "$names" ] || for name in rocksdb nothing; do
+    echo "$name 1000 few 1 $("$work/striped" "$name" 1 1000 10000 shared)"
+  done
+} | awk '$4 == 1 { print $2, $3, $8 }' | sort -u | awk '{ n++; few += $2 == "few" } END { exit !(n - few == 6 && few <= 1) }' ||
+  { echo 'the replies differ' >&2; exit 1; }
 
 # The median of a column of the runs of a program.
 median() {

@@ -89,6 +89,8 @@ in_c() {
   c_test striped c99
   c_test striped_threads c11 -D_GNU_SOURCE -pthread
   try 'striped_threads with 16' within "$work/striped_threads" 16
+  c_test history c11 -pthread
+  try 'history with 16' within "$work/history" 16
   c_test striped_recorded c11 -pthread
   try 'striped_recorded with 16' within "$work/striped_recorded" 16
   c_test door c11 -pthread

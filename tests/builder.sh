@@ -63,8 +63,8 @@ archive staticlib: low mid
 CRATES
 for crate in low mid high archive; do mkdir -p "$repository/crates/$crate/src" && echo "pub $crate" >"$repository/crates/$crate/src/lib.rt"; done
 for crate in unthreaded boostmap judge; do mkdir -p "$repository/crates/$crate/src" && echo "$crate" >"$repository/crates/$crate/src/main.rt"; done
-mkdir -p "$repository"/crates/{boostmap_engine,judge_line}/src
-echo 'const USAGE: &str = "usage: it";' | tee "$repository/crates/boostmap_engine/src/fault.rt" >"$repository/crates/judge_line/src/failure.rt"
+mkdir -p "$repository"/crates/{boostmap_engine,judge_program}/src
+echo 'const USAGE: &str = "usage: it";' | tee "$repository/crates/boostmap_engine/src/fault.rt" >"$repository/crates/judge_program/src/failure.rt"
 cd "$repository" || exit
 
 # expect WHAT STATUS CRATES COMMAND..: runs a command, and compares its status and the crates that were proved, in any order.

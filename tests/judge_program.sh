@@ -12,7 +12,7 @@ program=${1:-crates/judge/out/judge}
 . tests/common.sh
 
 usage=$(sed -n '/^pub(crate) const USAGE: &str = "/,/";$/{s/^pub(crate) const USAGE: &str = "//;s/";$//;p;}' \
-  crates/judge_line/src/failure.rt)
+  crates/judge_program/src/failure.rt)
 
 # The entries of a history file, one a line.
 lines_of() {
@@ -42,6 +42,12 @@ usage_errors() {
   wants 2 '' "$usage" check --serializable --serializable examples/checked.json
   wants 2 '' "$usage" why --commit-order --serializable examples/checked.json
   wants 2 '' "$usage" why --serializable --show-order examples/checked.json
+  wants 2 '' "$usage" why --dot examples/checked.json
+  wants 2 '' "$usage" why --commit-order --dot examples/checked.json
+  wants 2 '' "$usage" why --commit-order --serializable --dot examples/checked.json
+  wants 2 '' "$usage" why --serializable --dot --dot examples/checked.json
+  wants 2 '' "$usage" check --serializable --dot examples/checked.json
+  wants 2 '' "$usage" watch --dot
   wants 2 '' "$usage" watch --commit-order --stripes 8
   wants 2 '' "$usage" watch --serializable
   local stripes
@@ -407,21 +413,8 @@ entries of transaction 2 of caller 0:
 ["committed",0,2]'
 }
 
-# The lines on a history that is not serializable, written by hand.
-anomalies() {
-  explains 0 'serializable 0 commits 1 open' '' 'a serializable history' 3 --serializable <<<'["began",0,1]'
-  explains 1 'not serializable: cycle of 2; transaction 1 read none at key 1, which transaction 2 replaced; '\
-'transaction 2 read none at key 2, which transaction 1 replaced
-transaction 1 of caller 0 read none at key 1, which transaction 2 of caller 1 replaced:
-  2 ["asked",0,"get",1]
-  3 ["did",0,null]
-  8 ["asked",1,"put",1,6]
-  9 ["did",1,null]
-transaction 2 of caller 1 read none at key 2, which transaction 1 of caller 0 replaced:
-  4 ["asked",1,"get",2]
-  5 ["did",1,null]
-  6 ["asked",0,"put",2,5]
-  7 ["did",0,null]' '' 'a write skew' 3 --serializable <<<'["began",0,1]
+# The write skew of docs/VERDICTS.md.
+write_skew='["began",0,1]
 ["began",1,2]
 ["asked",0,"get",1]
 ["did",0,null]
@@ -433,6 +426,40 @@ transaction 2 of caller 1 read none at key 2, which transaction 1 of caller 0 re
 ["did",1,null]
 ["committed",0,1]
 ["committed",1,2]'
+
+# A value that is put three times, and taken once.
+put_thrice='["began",0,1]
+["asked",0,"put",1,5]
+["did",0,null]
+["committed",0,1]
+["began",0,2]
+["asked",0,"put",1,5]
+["did",0,null]
+["committed",0,2]
+["began",0,3]
+["asked",0,"put",1,5]
+["did",0,null]
+["committed",0,3]
+["began",0,4]
+["asked",0,"take",1]
+["did",0,5]
+["committed",0,4]'
+
+# The lines on a history that is not serializable, written by hand.
+anomalies() {
+  explains 0 'serializable 0 commits 1 open' '' 'a serializable history' 3 --serializable <<<'["began",0,1]'
+  explains 1 'not serializable: G2-item, cycle of 2; transaction 1 read none at key 1, which transaction 2 replaced; '\
+'transaction 2 read none at key 2, which transaction 1 replaced
+transaction 1 of caller 0 read none at key 1, which transaction 2 of caller 1 replaced:
+  2 ["asked",0,"get",1]
+  3 ["did",0,null]
+  8 ["asked",1,"put",1,6]
+  9 ["did",1,null]
+transaction 2 of caller 1 read none at key 2, which transaction 1 of caller 0 replaced:
+  4 ["asked",1,"get",2]
+  5 ["did",1,null]
+  6 ["asked",0,"put",2,5]
+  7 ["did",0,null]' '' 'a write skew' 3 --serializable <<<"$write_skew"
   explains 1 'not serializable: transaction 2 read 5 at key 1, which no committed transaction left
 entries of transaction 2 of caller 1 on key 1:
   4 ["asked",1,"get",1]
@@ -469,26 +496,121 @@ entries of transaction 1 of caller 0:
   0 ["began",0,1]' '' 'a wrong place, in any order' 3 --serializable <<<'["began",0,1]
 ["began",1,2]
 ["committed",0,2]'
-  explains 5 'undecided key 1 value 5' '' 'a value that was put twice' 3 --serializable <<<'["began",0,1]
+  explains 1 'not serializable: transaction 3 read none at key 1, which no serial order gives
+entries of transaction 3 of caller 0 on key 1:
+  13 ["asked",0,"get",1]
+  14 ["did",0,null]' '' 'a read of two states' 3 --serializable <<<'["began",0,1]
 ["asked",0,"put",1,5]
+["did",0,null]
+["asked",0,"put",2,6]
 ["did",0,null]
 ["committed",0,1]
 ["began",0,2]
-["asked",0,"put",1,6]
+["asked",0,"take",1]
 ["did",0,5]
 ["asked",0,"put",2,7]
-["did",0,null]
+["did",0,6]
 ["committed",0,2]
 ["began",0,3]
-["asked",0,"put",1,5]
-["did",0,6]
-["committed",0,3]
-["began",0,4]
 ["asked",0,"get",1]
-["did",0,5]
-["asked",0,"get",2]
 ["did",0,null]
-["committed",0,4]'
+["asked",0,"get",2]
+["did",0,6]
+["committed",0,3]'
+  explains 5 'undecided key 1 value none' '' 'a value put three times and taken once' 3 --serializable <<<"$put_thrice"
+}
+
+# classed CLASS STATEMENTS WHAT: runs `judge check --serializable` on the entries of standard input, which
+# have a cycle of this class with these statements.
+classed() {
+  printf '{"version":3,"stripes":8,"entries":[%s]}' "$(paste -sd ,)" >"$work/history.json"
+  run check --serializable "$work/history.json"
+  judge "class: $3" 1 "not serializable: $1, cycle of $2" ''
+}
+
+# ran STEP..: the entries of callers that run a transaction each. A step is CALLER:OPERATION:REPLY, as in
+# 0:"get",1:null, or CALLER:c, the commit.
+ran() {
+  local step caller rest begun=' ' begins=0 commits=0
+  for step; do
+    caller=${step%%:*} rest=${step#*:}
+    if [[ $begun != *" $caller "* ]]; then
+      begun+="$caller " begins=$((begins + 1))
+      echo "[\"began\",$caller,$begins]"
+    fi
+    if [ "$rest" = c ]; then
+      commits=$((commits + 1))
+      echo "[\"committed\",$caller,$commits]"
+    else
+      printf '["asked",%s,%s]\n["did",%s,%s]\n' "$caller" "${rest%:*}" "$caller" "${rest##*:}"
+    fi
+  done
+}
+
+# The class of a cycle, by hand: lost updates, then by the number of `replaced`.
+classes() {
+  ran '0:"put",1,5:null' '1:"put",1,6:null' 0:c 1:c | classed 'lost update' '2; '\
+'transaction 1 read none at key 1, which transaction 2 replaced; '\
+'transaction 2 read none at key 1, which transaction 1 replaced' 'both put'
+  ran '0:"put",1,5:null' 0:c '1:"get",1:5' '2:"take",1:5' '1:"put",1,7:5' 1:c 2:c | classed 'lost update' '2; '\
+'transaction 2 read 5 at key 1, which transaction 3 replaced; '\
+'transaction 3 read 5 at key 1, which transaction 2 replaced' 'a put and a take'
+  ran '0:"get",1:null' '1:"get",2:null' '0:"put",2,5:null' '1:"put",1,5:null' 0:c 1:c | classed G2-item '2; '\
+'transaction 1 read none at key 1, which transaction 2 replaced; '\
+'transaction 2 read none at key 2, which transaction 1 replaced' 'one value at two keys'
+  ran '0:"get",1:null' '1:"get",2:null' '2:"get",3:null' '0:"put",2,5:null' '1:"put",3,6:null' '2:"put",1,7:null' \
+    0:c 1:c 2:c | classed G2-item '3; '\
+'transaction 1 read none at key 1, which transaction 3 replaced; '\
+'transaction 3 read none at key 3, which transaction 2 replaced; '\
+'transaction 2 read none at key 2, which transaction 1 replaced' 'three anti-dependencies'
+  ran '0:"get",1:null' '1:"put",1,5:null' '1:"put",2,6:null' 1:c '0:"get",2:6' 0:c | classed G-single '2; '\
+'transaction 2 left 6 at key 2, which transaction 1 read; '\
+'transaction 1 read none at key 1, which transaction 2 replaced' 'a read skew'
+  ran '0:"put",1,5:null' '1:"put",2,6:null' '0:"get",2:6' '1:"get",1:5' 0:c 1:c | classed G1c '2; '\
+'transaction 1 left 5 at key 1, which transaction 2 read; '\
+'transaction 2 left 6 at key 2, which transaction 1 read' 'each reads from the other'
+}
+
+# The graph of a cycle, by hand, and that of other verdicts, which has no edges.
+graphs() {
+  explains 1 'digraph {
+  // not serializable: G2-item, cycle of 2; transaction 1 read none at key 1, which transaction 2 replaced; '\
+'transaction 2 read none at key 2, which transaction 1 replaced
+  label="G2-item";
+  1 [label="transaction 1 of caller 0"];
+  1 -> 2 [label="1 read none at key 1,\nwhich 2 replaced"];
+  2 [label="transaction 2 of caller 1"];
+  2 -> 1 [label="2 read none at key 2,\nwhich 1 replaced"];
+}' '' 'the graph of a write skew' 3 --serializable --dot <<<"$write_skew"
+  ran '4:"get",1:null' '9:"put",1,5:null' '9:"put",2,6:null' 9:c '4:"get",2:6' 4:c >"$work/lines"
+  explains 1 'digraph {
+  // not serializable: G-single, cycle of 2; transaction 2 left 6 at key 2, which transaction 1 read; '\
+'transaction 1 read none at key 1, which transaction 2 replaced
+  label="G-single";
+  2 [label="transaction 2 of caller 9"];
+  2 -> 1 [label="2 left 6 at key 2,\nwhich 1 read"];
+  1 [label="transaction 1 of caller 4"];
+  1 -> 2 [label="1 read none at key 1,\nwhich 2 replaced"];
+}' '' 'the graph of a read skew' 3 --dot --serializable <"$work/lines"
+  explains 0 'digraph {
+  // serializable 0 commits 1 open
+}' '' 'the graph of a serializable history' 3 --serializable --dot <<<'["began",0,1]'
+  explains 1 'digraph {
+  // not serializable: entry 0 has the wrong shape
+}' '' 'the graph of a wrong shape' 3 --serializable --dot <<<'["began",0,2]'
+  ran '0:"get",1:7' 0:c >"$work/lines"
+  explains 1 'digraph {
+  // not serializable: transaction 1 read 7 at key 1, which no committed transaction left
+}' '' 'the graph of a value that nobody left' 3 --serializable --dot <"$work/lines"
+  explains 5 'digraph {
+  // undecided key 1 value none
+}' '' 'the graph of an undecided history' 3 --serializable --dot <<<"$put_thrice"
+  wants 3 '$: no JSON, or nested more than 127 deep, at line 1 column 1' 'refused 20' why --serializable --dot README.md
+  wants 4 '' 'read failed' why --serializable --dot examples/missing.json
+  "$program" why --serializable --dot examples/checked.json >/dev/full 2>"$work/err"
+  echo $? >"$work/status"
+  : >"$work/out"
+  judge 'a graph to a full device' 4 '' 'write failed'
 }
 
 # flawed PLACE FAULT LINE VERSION: runs `judge why` on a history of this version, whose entries are
@@ -792,6 +914,8 @@ reasons
 shapes
 commits
 anomalies
+classes
+graphs
 refusals
 script_outcomes
 input

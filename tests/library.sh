@@ -1,7 +1,8 @@
 #!/usr/bin/env bash
 # Tests the examples of docs/LIBRARY.md:
-# - For each row of the table "To have", it copies exactly the folders that the row names and the caller's, with their lines
-#   of crates.txt, and runs there, without a proof, what `examples` does with the caller. The output must be the same.
+# - For each row of the table "To have", it copies exactly the folders that the row names, with their lines of crates.txt,
+#   and the row's module of `samples`, as a crate with the row's line. It runs there, without a proof, what `examples` does
+#   with the module. The output must be the same.
 # - Each indented line that the page shows must be in a caller.
 # - samples/new.sh lays out a repository; its program is run, and proved with what this repository keeps in out/.
 # It takes two minutes, and for the proof three more if all crates below are proved here, else some fifteen.
@@ -30,20 +31,21 @@ wanted() {
     inside { print }' crates/examples/stdout
 }
 
-# Copies the folders of a row, and runs there what `examples` does with its caller.
+# Does so for a row.
 runs() {
   local folders=$1 line=$2 name=${2%%[ :]*} there=$work/there folder
-  local shown=$there/crates/shown
+  local shown=$there/crates/shown sample=$there/crates/samples/src
   rm -rf "$there"
-  mkdir -p "$shown/src"
+  mkdir -p "$shown/src" "$sample"
   cp HANDLES "$there/"
-  for folder in $folders $name; do
+  for folder in $folders; do
     cp -r "crates/$folder" "$there/crates/" && rm -rf "$there/crates/$folder/out"
     grep "^$folder\b" crates.txt >>"$there/crates.txt"
   done
-  grep -qxF "$line" crates.txt
-  judge "no such line: $line" $?
-  echo "shown: $name ${line#*: } anyhow" >>"$there/crates.txt"
+  cp "crates/samples/src/$name.rt" "$sample/"
+  printf '#![tactic(auto)]\n\npub mod %s;\n' "$name" >"$sample/lib.rt"
+  echo "samples: ${line#*: }" >>"$there/crates.txt"
+  echo "shown: samples ${line#*: } anyhow" >>"$there/crates.txt"
   cp "crates/examples/src/call_$name.rt" "$shown/src/"
   cat >"$shown/src/main.rt" <<MAIN
 #![tactic(auto)]
@@ -66,7 +68,7 @@ while IFS='|' read -r _ _ folders line _; do
   runs "$(echo $folders)" "$(echo "$line" | sed 's/^ `//; s/` $//')"
 done < <(sed -n '/^| To have/,/^$/p' $page | sed 1,2d | sed '/^$/d')
 
-cat crates/{accounts,audit,bank,visits}/src/*.rt samples/counter/counter.rt.txt | tr -s ' \n' ' ' >"$work/code"
+cat crates/samples/src/*.rt samples/counter/counter.rt.txt | tr -s ' \n' ' ' >"$work/code"
 while read -r clause; do
   grep -qF -- "$clause" "$work/code"
   judge "no such line: $clause" $?

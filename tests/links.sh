@@ -1,6 +1,6 @@
 #!/bin/sh
-# Prints each link of the documents that leads to no file, or to no heading of one, and each name in the
-# lists of docs/PROMISES.md that the sources lack. Fails if there is any.
+# Prints each link of the documents that leads to no file, or to no heading of one, and what is stale in the
+# lists of docs/PROMISES.md. Fails if there is any.
 cd "$(dirname "$0")/.." || exit 1
 
 # The headings of a page, in the form in which links name them.

@@ -5,8 +5,9 @@
 
 int main() {
     boostmap_cpp::opening how;
-    how.keeps_entries = true;
+    how.keep = BOOSTMAP_KEEP_ENTRIES;
     auto callers = boostmap_cpp::open_striped(4, 64, how);
+    boostmap_cpp::host host(callers);
     std::vector<std::thread> threads;
     for (auto &caller : callers)
         threads.emplace_back([&caller] {
@@ -17,9 +18,10 @@ int main() {
                 });
         });
     for (auto &thread : threads) thread.join();
+    callers.clear();
 
-    boostmap_cpp::judge judge(1, BOOSTMAP_BY_COMMITS);
-    judge.feed(boostmap_cpp::history(callers));
+    boostmap_cpp::judge judge(64, BOOSTMAP_HOLDER_BEGUN);
+    judge.feed(host.history());
     auto verdict = judge.verdict();
     std::cout << (verdict.is_legal ? "legal, " : "illegal, ") << verdict.commits << " commits\n";
 }

@@ -30,7 +30,7 @@
  *
  *     A striped map is for threads: each of its 1 to 4096 callers has its own handle, a
  *     `boostmap_caller`, and callers run in parallel without a lock. It grows by itself, hashes its
- *     keys and keeps no history, so it may run forever. If a caller finds a stripe held, the call
+ *     keys and, unless asked, keeps no history, so it may run forever. If a caller finds a stripe held, the call
  *     returns BOOSTMAP_BUSY, and the transaction has been aborted, with all its changes taken back.
  *
  *     A map with one owner, a `boostmap`, is for a program that wants to see each step of up to 64
@@ -59,14 +59,15 @@
  *     3, 4      the handle is empty, or in use already; nothing was done
  *     5, 6      of boostmap_checked.h: a null pointer, or a handle that is in another call
  *     7, 8, 9   an array that is too short, numbers that are no entry, a sum beyond 64 bits
+ *     10 to 12  of a map's history: no host, no entries kept, a caller that has not ended
  *     16 + n    refused; n is the number of the refusal, from 2 to 22
  *
  * OWNERSHIP
  *     A `boostmap` is a handle of 16 bytes in the program's memory, all zeros at first
  *     (BOOSTMAP_INIT). boostmap_new gives it a map; boostmap_free frees the map and makes the handle
  *     all zeros again. A handle may be moved by copying its bytes, if only the copy is used
- *     afterwards. Never read or write its fields. The same holds for a `boostmap_judge`, and for a
- *     `boostmap_caller`, which takes 64 bytes and is aligned to 64. A striped map is freed with the
+ *     afterwards. Never read or write its fields. The same holds for a `boostmap_judge`, a
+ *     `boostmap_host`, and a `boostmap_caller`, which takes 64 bytes and is aligned to 64. A striped map is freed with the
  *     last of its callers; a caller that is freed in a transaction aborts it.
  *
  * THREADS
@@ -99,8 +100,7 @@
  *     level or a limit out of range, calls out of order, and memory that is refused.
  *
  * SEE ALSO
- *     boostmap_checked.h (null and overlapping calls become statuses), boostmap_recorded.h (a program
- *     has its own run judged), boostmap.hpp (C++), docs/C.md
+ *     boostmap_checked.h (null and overlapping calls become statuses), boostmap.hpp (C++), docs/C.md
  */
 #ifndef BOOSTMAP_H
 #define BOOSTMAP_H
@@ -144,6 +144,9 @@ enum {
     BOOSTMAP_SHORT = 7,  /* from a read: the array is too short; *word is the number of places needed */
     BOOSTMAP_NO_ENTRY = 8, /* from a judge: these numbers are no entry of a caller below 64 */
     BOOSTMAP_OVERFLOW = 9, /* from an add: the sum would be below 0 or above 2^64 - 1 */
+    BOOSTMAP_NO_HOST = 10, /* this caller is not the first of its map, or the host has a handle already */
+    BOOSTMAP_NOT_KEPT = 11, /* the map does not keep its entries */
+    BOOSTMAP_MISSING = 12, /* for the history: caller *word of the map has not been freed */
     /* 16 + the number of a refusal: nothing has changed, unless the comment of the call says so */
     BOOSTMAP_NO_SUCH_CALLER = 18,  /* the caller's number is not below the number of callers; from
                                       boostmap_striped_join: no caller waits */
@@ -171,6 +174,9 @@ static inline const char *boostmap_text(boostmap_status status) {
     case BOOSTMAP_SHORT: return "the array is too short";
     case BOOSTMAP_NO_ENTRY: return "these numbers are no entry";
     case BOOSTMAP_OVERFLOW: return "the sum does not fit in 64 bits";
+    case BOOSTMAP_NO_HOST: return "the caller does not have the map's host";
+    case BOOSTMAP_NOT_KEPT: return "the map does not keep its entries";
+    case BOOSTMAP_MISSING: return "a caller of the map has not been freed";
     case BOOSTMAP_NO_SUCH_CALLER: return "there is no such caller";
     case BOOSTMAP_NOT_OPEN: return "the caller has no transaction";
     case BOOSTMAP_ALREADY_OPEN: return "the caller has a transaction already";
@@ -281,18 +287,17 @@ boostmap_status boostmap_back(boostmap *map, uint64_t caller, uint64_t level, ui
 
 /* A handle of a caller: all zeros, or a caller of a striped map. The program does not touch the
  * fields. It has a line of the cache to itself: every call reads it, and writes of other threads to
- * that line would slow the call down. On the heap, take it from aligned_alloc. The archive uses the
- * first two fields; boostmap_caller_counts tells the next three. */
+ * that line would slow the call down. On the heap, take it from aligned_alloc. */
 typedef struct boostmap_caller {
     BOOSTMAP_LINE uint64_t tag;
     void *held;
-    uint64_t commits, aborts, busy;
-    uint64_t apart[3];
+    uint64_t apart[6];
 } boostmap_caller;
 
-/* What a map keeps of its history. One that keeps its commits counts them in a word that all its
- * callers write. */
-enum { BOOSTMAP_KEEP_NOTHING = 0, BOOSTMAP_KEEP_COMMITS = 1 };
+/* What a map keeps of its history. One that keeps its commits counts them in a word that all its callers
+ * write, and so does one that keeps its entries; its callers also keep theirs, with 72 bytes for each
+ * begin, operation, savepoint, return and end, until its host is freed. */
+enum { BOOSTMAP_KEEP_NOTHING = 0, BOOSTMAP_KEEP_COMMITS = 1, BOOSTMAP_KEEP_ENTRIES = 2 };
 
 /* Opens a map with no keys, for 1 to 4096 callers and with 1 to 4096 stripes, with room for `keys`
  * keys, and makes `first` its first caller; *word: the caller's number, which is the number of
@@ -310,7 +315,7 @@ typedef struct boostmap_options {
     uint64_t callers; /* 1 to 4096; by default 1 */
     uint64_t stripes; /* 1 to 4096; by default 1024 */
     uint64_t keys;    /* the map has room for so many keys; by default for none */
-    uint64_t keep;    /* BOOSTMAP_KEEP_NOTHING or BOOSTMAP_KEEP_COMMITS; by default nothing */
+    uint64_t keep;    /* BOOSTMAP_KEEP_NOTHING, .._COMMITS or .._ENTRIES; by default nothing */
     uint64_t seed;    /* see boostmap_striped_open; by default 0 */
 } boostmap_options;
 
@@ -341,10 +346,23 @@ boostmap_status boostmap_striped_option(boostmap_caller *caller, uint64_t option
 boostmap_status boostmap_striped_join(boostmap_caller *first, boostmap_caller *next, uint64_t *word);
 
 /* Frees the caller, and the callers that still wait to be joined through its handle; an open
- * transaction is aborted.    0; 3 */
+ * transaction is aborted. If the map keeps its entries, the map's host gets those of these callers.
+ * 0; 3 */
 boostmap_status boostmap_striped_free(boostmap_caller *caller);
 
-/* Begins a transaction.    0; 3; 20 */
+/* How many transactions of a caller ended by a commit, by an abort, and by a busy call, which aborts too;
+ * each modulo 2^64. */
+typedef struct boostmap_counts {
+    uint64_t commits;
+    uint64_t aborts;
+    uint64_t busy;
+} boostmap_counts;
+
+/* Writes the counts of the caller, since it was joined.    0; 3, which writes nothing */
+boostmap_status boostmap_striped_counts(boostmap_caller *caller, boostmap_counts *counts);
+
+/* Begins a transaction. If the map keeps its entries, boostmap_striped_begin and boostmap_striped_back
+ * may also return 30.    0; 3; 20; 30 */
 boostmap_status boostmap_striped_begin(boostmap_caller *caller);
 
 /* Commits; *word: the place in the order of commits, from 1, modulo 2^64, if the map keeps its commits,
@@ -367,7 +385,7 @@ boostmap_status boostmap_striped_put_if_equal(boostmap_caller *caller, uint64_t 
 boostmap_status boostmap_striped_save(boostmap_caller *caller, uint64_t *word);
 
 /* Takes back every change since the level was set; 0 is the beginning. The level stays set, later
- * levels are dropped, and the stripes stay held.    0; 3; 19; 25 */
+ * levels are dropped, and the stripes stay held.    0; 3; 19; 25; 30 */
 boostmap_status boostmap_striped_back(boostmap_caller *caller, uint64_t level);
 
 /* Takes every stripe; *word: the number of keys that the map has, with the transaction's own changes.
@@ -405,8 +423,8 @@ boostmap_status boostmap_striped_read(boostmap_caller *caller, boostmap_pair *pa
  *     ABORTED          all changes are taken back
  *
  * docs/FORMATS.md has the rules in full ("The checker's rules"), and docs/JUDGE.md says how to record a
- * history; boostmap_recorded.h records this map's. It is proved that the verdict is legal exactly if the
- * history is. */
+ * history; boostmap_host_history and boostmap_history hand out those of this library's maps. It is proved
+ * that the verdict is legal exactly if the history is. */
 
 typedef struct boostmap_judge {
     uint64_t tag;
@@ -477,6 +495,60 @@ boostmap_status boostmap_judge_free(boostmap_judge *judge);
  * the kind of an entry does not have are 0.    0; 3 */
 boostmap_status boostmap_history(boostmap *map, uint64_t first, boostmap_entry *entries, size_t places, uint64_t *word);
 
+/* ---- the history of a striped map ---------------------------------------------------------------
+ *
+ * A map that was opened with BOOSTMAP_KEEP_ENTRIES hands out its whole history at its end:
+ *
+ *     boostmap_striped_host(&first, &host);             before `first` is freed
+ *     ..                                                each caller is freed, by any thread
+ *     boostmap_host_entries(&host, &entries, &count);
+ *     boostmap_judge_new(&judge, stripes, BOOSTMAP_HOLDER_BEGUN);
+ *     boostmap_judge_feed_all(&judge, entries, count, &fed);
+ *     boostmap_judge_verdict(&judge, &verdict);         verdict.is_legal is 1
+ *
+ * It is proved that this history is legal, and has exactly the entries of the map's callers and of its
+ * host. A judge by locks with BOOSTMAP_HOLDER_BEGUN and the map's stripes says so again, if the map has
+ * less than 64 callers. Callers are numbered from 1. */
+
+/* A handle of a striped map's host: all zeros, or a host. The program does not touch the fields. */
+typedef struct boostmap_host {
+    uint64_t tag;
+    void *held;
+} boostmap_host;
+
+/* Gives the map's host a handle. `first` is the map's first caller, and stays as it is. The host's calls
+ * may be made while callers are in calls.
+ * 0; 4: `host` is in use; 3: `first` is empty; 10: it is not the first caller, or the host has a handle
+ * already; 30 */
+boostmap_status boostmap_striped_host(boostmap_caller *first, boostmap_host *host);
+
+/* Writes the whole history of the map, oldest entry first, to the front of an array of `places` elements;
+ * *word: the number of entries. Every caller must have been freed, also those that were never joined,
+ * which boostmap_striped_free of the first one does. With another status the array is unchanged; after 7
+ * *word is the number of places that it needs, and the call took about as long as a full one.
+ * 0; 3; 7; 11: the map does not keep its entries; 12: caller *word has not been freed; 30 */
+boostmap_status boostmap_host_history(boostmap_host *host, boostmap_entry *entries, size_t places,
+                                      uint64_t *word);
+
+/* Frees the host, with the entries of the callers that were freed.    0; 3 */
+boostmap_status boostmap_host_free(boostmap_host *host);
+
+/* The whole history, as boostmap_host_history, in a new array that the program frees by free().
+ * 0; as boostmap_host_history */
+static inline boostmap_status boostmap_host_entries(boostmap_host *host, boostmap_entry **entries,
+                                                    uint64_t *word) {
+    boostmap_entry one;
+    size_t places = 1;
+    boostmap_status status = boostmap_host_history(host, &one, places, word);
+    if (status != BOOSTMAP_DONE && status != BOOSTMAP_SHORT) return status;
+    if (status == BOOSTMAP_SHORT) places = (size_t)*word;
+    *entries = (boostmap_entry *)malloc(places * sizeof **entries);
+    if (!*entries) return BOOSTMAP_NO_MEMORY;
+    status = boostmap_host_history(host, *entries, places, word);
+    if (status != BOOSTMAP_DONE) free(*entries);
+    return status;
+}
+
 /* ---- whole transactions, and more operations ------------------------------------------------------
  *
  * These functions are compiled with the program, and only tested. They make calls of the striped map,
@@ -504,35 +576,14 @@ static inline void boostmap_wait(uint64_t *waits) {
     select(0, NULL, NULL, NULL, &sleep);
 }
 
-/* How transactions of a caller ended: by a commit, by an abort, and by a busy call, which aborts too.
- * Only transactions of boostmap_caller_NAME are counted. */
-typedef struct boostmap_counts {
-    uint64_t commits;
-    uint64_t aborts;
-    uint64_t busy;
-} boostmap_counts;
-
-static inline boostmap_counts boostmap_caller_counts(const boostmap_caller *caller) {
-    boostmap_counts counts;
-    counts.commits = caller->commits;
-    counts.aborts = caller->aborts;
-    counts.busy = caller->busy;
-    return counts;
-}
-
 /* Ends a transaction whose operations returned `*status`: commits after 0 and 1, and else aborts. Is 0
  * if a call of this transaction was busy. */
 static inline int boostmap_caller_ends(boostmap_caller *caller, boostmap_status *status,
                                        uint64_t *place) {
-    uint64_t commits = *status <= BOOSTMAP_ABSENT;
+    int commits = *status <= BOOSTMAP_ABSENT;
     boostmap_status end =
         commits ? boostmap_striped_commit(caller, place) : boostmap_striped_abort(caller);
-    if (end == BOOSTMAP_DONE) {
-        caller->commits += commits;
-        caller->aborts += 1 - commits;
-        return 1;
-    }
-    caller->busy += end == BOOSTMAP_NOT_OPEN;
+    if (end == BOOSTMAP_DONE) return 1;
     if (commits) *status = end;
     return *status != BOOSTMAP_BUSY;
 }

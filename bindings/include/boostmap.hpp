@@ -19,7 +19,7 @@
 #ifndef BOOSTMAP_HPP
 #define BOOSTMAP_HPP
 
-#include "boostmap_recorded.h"
+#include "boostmap.h"
 
 #include <algorithm>
 #include <cstdint>
@@ -247,14 +247,13 @@ template <class Job> auto map::transact(std::uint64_t caller, Job &&job) {
     return detail::run_and_finish(open, job);
 }
 
-// How a striped map is opened: the number of keys for which it has room from the start; whether it keeps
-// the number of its commits, so that each commit tells its place; whether its callers keep the entries
-// of their committed transactions for `history`, which takes 64 bytes an entry; and the seed of the
-// hash of keys within a stripe, drawn from the system, below 2^32, unless it is given.
+// How a striped map is opened: the number of keys for which it has room from the start; what it keeps of
+// its history: the number of its commits, so that each commit tells its place, or its entries, for a
+// `host`; and the seed of the hash of keys within a stripe, drawn from the system, below 2^32, unless it
+// is given.
 struct opening {
     std::uint64_t keys = 0;
-    bool keeps_commits = false;
-    bool keeps_entries = false;
+    std::uint32_t keep = BOOSTMAP_KEEP_NOTHING;
     std::uint64_t seed = std::random_device{}();
 };
 
@@ -275,16 +274,20 @@ public:
     }
     caller(const caller &) = delete;
     caller &operator=(const caller &) = delete;
-    ~caller() { boostmap_recorded_free(&handle_); }
+    ~caller() { boostmap_striped_free(&handle_); }
 
     std::uint64_t number() const { return number_; }
-    boostmap_cpp::counts counts() const { return boostmap_caller_counts(&handle_.caller); }
+    boostmap_cpp::counts counts() {
+        boostmap_cpp::counts all = {};
+        detail::check(boostmap_striped_counts(&handle_, &all));
+        return all;
+    }
 
     // With what the map was opened.
     boostmap_options options() {
         boostmap_options all = {};
         std::uint64_t *members[] = {&all.callers, &all.stripes, &all.keys, &all.keep, &all.seed}, option = 0;
-        for (auto *member : members) detail::check(boostmap_striped_option(&handle_.caller, option++, member));
+        for (auto *member : members) detail::check(boostmap_striped_option(&handle_, option++, member));
         return all;
     }
 
@@ -292,11 +295,7 @@ public:
     [[nodiscard]] caller_transaction begin();
 
     // Aborts the caller's transaction, and returns whether there was one.
-    bool abort() {
-        bool aborts = boostmap_recorded_abort(&handle_) == BOOSTMAP_DONE;
-        handle_.caller.aborts += aborts;
-        return aborts;
-    }
+    bool abort() { return boostmap_striped_abort(&handle_) == BOOSTMAP_DONE; }
 
     // Runs a job, which is given a `caller_job`, in a transaction: commits, or aborts if the job throws
     // or rolls back. If a call of this transaction was busy, waits and runs the job again, for ever or
@@ -322,13 +321,13 @@ private:
     friend class caller_calls;
     friend std::vector<caller> open_striped(std::uint64_t callers, std::uint64_t stripes,
                                             const opening &how);
-    friend std::vector<boostmap_entry> history(const std::vector<caller> &callers);
+    friend class host;
     caller() = default;
     void swap(caller &other) noexcept {
         std::swap(handle_, other.handle_);
         std::swap(number_, other.number_);
     }
-    boostmap_recorded handle_ = {};
+    boostmap_caller handle_ = BOOSTMAP_INIT;
     std::uint64_t number_ = 0;
 };
 
@@ -338,15 +337,12 @@ inline std::vector<caller> open_striped(std::uint64_t callers, std::uint64_t str
                                         const opening &how = {}) {
     std::vector<caller> all;
     caller first;
-    bool keeps = how.keeps_commits || how.keeps_entries;
-    first.handle_.is_recorded = how.keeps_entries;
-    detail::check(boostmap_striped_open(&first.handle_.caller, callers, stripes, how.keys,
-                                        keeps ? BOOSTMAP_KEEP_COMMITS : BOOSTMAP_KEEP_NOTHING,
-                                        how.seed, &first.number_));
+    detail::check(boostmap_striped_open(&first.handle_, callers, stripes, how.keys, how.keep, how.seed,
+                                        &first.number_));
     all.reserve(callers);
     for (std::uint64_t i = 1; i < callers; i++) {
         caller next;
-        detail::check(boostmap_recorded_join(&first.handle_, &next.handle_, &next.number_));
+        detail::check(boostmap_striped_join(&first.handle_, &next.handle_, &next.number_));
         all.push_back(std::move(next));
     }
     std::reverse(all.begin(), all.end()); // numbers are counted down
@@ -354,28 +350,43 @@ inline std::vector<caller> open_striped(std::uint64_t callers, std::uint64_t str
     return all;
 }
 
-// The committed transactions of a map's callers, in the order of commits, each as a whole, for a judge
-// by the order of commits. Only if the map keeps its entries and these are all its callers is the
-// history the map's. No entry says a number of keys; `items` has a get of each pair.
-inline std::vector<boostmap_entry> history(const std::vector<caller> &callers) {
-    struct part {
-        const boostmap_entry *first, *end;
-    };
-    std::vector<part> parts;
-    for (const auto &each : callers) {
-        const boostmap_entry *at = each.handle_.entries;
-        for (std::size_t i = 0, from = 0; i < each.handle_.kept; i++)
-            if (at[i].kind == BOOSTMAP_COMMITTED) {
-                parts.push_back({at + from, at + i + 1});
-                from = i + 1;
-            }
+// The host of a striped map that keeps its entries. When all callers of the map are destroyed, it hands
+// out the map's whole history, which is proved to be legal. Make it while the callers stand.
+class host {
+public:
+    // Of the map with these callers, one of which has the host: the last that `open_striped` returned.
+    explicit host(std::vector<caller> &callers) {
+        boostmap_status status = BOOSTMAP_NO_HOST;
+        for (auto &each : callers)
+            if (status == BOOSTMAP_NO_HOST || status == BOOSTMAP_EMPTY)
+                status = boostmap_striped_host(&each.handle_, &handle_);
+        detail::check(status);
     }
-    std::sort(parts.begin(), parts.end(),
-              [](part a, part b) { return a.first->number < b.first->number; });
-    std::vector<boostmap_entry> all;
-    for (const auto &each : parts) all.insert(all.end(), each.first, each.end);
-    return all;
-}
+    host(host &&other) noexcept { std::swap(handle_, other.handle_); }
+    host &operator=(host &&other) noexcept {
+        std::swap(handle_, other.handle_);
+        return *this;
+    }
+    host(const host &) = delete;
+    host &operator=(const host &) = delete;
+    ~host() { boostmap_host_free(&handle_); }
+
+    // The whole history, oldest entry first, for a judge of the map's number of stripes. Throws `error`
+    // with BOOSTMAP_MISSING while a caller stands.
+    std::vector<boostmap_entry> history() {
+        std::vector<boostmap_entry> all(1); // so that data() is not null
+        for (;;) {
+            std::uint64_t word = 0;
+            boostmap_status status = boostmap_host_history(&handle_, all.data(), all.size(), &word);
+            if (status != BOOSTMAP_SHORT) detail::check(status);
+            all.resize(word);
+            if (status == BOOSTMAP_DONE) return all;
+        }
+    }
+
+private:
+    boostmap_host handle_ = BOOSTMAP_INIT;
+};
 
 // The calls within an open transaction of a caller, which aborts if it is destroyed before it is
 // committed. The caller must not be destroyed or moved while it is open. A busy call ends it.
@@ -387,14 +398,14 @@ public:
         if (caller_) caller_->abort();
     }
 
-    value get(std::uint64_t key) { return call(boostmap_recorded_get, key); }
-    value take(std::uint64_t key) { return call(boostmap_recorded_take, key); }
-    value put(std::uint64_t key, std::uint64_t to) { return call(boostmap_recorded_put, key, to); }
+    value get(std::uint64_t key) { return call(boostmap_striped_get, key); }
+    value take(std::uint64_t key) { return call(boostmap_striped_take, key); }
+    value put(std::uint64_t key, std::uint64_t to) { return call(boostmap_striped_put, key, to); }
     value put_if_absent(std::uint64_t key, std::uint64_t to) {
-        return call(boostmap_recorded_put_if_absent, key, to);
+        return call(boostmap_striped_put_if_absent, key, to);
     }
     value put_if_equal(std::uint64_t key, std::uint64_t expected, std::uint64_t to) {
-        return call(boostmap_recorded_put_if_equal, key, expected, to);
+        return call(boostmap_striped_put_if_equal, key, expected, to);
     }
     // Puts if the key has the expected value, or, without one, if it is absent; returns the value before.
     value put_if(std::uint64_t key, value expected, std::uint64_t to) {
@@ -423,15 +434,15 @@ public:
         return had;
     }
 
-    std::uint64_t save() { return *call(boostmap_recorded_save); }
-    void back(std::uint64_t level) { detail::check(boostmap_recorded_back(handle(), level)); }
+    std::uint64_t save() { return *call(boostmap_striped_save); }
+    void back(std::uint64_t level) { detail::check(boostmap_striped_back(handle(), level)); }
 
     // The number of keys of the map, and its pairs by rising keys. Both take every stripe: no call reads
     // only a part of a map.
-    std::uint64_t count() { return *call(boostmap_recorded_count); }
+    std::uint64_t count() { return *call(boostmap_striped_count); }
     std::vector<boostmap_pair> items() {
         std::vector<boostmap_pair> all(count() + 1); // one more, so that data() is not null
-        all.resize(*call(boostmap_recorded_read, all.data(), all.size()));
+        all.resize(*call(boostmap_striped_read, all.data(), all.size()));
         return all;
     }
 
@@ -447,37 +458,31 @@ public:
 
 protected:
     explicit caller_calls(caller *owner) : caller_(owner) {
-        detail::check(boostmap_recorded_begin(&owner->handle_));
+        detail::check(boostmap_striped_begin(&owner->handle_));
     }
     caller_calls(caller_calls &&other) noexcept : caller_(std::exchange(other.caller_, nullptr)) {}
 
     value end_by_commit() {
-        value place = call(boostmap_recorded_commit);
-        counted().commits++;
+        value place = call(boostmap_striped_commit);
         caller_ = nullptr;
         return *place ? place : std::nullopt;
     }
     void end_by_abort() {
-        detail::check(boostmap_recorded_abort(handle()));
-        counted().aborts++;
+        detail::check(boostmap_striped_abort(handle()));
         caller_ = nullptr;
     }
 
 private:
-    boostmap_recorded *handle() {
+    boostmap_caller *handle() {
         if (!caller_) throw error(BOOSTMAP_NOT_OPEN);
         return &caller_->handle_;
     }
-    boostmap_caller &counted() { return caller_->handle_.caller; }
 
     template <class Call, class... Words> value call(Call function, Words... words) {
-        boostmap_recorded *called = handle();
+        boostmap_caller *called = handle();
         std::uint64_t word = 0;
         boostmap_status status = function(called, words..., &word);
-        if (status == BOOSTMAP_BUSY) {
-            counted().busy++;
-            caller_ = nullptr;
-        }
+        if (status == BOOSTMAP_BUSY) caller_ = nullptr;
         return detail::value_or_throw(status, word, called);
     }
 

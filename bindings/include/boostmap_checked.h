@@ -106,6 +106,8 @@ BOOSTMAP_CHECKED_WORD(striped_open_with,
                       options ? boostmap_striped_open_with(&door->caller, options, word) : (boostmap_status)BOOSTMAP_NULL)
 BOOSTMAP_CHECKED_WORD(striped_option, (boostmap_caller_door *door, uint64_t option, uint64_t *word),
                       boostmap_striped_option(&door->caller, option, word))
+BOOSTMAP_CHECKED(striped_counts, (boostmap_caller_door *door, boostmap_counts *counts),
+                 counts ? boostmap_striped_counts(&door->caller, counts) : (boostmap_status)BOOSTMAP_NULL)
 BOOSTMAP_CHECKED(striped_free, (boostmap_caller_door *door), boostmap_striped_free(&door->caller))
 BOOSTMAP_CHECKED(striped_begin, (boostmap_caller_door *door), boostmap_striped_begin(&door->caller))
 BOOSTMAP_CHECKED(striped_abort, (boostmap_caller_door *door), boostmap_striped_abort(&door->caller))
@@ -156,6 +158,21 @@ BOOSTMAP_CHECKED_WORD(history,
                       entries ? boostmap_history(&door->map, first, entries, places, word) : (boostmap_status)BOOSTMAP_NULL)
 BOOSTMAP_CHECKED(judge_verdict, (boostmap_judge_door *door, boostmap_verdict *verdict),
                  verdict ? boostmap_judge_verdict(&door->judge, verdict) : (boostmap_status)BOOSTMAP_NULL)
+
+/* A host behind its own door. */
+typedef struct boostmap_host_door {
+    boostmap_host host;
+    boostmap_flag is_in_call;
+} boostmap_host_door;
+
+/* The inner half of the call that gives a host its handle, behind the second door. */
+BOOSTMAP_CHECKED(striped_host_of, (boostmap_host_door *door, boostmap_caller *first),
+                 boostmap_striped_host(first, &door->host))
+BOOSTMAP_CHECKED(striped_host, (boostmap_caller_door *door, boostmap_host_door *host),
+                 boostmap_checked_striped_host_of(host, &door->caller))
+BOOSTMAP_CHECKED_WORD(host_history, (boostmap_host_door *door, boostmap_entry *entries, size_t places, uint64_t *word),
+                      entries ? boostmap_host_history(&door->host, entries, places, word) : (boostmap_status)BOOSTMAP_NULL)
+BOOSTMAP_CHECKED(host_free, (boostmap_host_door *door), boostmap_host_free(&door->host))
 
 #undef BOOSTMAP_CHECKED
 #undef BOOSTMAP_CHECKED_WORD

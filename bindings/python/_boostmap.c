@@ -29,7 +29,6 @@ typedef struct {
     PyObject_HEAD
     Caller *caller;
     PyObject *commit_number;
-    PyObject *kept; /* a list to which a commit adds its place, or null */
     int is_open, was_busy, rolls_back;
 } Transaction;
 
@@ -242,12 +241,19 @@ static PyObject *caller_join(PyObject *self, PyObject *next) {
     return answer(status, other->number);
 }
 
+/* Gives the map's host the handle at this address, and returns the status. */
+static PyObject *caller_host(PyObject *self, PyObject *address) {
+    boostmap_host *host = PyLong_AsVoidPtr(address);
+    if (PyErr_Occurred()) return NULL;
+    enter((Caller *)self);
+    return PyLong_FromUnsignedLong(boostmap_striped_host(((Caller *)self)->handle, host));
+}
+
 static PyObject *caller_abort(PyObject *self, PyObject *none) {
     boostmap_status status;
     (void)none;
     enter((Caller *)self);
     status = boostmap_striped_abort(((Caller *)self)->handle);
-    ((Caller *)self)->handle->aborts += status == BOOSTMAP_DONE;
     return PyBool_FromLong(status == BOOSTMAP_DONE);
 }
 
@@ -264,8 +270,12 @@ static PyObject *caller_number(PyObject *self, void *none) {
 }
 
 static PyObject *caller_counts(PyObject *self, PyObject *none) {
-    boostmap_counts counts = boostmap_caller_counts(((Caller *)self)->handle);
+    boostmap_counts counts;
+    boostmap_status status;
     (void)none;
+    enter((Caller *)self);
+    status = boostmap_striped_counts(((Caller *)self)->handle, &counts);
+    if (status != BOOSTMAP_DONE) return raise_status(status, 0);
     return Py_BuildValue("KKK", (unsigned long long)counts.commits, (unsigned long long)counts.aborts,
                          (unsigned long long)counts.busy);
 }
@@ -343,6 +353,7 @@ static PyObject *caller_transact(PyObject *self, PyObject *args, PyObject *names
 static PyMethodDef caller_methods[] = {
     {"_open", caller_open, METH_VARARGS, NULL},
     {"_join", caller_join, METH_O, NULL},
+    {"_host", caller_host, METH_O, NULL},
     {"_counts", caller_counts, METH_NOARGS, NULL},
     {"_options", caller_options, METH_NOARGS, NULL},
     FAST("get", caller_get, "The value at the key, in a transaction of its own, as are all operations of a caller."),
@@ -410,7 +421,7 @@ static void end(Transaction *t) {
     if (!t->is_open) return;
     t->is_open = 0;
     enter(t->caller);
-    t->caller->handle->aborts += boostmap_striped_abort(t->caller->handle) == BOOSTMAP_DONE;
+    boostmap_striped_abort(t->caller->handle);
 }
 
 static void transaction_dealloc(PyObject *self) {
@@ -418,7 +429,6 @@ static void transaction_dealloc(PyObject *self) {
     end((Transaction *)self);
     Py_XDECREF(((Transaction *)self)->caller);
     Py_XDECREF(((Transaction *)self)->commit_number);
-    Py_XDECREF(((Transaction *)self)->kept);
     type->tp_free(self);
     Py_DECREF(type);
 }
@@ -426,7 +436,6 @@ static void transaction_dealloc(PyObject *self) {
 static void note_busy(Transaction *t) {
     t->is_open = 0;
     t->was_busy = 1;
-    t->caller->handle->busy++;
 }
 
 /* Makes a call on the handle of an open transaction; after a busy one the transaction is over. */
@@ -469,11 +478,9 @@ static PyObject *finish(Transaction *t) {
     CALL(t, status, boostmap_striped_commit(t->caller->handle, &place));
     if (status != BOOSTMAP_DONE) return raise_status(status, 0);
     t->is_open = 0;
-    t->caller->handle->commits++;
     number = place ? PyLong_FromUnsignedLongLong(place) : Py_NewRef(Py_None);
     if (!number) return NULL;
     Py_SETREF(t->commit_number, number);
-    if (t->kept && PyList_Append(t->kept, number)) return NULL;
     Py_RETURN_NONE;
 }
 
@@ -561,12 +568,6 @@ static PyObject *transaction_back(PyObject *self, PyObject *const *given, Py_ssi
     Py_RETURN_NONE;
 }
 
-static PyObject *transaction_keep(PyObject *self, PyObject *kept) {
-    if (!PyList_Check(kept)) return PyErr_Format(PyExc_TypeError, "a list is wanted");
-    Py_XSETREF(((Transaction *)self)->kept, Py_NewRef(kept));
-    Py_RETURN_NONE;
-}
-
 static PyObject *transaction_roll_back(PyObject *self, PyObject *none) {
     (void)none;
     ((Transaction *)self)->rolls_back = 1;
@@ -643,7 +644,6 @@ static PyObject *transaction_commit_number(PyObject *self, void *none) {
 
 static PyMethodDef transaction_methods[] = {
     {"__enter__", transaction_enter, METH_NOARGS, NULL},
-    {"_keep", transaction_keep, METH_O, NULL},
     FAST("__exit__", transaction_exit, NULL),
     FAST("get", transaction_get, "The value at the key."),
     FAST("take", transaction_take, "Takes the key out, and returns the value that it had."),

@@ -32,7 +32,7 @@ except ImportError:
     _boostmap = None
 
 __all__ = [
-    "open_striped", "Caller", "CallerTransaction", "Counts", "Options", "history", "Map", "Transaction", "Judge", "Entry", "Verdict",
+    "open_striped", "Caller", "CallerTransaction", "Counts", "Options", "Host", "Map", "Transaction", "Judge", "Entry", "Verdict",
     "Error", "Busy", "Refused", "NotFed",
 ]
 
@@ -62,7 +62,7 @@ _HANDLE = ctypes.POINTER(_Handle)
 _WORD = ctypes.POINTER(_U64)
 
 # Statuses of boostmap.h that this module treats in a special way.
-_DONE, _ABSENT, _BUSY, _SHORT, _NOT_OPEN = 0, 1, 2, 7, 19
+_DONE, _ABSENT, _BUSY, _EMPTY, _SHORT, _NO_HOST, _NOT_OPEN = 0, 1, 2, 3, 7, 10, 19
 
 # The calls of boostmap.h: the number of arguments between the handle and the word, and whether there
 # is a word.
@@ -76,12 +76,16 @@ _CALLS = {
     "striped_get": (1, True), "striped_take": (1, True), "striped_put": (2, True),
     "striped_put_if_absent": (2, True), "striped_put_if_equal": (3, True),
     "striped_count": (0, True), "striped_option": (1, True),
+    "host_free": (0, False),
     "judge_free": (0, False),
 }
 
 _REASONS = {
     3: "the handle is closed",
     8: "these numbers are no entry",
+    _NO_HOST: "no caller has the map's host",
+    11: "the map does not keep its entries",
+    12: "a caller of the map is not closed",
     18: "there is no such caller",
     _NOT_OPEN: "the caller has no transaction",
     20: "the caller has a transaction already",
@@ -104,12 +108,16 @@ def _load():
     library.boostmap_read.argtypes = [_HANDLE, ctypes.POINTER(_Pair), ctypes.c_size_t, _WORD]
     library.boostmap_striped_read.argtypes = library.boostmap_read.argtypes
     library.boostmap_striped_join.argtypes = [_HANDLE, _HANDLE, _WORD]
+    library.boostmap_striped_host.argtypes = [_HANDLE, ctypes.c_void_p]
+    library.boostmap_striped_counts.argtypes = [_HANDLE, _WORD]
+    library.boostmap_host_history.argtypes = [_HANDLE, ctypes.POINTER(_Entry), ctypes.c_size_t, _WORD]
     library.boostmap_history.argtypes = [_HANDLE, _U64, ctypes.POINTER(_Entry), ctypes.c_size_t, _WORD]
     library.boostmap_judge_new.argtypes = [_HANDLE, _U64, ctypes.c_uint32]
     library.boostmap_judge_feed.argtypes = [_HANDLE, ctypes.POINTER(_Entry)]
     library.boostmap_judge_feed_all.argtypes = [_HANDLE, ctypes.POINTER(_Entry), ctypes.c_size_t, _WORD]
     library.boostmap_judge_verdict.argtypes = [_HANDLE, ctypes.POINTER(_Verdict)]
-    for name in ("read", "history", "striped_read", "striped_join", "judge_new", "judge_feed", "judge_feed_all", "judge_verdict"):
+    for name in ("read", "history", "striped_read", "striped_join", "striped_host", "striped_counts", "host_history", "judge_new", "judge_feed",
+                 "judge_feed_all", "judge_verdict"):
         getattr(library, "boostmap_" + name).restype = ctypes.c_uint32
     return library
 
@@ -350,21 +358,24 @@ Counts = collections.namedtuple("Counts", "commits aborts busy")
 Counts.__doc__ = """How a caller's transactions ended: by a commit, by an abort, and by a busy call, which aborts too."""
 
 
-Options = collections.namedtuple("Options", "callers stripes keys keeps_commits seed")
+Options = collections.namedtuple("Options", "callers stripes keys keep seed")
 Options.__doc__ = """With what a striped map was opened."""
 
+_KEEPS = (None, "commits", "entries")
 
-def open_striped(callers=1, stripes=64, keys=0, keeps_commits=False, seed=None, keeps_entries=False):
+
+def open_striped(callers=1, stripes=64, keys=0, keep=None, seed=None):
     """Opens a striped map with no keys, for 1 to 4096 callers and with 1 to 4096 stripes, and returns its callers, in
-    the order of their numbers from 1. It has room for so many keys from the start. If it keeps its commits, each
-    transaction has a commit_number, and all callers write a common word. If it keeps its entries, so do the callers, for
-    `history`. The seed of the hash of keys within a stripe is drawn from the system, below 2**32, unless it is given. The
-    map is freed with the last of them."""
-    kind = _RecordedCaller if keeps_entries else Caller
-    first = kind()
+    the order of their numbers from 1. It has room for so many keys from the start. If it keeps "commits", each
+    transaction has a commit_number. If it keeps "entries", a Host hands out its history. With either, all callers write
+    a common word. The seed of the hash of keys within a stripe is drawn from the system, below 2**32, unless it is
+    given. The map is freed with the last of them."""
+    if keep not in _KEEPS:
+        raise ValueError(f"{keep!r} is not kept")
+    first = Caller()
     seed = int.from_bytes(os.urandom(4), "little") if seed is None else seed
-    first._open(callers, stripes, keys, int(keeps_commits or keeps_entries), seed)
-    others = [kind() for _ in range(1, callers)]
+    first._open(callers, stripes, keys, _KEEPS.index(keep), seed)
+    others = [Caller() for _ in range(1, callers)]
     for other in others:
         first._join(other)
     return others[::-1] + [first]  # numbers are counted down
@@ -465,10 +476,6 @@ class _CtypesCaller(_AtOnce, _Owned):
     _free = "striped_free"
     number = None
 
-    def __init__(self):
-        super().__init__()
-        self._ended = [0, 0, 0]
-
     def _open(self, *how):
         self.number = self._call("striped_open", *how)
 
@@ -478,17 +485,23 @@ class _CtypesCaller(_AtOnce, _Owned):
             status = _library.boostmap_striped_join(self._handle, other._handle, word)
         other.number = _value(status, word)
 
+    def _host(self, address):
+        with self._lock:
+            return _library.boostmap_striped_host(self._handle, address)
+
     def _counts(self):
-        return self._ended
+        counts = (_U64 * 3)()
+        with self._lock:
+            status = _library.boostmap_striped_counts(self._handle, counts)
+        _check(status)
+        return list(counts)
 
     def _options(self):
         return [self._call("striped_option", i) for i in range(5)]
 
     def abort(self):
         """Aborts the caller's transaction, and returns whether there was one."""
-        aborts = _aborts(self, "striped_abort")
-        self._ended[1] += aborts
-        return aborts
+        return _aborts(self, "striped_abort")
 
 
 class _CtypesTransaction(_InTransaction):
@@ -496,7 +509,7 @@ class _CtypesTransaction(_InTransaction):
     transaction open, until it is collected or its caller aborts."""
 
     _is_open = _rolls_back = was_busy = False
-    commit_number = _kept = None
+    commit_number = None
 
     def __init__(self, caller):
         self._caller = caller
@@ -517,9 +530,6 @@ class _CtypesTransaction(_InTransaction):
             if kind is None and not (self._rolls_back and self._is_open):
                 self.commit_number = self._call("striped_commit") or None
                 self._is_open = False
-                self._caller._ended[0] += 1
-                if self._kept is not None:
-                    self._kept.append(self.commit_number)
         finally:
             self._end()
 
@@ -538,14 +548,10 @@ class _CtypesTransaction(_InTransaction):
             return self._caller._call(name, *numbers)
         except Busy:
             self._is_open, self.was_busy = False, True
-            self._caller._ended[2] += 1
             raise
 
     def __bool__(self):
         return True
-
-    def _keep(self, kept):
-        self._kept = kept
 
     def roll_back(self):
         """Lets the end of the `with` take everything back, instead of committing."""
@@ -631,7 +637,7 @@ class Caller(_boostmap.Caller if _boostmap else _CtypesCaller):
     def options(self):
         """With what the map was opened, as Options."""
         callers, stripes, keys, keep, seed = self._options()
-        return Options(callers, stripes, keys, bool(keep), seed)
+        return Options(callers, stripes, keys, _KEEPS[keep], seed)
 
 
 class CallerTransaction(_boostmap.Transaction if _boostmap else _CtypesTransaction):
@@ -672,110 +678,33 @@ if _boostmap:
     _boostmap.set_types(Busy, Refused, CallerTransaction)
 
 
-class _RecordedCaller(*([_AtOnce] if _boostmap else []), Caller):
-    """A caller that keeps the entries of its transactions that have committed or are committing, a list for each, to
-    which the commit adds its place."""
+class Host(_Owned):
+    """The host of a striped map that keeps its entries, made while its callers stand. When each of them is closed, it
+    hands out the map's history."""
 
-    __slots__ = ("_record",)
+    _free = "host_free"
 
-    def __init__(self):
+    def __init__(self, callers):
         super().__init__()
-        self._record = []
+        status, address = _NO_HOST, ctypes.addressof(self._handle)
+        for caller in callers:
+            if status in (_NO_HOST, _EMPTY):
+                status = caller._host(address)
+        _check(status)
 
-    def transaction(self):
-        return _RecordedTransaction(self, self._record)
-
-
-class _RecordedTransaction(*([_InTransaction] if _boostmap else []), CallerTransaction):
-    """A transaction that keeps its entries."""
-
-    __slots__ = ("_record", "_entries")
-
-    def __new__(cls, caller, record):
-        return super().__new__(cls, caller) if _boostmap else super().__new__(cls)
-
-    def __init__(self, caller, record):
-        if not _boostmap:
-            super().__init__(caller)
-        self._record, self._entries = record, None
-
-    def __enter__(self):
-        super().__enter__()
-        self._entries = []
-        self._keep(self._entries)
-        return self
-
-    def __exit__(self, kind, raised, trace):
-        try:
-            self._record.append(self._entries)  # before the commit, so that an interrupt loses none
-            super().__exit__(kind, raised, trace)
-        finally:
-            if not _is_committed(self._entries) and self._record and self._record[-1] is self._entries:
-                self._record.pop()
-
-    def _did(self, operation, key, reply, value=None, expected=None):
-        self._entries.append(Entry("asked", 0, operation, key=key, value=value, expected=expected))
-        self._entries.append(Entry("did", 0, value=reply))
-        return reply
-
-    def get(self, key):
-        return self._did("get", key, super().get(key))
-
-    def take(self, key):
-        return self._did("take", key, super().take(key))
-
-    def put(self, key, value):
-        return self._did("put", key, super().put(key, value), value)
-
-    def put_if(self, key, expected, value):
-        return self._did("put_if", key, super().put_if(key, expected, value), value, expected)
-
-    def items(self):
-        items = super().items()
-        for key, value in items.items():
-            self._did("get", key, value)
-        return items
-
-    def save(self):
-        level = super().save()
-        self._entries.append(Entry("saved", 0))
-        return level
-
-    def back(self, level=0):
-        super().back(level)
-        undone = [Entry("undone", 0)] * self._changes_above(level)
-        self._entries += [Entry("leave", 0, number=level), *undone, Entry("returned", 0, number=level)]
-
-    def _changes_above(self, level):
-        """The number of changes above the level that stand."""
-        standing = below = levels = 0
-        asked = None
-        for entry in self._entries:
-            if entry.kind == "did":
-                is_as_expected = asked.operation == "put_if" and entry.value == asked.expected
-                is_taken = asked.operation == "take" and entry.value is not None
-                standing += asked.operation == "put" or is_as_expected or is_taken
-            elif entry.kind == "undone":
-                standing -= 1
-            elif entry.kind == "returned":
-                levels = entry.number
-            elif entry.kind == "saved":
-                levels += 1
-                below = standing if levels == level else below
-            asked = entry
-        return standing - below
-
-
-def _is_committed(entries):
-    return bool(entries) and isinstance(entries[-1], int)
-
-
-def history(callers):
-    """The committed transactions of all callers of a map that keeps its entries, in the order of commits, each as a
-    whole: what a Judge with by_commits=True is fed. No entry says a number of keys; `items` has a get of each pair."""
-    done = sorted(filter(_is_committed, (kept for caller in callers for kept in caller._record)), key=lambda kept: kept[-1])
-    return [entry for *entries, place in done for entry in (
-        Entry("began", 0, number=place), *entries, Entry("committed", 0, number=place))]
+    def history(self):
+        """The whole history of the map, as a list of Entry, for a Judge of the map's number of stripes with begun=True.
+        It is proved that it is legal, and has exactly the entries of the map's callers."""
+        places, word = 0, _U64(0)
+        while True:
+            array = (_Entry * places)()
+            with self._lock:
+                status = _library.boostmap_host_history(self._handle, array, places, word)
+            if status == _DONE:
+                return [Entry._from_c(entry) for entry in array[:word.value]]
+            if status != _SHORT:
+                raise Refused(status)
+            places = word.value
 
 
 _KINDS = {

@@ -3,7 +3,7 @@
  * time. Memory is refused at random meanwhile. At the end the run is judged, and no block is left.
  * Linked with -Wl,--wrap= of malloc, calloc, realloc and free.
  * Usage: crowd [AT_ONCE [ONE_IN]]: so many threads at a time, and one in so many allocations refused */
-#include "boostmap_recorded.h"
+#include "recorded.h"
 #include "check.h"
 #include <pthread.h>
 #include <stdatomic.h>

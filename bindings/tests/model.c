@@ -2,7 +2,7 @@
  * be the model's, and so must the pairs at the end of each map. Every other map is recorded, and judged
  * at its end; in the others, transactions of one call are made too.
  * Usage: model [CALLS] */
-#include "boostmap_recorded.h"
+#include "recorded.h"
 #include "check.h"
 
 enum { CALLERS = 3, KEYS = 60, MOST_STRIPES = 9, LEVELS = 4, CHANGES = 4096, A_MAP = 20000 };

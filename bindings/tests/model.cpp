@@ -154,20 +154,22 @@ static std::uint64_t transaction(caller &c, contents &model) {
 }
 
 static boostmap_verdict judged(const std::vector<boostmap_entry> &history) {
-    boostmap_cpp::judge judge(1, BOOSTMAP_BY_COMMITS);
+    boostmap_cpp::judge judge(7, BOOSTMAP_HOLDER_BEGUN);
     judge.feed(history);
     return judge.verdict();
 }
 
 static void beside_a_model(std::uint64_t calls) {
     boostmap_cpp::opening how;
-    how.keeps_entries = true;
+    how.keep = BOOSTMAP_KEEP_ENTRIES;
     auto callers = boostmap_cpp::open_striped(2, 7, how);
+    boostmap_cpp::host host(callers);
     contents model;
     for (std::uint64_t made = 0; made < calls;) made += transaction(callers[draw(2)], model);
     CHECK(are_equal(callers[0].items(), model));
-    auto history = boostmap_cpp::history(callers);
     auto first = callers[0].counts(), second = callers[1].counts();
+    callers.clear();
+    auto history = host.history();
     auto verdict = judged(history);
     std::printf("model_cpp: %zu entries, %llu commits, %llu aborts\n", history.size(),
                 static_cast<unsigned long long>(verdict.commits),

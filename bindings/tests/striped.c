@@ -53,11 +53,50 @@ static void limits(void) {
     }
 }
 
-/* A map that keeps nothing tells no place, and only 0 and 1 say what a map keeps. */
+static int counted(boostmap_caller *c, uint64_t commits, uint64_t aborts, uint64_t busy) {
+    boostmap_counts counts;
+    IS(boostmap_striped_counts(c, &counts), BOOSTMAP_DONE);
+    return counts.commits == commits && counts.aborts == aborts && counts.busy == busy;
+}
+
+/* A caller counts the ends of its transactions, and nothing else. */
+static void counting(void) {
+    boostmap_caller c = BOOSTMAP_INIT, other = BOOSTMAP_INIT;
+    boostmap_counts counts = {1, 2, 3};
+    uint64_t w;
+    IS(boostmap_striped_counts(&c, &counts), BOOSTMAP_EMPTY);
+    CHECK(counts.commits == 1 && counts.aborts == 2 && counts.busy == 3);
+    IS(boostmap_striped_open(&c, 2, 4, 0, BOOSTMAP_KEEP_NOTHING, 0, &w), BOOSTMAP_DONE);
+    IS(boostmap_striped_join(&c, &other, &w), BOOSTMAP_DONE);
+    IS(boostmap_striped_commit(&c, &w), BOOSTMAP_NOT_OPEN);
+    IS(boostmap_striped_abort(&c), BOOSTMAP_NOT_OPEN);
+    CHECK(counted(&c, 0, 0, 0));
+    IS(boostmap_striped_begin(&c), BOOSTMAP_DONE);
+    IS(boostmap_striped_begin(&c), BOOSTMAP_ALREADY_OPEN);
+    IS(boostmap_striped_put(&c, 1, 10, &w), BOOSTMAP_ABSENT);
+    for (uint64_t i = 1; i <= 3; i++) {
+        IS(boostmap_striped_begin(&other), BOOSTMAP_DONE);
+        IS(i == 1   ? boostmap_striped_get(&other, 1, &w)
+           : i == 2 ? boostmap_striped_count(&other, &w)
+                    : boostmap_striped_read(&other, &(boostmap_pair){0, 0}, 1, &w),
+           BOOSTMAP_BUSY);
+        CHECK(counted(&other, 0, 0, i));
+    }
+    IS(boostmap_striped_save(&c, &w), BOOSTMAP_DONE);
+    IS(boostmap_striped_back(&c, 0), BOOSTMAP_DONE);
+    IS(boostmap_striped_abort(&c), BOOSTMAP_DONE);
+    IS(boostmap_striped_begin(&c), BOOSTMAP_DONE);
+    IS(boostmap_striped_commit(&c, &w), BOOSTMAP_DONE);
+    CHECK(counted(&c, 1, 1, 0) && counted(&other, 0, 0, 3));
+    IS(boostmap_striped_free(&c), BOOSTMAP_DONE);
+    IS(boostmap_striped_free(&other), BOOSTMAP_DONE);
+}
+
+/* A map that keeps nothing tells no place, and only 0 to 2 say what a map keeps. */
 static void keeping(void) {
     boostmap_caller c = BOOSTMAP_INIT;
     uint64_t w;
-    ANSWERS(boostmap_striped_open(&c, 1, 1, 0, 2, 0, &w), BOOSTMAP_LIMIT, UNTOUCHED);
+    ANSWERS(boostmap_striped_open(&c, 1, 1, 0, 3, 0, &w), BOOSTMAP_LIMIT, UNTOUCHED);
     ANSWERS(boostmap_striped_open(&c, 1, 1, 1000, BOOSTMAP_KEEP_NOTHING, UINT64_MAX, &w), BOOSTMAP_DONE, 1);
     IS(boostmap_striped_begin(&c), BOOSTMAP_DONE);
     ANSWERS(boostmap_striped_commit(&c, &w), BOOSTMAP_DONE, 0);
@@ -95,7 +134,7 @@ static void options(void) {
     ANSWERS(boostmap_striped_open_with(&c, &none, &w), BOOSTMAP_DONE, 1);
     CHECK(option(&c, BOOSTMAP_OPTION_CALLERS) == 1 && option(&c, BOOSTMAP_OPTION_KEEP) == BOOSTMAP_KEEP_NOTHING);
     IS(boostmap_striped_free(&c), BOOSTMAP_DONE);
-    none.keep = 2;
+    none.keep = 3;
     ANSWERS(boostmap_striped_open_with(&c, &none, &w), BOOSTMAP_LIMIT, UNTOUCHED);
     none.keep = ((uint64_t)1 << 32);
     ANSWERS(boostmap_striped_open_with(&c, &none, &w), BOOSTMAP_LIMIT, UNTOUCHED);
@@ -252,6 +291,7 @@ int main(void) {
     an_empty_handle(&c[0]);
     limits();
     keeping();
+    counting();
     options();
     joining(c);
     order(&c[0]);

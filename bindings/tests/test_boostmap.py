@@ -6,7 +6,7 @@ import time
 import unittest
 
 import boostmap
-from boostmap import Busy, Counts, Entry, Judge, Map, NotFed, Refused, Verdict, history, open_striped
+from boostmap import Busy, Counts, Entry, Host, Judge, Map, NotFed, Refused, Verdict, open_striped
 
 
 class Interrupt(Exception):
@@ -198,7 +198,7 @@ class Calls(unittest.TestCase):
 
 class Callers(unittest.TestCase):
     def test_a_transaction_commits(self):
-        one, other = open_striped(callers=2, stripes=16, keys=100, keeps_commits=True)
+        one, other = open_striped(callers=2, stripes=16, keys=100, keep="commits")
         self.assertEqual((one.number, other.number), (1, 2))
         with one.transaction() as t:
             self.assertIsNone(t.put(1, 10))
@@ -220,10 +220,10 @@ class Callers(unittest.TestCase):
         self.assertIsNone(t.commit_number)
 
     def test_a_map_tells_how_it_was_opened(self):
-        for caller in open_striped(callers=3, stripes=16, keys=100, keeps_commits=True, seed=7):
-            self.assertEqual(caller.options(), (3, 16, 100, True, 7))
+        for caller in open_striped(callers=3, stripes=16, keys=100, keep="commits", seed=7):
+            self.assertEqual(caller.options(), (3, 16, 100, "commits", 7))
         caller, = open_striped()
-        self.assertEqual(caller.options()[:4], (1, 64, 0, False))
+        self.assertEqual(caller.options()[:4], (1, 64, 0, None))
         caller.close()
         with self.assertRaises(Refused):
             caller.options()
@@ -357,11 +357,18 @@ class Callers(unittest.TestCase):
         self.assertEqual(callers[0].transact(lambda t: sum(t.get(key) for key in range(keys))), 100 * keys)
 
 
-def judged(entries):
-    """The verdict on a history, by the order of commits."""
-    with Judge(by_commits=True) as judge:
+def judged(entries, stripes):
+    """The verdict on the history of a striped map."""
+    with Judge(stripes, begun=True) as judge:
         judge.feed_all(entries)
         return judge.verdict()
+
+
+def ended(callers, host):
+    """Closes the callers, and returns their map's history."""
+    for caller in callers:
+        caller.close()
+    return host.history()
 
 
 def call(t, model, draw):
@@ -434,9 +441,10 @@ class Operations(unittest.TestCase):
         return calls, model if ending in (1, 2) else changed
 
     def test_calls_beside_a_model(self):
-        for keeps_entries in (False, True):
+        for keep in (None, "entries"):
             draw, model, made = random.Random(1), {}, 0
-            callers = open_striped(callers=2, stripes=7, keeps_entries=keeps_entries)
+            callers = open_striped(callers=2, stripes=7, keep=keep)
+            host = Host(callers)
             while made < (50_000 if boostmap._boostmap else 5_000):
                 calls, model = self.transaction(draw.choice(callers), model, draw)
                 made += calls
@@ -444,17 +452,17 @@ class Operations(unittest.TestCase):
             self.assertEqual(list(callers[0].items()), sorted(model))
             commits = sum(caller.counts().commits for caller in callers)
             self.assertGreater(min(caller.counts().aborts for caller in callers), 10)
-            if keeps_entries:
-                self.assertEqual(sum(len(caller._record) for caller in callers), commits)
-                entries = history(callers)
-                self.assertEqual(judged(entries), Verdict(True, commits, 0, None, None))
+            if keep:
+                entries = ended(callers, host)
+                self.assertEqual(judged(entries, 7), Verdict(True, commits, 0, None, None))
                 gets = (i for i in range(len(entries) // 2, len(entries)) if entries[i].operation == "get")
-                entries[next(gets) + 1] = Entry("did", 0, value=12345)
-                self.assertEqual(judged(entries)[4], "replies")
+                forged = next(gets) + 1
+                entries[forged] = Entry("did", entries[forged].caller, value=12345)
+                self.assertEqual(judged(entries, 7)[3:], (forged, "replies"))
 
     def test_a_whole_transaction_in_one_call(self):
-        for keeps_entries in (False, True):
-            one, other = open_striped(callers=2, keeps_entries=keeps_entries)
+        for keep in (None, "entries"):
+            one, other = open_striped(callers=2, keep=keep)
             replies = one.run([("put", 1, 10), ("get", 1), ["add", 1, -4], ("put_if", 1, 6, 7), ("get_or_put", 2, 20),
                                ("take", 1), ("put_if", 3, None, 30), ("get", 3)])
             self.assertEqual(replies, [None, 10, 10, 6, 20, 7, None, 30])
@@ -485,8 +493,8 @@ class Operations(unittest.TestCase):
         self.assertEqual(other.counts().commits, 2)
 
     def test_an_exception_ends_the_transaction_at_once(self):
-        for keeps_entries in (False, True):
-            one, other = open_striped(callers=2, keeps_entries=keeps_entries)
+        for keep in (None, "entries"):
+            one, other = open_striped(callers=2, keep=keep)
 
             def fails(t):
                 t.put(5, 50)
@@ -522,9 +530,10 @@ class Operations(unittest.TestCase):
             lambda caller: caller.transact(lambda t: (t.add(1, -1), t.add(2, 1))),
             lambda caller: caller.transact(lambda t: (t.update(1, lambda v: v - 1), t.update(2, lambda v: v + 1))),
         ]
-        for keeps_entries in (False, True):
+        for keep in (None, "entries"):
             for job in jobs:
-                one, other = open_striped(callers=2, keeps_entries=keeps_entries)
+                one, other = callers = open_striped(callers=2, keep=keep)
+                host = Host(callers)
                 one.put_all({1: 2**40, 2: 0})
 
                 def moves():
@@ -538,14 +547,15 @@ class Operations(unittest.TestCase):
                 items = other.transact(lambda t: t.items(), tries=0)
                 self.assertEqual(sum(items.values()), 2**40)
                 self.assertGreater(items[2], 0)
-                if keeps_entries and boostmap._boostmap:
+                if keep and boostmap._boostmap:
                     commits = one.counts().commits + other.counts().commits
-                    self.assertEqual(judged(history([one, other])), Verdict(True, commits, 0, None, None))
+                    self.assertEqual(judged(ended(callers, host), 64), Verdict(True, commits, 0, None, None))
 
     def test_threads_that_come_and_go_are_judged(self):
-        callers = open_striped(callers=40, stripes=5, keeps_entries=True)
+        callers = open_striped(callers=40, stripes=5, keep="entries")
+        host = Host(callers)
         callers[0].put_all({key: 100 for key in range(10)})
-        audits = []
+        audits, commits = [], []
 
         def visits(caller):
             draw = random.Random(caller.number)
@@ -562,6 +572,7 @@ class Operations(unittest.TestCase):
             audits.append(sum(caller.items().values()))
             if draw.random() < 0.5:
                 caller.transaction().__enter__().put(1, 10**6)
+            commits.append(caller.counts().commits)
             caller.close()
 
         threads = []
@@ -573,8 +584,25 @@ class Operations(unittest.TestCase):
         for thread in threads:
             thread.join()
         self.assertEqual((audits, sum(callers[0].items().values())), ([1000] * 39, 1000))
-        commits = sum(caller.counts().commits for caller in callers)
-        self.assertEqual(judged(history(callers)), Verdict(True, commits, 0, None, None))
+        commits = sum(commits) + callers[0].counts().commits
+        with self.assertRaises(Refused) as missing:
+            host.history()
+        self.assertEqual(missing.exception.status, 12)
+        self.assertEqual(judged(ended(callers, host), 5), Verdict(True, commits, 0, None, None))
+
+    def test_hosts(self):
+        callers = open_striped(callers=2)
+        host = Host(callers)
+        host.close()
+        for status, fails in [(10, lambda: Host(callers)), (10, lambda: Host([])), (3, host.history)]:
+            with self.assertRaises(Refused) as refused:
+                fails()
+            self.assertEqual(refused.exception.status, status)
+        with self.assertRaises(ValueError):
+            open_striped(keep="everything")
+        with self.assertRaises(Refused) as refused:
+            Host(open_striped(keep="commits")).history()
+        self.assertEqual(refused.exception.status, 11)
 
 
 class Judges(unittest.TestCase):

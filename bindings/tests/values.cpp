@@ -79,7 +79,7 @@ template <class T> constexpr bool is_moved_only =
     std::is_nothrow_move_constructible_v<T> && !std::is_copy_constructible_v<T> && !std::is_copy_assignable_v<T>;
 static_assert(is_moved_only<map> && is_moved_only<boostmap_cpp::transaction>);
 static_assert(is_moved_only<boostmap_cpp::caller> && is_moved_only<boostmap_cpp::caller_transaction>);
-static_assert(is_moved_only<judge>);
+static_assert(is_moved_only<judge> && is_moved_only<boostmap_cpp::host>);
 
 // The example at the head of boostmap.hpp.
 static void of_the_head() {
@@ -96,7 +96,7 @@ static void of_the_head() {
 }
 
 static void of_callers() {
-    auto callers = boostmap_cpp::open_striped(2, 16, {100, true});
+    auto callers = boostmap_cpp::open_striped(2, 16, {100, BOOSTMAP_KEEP_COMMITS});
     auto &one = callers[0], &two = callers[1];
     CHECK(callers.size() == 2 && one.number() == 1 && two.number() == 2);
     one.transact(0, [](auto &t) {
@@ -139,7 +139,7 @@ static void of_callers() {
     CHECK(thrown([] { boostmap_cpp::open_striped(0, 16); }) == BOOSTMAP_LIMIT);
     boostmap_cpp::opening how;
     how.keys = 100;
-    how.keeps_commits = true;
+    how.keep = BOOSTMAP_KEEP_COMMITS;
     how.seed = 7;
     auto options = boostmap_cpp::open_striped(3, 16, how)[0].options();
     CHECK(options.callers == 3 && options.stripes == 16 && options.keys == 100 && options.seed == 7);
@@ -179,6 +179,31 @@ static void of_threads() {
         });
     for (auto &thread : threads) thread.join();
     CHECK(callers[0].transact(0, [](auto &t) { return *t.get(7); }) == THREADS * ROUNDS);
+}
+
+// Threads run, and the history of their callers is judged.
+static void of_hosts() {
+    boostmap_cpp::opening how;
+    how.keep = BOOSTMAP_KEEP_ENTRIES;
+    auto callers = boostmap_cpp::open_striped(4, 8, how);
+    boostmap_cpp::host host(callers);
+    CHECK(thrown([&] { boostmap_cpp::host again(callers); }) == BOOSTMAP_NO_HOST);
+    std::vector<std::thread> threads;
+    for (auto &caller : callers)
+        threads.emplace_back([mine = std::move(caller)]() mutable {
+            for (int i = 0; i < 500; i++) mine.transact([](auto &t) { t.put(7, t.get(7).value_or(0) + 1); });
+        });
+    for (auto &thread : threads) thread.join();
+    threads.clear(); // and with them the callers
+    auto history = host.history();
+    judge judge(8, BOOSTMAP_HOLDER_BEGUN);
+    judge.feed(history);
+    CHECK(judge.verdict().is_legal && judge.verdict().commits == 2000 && judge.verdict().running == 0);
+    auto others = boostmap_cpp::open_striped(2, 8, how);
+    boostmap_cpp::host second(others);
+    CHECK(thrown([&] { second.history(); }) == BOOSTMAP_MISSING);
+    others.clear();
+    CHECK(second.history().empty());
 }
 
 static void of_judges() {
@@ -221,5 +246,6 @@ int main() {
     of_callers();
     of_jobs();
     of_threads();
+    of_hosts();
     of_judges();
 }

@@ -55,7 +55,7 @@ static void jobs(void) {
     ends(&apart, 100, UINT64_MAX, BOOSTMAP_BUSY, 1);
     ends(&other, BOOSTMAP_DONE, UINT64_MAX, BOOSTMAP_NOT_OPEN, 1);
     ends(&other, 77, UINT64_MAX, 77, 1);
-    counts = boostmap_caller_counts(&other);
+    CHECK(boostmap_striped_counts(&other, &counts) == BOOSTMAP_DONE);
     CHECK(counts.commits == 2 + 9 + 2 && counts.aborts == 3 && counts.busy == 1 + 4 + 1 + 1);
     CHECK(boostmap_caller_get(&one, 1, &word) == BOOSTMAP_ALREADY_OPEN);
     CHECK(boostmap_striped_abort(&one) == BOOSTMAP_DONE &&

@@ -1,12 +1,13 @@
 //! Four threads move money between two accounts, and the program has its own run judged.
-use boostmap::{history, Error, Judge, Opening, Verdict};
+use boostmap::{Error, Holder, Host, Judge, Keep, Opening, Verdict};
 use std::thread;
 
 fn main() -> Result<(), Error> {
-    let mut callers = Opening { callers: 4, keeps_entries: true, ..Opening::default() }.open()?;
+    let mut callers = Opening { callers: 4, keep: Keep::Entries, ..Opening::default() }.open()?;
+    let mut host = Host::of(&mut callers)?;
     thread::scope(|scope| {
-        for caller in &mut callers {
-            scope.spawn(|| {
+        for mut caller in callers {
+            scope.spawn(move || {
                 for _ in 0..100 {
                     let moved = caller.transact(|t| {
                         t.get_or_put(1, 400)?;
@@ -19,8 +20,8 @@ fn main() -> Result<(), Error> {
         }
     });
 
-    let mut judge = Judge::by_commits()?;
-    judge.feed_all(&history(&callers))?;
+    let mut judge = Judge::new(64, Holder::Begun)?;
+    judge.feed_all(&host.history()?)?;
     match judge.verdict() {
         Verdict::Legal { commits, .. } => println!("legal, {commits} commits"),
         illegal => println!("{illegal:?}"),

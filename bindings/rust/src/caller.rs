@@ -1,9 +1,8 @@
 //! The striped map, for threads: each thread has its own caller, and no call takes a lock or waits. Its
 //! transactions are apart from those of a `Map`, since a call that is `Busy` ends them. The handle of a
 //! caller owns it from `open_striped` to its drop.
-use crate::history::{changes_above, Committed};
 use crate::sys::{self, Handle};
-use crate::{answer, Entry, Error, Operation, Result};
+use crate::{answer, Error, Operation, Result};
 use std::collections::hash_map::RandomState;
 use std::hash::{BuildHasher, Hasher};
 use std::thread;
@@ -35,8 +34,20 @@ pub fn open_striped(callers: u64, stripes: u64) -> Result<Vec<Caller>> {
     Opening { callers, stripes, ..Opening::default() }.open()
 }
 
+/// What a striped map keeps of its history. If it keeps something, its callers write a common word.
+#[derive(Clone, Copy, Debug, Default, PartialEq, Eq)]
+pub enum Keep {
+    /// Nothing.
+    #[default]
+    Nothing,
+    /// The number of its commits, so that each commit tells its place.
+    Commits,
+    /// Its entries, for a [`Host`](crate::Host).
+    Entries,
+}
+
 /// How a striped map is opened. By default it has one caller, 64 stripes and no room for keys, keeps
-/// neither commits nor entries, and has a random seed below 2^32.
+/// nothing, and has a random seed below 2^32.
 #[derive(Clone, Copy, Debug, PartialEq, Eq)]
 pub struct Opening {
     /// The number of callers, 1 to 4096.
@@ -45,12 +56,8 @@ pub struct Opening {
     pub stripes: u64,
     /// The number of keys for which the map has room from the start.
     pub keys: u64,
-    /// Whether the map keeps the number of its commits, so that each commit tells its place. Its callers
-    /// then write a common word.
-    pub keeps_commits: bool,
-    /// Whether the callers keep the entries of their committed transactions, for ever, for
-    /// [`history`](crate::history()). The map then keeps its commits too.
-    pub keeps_entries: bool,
+    /// What the map keeps of its history.
+    pub keep: Keep,
     /// The seed of the hash of keys within a stripe. Whoever knows it can choose keys that make every
     /// call slow. With a seed of 2^32 or more, consecutive keys may be slow.
     pub seed: u64,
@@ -59,7 +66,7 @@ pub struct Opening {
 impl Default for Opening {
     fn default() -> Opening {
         let seed = RandomState::new().build_hasher().finish() >> 32;
-        Opening { callers: 1, stripes: 64, keys: 0, keeps_commits: false, keeps_entries: false, seed }
+        Opening { callers: 1, stripes: 64, keys: 0, keep: Keep::Nothing, seed }
     }
 }
 
@@ -70,17 +77,16 @@ impl Opening {
     ///
     /// `Limit` and `NoMemory`.
     pub fn open(&self) -> Result<Vec<Caller>> {
-        let Opening { callers, stripes, keys, keeps_commits, keeps_entries, seed } = *self;
-        let keep = u32::from(keeps_commits || keeps_entries);
-        let mut first = Caller::empty(keeps_entries);
+        let Opening { callers, stripes, keys, keep, seed } = *self;
+        let mut first = Caller::empty();
         // SAFETY: the handle is all zeros and uniquely borrowed.
         let number = answer(&mut first.handle, |at, word| unsafe {
-            sys::boostmap_striped_open(at, callers, stripes, keys, keep, seed, word)
+            sys::boostmap_striped_open(at, callers, stripes, keys, keep as u32, seed, word)
         })?;
         first.number = number.unwrap_or_default();
         let mut all = Vec::with_capacity(callers as usize);
         for _ in 1..callers {
-            let mut next = Caller::empty(keeps_entries);
+            let mut next = Caller::empty();
             let at_next: *mut Handle = &mut next.handle;
             // SAFETY: both handles are uniquely borrowed, and differ.
             let number =
@@ -108,11 +114,8 @@ pub struct Counts {
 /// A caller of a striped map, for one thread. Its drop aborts an open transaction. Each of its
 /// operations is a transaction of its own, which waits and tries again while it is busy.
 pub struct Caller {
-    handle: Handle,
+    pub(crate) handle: Handle,
     number: u64,
-    counts: Counts,
-    committed: Vec<Committed>,
-    keeps_entries: bool,
 }
 
 // SAFETY: `sends_member` of the archive proves `Send` of what the handle owns, and `&mut self` puts
@@ -126,51 +129,45 @@ impl Caller {
     }
 
     /// How its transactions ended.
-    pub fn counts(&self) -> Counts {
-        self.counts
+    pub fn counts(&mut self) -> Counts {
+        let mut found = sys::Counts::default();
+        // SAFETY: see `call`. The handle has a caller, so the call is done.
+        unsafe { sys::boostmap_striped_counts(&mut self.handle, &mut found) };
+        let sys::Counts { commits, aborts, busy } = found;
+        Counts { commits, aborts, busy }
     }
 
     /// With what the map was opened. It never fails.
     pub fn options(&mut self) -> Result<Opening> {
-        let keeps_entries = self.keeps_entries;
         let mut option = |number| {
             // SAFETY: see `call`.
             let told = self.call(|at, word| unsafe { sys::boostmap_striped_option(at, number, word) });
             told.map(Option::unwrap_or_default)
         };
         let (callers, stripes, keys) = (option(0)?, option(1)?, option(2)?);
-        let (keeps_commits, seed) = (option(3)? != 0, option(4)?);
-        Ok(Opening { callers, stripes, keys, keeps_commits, keeps_entries, seed })
+        let (keep, seed) = ([Keep::Nothing, Keep::Commits, Keep::Entries][option(3)? as usize], option(4)?);
+        Ok(Opening { callers, stripes, keys, keep, seed })
     }
 
-    fn empty(keeps_entries: bool) -> Caller {
-        let (counts, committed) = (Counts::default(), Vec::new());
-        Caller { handle: Handle::EMPTY, number: 0, counts, committed, keeps_entries }
-    }
-
-    /// Its committed transactions, in their order, if it keeps them.
-    pub(crate) fn committed(&self) -> &[Committed] {
-        &self.committed
+    fn empty() -> Caller {
+        Caller { handle: Handle::EMPTY, number: 0 }
     }
 
     /// Begins a transaction, which aborts if it is dropped before it is committed.
     ///
     /// # Errors
     ///
-    /// `AlreadyOpen`, if an earlier transaction was leaked.
+    /// `AlreadyOpen`, if an earlier transaction was leaked, and, if the map keeps its entries, `NoMemory`.
     pub fn begin(&mut self) -> Result<CallerTransaction<'_>> {
         // SAFETY: see `call`.
         self.call(|at, _| unsafe { sys::boostmap_striped_begin(at) })?;
-        let entries = self.keeps_entries.then(Vec::new);
-        Ok(CallerTransaction { caller: self, is_open: true, rolls_back: false, entries })
+        Ok(CallerTransaction { caller: self, is_open: true, rolls_back: false })
     }
 
     /// Aborts a transaction that was leaked, and returns whether there was one.
     pub fn abort(&mut self) -> bool {
         // SAFETY: see `call`.
-        let aborts = self.call(|at, _| unsafe { sys::boostmap_striped_abort(at) }).is_ok();
-        self.counts.aborts += u64::from(aborts);
-        aborts
+        self.call(|at, _| unsafe { sys::boostmap_striped_abort(at) }).is_ok()
     }
 
     /// Runs a job in a transaction: commits, or aborts if the job fails or panics. If a stripe is busy,
@@ -361,7 +358,6 @@ pub struct CallerTransaction<'a> {
     caller: &'a mut Caller,
     is_open: bool,
     rolls_back: bool,
-    entries: Option<Vec<Entry>>,
 }
 
 impl CallerTransaction<'_> {
@@ -403,7 +399,7 @@ impl CallerTransaction<'_> {
     }
 
     fn operate(&mut self, operation: Operation) -> Result<Option<u64>> {
-        let reply = self.call(|at, word| unsafe {
+        self.call(|at, word| unsafe {
             match operation {
                 Operation::Get { key } => sys::boostmap_striped_get(at, key, word),
                 Operation::Take { key } => sys::boostmap_striped_take(at, key, word),
@@ -415,15 +411,7 @@ impl CallerTransaction<'_> {
                     sys::boostmap_striped_put_if_equal(at, key, expected, value, word)
                 }
             }
-        })?;
-        self.note([Entry::Asked(0, operation), Entry::Did(0, reply)]);
-        Ok(reply)
-    }
-
-    fn note(&mut self, noted: impl IntoIterator<Item = Entry>) {
-        if let Some(entries) = &mut self.entries {
-            entries.extend(noted);
-        }
+        })
     }
 
     /// Adds to the value of a key, 0 if it has none, and returns the value before.
@@ -466,23 +454,16 @@ impl CallerTransaction<'_> {
     ///
     /// `NotOpen` and `NoMemory`.
     pub fn save(&mut self) -> Result<u64> {
-        let level = self.call(|at, word| unsafe { sys::boostmap_striped_save(at, word) })?;
-        self.note([Entry::Saved(0)]);
-        Ok(level.unwrap_or_default())
+        self.call(|at, word| unsafe { sys::boostmap_striped_save(at, word) }).map(Option::unwrap_or_default)
     }
 
     /// Takes back every change since the level was set; 0 is the beginning of the transaction.
     ///
     /// # Errors
     ///
-    /// `NotOpen` and `NoSuchLevel`.
+    /// `NotOpen`, `NoSuchLevel`, and, if the map keeps its entries, `NoMemory`.
     pub fn back(&mut self, level: u64) -> Result<()> {
-        self.call(|at, _| unsafe { sys::boostmap_striped_back(at, level) })?;
-        let undone = self.entries.as_ref().map_or(0, |entries| changes_above(entries, level));
-        self.note([Entry::Leave(0, Some(level))]);
-        self.note((0..undone).map(|_| Entry::Undone(0)));
-        self.note([Entry::Returned(0, level)]);
-        Ok(())
+        self.call(|at, _| unsafe { sys::boostmap_striped_back(at, level) }).map(drop)
     }
 
     /// The number of keys of the map, with the transaction's own changes. Takes every stripe.
@@ -506,11 +487,6 @@ impl CallerTransaction<'_> {
         // SAFETY: the array has as many places as its length says. There is one for each key, since
         // this caller holds every stripe.
         self.call(|at, word| unsafe { sys::boostmap_striped_read(at, start, places, word) })?;
-        self.note(
-            pairs
-                .iter()
-                .flat_map(|pair| [Entry::Asked(0, Operation::Get { key: pair.key }), Entry::Did(0, Some(pair.value))]),
-        );
         Ok(pairs.iter().map(|pair| (pair.key, pair.value)).collect())
     }
 
@@ -551,12 +527,7 @@ impl CallerTransaction<'_> {
         }
         let place = self.call(|at, word| unsafe { sys::boostmap_striped_commit(at, word) })?;
         self.is_open = false;
-        self.caller.counts.commits += 1;
-        let place = place.filter(|&place| place != 0);
-        if let (Some(place), Some(entries)) = (place, self.entries.take()) {
-            self.caller.committed.push(Committed { place, entries });
-        }
-        Ok(place)
+        Ok(place.filter(|&place| place != 0))
     }
 
     fn call(&mut self, job: impl FnOnce(*mut Handle, *mut u64) -> u32) -> Result<Option<u64>> {
@@ -566,7 +537,6 @@ impl CallerTransaction<'_> {
         let answer = self.caller.call(job);
         if let Err(Error::Busy(_)) = answer {
             self.is_open = false;
-            self.caller.counts.busy += 1;
         }
         answer
     }

@@ -17,18 +17,18 @@
 //! owns, and the calls of the archive require nothing beyond their types. The archive is proved; this
 //! crate, with its declarations of the archive's calls, is only tested.
 //!
-//! A map, a caller and a judge may move to another thread, since what their handles own is `Send`
-//! (proved by `sends_map`, `sends_member` and `sends_referee`). A map may be shared behind a `Mutex`.
+//! A map, a caller, a host and a judge may move to another thread, since what their handles own is `Send`
+//! (proved by `sends_map`, `sends_member`, `sends_keeper` and `sends_referee`). A map may be shared behind a `Mutex`.
 
 use std::error;
 use std::fmt;
 
 mod caller;
-mod history;
+mod host;
 mod judge;
 
-pub use caller::{open_striped, Caller, CallerTransaction, Counts, Opening};
-pub use history::history;
+pub use caller::{open_striped, Caller, CallerTransaction, Counts, Keep, Opening};
+pub use host::Host;
 pub use judge::{Entry, Holder, Judge, NotFed, Operation, Rule, Verdict};
 
 /// A map, a caller and a judge can move to another thread, and cannot be shared by threads:
@@ -37,6 +37,7 @@ pub use judge::{Entry, Holder, Judge, NotFed, Operation, Rule, Verdict};
 /// fn moves<T: Send>() {}
 /// moves::<boostmap::Map>();
 /// moves::<boostmap::Caller>();
+/// moves::<boostmap::Host>();
 /// moves::<boostmap::Judge>();
 /// ```
 ///
@@ -57,7 +58,7 @@ pub use judge::{Entry, Holder, Judge, NotFed, Operation, Rule, Verdict};
 mod sys {
     use std::ffi::c_void;
 
-    /// A handle of a map, a caller or a judge. Every call reads it, so it has a line of the processor's
+    /// A handle of a map, a caller, a host or a judge. Every call reads it, so it has a line of the processor's
     /// cache to itself, in which no other thread writes.
     #[repr(C, align(64))]
     pub struct Handle {
@@ -92,6 +93,14 @@ mod sys {
 
     #[repr(C)]
     #[derive(Clone, Copy, Default)]
+    pub struct Counts {
+        pub commits: u64,
+        pub aborts: u64,
+        pub busy: u64,
+    }
+
+    #[repr(C)]
+    #[derive(Clone, Copy, Default)]
     pub struct Verdict {
         pub is_legal: u64,
         pub commits: u64,
@@ -103,7 +112,11 @@ mod sys {
     pub const DONE: u32 = 0;
     pub const ABSENT: u32 = 1;
     pub const BUSY: u32 = 2;
+    pub const SHORT: u32 = 7;
     pub const NO_ENTRY: u32 = 8;
+    pub const NO_HOST: u32 = 10;
+    pub const NOT_KEPT: u32 = 11;
+    pub const MISSING: u32 = 12;
     pub const NO_SUCH_CALLER: u32 = 18;
     pub const NOT_OPEN: u32 = 19;
     pub const ALREADY_OPEN: u32 = 20;
@@ -158,6 +171,7 @@ mod sys {
             word: *mut u64,
         ) -> u32;
         pub fn boostmap_striped_option(caller: *mut Handle, option: u64, word: *mut u64) -> u32;
+        pub fn boostmap_striped_counts(caller: *mut Handle, counts: *mut Counts) -> u32;
         pub fn boostmap_striped_join(first: *mut Handle, next: *mut Handle, word: *mut u64) -> u32;
         pub fn boostmap_striped_free(caller: *mut Handle) -> u32;
         pub fn boostmap_striped_begin(caller: *mut Handle) -> u32;
@@ -179,6 +193,10 @@ mod sys {
 
         pub fn boostmap_striped_count(caller: *mut Handle, word: *mut u64) -> u32;
         pub fn boostmap_striped_read(caller: *mut Handle, pairs: *mut Pair, places: usize, word: *mut u64) -> u32;
+
+        pub fn boostmap_striped_host(first: *mut Handle, host: *mut Handle) -> u32;
+        pub fn boostmap_host_history(host: *mut Handle, entries: *mut Entry, places: usize, word: *mut u64) -> u32;
+        pub fn boostmap_host_free(host: *mut Handle) -> u32;
 
         pub fn boostmap_judge_new(judge: *mut Handle, stripes: u64, rule: u32) -> u32;
         pub fn boostmap_judge_feed(judge: *mut Handle, entry: *const Entry) -> u32;
@@ -214,6 +232,12 @@ pub enum Error {
     NoEntry,
     /// The sum of an `add` does not fit in 64 bits.
     Overflow,
+    /// None of these callers has the map's host.
+    NoHost,
+    /// The map does not keep its entries.
+    NotKept,
+    /// The caller of the map with this number stands.
+    Missing(u64),
     /// A status that no call of this crate can return.
     Other(u32),
 }
@@ -223,6 +247,9 @@ impl Error {
         match status {
             sys::BUSY => Error::Busy(word),
             sys::NO_ENTRY => Error::NoEntry,
+            sys::NO_HOST => Error::NoHost,
+            sys::NOT_KEPT => Error::NotKept,
+            sys::MISSING => Error::Missing(word),
             sys::NO_SUCH_CALLER | sys::NO_SUCH_HELPER => Error::NoSuchCaller,
             sys::NOT_OPEN => Error::NotOpen,
             sys::ALREADY_OPEN => Error::AlreadyOpen,
@@ -250,6 +277,9 @@ impl fmt::Display for Error {
             Error::Limit => f.write_str("a limit is out of range"),
             Error::NoEntry => f.write_str("the entry's caller is not below 64"),
             Error::Overflow => f.write_str("the sum does not fit in 64 bits"),
+            Error::NoHost => f.write_str("no caller has the map's host"),
+            Error::NotKept => f.write_str("the map does not keep its entries"),
+            Error::Missing(caller) => write!(f, "caller {caller} of the map stands"),
             Error::Other(status) => write!(f, "status {status}"),
         }
     }

@@ -1,6 +1,7 @@
 //! The striped map beside a model, panics and errors at every call, and judged runs of threads.
 use boostmap::{
-    history, open_striped, Caller, CallerTransaction, Counts, Entry, Error, Judge, Opening, Operation, Rule, Verdict,
+    open_striped, Caller, CallerTransaction, Counts, Entry, Error, Holder, Host, Judge, Keep, Opening, Operation, Rule,
+    Verdict,
 };
 use std::collections::BTreeMap;
 use std::panic::{catch_unwind, resume_unwind, AssertUnwindSafe};
@@ -18,11 +19,11 @@ impl Draw {
 }
 
 fn recorded(callers: u64, stripes: u64) -> Result<Vec<Caller>, Error> {
-    Opening { callers, stripes, keeps_entries: true, ..Opening::default() }.open()
+    Opening { callers, stripes, keep: Keep::Entries, ..Opening::default() }.open()
 }
 
-fn judged(entries: &[Entry]) -> Result<Verdict, Error> {
-    let mut judge = Judge::by_commits()?;
+fn judged(entries: &[Entry], stripes: u64) -> Result<Verdict, Error> {
+    let mut judge = Judge::new(stripes, Holder::Begun)?;
     judge.feed_all(entries)?;
     Ok(judge.verdict())
 }
@@ -130,7 +131,7 @@ fn transaction(caller: &mut Caller, model: &mut Contents, draw: &mut Draw) -> Re
 #[test]
 fn calls_beside_a_model() -> Result<(), Error> {
     let (mut callers, mut model, mut draw) = (recorded(2, 7)?, Contents::new(), Draw(1));
-    let mut made = 0;
+    let (mut host, mut made) = (Host::of(&mut callers)?, 0);
     while made < 100_000 {
         let caller = &mut callers[draw.below(2) as usize];
         made += transaction(caller, &mut model, &mut draw)?;
@@ -142,14 +143,16 @@ fn calls_beside_a_model() -> Result<(), Error> {
         made += 2;
     }
     assert_eq!(callers[0].items()?, items(&model));
-    let mut entries = history(&callers);
     let commits = callers[0].counts().commits + callers[1].counts().commits;
-    assert_eq!(judged(&entries)?, Verdict::Legal { commits, running: 0 });
-    assert!(callers.iter().all(|caller| caller.counts().aborts > 100 && caller.counts().busy == 0));
+    assert!(callers.iter_mut().all(|caller| caller.counts().aborts > 100 && caller.counts().busy == 0));
+    drop(callers);
+    let mut entries = host.history()?;
+    assert_eq!(judged(&entries, 7)?, Verdict::Legal { commits, running: 0 });
     let is_get = |at: &usize| matches!(entries[*at], Entry::Asked(_, Operation::Get { .. }));
     let forged = (entries.len() / 2..).find(is_get).unwrap() + 1;
-    entries[forged] = Entry::Did(0, Some(12345));
-    assert!(matches!(judged(&entries)?, Verdict::Illegal { rule: Rule::Replies, .. }));
+    let Entry::Did(caller, _) = entries[forged] else { panic!("a get has a reply") };
+    entries[forged] = Entry::Did(caller, Some(12345));
+    assert_eq!(judged(&entries, 7)?, Verdict::Illegal { entry: forged as u64, rule: Rule::Replies });
     Ok(())
 }
 
@@ -239,6 +242,7 @@ fn a_job_rolls_back_with_a_value() -> Result<(), Error> {
 fn threads_that_come_and_go_are_judged() -> Result<(), Error> {
     const KEYS: u64 = 10;
     let mut callers = recorded(25, 5)?;
+    let mut host = Host::of(&mut callers)?;
     let all: Vec<(u64, u64)> = (0..KEYS).map(|key| (key, 100)).collect();
     callers[0].put_all(&all)?;
     for visitors in callers.chunks_mut(5) {
@@ -249,8 +253,10 @@ fn threads_that_come_and_go_are_judged() -> Result<(), Error> {
         });
     }
     assert_eq!(callers[0].items()?.iter().map(|(_, value)| value).sum::<u64>(), 100 * KEYS);
-    let commits = callers.iter().map(|caller| caller.counts().commits).sum();
-    assert_eq!(judged(&history(&callers))?, Verdict::Legal { commits, running: 0 });
+    let commits = callers.iter_mut().map(|caller| caller.counts().commits).sum();
+    assert_eq!(host.history(), Err(Error::Missing(1)));
+    drop(callers);
+    assert_eq!(judged(&host.history()?, 5)?, Verdict::Legal { commits, running: 0 });
     Ok(())
 }
 

@@ -1,10 +1,10 @@
-use boostmap::{open_striped, Caller, Counts, Entry, Error, Holder, Judge, NotFed, Opening, Operation, Rule, Verdict};
+use boostmap::{open_striped, Caller, Counts, Entry, Error, Holder, Judge, Keep, NotFed, Opening, Operation, Rule, Verdict};
 use std::mem;
 use std::sync::mpsc;
 use std::thread;
 
 fn two() -> Result<(Caller, Caller), Error> {
-    let mut all = Opening { callers: 2, stripes: 16, keeps_commits: true, ..Opening::default() }.open()?;
+    let mut all = Opening { callers: 2, stripes: 16, keep: Keep::Commits, ..Opening::default() }.open()?;
     let second = all.pop().unwrap();
     Ok((all.pop().unwrap(), second))
 }
@@ -42,7 +42,7 @@ fn a_transaction_commits_or_leaves_nothing() -> Result<(), Error> {
 
 #[test]
 fn a_map_tells_how_it_was_opened() -> Result<(), Error> {
-    let how = Opening { callers: 3, stripes: 16, keys: 100, keeps_commits: true, seed: 7, ..Opening::default() };
+    let how = Opening { callers: 3, stripes: 16, keys: 100, keep: Keep::Commits, seed: 7, ..Opening::default() };
     assert!(how.open()?.iter_mut().all(|caller| caller.options() == Ok(how)));
     assert_eq!(open_striped(2, 8)?[1].options()?.stripes, 8);
     Ok(())

@@ -1,3 +1,4 @@
+-- PROMISES what-leads-to-a-bad-entry: last_change, fate_of
 -- Changes of a key, and their fates.
 use Rattle.std.specs.Prelude.{◌≡◌, ℕ, ◌+◌, ◌-◌, ◌==◌, Bool, false, ◌&&◌, Option, Some, None}
 use Rattle.std.specs.Prelude.{List, [], ◌∷◌, length, drop, option_map, if◌then◌else◌}

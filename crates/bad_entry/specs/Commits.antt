@@ -1,3 +1,4 @@
+-- PROMISES what-leads-to-a-bad-entry: IsTornSince
 -- Commits that change the value of a key.
 use Rattle.std.specs.Prelude.{◌≡◌, ℕ, ◌<◌, ◌≤◌, true, Option, Some, None, List, [], ◌∷◌, ◌++◌, length, take, nat_eq, if◌then◌else◌}
 use Rattle.std.specs.Option.{option_eq}

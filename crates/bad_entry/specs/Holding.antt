@@ -1,3 +1,4 @@
+-- PROMISES what-leads-to-a-bad-entry: IsHeldSince
 -- Who holds a stripe, and since when.
 use Rattle.std.specs.Prelude.{◌≡◌, ℕ, ◌==◌, ◌&&◌, Option, Some, None, List, length, nat_eq, if◌then◌else◌}
 use Rattle.std.specs.Option.{option_eq}

@@ -1,3 +1,4 @@
+-- PROMISES what-leads-to-a-bad-entry: IsReasonByLocks, IsReasonByCommits
 -- The meaning of each reason of a verdict, in terms of the history before the bad entry.
 use Rattle.std.specs.Prelude.{◌≡◌, ℕ, true, Option, Some, None, List, slice_get}
 use Rattle.txn_words.specs.declared.op.Op.{Op}

@@ -1,3 +1,4 @@
+// PROMISES what-leads-to-a-bad-entry: last_change, fate_of
 //! Finds the last change of a key, and the fate of this change: open, committed or taken back. No
 //! checker is needed, so the results are right for any entries, legal or not. Each function takes
 //! one pass over the entries. The pass for the fate begins after the change and takes no memory.

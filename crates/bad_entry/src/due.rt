@@ -1,3 +1,4 @@
+// PROMISES what-leads-to-a-bad-entry: torn_since
 //! Answers questions that need a checker: the value of a key, the last commit that changed this
 //! value, and the first reply of a transaction that contradicts earlier ones. Each call feeds all
 //! entries to a new checker, so it costs as much as a verdict, or more. The contracts say something

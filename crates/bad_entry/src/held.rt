@@ -1,3 +1,4 @@
+// PROMISES what-leads-to-a-bad-entry: held_by
 //! Finds the caller that holds a stripe, this caller's transaction, and the entry since which the
 //! caller holds the stripe. A checker does not keep that entry, so this module searches the history
 //! for it, in constant time for each entry. The contract of `held_by` is about legal histories

@@ -1,3 +1,4 @@
+// PROMISES what-leads-to-a-bad-entry: by_locks, by_commits
 //! Finds the reason of an illegal verdict, by the rule that the bad entry breaks. Only this module
 //! knows the rules. The modules `change`, `due` and `held` answer single questions. Each question
 //! is a separate pass over the entries, so a reason costs a few passes.

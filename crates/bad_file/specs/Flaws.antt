@@ -1,3 +1,4 @@
+-- PROMISES what-is-wrong-with-a-refused-file: TellsFlaw, IsFault
 -- The flaw of a history file that is refused.
 use Rattle.std.specs.Prelude.{◌≡◌, ◌⊎◌, ◌↔◌, ◌<◌, ℕ, List, [], ◌∷◌, ◌++◌, take, slice_get, Bool, true, false, not, ◌&&◌, ◌||◌, ◌==◌, Option, Some, None, option_and_then, IsSome, IsOk, Result, Ok, Err, if◌then◌else◌}
 use Rattle.std.specs.List.{All}

@@ -1,3 +1,4 @@
+-- PROMISES what-is-wrong-with-a-refused-file: is_met
 -- The value at a place, and whether it is as expected.
 use Rattle.std.specs.Prelude.{ℕ, List, [], ◌∷◌, length, nat_le, Bool, true, false, not, ◌&&◌, ◌||◌, Option, Some, None, is_some, codes}
 use Rattle.std.specs.List.{list_any}

@@ -1,3 +1,4 @@
+-- PROMISES what-is-wrong-with-a-refused-file: flaw_text
 -- The texts of a history file's flaws.
 use Rattle.std.specs.Prelude.{ℕ, List, ◌++◌, Bool, true, false, Some, None, if◌then◌else◌, codes, decimal}
 use Rattle.bad_file.specs.declared.expected.Expected.{Expected}

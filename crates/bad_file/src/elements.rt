@@ -1,3 +1,4 @@
+// PROMISES what-is-wrong-with-a-refused-file: fault_in
 //! Searches one entry for its first fault, element by element. `file` runs this search for each
 //! entry. A word decides which elements must follow, so a stack keeps the elements that are still
 //! expected. The search ends at the first element too many, so its cost for each entry is bounded.

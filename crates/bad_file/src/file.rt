@@ -1,3 +1,4 @@
+// PROMISES what-is-wrong-with-a-refused-file: flaw_in
 //! Searches a whole history file for its first flaw. Only this module knows the order in which
 //! `txn_files` looks for faults: `txn_files` tests all shapes before any range. So the search goes
 //! through the entries at most twice. The JSON value of the file is in memory as a whole.

@@ -1,3 +1,4 @@
+-- PROMISES the-present-map: IsContent, IsRegular
 -- The fourth claim, content: the map has the values that the history leads to (`now`), and the list
 -- has the pairs of this map in order.
 use Rattle.std.specs.Prelude.{◌≡◌, ℕ, List}

@@ -1,3 +1,4 @@
+-- PROMISES each-step-is-a-move-of-the-machine: event_of
 -- What the steps of the machine do, event by event. An event is a step with an answer that is not a
 -- refusal. The definitions say when an event may happen, and what it does to the size, the buckets,
 -- the cursors, the helpers, the linked nodes and the last stamp. `Entries.antt` of `txn_words` says

@@ -1,3 +1,4 @@
+-- PROMISES each-transaction-as-if-alone: KeepsLocks
 -- The second claim, locks: a stripe of keys belongs to at most one open transaction at a time. The
 -- answer Busy names the holder or, if stripes are words, another caller that has begun a
 -- transaction.

@@ -1,3 +1,4 @@
+-- PROMISES each-step-is-a-move-of-the-machine: Happens, Moves
 -- The fifth claim, answers: each step makes a move of the machine. `Events` says what each event
 -- does. The definitions below say what a step with its answer does: such a step is an event, or it
 -- is refused.

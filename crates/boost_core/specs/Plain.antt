@@ -1,3 +1,4 @@
+-- PROMISES each-step-is-a-move-of-the-machine: Operates, Helps, Returns, Aborts
 -- The plain calls. Each takes steps of one caller in a row, and no step has the answer `Again`.
 use Rattle.std.specs.Prelude.{◌≡◌, ℕ, ◌%◌, zero, suc, Bool, true, false, nat_le, List, [], ◌∷◌, Option, Some, Result, Ok, Err}
 use Rattle.boost_core.specs.Vocabulary.{Op, Step, Ask, Seek, Act, Back, Abort, Answer, Refusal, NoSuchHelper, BadKey, NoMemory, StampsUsedUp}

@@ -1,3 +1,4 @@
+-- PROMISES each-step-is-a-move-of-the-machine: refusal_of
 -- The refusals of each step, in the order in which they are tested.
 pub use Rattle.map_ops.specs.Jobs.{takes_node}
 pub use Rattle.txn_words.specs.Seats.{is_closed, is_waiting, is_leaving, has_job, has_target, unready_tests, tests_in, first_of, refusal_in}

@@ -1,3 +1,4 @@
+-- PROMISES each-step-is-a-move-of-the-machine: State
 -- The states of the machine.
 pub use Rattle.map_ops.specs.TableAt.{Help, Nothing, Sought, Dummy}
 pub use Rattle.boost_core.specs.declared.owner.Owner.{Owner}

@@ -1,3 +1,4 @@
+-- PROMISES stripes-as-atomic-words: Asks
 -- The two ways to ask for an operation if stripes are words: with the right to the stripe, or with
 -- the stripe's word. A word is 0 or the number of the caller that it names, plus one.
 pub use Rattle.boost_core.specs.declared.claim.Claim.{Claim}

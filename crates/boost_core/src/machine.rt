@@ -1,3 +1,6 @@
+// PROMISES each-transaction-as-if-alone: Core::trace, step, run
+// PROMISES the-present-map: Core::map, regular_list, count
+// PROMISES each-step-is-a-move-of-the-machine: Core::step, run, owed
 //! The core: its fields, its invariant, and how it takes a step. For a caller's step, `call` tests
 //! the refusals, reserves room, lets the session take the step, and adds the step's entry. A step
 //! that belongs to no caller goes straight to the table (`serve`), and adds no entry. The steps

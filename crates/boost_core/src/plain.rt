@@ -1,3 +1,4 @@
+// PROMISES each-step-is-a-move-of-the-machine: put, put_if, take, get, help, back, abort
 //! The plain calls: `put`, `put_if`, `take`, `get`, `help`, `back` and `abort`. Each of these calls
 //! takes all its steps in a row, for one caller, so no step has the answer `Again`. Users who take
 //! the steps of several callers in turn call `step` instead.

@@ -1,3 +1,4 @@
+// PROMISES stripes-as-atomic-words: Core::with_words, ask_with, ask_held
 //! A core whose stripes are atomic words that others keep: an operation is asked for with the right
 //! to its stripe, or with the word that names the stripe's holder. `step`, in contrast, locks
 //! stripes itself.

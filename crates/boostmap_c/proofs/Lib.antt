@@ -1,6 +1,12 @@
+mod Heap
+pub mod PointerWords
 pub mod MapWords
 pub mod RefereeWords
 pub mod MemberWords
+pub mod KeeperWords
+pub mod Shelving
+pub mod Opened
+pub mod Collecting
 pub mod Referees
 pub mod Feeding
 pub mod Back

@@ -9,7 +9,7 @@ use types.Logic.{Logic}
 use types.Kit.{Item, Goal, Seq, Step, step, ‵, ◌$◌, fsplit, fjoin}
 use denote.RattleType.{RattleType}
 use denote.RawPtr.{Ptr}
-use Rattle.owned_pointer.proofs.Words.{word, opens_word, makes_word}
+use Rattle.boostmap_c.proofs.PointerWords.{word, opens_word, makes_word}
 use Rattle.boostmap_c.specs.declared.held_map.HeldMap.{HeldMap}
 use Rattle.boostmap_c.specs.Held.{owns_map}
 use Rattle.boostmap_c.specs.contracts.map_pointer.MapPointer as pointer

@@ -9,7 +9,7 @@ use types.Logic.{Logic}
 use types.Kit.{Item, Goal, Seq, Step, step, ‵, ◌$◌, fsplit, fjoin}
 use denote.RattleType.{RattleType}
 use denote.RawPtr.{Ptr}
-use Rattle.owned_pointer.proofs.Words.{word, opens_word, makes_word}
+use Rattle.boostmap_c.proofs.PointerWords.{word, opens_word, makes_word}
 use Rattle.boostmap_c.specs.declared.member.Member.{Member}
 use Rattle.boostmap_c.specs.Held.{owns_member}
 use Rattle.boostmap_c.specs.contracts.member_pointer.MemberPointer as pointer

@@ -9,7 +9,7 @@ use types.Logic.{Logic}
 use types.Kit.{Item, Goal, Seq, Step, step, ‵, ◌$◌, fsplit, fjoin}
 use denote.RattleType.{RattleType}
 use denote.RawPtr.{Ptr}
-use Rattle.owned_pointer.proofs.Words.{word, opens_word, makes_word}
+use Rattle.boostmap_c.proofs.PointerWords.{word, opens_word, makes_word}
 use Rattle.boostmap_c.specs.declared.referee.Referee.{Referee}
 use Rattle.boostmap_c.specs.Held.{owns_referee}
 use Rattle.boostmap_c.specs.contracts.referee_pointer.RefereePointer as pointer

@@ -1,3 +1,4 @@
+-- PROMISES from-c: TellsReply, Trims
 -- The effect of a call on the handle of a map with one owner, in terms of the map that the handle
 -- owns before and after. Only `MakesMap` gives a map to a handle that has none. For every other call
 -- on such a handle the status says that the handle is empty.

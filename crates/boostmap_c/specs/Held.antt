@@ -1,4 +1,4 @@
--- A handle's pointer owns a map, a referee or a member on the heap, or nothing.
+-- A handle's pointer owns a map, a referee, a member or a keeper on the heap, or nothing.
 use Rattle.std.specs.Prelude.{Option, Some, None}
 use Rattle.boostmap_c.specs.declared.held_map.HeldMap.{HeldMap}
 use Rattle.boostmap_c.specs.contracts.held_map.HeldMap.{the_row as held_map_row}
@@ -6,7 +6,9 @@ use Rattle.boostmap_c.specs.declared.referee.Referee.{Referee}
 use Rattle.boostmap_c.specs.contracts.referee.Referee.{the_row as referee_row}
 use Rattle.boostmap_c.specs.declared.member.Member.{Member}
 use Rattle.boostmap_c.specs.contracts.member.Member.{the_row as member_row}
-use Rattle.owned_pointer.specs.Blocks.{owns_block}
+use Rattle.boostmap_c.specs.declared.keeper.Keeper.{Keeper}
+use Rattle.boostmap_c.specs.contracts.keeper.Keeper.{the_row as keeper_row}
+use Rattle.boostmap_c.specs.Blocks.{owns_block}
 use base.Fml.{Fml, ftrue}
 use denote.RawPtr.{Ptr}
 
@@ -24,3 +26,8 @@ owns_referee p (Some referee) = owns_block referee_row p referee
 abbrev pub owns_member : Ptr → Option Member → Fml
 owns_member p None = ftrue
 owns_member p (Some member) = owns_block member_row p member
+
+-- Owns the block at the pointer, with this keeper in it. Owns nothing if there is no keeper.
+abbrev pub owns_keeper : Ptr → Option Keeper → Fml
+owns_keeper p None = ftrue
+owns_keeper p (Some keeper) = owns_block keeper_row p keeper

@@ -1,3 +1,4 @@
+pub mod Blocks
 pub mod Held
 pub mod Lends
 pub mod Replies
@@ -9,6 +10,11 @@ pub mod Contents
 pub mod Histories
 pub mod Stops
 pub mod Striped
+pub mod Counting
+pub mod Counted
 pub mod Members
+pub mod Shelves
+pub mod Shelved
+pub mod Keepers
 pub mod Options
 pub mod StripedContents

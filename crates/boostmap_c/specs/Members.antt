@@ -1,3 +1,4 @@
+-- PROMISES from-c: Joins
 -- The effect of a striped map's call on a handle, in terms of the member that the handle owns
 -- before and after. Only `Opens` and `Joins` give a member to an empty handle. For every other
 -- call on an empty handle the status says that the handle is empty.
@@ -7,61 +8,66 @@ use Rattle.striped_map.specs.declared.caller.Caller.{Caller}
 use Rattle.map_answers.specs.declared.stop.Stop.{Stop}
 use Rattle.striped_map.specs.declared.host.Host.{Host}
 use Rattle.striped_map.specs.declared.keep.Keep.{Keep}
-use Rattle.striped_map.specs.declared.keep.Keep.TheVariants.{Nothing, Commits as KeepCommits}
-use Rattle.striped_map.specs.declared.open.Opening.{Opening}
+use Rattle.striped_map.specs.declared.keep.Keep.TheVariants.{Nothing, Commits as KeepCommits, Entries as KeepEntries}
 use Rattle.striped_map.specs.Hosts.{IsOpened}
+use Rattle.boostmap_c.specs.declared.counts.Counts.{Counts}
+use Rattle.boostmap_c.specs.declared.member.Group.{Group}
 use Rattle.boostmap_c.specs.declared.member.Member.{Member}
+use Rattle.boostmap_c.specs.Counting.{committed, counted, goes_on, none_ended}
 use Rattle.boostmap_c.specs.Replies.{done, empty_handle, full, refused}
 use Rattle.boostmap_c.specs.Striped.{Aborts}
 use Rattle.boostmap_c.specs.Stops.{status_of_reply, word_of_reply, status_of_number, word_of_number, status_of_place, word_of_place, status_of_end}
 
 -- The member's caller makes a call that returns a value or none. The status and the word report
--- the result to C. The waiting callers and the opening are unchanged.
+-- the result to C. The group is unchanged.
 abbrev pub TellsReply : (Caller → Result (Option ℕ) Stop → Caller → Type 0) → Option Member → ℕ → ℕ
     → ℕ → Option Member → Type 0
 TellsReply Calls (Some old) status before after (Some new) =
     (answer : Result (Option ℕ) Stop) × Calls old.caller answer new.caller
-    × (new.waiting ≡ old.waiting) × (new.opening ≡ old.opening)
+    × (new.group ≡ old.group) × (new.counts ≡ counted goes_on old.counts answer)
     × (status ≡ status_of_reply answer) × (after ≡ word_of_reply before answer)
 TellsReply Calls None status before after None = (status ≡ empty_handle) × (after ≡ before)
 TellsReply Calls old status before after new = ⊥
 
 -- The member's caller makes a call that returns a number. The status and the word report the
--- result to C. The waiting callers and the opening are unchanged.
+-- result to C. The group is unchanged.
 abbrev pub TellsNumber : (Caller → Result ℕ Stop → Caller → Type 0) → Option Member → ℕ → ℕ → ℕ
     → Option Member → Type 0
 TellsNumber Calls (Some old) status before after (Some new) =
     (answer : Result ℕ Stop) × Calls old.caller answer new.caller
-    × (new.waiting ≡ old.waiting) × (new.opening ≡ old.opening)
+    × (new.group ≡ old.group) × (new.counts ≡ counted goes_on old.counts answer)
     × (status ≡ status_of_number answer) × (after ≡ word_of_number before answer)
 TellsNumber Calls None status before after None = (status ≡ empty_handle) × (after ≡ before)
 TellsNumber Calls old status before after new = ⊥
 
--- The member's caller commits. The status and the word report the result to C. The waiting callers
--- and the opening are unchanged.
+-- The member's caller commits. The status and the word report the result to C. The group is
+-- unchanged.
 abbrev pub TellsPlace : (Caller → Result (Option ℕ) Stop → Caller → Type 0) → Option Member → ℕ → ℕ
     → ℕ → Option Member → Type 0
 TellsPlace Calls (Some old) status before after (Some new) =
     (answer : Result (Option ℕ) Stop) × Calls old.caller answer new.caller
-    × (new.waiting ≡ old.waiting) × (new.opening ≡ old.opening)
+    × (new.group ≡ old.group) × (new.counts ≡ counted committed old.counts answer)
     × (status ≡ status_of_place answer) × (after ≡ word_of_place before answer)
 TellsPlace Calls None status before after None = (status ≡ empty_handle) × (after ≡ before)
 TellsPlace Calls old status before after new = ⊥
 
 -- The member's caller makes a call that returns no value. The status reports the result to C. The
--- waiting callers and the opening are unchanged.
-abbrev pub TellsEnd : (Caller → Result Unit Stop → Caller → Type 0) → Option Member → ℕ
-    → Option Member → Type 0
-TellsEnd Calls (Some old) status (Some new) =
+-- group is unchanged. `ends` gives the counts after a call that was done.
+abbrev pub TellsEnd : (Caller → Result Unit Stop → Caller → Type 0) → (Counts → Counts)
+    → Option Member → ℕ → Option Member → Type 0
+TellsEnd Calls ends (Some old) status (Some new) =
     (answer : Result Unit Stop) × Calls old.caller answer new.caller
-    × (new.waiting ≡ old.waiting) × (new.opening ≡ old.opening) × (status ≡ status_of_end answer)
-TellsEnd Calls None status None = status ≡ empty_handle
-TellsEnd Calls old status new = ⊥
+    × (new.group ≡ old.group) × (new.counts ≡ counted ends old.counts answer)
+    × (status ≡ status_of_end answer)
+TellsEnd Calls ends None status None = status ≡ empty_handle
+TellsEnd Calls ends old status new = ⊥
 
 -- What a map keeps of its history, by its number in C.
 abbrev pub keep_at : ℕ → Option Keep
 keep_at keep =
-    if nat_eq keep 0 then Some Nothing else if nat_eq keep 1 then Some KeepCommits else None
+    if nat_eq keep 0 then Some Nothing
+    else (if nat_eq keep 1 then Some KeepCommits
+    else (if nat_eq keep 2 then Some KeepEntries else None))
 
 -- Whether a map can have these numbers of callers and stripes.
 abbrev pub are_numbers : ℕ → ℕ → Bool
@@ -78,10 +84,12 @@ are_striped_limits callers stripes keep = are_numbers callers stripes && is_some
 pub record IsFirstMember (callers stripes keys keep seed : ℕ) (m : Member) : Type 0 where
   pub kept : Keep
   pub keep_is : keep_at keep ≡ Some kept
-  pub opening : m.opening
+  pub opening : m.group.opening
       ≡ record { stripes = stripes; callers = callers; keys = keys; keep = kept; seed = seed }
   pub host : Host
-  pub opened : IsOpened m.opening host (m.waiting.items ++ m.caller ∷ [])
+  pub hosts : m.group.host ≡ Some host
+  pub counts_are : m.counts ≡ none_ended
+  pub opened : IsOpened m.group.opening host (m.group.waiting.items ++ m.caller ∷ [])
 
 -- The call makes the first member of a new map, unless the map's limits or memory are refused.
 abbrev pub OpensAt : ℕ → ℕ → ℕ → ℕ → ℕ → ℕ → ℕ → ℕ → Option Member → Type 0
@@ -100,22 +108,38 @@ Opens None callers stripes keys keep seed status before after new =
 Opens (Some old) callers stripes keys keep seed status before after new =
     (status ≡ full) × (after ≡ before) × (new ≡ Some old)
 
--- The caller of the member, the callers that wait and the opening are unchanged.
+-- The group has the same host, shelf, place and opening. Its waiting callers may differ.
+pub record IsAlike (old new : Group) : Type 0 where
+  pub host_is : new.host ≡ old.host
+  pub shelf_is : new.shelf ≡ old.shelf
+  pub place_is : new.place ≡ old.place
+  pub opening_is : new.opening ≡ old.opening
+
+-- The caller of the member, the callers that wait and all else of the group are unchanged.
 abbrev pub IsSame : Member → Member → Type 0
-IsSame old new = (new.caller ≡ old.caller) × (new.waiting.items ≡ old.waiting.items)
-    × (new.opening ≡ old.opening)
+IsSame old new = (new.caller ≡ old.caller) × (new.counts ≡ old.counts)
+    × IsAlike old.group new.group
+    × (new.group.waiting.items ≡ old.group.waiting.items)
+
+-- The group of a member that has joined: no caller waits in it, and it has no host.
+pub record IsJoined (old made : Group) : Type 0 where
+  pub none : made.waiting.items ≡ []
+  pub hostless : made.host ≡ None
+  pub shelf_is : made.shelf.value ≡ old.shelf.value
+  pub opening_is : made.opening ≡ old.opening
 
 -- The last waiting caller gets its own member, in which no caller waits. The word is the number of
 -- callers that waited before the call, which by `IsFirstMember` is the number of this caller. If
 -- no caller waits or memory is refused, no member is made.
 abbrev pub JoinsOf : Member → ℕ → ℕ → ℕ → Member → Option Member → Type 0
 JoinsOf old status before after new (Some made) =
-    (new.caller ≡ old.caller) × (old.waiting.items ≡ new.waiting.items ++ made.caller ∷ [])
-    × (made.waiting.items ≡ []) × (made.opening ≡ old.opening) × (new.opening ≡ old.opening)
-    × (status ≡ done) × (after ≡ length old.waiting.items)
+    (new.caller ≡ old.caller) × (new.counts ≡ old.counts) × (made.counts ≡ none_ended)
+    × IsAlike old.group new.group × IsJoined old.group made.group
+    × (old.group.waiting.items ≡ new.group.waiting.items ++ made.caller ∷ [])
+    × (status ≡ done) × (after ≡ length old.group.waiting.items)
 JoinsOf old status before after new None =
     IsSame old new × (after ≡ before)
-    × (status ≡ refused (if nat_le 1 (length old.waiting.items) then NoMemory else NoSuchCaller))
+    × (status ≡ refused (if nat_le 1 (length old.group.waiting.items) then NoMemory else NoSuchCaller))
 
 -- A caller that waits in the first handle's member leaves it, and gets the second handle, which
 -- must be empty.

@@ -53,6 +53,6 @@ TellsIf (Some value) status before after = (status ≡ done) × (after ≡ value
 -- The option with this number is told to C. The member is unchanged.
 abbrev pub TellsOption : ℕ → Option Member → ℕ → ℕ → ℕ → Option Member → Type 0
 TellsOption option (Some old) status before after (Some new) =
-    (new ≡ old) × TellsIf (option_at old.opening option) status before after
+    (new ≡ old) × TellsIf (option_at old.group.opening option) status before after
 TellsOption option None status before after None = (status ≡ empty_handle) × (after ≡ before)
 TellsOption option old status before after new = ⊥

@@ -1,3 +1,4 @@
+-- PROMISES from-c: status_of_result
 -- The statuses by which the result of a call is reported to C.
 use Rattle.std.specs.Prelude.{ℕ, ◌+◌, Result, Ok, Err}
 use Rattle.txn_words.specs.declared.refusal.Refusal.{Refusal}
@@ -30,6 +31,18 @@ short = 7
 -- The status of a call whose numbers stand for no entry.
 abbrev pub no_entry : ℕ
 no_entry = 8
+
+-- The status of a call that needs the host in a handle that has none.
+abbrev pub no_host : ℕ
+no_host = 10
+
+-- The status of a call for the history of a map that does not keep its entries.
+abbrev pub not_kept : ℕ
+not_kept = 11
+
+-- The status of a call for the history if a caller has not ended.
+abbrev pub missing : ℕ
+missing = 12
 
 -- The status of a refusal.
 abbrev pub refused : Refusal → ℕ

@@ -1,3 +1,4 @@
+-- PROMISES from-c: Operates
 -- The effect of each call of a striped map's caller, for each result, in terms of the map's
 -- contracts. A call extends the history that the caller has seen: first by entries of other
 -- callers, and then by exactly the entries that are listed here.

@@ -8,6 +8,7 @@ use Rattle.map_answers.specs.declared.stop.Stop.{Stop}
 use Rattle.striped_map.specs.Callers.{seen, HoldsEvery, IsCut, IsStep}
 use Rattle.boostmap_c.specs.declared.member.Member.{Member}
 use Rattle.boostmap_c.specs.declared.read.CPair.{CPair}
+use Rattle.boostmap_c.specs.Counting.{busied}
 use Rattle.boostmap_c.specs.Contents.{LaysOf}
 use Rattle.boostmap_c.specs.Replies.{empty_handle}
 use Rattle.boostmap_c.specs.Stops.{status_of_stop, word_of_stop}
@@ -26,10 +27,11 @@ Counts a (Err stop) b = IsCut a b stop
 -- the number of pairs. If the call was not done, the status gives the reason.
 abbrev pub ReadsMap : Option Member → ℕ → List CPair → List CPair → ℕ → ℕ → Option Member → Type 0
 ReadsMap (Some old) status before after was word (Some new) =
-    (new.waiting ≡ old.waiting) × (new.opening ≡ old.opening)
-    × ((Looks old.caller new.caller
+    (new.group ≡ old.group)
+    × ((Looks old.caller new.caller × (new.counts ≡ old.counts)
     × LaysOf (now (seen new.caller)).rows status before after word)
-    ⊎ ((stop : Stop) × IsCut old.caller new.caller stop × (status ≡ status_of_stop stop)
+    ⊎ ((stop : Stop) × IsCut old.caller new.caller stop
+    × (new.counts ≡ busied old.counts stop) × (status ≡ status_of_stop stop)
     × (word ≡ word_of_stop was stop) × (after ≡ before)))
 ReadsMap None status before after was word None =
     (status ≡ empty_handle) × (after ≡ before) × (word ≡ was)

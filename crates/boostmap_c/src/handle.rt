@@ -5,7 +5,7 @@ ghost use Rattle.std.specs.Prelude.{◌≡◌, Some, None, IfSome, IsNone, IsSom
 
 use crate::held_map::HeldMap;
 use crate::map_pointer::MapPointer;
-use owned_pointer::OwnedPointer;
+use crate::owned_pointer::OwnedPointer;
 use std::alloc::Global;
 use std::mem;
 

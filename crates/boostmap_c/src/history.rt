@@ -1,12 +1,14 @@
-//! Writes the history of a map with one owner into an array that belongs to C, so that C can keep
-//! it, show it, or feed it to a judge. A history may be long, so C reads it part by part.
+//! Writes a history into an array that belongs to C, so that C can keep it, show it, or feed it to
+//! a judge. The history of a map with one owner may be read part by part. The module `host_calls`
+//! also calls `lay_entries`, so C has one type of entries.
 ghost use Rattle.std.specs.Prelude.{◌≡◌, ◌≤◌, length};
 ghost use Rattle.boostmap_c.specs.Histories.{ShowsFront, Shows, TellsHistory};
+ghost use Rattle.boostmap_c.specs.Keepers.{LaysEntries};
 
 use crate::c_entry::CEntry;
 use crate::handle::Handle;
-use crate::status::{DONE, EMPTY};
-use txn_trace::SmallEntry;
+use crate::status::{DONE, EMPTY, SHORT};
+use txn_trace::{Entry, SmallEntry};
 
 /// Writes the entries of the map's history from the index `first` on, oldest first, to the front of
 /// an array: as many as there are and as the array has room for. The word is the number of entries
@@ -56,5 +58,28 @@ fn show(history: &[SmallEntry], entries: &mut [CEntry], count: usize)
 {
     'shows: for i in 0..count {
         entries[i] = CEntry::of(history[i].entry());
+    }
+}
+
+/// Writes the number of these entries to the word. If the array has room for the entries, writes
+/// them to the array's front. Returns the status.
+pub(crate) fn lay_entries(listed: &[Entry], entries: &mut [CEntry], word: &mut u64) -> u32
+    ensures { LaysEntries listed.now result entries.old entries.new word.new }
+{
+    *word = listed.len() as u64;
+    if listed.len() > entries.len() {
+        return SHORT;
+    }
+    lay(listed, entries);
+    DONE
+}
+
+/// Writes entries to the front of an array that has room for them.
+fn lay(listed: &[Entry], entries: &mut [CEntry])
+    requires room { length listed.now ≤ length entries.old }
+    ensures { Shows (length listed.now) listed.now entries.old entries.new }
+{
+    'lays: for i in 0..listed.len() {
+        entries[i] = CEntry::of(listed[i]);
     }
 }

@@ -9,11 +9,11 @@ ghost use Rattle.boostmap_c.specs.Referees.{has_stripes};
 
 use crate::c_entry::CEntry;
 use crate::handle::sends;
+use crate::owned_pointer::OwnedPointer;
 use crate::referee::{Referee, Way};
 use crate::referee_pointer::RefereePointer;
 use crate::status::{DONE, EMPTY, FULL, NO_ENTRY, refused};
 use history_check::Verdict;
-use owned_pointer::OwnedPointer;
 use std::alloc::Global;
 use std::mem;
 use txn_trace::{Holder, Refusal};

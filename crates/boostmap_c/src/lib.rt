@@ -1,6 +1,7 @@
+// PROMISES from-c: all exports
 //! Transactional maps for C, and the judge of their histories: `owned_map`'s `OwnedMap`,
-//! `striped_map`'s `Caller`, and the checkers of `history_check` and `serial_check`, each behind a
-//! handle that C keeps, with its exports.
+//! `striped_map`'s `Caller` and `Host`, and the checkers of `history_check` and `serial_check`, each
+//! behind a handle that C keeps, with its exports.
 //!
 //! C cannot name a type that holds a `Vec`. So a handle is two words, zeros at first: a tag, and a
 //! pointer whose type is erased. A ghost field says what it owns. In a caller's handle this is a
@@ -8,7 +9,7 @@
 //!
 //! A call borrows the object through the pointer and makes the library's call; a judge is taken out
 //! and put back instead. Each call returns a status (`status.rt`) and writes at most one word.
-//! Reads also write pairs, `boostmap_history` entries, and `boostmap_judge_verdict` a `CVerdict`.
+//! Reads also write pairs, calls for a history entries, and some a struct (`CVerdict`, `Counts`).
 //!
 //! No export has a `requires`. What C must do is in the header. Calls on different handles of one
 //! striped map may run at once; none takes a lock or waits.
@@ -27,10 +28,15 @@
 #![tactic(auto)]
 
 mod c_entry;
+mod counts;
 mod handle;
 mod held_map;
 mod history;
+mod host_calls;
+mod host_handle;
 mod judge;
+mod keeper;
+mod keeper_pointer;
 mod map;
 mod map_pointer;
 mod member;
@@ -38,9 +44,11 @@ mod member_handle;
 mod member_pointer;
 mod operations;
 mod options;
+mod owned_pointer;
 mod read;
 mod referee;
 mod referee_pointer;
+mod shelf;
 mod status;
 mod stops;
 mod striped;

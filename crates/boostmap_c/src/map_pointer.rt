@@ -7,7 +7,7 @@ ghost use Rattle.boostmap_c.specs.contracts.held_map.HeldMap.{the_row};
 ghost use Rattle.boostmap_c.specs.declared.held_map.HeldMap.{HeldMap};
 
 use crate::held_map::HeldMap;
-use owned_pointer::OwnedPointer;
+use crate::owned_pointer::OwnedPointer;
 use std::marker::Model;
 use std::ptr;
 

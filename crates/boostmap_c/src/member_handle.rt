@@ -7,7 +7,7 @@ ghost use Rattle.std.specs.Prelude.{◌≡◌, Some, None, IfSome, IsNone, IsSom
 use crate::handle::sends;
 use crate::member::Member;
 use crate::member_pointer::MemberPointer;
-use owned_pointer::OwnedPointer;
+use crate::owned_pointer::OwnedPointer;
 use std::alloc::Global;
 use std::mem;
 

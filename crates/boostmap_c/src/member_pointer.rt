@@ -7,7 +7,7 @@ ghost use Rattle.boostmap_c.specs.contracts.member.Member.{the_row};
 ghost use Rattle.boostmap_c.specs.declared.member.Member.{Member};
 
 use crate::member::Member;
-use owned_pointer::OwnedPointer;
+use crate::owned_pointer::OwnedPointer;
 use std::marker::Model;
 use std::ptr;
 

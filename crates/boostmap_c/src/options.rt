@@ -74,7 +74,7 @@ pub extern "C" fn boostmap_striped_option(
         return EMPTY;
     }
     let member = caller.held.get_mut();
-    match option_at(member.opening, option) {
+    match option_at(member.group.opening, option) {
         Some(value) => {
             *word = value;
             DONE

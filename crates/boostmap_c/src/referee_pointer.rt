@@ -6,8 +6,8 @@ ghost use Rattle.std.specs.Coded.{coded_option};
 ghost use Rattle.boostmap_c.specs.contracts.referee.Referee.{the_row};
 ghost use Rattle.boostmap_c.specs.declared.referee.Referee.{Referee};
 
+use crate::owned_pointer::OwnedPointer;
 use crate::referee::Referee;
-use owned_pointer::OwnedPointer;
 use std::marker::Model;
 use std::ptr;
 

@@ -27,6 +27,15 @@ pub(crate) const SHORT: u32 = 7;
 /// C's numbers stand for no entry, or for an entry whose caller is not below 64.
 pub(crate) const NO_ENTRY: u32 = 8;
 
+/// The handle does not have the map's host.
+pub(crate) const NO_HOST: u32 = 10;
+
+/// The map does not keep its entries.
+pub(crate) const NOT_KEPT: u32 = 11;
+
+/// A caller of the map has not ended. The word is the number of that caller.
+pub(crate) const MISSING: u32 = 12;
+
 /// The status of a refusal is this number plus the refusal's number.
 const REFUSED: u32 = 16;
 

@@ -1,11 +1,12 @@
 //! Functions that report the result of a map's call to C: a status, and for some results a word. If
 //! a result has no word, C's word is unchanged.
 ghost use Rattle.std.specs.Prelude.{◌≡◌};
+ghost use Rattle.boostmap_c.specs.Keepers.{status_of_no_history, word_of_no_history};
 ghost use Rattle.boostmap_c.specs.Stops.{status_of_end, status_of_number, status_of_place, status_of_reply, status_of_stop, word_of_number, word_of_place, word_of_reply, word_of_stop};
 
-use crate::status::{ABSENT, BUSY, DONE, refused};
-use striped_map::Stop;
-use txn_trace::Reply;
+use crate::status::{ABSENT, BUSY, DONE, MISSING, NOT_KEPT, refused};
+use striped_map::{NoHistory, Stop};
+use txn_trace::{Refusal, Reply};
 
 /// Writes the holder, if there is one, and returns the status.
 pub(crate) fn tell_stop(stop: Stop, word: &mut u64) -> u32
@@ -76,5 +77,20 @@ pub(crate) fn tell_end(answer: Result<(), Stop>) -> u32
         Ok(()) => DONE,
         Err(Stop::Busy { .. }) => BUSY,
         Err(Stop::Refused(refusal)) => refused(refusal),
+    }
+}
+
+/// Writes the number of a caller that has not ended, if this is the reason, and returns the status.
+pub(crate) fn tell_no_history(why: NoHistory, word: &mut u64) -> u32
+    ensures status { result ≡ status_of_no_history why }
+    ensures word { word.new ≡ word_of_no_history word.old why }
+{
+    match why {
+        NoHistory::NotKept => NOT_KEPT,
+        NoHistory::Missing(caller) => {
+            *word = caller;
+            MISSING
+        }
+        NoHistory::NoMemory => refused(Refusal::NoMemory),
     }
 }

@@ -2,16 +2,23 @@
 //! map is freed with its last caller. Only the calls of this module fill and empty a caller's
 //! handle. All callers are made when the map is opened, so a join takes memory only for its
 //! member.
-ghost use Rattle.std.specs.Prelude.{◌≡◌, ◌++◌, [], ◌∷◌, IfOk, IfErr, OnOk, OnErr, true, length, nat_le, if◌then◌else◌};
+ghost use Rattle.std.specs.Prelude.{◌≡◌, ◌≤◌, ◌++◌, [], ◌∷◌, IfOk, IfErr, OnOk, OnErr, Some, true, false, length, nat_le, if◌then◌else◌};
 ghost use Rattle.txn_words.specs.declared.refusal.Refusal.TheVariants.{NoMemory, NoSuchCaller, Limit};
 ghost use Rattle.boostmap_c.specs.Striped.{Aborts};
-ghost use Rattle.boostmap_c.specs.Members.{IsFirstMember, IsSame, Joins, LeavesMap, Opens, are_numbers, are_striped_limits, keep_at};
+ghost use Rattle.std.specs.List.{All};
+ghost use Rattle.striped_map.specs.Hosts.{IsOpened};
+ghost use Rattle.boostmap_c.specs.Shelves.{IsOver};
+ghost use Rattle.boostmap_c.specs.Shelved.{host_of};
+ghost use Rattle.boostmap_c.specs.Counting.{none_ended};
+ghost use Rattle.boostmap_c.specs.Members.{IsAlike, IsFirstMember, IsJoined, Joins, LeavesMap, Opens, are_numbers, are_striped_limits, keep_at};
 
-use crate::member::Member;
+use crate::member::{Group, Member};
 use crate::member_handle::{CallerHandle, put_in, take_out};
+use crate::shelf::Shelf;
 use crate::status::{DONE, EMPTY, FULL, refused};
-use std::alloc::Global;
-use striped_map::{Keep, MOST, Opening, Stop};
+use std::alloc::{AllocError, Global};
+use std::sync::Arc;
+use striped_map::{Caller, Host, Keep, MOST, Opening, Stop};
 use txn_trace::Refusal;
 
 /// What a map keeps of its history, by its number in C.
@@ -21,6 +28,7 @@ fn keep_of(keep: u64) -> Option<Keep>
     match keep {
         0 => Some(Keep::Nothing),
         1 => Some(Keep::Commits),
+        2 => Some(Keep::Entries),
         _ => None,
     }
 }
@@ -30,6 +38,62 @@ fn are_limits(callers: u64, stripes: u64) -> bool
     ensures { result ≡ are_numbers callers stripes }
 {
     (1 <= callers && callers <= MOST as u64) && (1 <= stripes && stripes <= MOST as u64)
+}
+
+/// The group of the first member.
+fn first_group(
+    alloc: Global,
+    opening: Opening,
+    host: Host,
+    waiting: Vec<Caller>,
+) -> Result<Group, AllocError>
+    requires { All (IsOver host) waiting.items }
+    ensures waiting { IfOk result (λ group. group.waiting ≡ waiting) }
+    ensures host { IfOk result (λ group. group.host ≡ Some host) }
+    ensures shelf { IfOk result (λ group. host_of group.shelf.value ≡ host) }
+    ensures opening { IfOk result (λ group. group.opening ≡ opening) }
+{
+    let places = match opening.keep {
+        Keep::Entries => opening.callers,
+        _ => 0,
+    };
+    let shelf = Shelf::new(alloc, places, &host)?;
+    let Ok(shelf) = Arc::new(alloc, shelf) else {
+        return Err(AllocError);
+    };
+    let place = waiting.len();
+    Ok(Group {
+        waiting,
+        host: Some(host),
+        shelf,
+        place,
+        opening,
+    })
+}
+
+/// The first member of a map that was opened so.
+fn made_member(
+    alloc: Global,
+    opening: Opening,
+    host: Host,
+    mut waiting: Vec<Caller>,
+) -> Result<Box<Member, Global>, AllocError>
+    requires some { 1 ≤ opening.callers }
+    requires opened { IsOpened opening host waiting.items }
+    ensures opening { IfOk result (λ member. member.value.group.opening ≡ opening) }
+    ensures host { IfOk result (λ member. member.value.group.host ≡ Some host) }
+    ensures counts { IfOk result (λ member. member.value.counts ≡ none_ended) }
+    ensures ok { IfOk result (λ member. IsOpened opening host
+        (member.value.group.waiting.items ++ member.value.caller ∷ [])) }
+{
+    let Some(caller) = waiting.pop() else {
+        unreachable!()
+    };
+    let group = first_group(alloc, opening, host, waiting)?;
+    match Box::new(alloc, Member::new(caller, group)) {
+        Ok(member) => Ok(member),
+        Err(_) => Err(AllocError),
+    }
 }
 
 /// Opens a map, and returns its first member.
@@ -59,37 +123,57 @@ fn first_member(
         keep: kept,
         seed,
     };
-    let Ok((_host, mut waiting)) = opening.open(alloc) else {
+    let Ok((host, waiting)) = opening.open(alloc) else {
         return Err(Refusal::NoMemory);
     };
-    let Some(caller) = waiting.pop() else {
-        unreachable!()
+    match made_member(alloc, opening, host, waiting) {
+        Ok(member) => Ok(member),
+        Err(_) => Err(Refusal::NoMemory),
+    }
+}
+
+/// A member with this caller, of the group's map. On an error, returns the caller.
+fn joined(alloc: Global, group: &Group, caller: Caller) -> Result<Box<Member, Global>, Caller>
+    requires { IsOver (host_of group.now.shelf.value) caller }
+    ensures caller { IfOk result (λ made. made.value.caller ≡ caller) }
+    ensures counts { IfOk result (λ made. made.value.counts ≡ none_ended) }
+    ensures group { IfOk result (λ made. IsJoined group.now made.value.group) }
+    ensures err { IfErr result (λ same. same ≡ caller) }
+{
+    let Ok(shelf) = Arc::try_clone(&group.shelf) else {
+        return Err(caller);
     };
-    let Ok(member) = Box::new(alloc, Member::new(caller, waiting, opening)) else {
-        return Err(Refusal::NoMemory);
+    let own = Group {
+        waiting: Vec::new(alloc),
+        host: None,
+        shelf,
+        place: group.waiting.len(),
+        opening: group.opening,
     };
-    Ok(member)
+    match Box::new(alloc, Member::new(caller, own)) {
+        Ok(member) => Ok(member),
+        Err(failed) => Err(failed.value.into_caller()),
+    }
 }
 
 /// Takes out the last caller that waits, and puts it in a member of its own.
-fn next_member(alloc: Global, first: &mut Member) -> Result<Box<Member, Global>, Refusal>
-    ensures caller { first.new.caller ≡ first.old.caller }
-    ensures opening { first.new.opening ≡ first.old.opening }
-    ensures ok { IfOk result (λ member. (first.old.waiting.items
-        ≡ first.new.waiting.items ++ member.value.caller ∷ []) × (member.value.waiting.items ≡ [])
-        × (member.value.opening ≡ first.old.opening)) }
+fn next_member(alloc: Global, group: &mut Group) -> Result<Box<Member, Global>, Refusal>
+    ensures alike { IsAlike group.old group.new }
+    ensures joined { IfOk result (λ member. IsJoined group.old member.value.group) }
+    ensures counts { IfOk result (λ member. member.value.counts ≡ none_ended) }
+    ensures ok { IfOk result (λ member. group.old.waiting.items
+        ≡ group.new.waiting.items ++ member.value.caller ∷ []) }
     ensures err { IfErr result (λ refusal. refusal
-        ≡ (if nat_le 1 (length first.old.waiting.items) then NoMemory else NoSuchCaller)) }
-    ensures unchanged { OnErr result (first.new.waiting.items ≡ first.old.waiting.items) }
+        ≡ (if nat_le 1 (length group.old.waiting.items) then NoMemory else NoSuchCaller)) }
+    ensures unchanged { OnErr result (group.new.waiting.items ≡ group.old.waiting.items) }
 {
-    let Some(caller) = first.waiting.pop() else {
+    let Some(caller) = group.waiting.pop() else {
         return Err(Refusal::NoSuchCaller);
     };
-    let next = Member::new(caller, Vec::new(alloc), first.opening);
-    match Box::new(alloc, next) {
+    match joined(alloc, group, caller) {
         Ok(member) => Ok(member),
-        Err(failed) => {
-            first.waiting.push_reserved(failed.value.caller);
+        Err(caller) => {
+            group.waiting.push_reserved(caller);
             Err(Refusal::NoMemory)
         }
     }
@@ -97,15 +181,16 @@ fn next_member(alloc: Global, first: &mut Member) -> Result<Box<Member, Global>,
 
 /// Opens a striped map with no keys, and gives the handle to its first caller. The word is this
 /// caller's number, which is the largest one: `callers`. The other callers wait, and get their
-/// handles by `boostmap_striped_join`. The map has room for so many keys, and the seed, as `Opening`
-/// says. If `keep` is 1, it counts its commits, and each commit tells its number; if it is 0, it does
-/// not.
+/// handles by `boostmap_striped_join`. The map has room for so many keys, and the seed, as
+/// `Opening` says. If `keep` is 1, it counts its commits, and each commit tells its number. If it
+/// is 2, it keeps its entries, and hands them out by `boostmap_host_history`. If it is 0, it does
+/// neither.
 ///
 /// # Errors
 ///
 /// On an error the handle is unchanged. The status is 4 if the handle has a caller already, 38
-/// (`Limit`) if the number of callers or of stripes is not from 1 to 4,096, or `keep` not 0 or 1, and
-/// 30 (`NoMemory`) if memory is refused.
+/// (`Limit`) if the number of callers or of stripes is not from 1 to 4,096, or `keep` is above 2,
+/// and 30 (`NoMemory`) if memory is refused.
 ///
 /// # Cost
 ///
@@ -193,8 +278,8 @@ pub extern "C" fn boostmap_striped_join(
         return EMPTY;
     }
     let member = first.held.get_mut();
-    let number = member.waiting.len() as u64;
-    let made = next_member(alloc, member);
+    let number = member.group.waiting.len() as u64;
+    let made = next_member(alloc, &mut member.group);
     match made {
         Ok(joined) => {
             put_in(next, joined);
@@ -207,18 +292,39 @@ pub extern "C" fn boostmap_striped_join(
 
 /// Aborts the transaction of the member's caller, if there is one.
 fn end(member: &mut Member) -> Result<(), Stop>
-    ensures { Aborts member.old.caller result member.new.caller }
+    ensures aborts { Aborts member.old.caller result member.new.caller }
+    ensures closed { member.new.caller.is_open ≡ false }
 {
     member.caller.abort()
 }
 
-/// Frees the caller. An open transaction is aborted, and its stripes are given back. The handle is
-/// then all zeros. If the caller is the first of its map, the callers that still wait for a handle
-/// are freed too. The map is freed with its last caller.
+/// Puts the member's caller on the shelf, and those that wait. If the map does not keep its
+/// entries, the shelf has no places, and they are dropped.
+fn leave(member: Box<Member, Global>)
+    requires { member.value.caller.is_open ≡ false }
+{
+    let (caller, group) = Box::into_inner(member).apart();
+    let Group {
+        mut waiting,
+        host: _,
+        shelf,
+        place,
+        opening: _,
+    } = group;
+    shelf.put(place, caller);
+    while let Some(caller) = waiting.pop() {
+        shelf.put(waiting.len(), caller);
+    }
+}
+
+/// Frees the caller. An open transaction is aborted, and its stripes are given back. If the map
+/// keeps its entries, the caller is put on the shelf, from which the map's host takes it. The handle
+/// is then all zeros. If the caller is the first of its map, the callers that still wait for a
+/// handle are freed too. The map is freed with its last caller.
 ///
 /// The contract says that the abort was made. It cannot say that the freed caller does nothing
-/// after it, since a freed value has no last state. The function `freeing` of
-/// `bindings/tests/striped.c` tests this.
+/// after it, since a freed value has no last state, nor that it lies on the shelf, which other
+/// threads use too. `bindings/tests/striped.c` (`freeing`) and `history.c` test this.
 ///
 /// # Errors
 ///
@@ -235,6 +341,7 @@ pub extern "C" fn boostmap_striped_free(alloc: Global, caller: &mut CallerHandle
     match take_out(alloc, caller) {
         Some(mut member) => {
             let _aborted = end(&mut member);
+            leave(member);
             DONE
         }
         None => EMPTY,

@@ -3,6 +3,7 @@
 //! of this module fills, empties or moves a handle. Passing through a handle takes constant time
 //! and no memory.
 ghost use Rattle.std.specs.Prelude.{Some, None};
+ghost use Rattle.boostmap_c.specs.Counting.{aborted, goes_on};
 ghost use Rattle.boostmap_c.specs.Members.{TellsEnd, TellsNumber, TellsPlace, TellsReply};
 ghost use Rattle.boostmap_c.specs.Striped.{Aborts, Begins, Commits, Operates, Returns, Saves};
 
@@ -16,16 +17,18 @@ use txn_trace::Op;
 /// # Errors
 ///
 /// The status is 3 if the handle has no caller, and 20 (`AlreadyOpen`) if the caller is already in
-/// a transaction. That transaction then continues.
+/// a transaction. That transaction then continues. If the map keeps its entries, it may also be 30
+/// (`NoMemory`). No transaction has then begun.
 #[unsafe(no_mangle)]
 pub extern "C" fn boostmap_striped_begin(caller: &mut CallerHandle) -> u32
-    ensures { TellsEnd Begins caller.old.held.member result caller.new.held.member }
+    ensures { TellsEnd Begins goes_on caller.old.held.member result caller.new.held.member }
 {
     if !caller.is_live() {
         return EMPTY;
     }
     let member = caller.held.get_mut();
     let answer = member.caller.begin();
+    member.counts.see_end(&answer);
     tell_end(answer)
 }
 
@@ -55,6 +58,7 @@ pub extern "C" fn boostmap_striped_get(caller: &mut CallerHandle, key: u64, word
     }
     let member = caller.held.get_mut();
     let answer = member.caller.get(key);
+    member.counts.see_reply(&answer);
     tell_reply(answer, word)
 }
 
@@ -89,6 +93,7 @@ pub extern "C" fn boostmap_striped_put(
     }
     let member = caller.held.get_mut();
     let answer = member.caller.put(key, value);
+    member.counts.see_reply(&answer);
     tell_reply(answer, word)
 }
 
@@ -118,6 +123,7 @@ pub extern "C" fn boostmap_striped_take(caller: &mut CallerHandle, key: u64, wor
     }
     let member = caller.held.get_mut();
     let answer = member.caller.take(key);
+    member.counts.see_reply(&answer);
     tell_reply(answer, word)
 }
 
@@ -153,6 +159,7 @@ pub extern "C" fn boostmap_striped_put_if_absent(
     }
     let member = caller.held.get_mut();
     let answer = member.caller.put_if(key, None, value);
+    member.counts.see_reply(&answer);
     tell_reply(answer, word)
 }
 
@@ -189,6 +196,7 @@ pub extern "C" fn boostmap_striped_put_if_equal(
     }
     let member = caller.held.get_mut();
     let answer = member.caller.put_if(key, Some(expected), value);
+    member.counts.see_reply(&answer);
     tell_reply(answer, word)
 }
 
@@ -212,6 +220,7 @@ pub extern "C" fn boostmap_striped_save(caller: &mut CallerHandle, word: &mut u6
     }
     let member = caller.held.get_mut();
     let answer = member.caller.save();
+    member.counts.see_number(&answer);
     tell_number(answer, word)
 }
 
@@ -221,21 +230,22 @@ pub extern "C" fn boostmap_striped_save(caller: &mut CallerHandle, word: &mut u6
 /// # Errors
 ///
 /// The status is 3 if the handle has no caller, 19 (`NotOpen`) if the caller has no transaction,
-/// and 25 (`NoSuchLevel`) if the level is above the number of savepoints. In each case nothing has
-/// changed.
+/// 25 (`NoSuchLevel`) if the level is above the number of savepoints, and, if the map keeps its
+/// entries, 30 (`NoMemory`) if memory is refused. In each case nothing has changed.
 ///
 /// # Cost
 ///
 /// A step for each change that is taken back; takes no memory.
 #[unsafe(no_mangle)]
 pub extern "C" fn boostmap_striped_back(caller: &mut CallerHandle, level: u64) -> u32
-    ensures { TellsEnd (Returns level) caller.old.held.member result caller.new.held.member }
+    ensures { TellsEnd (Returns level) goes_on caller.old.held.member result caller.new.held.member }
 {
     if !caller.is_live() {
         return EMPTY;
     }
     let member = caller.held.get_mut();
     let answer = member.caller.back(level);
+    member.counts.see_end(&answer);
     tell_end(answer)
 }
 
@@ -260,6 +270,7 @@ pub extern "C" fn boostmap_striped_commit(caller: &mut CallerHandle, word: &mut 
     }
     let member = caller.held.get_mut();
     let answer = member.caller.commit();
+    member.counts.see_commit(&answer);
     tell_place(answer, word)
 }
 
@@ -275,12 +286,13 @@ pub extern "C" fn boostmap_striped_commit(caller: &mut CallerHandle, word: &mut 
 /// A step for each change, each savepoint and each stripe; takes no memory.
 #[unsafe(no_mangle)]
 pub extern "C" fn boostmap_striped_abort(caller: &mut CallerHandle) -> u32
-    ensures { TellsEnd Aborts caller.old.held.member result caller.new.held.member }
+    ensures { TellsEnd Aborts aborted caller.old.held.member result caller.new.held.member }
 {
     if !caller.is_live() {
         return EMPTY;
     }
     let member = caller.held.get_mut();
     let answer = member.caller.abort();
+    member.counts.see_abort(&answer);
     tell_end(answer)
 }

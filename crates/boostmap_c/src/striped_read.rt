@@ -38,6 +38,7 @@ pub extern "C" fn boostmap_striped_count(caller: &mut CallerHandle, word: &mut u
     }
     let member = caller.held.get_mut();
     let answer = member.caller.len();
+    member.counts.see_number(&answer);
     tell_number(answer, word)
 }
 
@@ -69,6 +70,9 @@ pub extern "C" fn boostmap_striped_read(
     let answer = member.caller.pairs();
     match answer {
         Ok(listed) => lay_all(&listed, pairs, word),
-        Err(stop) => tell_stop(stop, word),
+        Err(stop) => {
+            member.counts.see_stop(&stop);
+            tell_stop(stop, word)
+        }
     }
 }

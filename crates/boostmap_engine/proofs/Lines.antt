@@ -3,7 +3,8 @@ use Rattle.std.proofs.Common.{◌≡◌, List, ℕ, Option, refl, ◌∙◌}
 use Rattle.history_check.specs.declared.verdict.Verdict.{Verdict}
 use Rattle.history_check.specs.Verdicts.{says_legal, verdict_line}
 use Rattle.boostmap_engine.specs.declared.fault.Fault.TheVariants.{Write}
-use Rattle.boostmap_engine.specs.Written.{IsRead, AppendsPart, LeavesOutput}
+use Rattle.txn_files.specs.Output.{AppendsPart}
+use Rattle.boostmap_engine.specs.Written.{IsRead, LeavesOutput}
 use Rattle.boostmap_engine.specs.Judgement.{IsJudged, IsJudgementOf, IsNoHistoryFile}
 
 -- If the output grew by a proper prefix of the line of a verdict, and the verdict is on the history

@@ -7,8 +7,9 @@ use Rattle.std.proofs.lemmas.List.{append-nil, drop_at, take_at, take-append-le}
 use Rattle.txn_files.specs.FileFault.{FileFault}
 use Rattle.boostmap_engine.specs.declared.fault.Fault.{Fault}
 use Rattle.boostmap_engine.specs.declared.fault.Fault.TheVariants as faults
-use Rattle.boostmap_engine.specs.Written.{AppendsPart, IsRead, LeavesOutput, LeavesText}
-use Rattle.boostmap_engine.proofs.Known.{Appends-then}
+use Rattle.boostmap_engine.specs.Written.{IsRead, LeavesOutput, LeavesText}
+use Rattle.txn_files.specs.Output.{AppendsPart}
+use Rattle.txn_files.proofs.Writes.{Appends-then}
 
 take-past : (xs ys : List ℕ) (n : ℕ) → take (length xs + n) (xs ++ ys) ≡ xs ++ take n ys
 take-past xs ys n = rw (take-add, take_at xs ys (length xs) refl, drop_at xs ys (length xs) refl) refl

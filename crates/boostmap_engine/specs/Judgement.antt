@@ -1,3 +1,4 @@
+-- PROMISES from-words-and-bytes-to-bytes: IsJudgementOf
 -- The line that gives the verdict on the history in a file.
 use Rattle.std.specs.Prelude.{◌≡◌, ℕ, Bool, List, Ok, Err}
 use Rattle.txn_words.specs.declared.entry.Entry.{Entry}

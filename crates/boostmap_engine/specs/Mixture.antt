@@ -1,3 +1,4 @@
+-- PROMISES scripts-that-take-turns: IsMixtureOf
 -- The history that results if workers run the scripts of a file and take turns on one core.
 use Rattle.std.specs.Prelude.{◌≡◌, ℕ, ◌<◌, List, Ok, Err}
 use Rattle.std.specs.List.{All}

@@ -1,3 +1,4 @@
+-- PROMISES from-words-and-bytes-to-bytes: IsReportOf
 -- The report on a run of the steps in a file.
 use Rattle.std.specs.Prelude.{◌≡◌, ℕ, List, [], ◌∷◌, ◌++◌, Ok, Err, codes, decimal}
 use Rattle.std.specs.List.{flat_map}

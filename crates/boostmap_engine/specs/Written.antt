@@ -1,7 +1,9 @@
+-- PROMISES from-words-and-bytes-to-bytes: LeavesOutput
 -- What an engine reads and writes, for any kind of text.
-use Rattle.std.specs.Prelude.{◌≡◌, ℕ, ◌<◌, List, length, take, Option, IfSome}
+use Rattle.std.specs.Prelude.{◌≡◌, ℕ, List, take, Option, IfSome}
 use Rattle.std.specs.Io.KnownBytes.{Appends, Keeps}
 use Rattle.txn_files.specs.FileFault.{FileFault}
+use Rattle.txn_files.specs.Output.{AppendsPart}
 use Rattle.txn_files.specs.Reading.{max_read}
 use Rattle.boostmap_engine.specs.declared.fault.Fault.{Fault}
 use Rattle.boostmap_engine.specs.declared.fault.Fault.TheVariants as faults
@@ -11,10 +13,6 @@ use Rattle.boostmap_engine.specs.declared.fault.Fault.TheVariants as faults
 -- file.
 abbrev pub IsRead : Option (List ℕ) → List ℕ → Type 0
 IsRead remaining bytes = IfSome remaining (λ all. bytes ≡ take max_read all)
-
--- The output, if its bytes are known, grew by a proper prefix of the text.
-abbrev pub AppendsPart : Option (List ℕ) → Option (List ℕ) → List ℕ → Type 0
-AppendsPart old new text = (n : ℕ) × (n < length text) × Appends old new (take n text)
 
 -- The output after writing a text has failed. If a write failed, the output grew by a proper prefix
 -- of the text. If memory was refused, the output is unchanged.

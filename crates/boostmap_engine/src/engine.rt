@@ -1,3 +1,5 @@
+// PROMISES scripts-that-take-turns: mix
+// PROMISES from-words-and-bytes-to-bytes: replay, check, mix
 //! The engines of three commands. Each engine reads its whole input from a reader, takes all of its
 //! memory, and only then writes to a writer. So a fault before the first write leaves the output
 //! unchanged.
@@ -11,10 +13,11 @@ use crate::fault::Fault;
 use crate::input::read_input;
 use crate::judgement::{is_legal, judge, line_of};
 use crate::mixture::mixture;
-use crate::output::{write_history, write_text};
+use crate::output::write_history;
 use crate::report::report;
 use std::alloc::Global;
 use std::io::{Read, Write};
+use txn_files::write_text;
 
 /// Reads a step file to its end, runs its steps one after the other on a new core, and writes the
 /// report. First come the answers, one on each line. Then comes `size S count C`, where `S` is the
@@ -47,7 +50,8 @@ pub fn replay<R: Read, W: Write>(alloc: Global, input: &mut R, output: &mut W) -
 {
     let bytes = read_input(alloc, input)?;
     let text = report(alloc, bytes)?;
-    write_text(output, text.as_bytes())
+    write_text(output, text.as_bytes())?;
+    Ok(())
 }
 
 /// Reads a history file to its end, judges the history, and writes the verdict as one line that

@@ -32,5 +32,5 @@ mod report;
 pub use engine::{check, mix, replay};
 pub use fault::{Fault, Message};
 pub use input::{read_input, scripts_in};
-pub use output::{write_history, write_text};
+pub use output::write_history;
 pub use script_mix::draw;

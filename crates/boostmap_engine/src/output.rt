@@ -1,45 +1,15 @@
-//! Writes a whole text, or only a proper prefix of the text if the writer fails. All commands,
-//! including `run`, write by the two functions of this module. So one proof says, for all commands,
-//! what a failed write leaves. A writer is not called again after it failed or took no bytes.
-ghost use Rattle.std.specs.Prelude.{◌≡◌, OnOk, OnErr, IfErr};
+//! Writes a history. The other commands write their text by `txn_files::write_text`.
+ghost use Rattle.std.specs.Prelude.{OnOk, IfErr};
 ghost use Rattle.std.specs.Io.KnownBytes.{Appends};
 ghost use Rattle.txn_files.specs.HistoryText.{text_of_history};
-ghost use Rattle.boostmap_engine.specs.declared.fault.Fault.TheVariants as faults;
 ghost use Rattle.boostmap_engine.specs.Report.{line};
-ghost use Rattle.boostmap_engine.specs.Written.{AppendsPart, LeavesText};
+ghost use Rattle.boostmap_engine.specs.Written.{LeavesText};
 
 use crate::fault::Fault;
 use std::alloc::Global;
 use std::io::Write;
-use txn_files::{HistoryPieces, Piece};
+use txn_files::{HistoryPieces, Piece, write_text};
 use txn_words::SmallEntry;
-
-/// Writes the whole text.
-///
-/// # Errors
-///
-/// `Write` if the writer fails or takes no bytes. Then the writer is not called again, and a proper
-/// prefix of the text is written.
-///
-/// # Cost
-///
-/// One call of the writer for each part of the text that it takes. Takes no memory.
-pub fn write_text<W: Write>(output: &mut W, text: &[u8]) -> Result<(), Fault>
-    ensures ok { OnOk result (Appends (W.contents output.old) (W.contents output.new) text.now) }
-    ensures err { OnErr result (AppendsPart (W.contents output.old)
-        (W.contents output.new) text.now) }
-    ensures fault { IfErr result (λ fault. fault ≡ faults.Write) }
-{
-    let mut done = 0;
-    while done < text.len() {
-        match output.write(&text[done..]) {
-            Ok(0) => return Err(Fault::Write),
-            Ok(count) => done += count,
-            Err(_) => return Err(Fault::Write),
-        }
-    }
-    Ok(())
-}
 
 /// Writes the text of a history, as `history_text` makes it, and a line feed. The text is written
 /// in pieces of 64 KB, so it is never in memory as a whole.

@@ -1,3 +1,5 @@
+-- PROMISES scripts-on-threads: IsThreadedOf
+-- PROMISES from-words-and-bytes-to-bytes: RunsThreads
 -- The history of a script file whose workers run in threads.
 use Rattle.std.specs.Prelude.{◌≡◌, ℕ, true, List, Option, Ok, Err}
 use Rattle.std.specs.Io.KnownBytes.{Keeps}

@@ -1,3 +1,4 @@
+// PROMISES from-words-and-bytes-to-bytes: run
 //! A whole call of the program, with the engine of `run` in threads. The other engines, and what
 //! happens before and after an engine, are in `unthreaded_program`. The system and both outputs are
 //! type parameters, so that contracts and tests cover the whole call.

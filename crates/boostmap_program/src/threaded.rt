@@ -1,3 +1,4 @@
+// PROMISES scripts-on-threads: run
 //! The engine of `run`: each worker of a script file runs its scripts in its own thread, and the
 //! history is printed. Only this engine starts threads and waits for them. The other engines are in
 //! `unthreaded_program`, so they do not depend on the proofs about the map that threads share.

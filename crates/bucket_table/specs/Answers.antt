@@ -1,3 +1,4 @@
+-- PROMISES buckets: double_answer
 -- The answer to each call on the buckets of a table. A `Table` of `map_ops` gives these answers
 -- too.
 use Rattle.std.specs.Prelude.{ℕ, ◌*◌, ◌-◌, ◌^◌, Bool, Option, Some, None, Result, Ok, Err, ◌==◌, not, nat_le, if◌then◌else◌}

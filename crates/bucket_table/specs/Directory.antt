@@ -1,3 +1,4 @@
+-- PROMISES buckets: IsSound, IsNearest
 -- The buckets of a table as a contract sees them.
 use Rattle.std.specs.Prelude.{◌≡◌, ℕ, ◌-◌, ◌^◌, ◌<◌, ◌≤◌, List, ◌∷◌, Option, Some, None, Bool, true, false, All, length, replicate, is_some, slice_index_or, slice_set}
 use Rattle.std.specs.List.{slice_get}

@@ -1,3 +1,4 @@
+-- PROMISES buckets: IsHome
 -- The condition that the buckets of a table fit a list.
 use Rattle.std.specs.Prelude.{◌≡◌, ℕ, Some, All}
 use Rattle.node_list.specs.Nodes.{Listing}

@@ -58,7 +58,7 @@ impl Display for InitRefusal {
         match *self {
             InitRefusal::NoSuchBucket => f.write_str("the bucket is not below the size"),
             InitRefusal::ParentMissing => f.write_str("the bucket's parent is not stored"),
-            InitRefusal::NoSuchHelper => f.write_str("there is no helper of this number"),
+            InitRefusal::NoSuchHelper => f.write_str("there is no such helper"),
             InitRefusal::HelperOutOfOrder => {
                 f.write_str("the helper has no cursor to link at, or no dummy to store")
             }

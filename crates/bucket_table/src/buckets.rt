@@ -1,3 +1,4 @@
+// PROMISES buckets: Buckets::init_seek, init_link, init_store, double
 //! The buckets of a table: its size, the dummies of the stored buckets, and the helpers that store
 //! more of them. Invariant (`IsSound`): the size is a power of two, and no bucket is stored before
 //! its parent.

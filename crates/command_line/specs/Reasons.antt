@@ -4,5 +4,5 @@ use Rattle.command_line.specs.declared.no_call.NoCall.{NoCall}
 use Rattle.command_line.specs.declared.no_call.NoCall.TheVariants.{Usage, NoMemory}
 
 abbrev pub text_of : NoCall → List ℕ
-text_of Usage = codes "the words are no call of the program"
+text_of Usage = codes "the command line is not valid"
 text_of NoMemory = codes "memory was refused"

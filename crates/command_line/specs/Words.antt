@@ -1,3 +1,4 @@
+-- PROMISES from-words-and-bytes-to-bytes: asked
 -- The call that a command line asks for. The rules of `clap` say how its words are read.
 use Rattle.std.specs.Prelude.{ℕ, ◌^◌, ◌&&◌, true, List, [], ◌∷◌, codes}
 use Rattle.std.specs.Prelude.{Option, Some, None, if◌then◌else◌, nat_lt, option_map}

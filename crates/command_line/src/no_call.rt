@@ -11,7 +11,7 @@ use std::fmt;
 /// The reason why `call_in` returns no call.
 #[derive(Clone, Copy, Debug, PartialEq, Eq)]
 pub enum NoCall {
-    /// The words are not a valid call of the program.
+    /// The command line is not valid.
     Usage,
     /// Memory was refused.
     NoMemory,
@@ -26,7 +26,7 @@ impl fmt::Display for NoCall {
 
     fn fmt<W: fmt::Write>(&self, f: &mut fmt::Formatter<W>) -> fmt::Result {
         match self {
-            NoCall::Usage => f.write_str("the words are no call of the program"),
+            NoCall::Usage => f.write_str("the command line is not valid"),
             NoCall::NoMemory => f.write_str("memory was refused"),
         }
     }

@@ -1,3 +1,4 @@
+// PROMISES from-words-and-bytes-to-bytes: call_in
 //! Reads the command line by the rules of `clap`: finds the command and the file that the words
 //! name. No file is opened here; a call borrows the name of its file from the words. Each command
 //! is made and added separately, which keeps the proof of `all_commands` cheap.

@@ -1,3 +1,4 @@
+-- PROMISES stripes-as-atomic-words: Tries, Readies
 -- The rights that a caller has, the word that it tried last, and what calls do to both.
 use Rattle.std.specs.Prelude.{ℕ, ◌≡◌, ◌≢◌, ◌+◌, ◌-◌, ◌==◌, List, [], ◌∷◌, ◌++◌, Option, Some, None}
 use Rattle.std.specs.Prelude.{slice_get, if◌then◌else◌}

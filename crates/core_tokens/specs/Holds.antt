@@ -1,3 +1,4 @@
+-- PROMISES callers-in-threads: Held, InStep
 -- A hold is one turn of a call on the core. `Held` says what a hold does to the core, the token and
 -- the drive. `GoesTo` says which entries a call has added after a hold, whether or not the call has
 -- ended.

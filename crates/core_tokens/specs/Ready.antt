@@ -1,3 +1,4 @@
+-- PROMISES callers-in-threads: refused_by
 -- How a token refuses a call, and what happens if a token cannot be made ready for a call.
 use Rattle.std.specs.Prelude.{◌≡◌, ◌≤◌, ◌⊎◌, if◌then◌else◌, Bool, true, false, length, Option}
 use Rattle.std.specs.Prelude.{Some, None}

@@ -1,3 +1,4 @@
+-- PROMISES callers-in-threads: AreCounted
 -- A caller and a pass as contracts see them, and the parts of a caller that a call leaves
 -- unchanged.
 use Rattle.std.specs.Prelude.{ℕ, ◌≡◌, Bool, true, List, length, map, Option, Some, None}

@@ -1,3 +1,4 @@
+// PROMISES callers-in-threads: Booked::new, into_core
 //! A core with the book that counts its entries. The core is made together with the passes of its
 //! callers. `Booked` is a type of its own, since `boost_core` knows no ledger. Invariant: the
 //! book's total is the length of the history, so no entry can be added without a caller's share of

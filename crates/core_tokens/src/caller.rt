@@ -1,3 +1,5 @@
+// PROMISES stripes-as-atomic-words: Caller::try_word, make_ready, hold, follow
+// PROMISES callers-in-threads: Caller::make_ready, hold, follow
 //! A caller's token: the entries that its calls added, its rights to stripes and its side value.
 //! Each of these three has a type with its own invariant. A call of `Caller` changes them together,
 //! and only such a call breaks a token. Invariant: the token has a word for each stripe of its map.

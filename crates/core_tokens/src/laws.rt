@@ -1,3 +1,4 @@
+// PROMISES callers-in-threads: helped
 //! The law of holds: an empty function whose contract is the law. It is about the holds of a call
 //! for help. Each clause is about one hold, so the clauses also serve code that calls `hold`
 //! itself. Together they say which bucket the call initialises, over all its holds. The contract of

@@ -1,7 +1,7 @@
 //! Calls `audit` on two histories that are written out as entries. One is legal and the other is
 //! not. They differ only in the last reply. Judging a history needs no map, so this example is
 //! separate from the examples that run a map.
-use audit::is_legal;
+use samples::audit::is_legal;
 use std::io;
 use std::io::Print;
 use txn_words::{Entry, Op};

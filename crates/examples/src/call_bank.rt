@@ -4,8 +4,8 @@
 ghost use Rattle.owned_map.specs.Keeps.{Keeps};
 
 use anyhow::Result;
-use bank::transfer;
 use owned_map::{OwnedMap, Stop, Transaction};
+use samples::bank::transfer;
 use std::io;
 use std::io::Print;
 use txn_words::Limits;

@@ -1,15 +1,15 @@
-//! Calls `visits`: four visitors put different values at the same key, all at once, and each gets
-//! the value that it put, as `visits` proves. The crate `visits` also starts the threads; this
+//! Calls `visit_all`: four visitors put different values at the same key, all at once, and each gets
+//! the value that it put, as `samples::visits` proves, which also starts the threads. This
 //! module only calls it. The answers are in the order of the visits, so the output is the same in
 //! each run.
 use anyhow::Result;
+use samples::visits::{Answer, Visit, visit_all};
 use std::alloc::{AllocError, Global};
 use std::collections::BTreeSet;
 use std::io;
 use std::io::Print;
 use std::thread::Threads;
 use txn_words::{Entry, Op};
-use visits::{Answer, Visit, visit_all};
 
 /// The values that the visitors put.
 const VISITS: [Visit; 4] = [

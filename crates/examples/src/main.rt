@@ -1,4 +1,4 @@
-//! Calls the libraries `bank`, `audit` and `visits`. Lets threads move sums between the accounts of
+//! Calls `bank`, `audit` and `visits` of `samples`. Lets threads move sums between the accounts of
 //! one map and take jobs from another map. Runs the files of the folder `examples`. The output of
 //! each example begins with a line: the example's name, or its command and its file.
 //!

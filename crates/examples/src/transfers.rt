@@ -3,7 +3,7 @@
 //! key's stripe, the transaction is aborted and tried again, as often as needed.
 ghost use Rattle.striped_map.specs.Keeps.{Keeps};
 
-use accounts::transfer;
+use samples::accounts::transfer;
 use std::alloc::Global;
 use std::io::Print;
 use std::thread;

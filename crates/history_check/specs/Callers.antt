@@ -1,3 +1,4 @@
+-- PROMISES a-verdict-by-the-order-of-commits-is-right: HaveEntered
 -- The meaning of a caller of the checker, and of the table of all callers.
 use Rattle.std.specs.Prelude.{◌≡◌, ◌||◌, ℕ, ◌<◌, true, Option, Some, None, List, reverse, slice_get, vec_len, vec_capacity}
 use Rattle.std.specs.List.{All}

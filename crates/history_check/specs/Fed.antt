@@ -1,3 +1,4 @@
+-- PROMISES the-judge-of-histories: IsFed
 -- The entries that a checker was fed.
 use Rattle.std.specs.Prelude.{ℕ, List}
 use Rattle.txn_words.specs.declared.entry.Entry.{Entry}

@@ -1,3 +1,4 @@
+// PROMISES the-judge-of-histories: Checker::feed, verdict
 //! The checker that is fed entry by entry. It has a state, the number of entries so far, and the
 //! first bad entry. The state judges one entry, and the checker stores the verdict. Once an entry
 //! breaks a rule, no later entry changes the verdict. If memory is refused, the entry can be fed

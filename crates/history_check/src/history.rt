@@ -1,3 +1,4 @@
+// PROMISES the-judge-of-histories: check, check_packed
 //! The check of a whole history in memory: a checker is fed every entry. Only this module takes
 //! lists of entries. Packed entries are unpacked one at a time, so a check takes only the memory of
 //! its checker. After a bad entry the check still reads the remaining entries, in constant time for

@@ -1,9 +1,9 @@
 //! The program `judge`. It gives the memory, the files and the outputs of the process to
-//! `judge_line::run`, which does the work and returns the exit status. `run` is in another crate,
-//! so that tests can call it without a process.
+//! `judge_program::run`, which does the work and returns the exit status. `run` is in another
+//! crate, so that tests can call it without a process.
 #![tactic(auto)]
 
-use judge_line::{Host, run};
+use judge_program::{Host, run};
 use std::io;
 use std::process::ExitCode;
 

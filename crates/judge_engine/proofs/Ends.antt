@@ -10,7 +10,7 @@ use Rattle.judge_engine.specs.declared.answer.Answer.{Answer}
 use Rattle.judge_engine.specs.declared.basis.Basis.{Basis}
 use Rattle.judge_engine.specs.declared.fault.Fault.{Fault}
 use Rattle.judge_engine.specs.declared.fault.Fault.TheVariants.{Input, Line, NoMemory, Read, Write}
-use Rattle.entry_lines.specs.Lines.{history_of_lines}
+use Rattle.txn_files.specs.EntryLines.{history_of_lines}
 use Rattle.txn_files.specs.Reading.{max_read}
 use Rattle.judge_engine.specs.Files.{FailsToCheck, IsExplainedFile, IsUnjudgedFile}
 use Rattle.judge_engine.specs.Ordered.{IsAnswered, WritesAnswer}

@@ -12,8 +12,8 @@ use Rattle.std.proofs.lemmas.List.Splits.{slice_split-cons_yes, slice_split-cons
 use Rattle.txn_words.specs.declared.entry.Entry.{Entry}
 use Rattle.piece_files.specs.declared.file_fault.FileFault.{FileFault}
 use Rattle.piece_files.specs.declared.file_fault.FileFault.TheVariants.{Limit}
-use Rattle.entry_lines.specs.EntryLine.{entry_on}
-use Rattle.entry_lines.specs.Lines.{history_from, history_of_lines, split_lines}
+use Rattle.txn_files.specs.EntryLine.{entry_on}
+use Rattle.txn_files.specs.EntryLines.{history_from, history_of_lines, split_lines}
 use Rattle.judge_engine.specs.Breaks.{is_break, IsUnbroken}
 use Rattle.judge_engine.specs.LineReads.{those}
 use Rattle.judge_engine.specs.Watchers.{ahead, HasWatched}

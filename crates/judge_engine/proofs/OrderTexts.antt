@@ -1,5 +1,5 @@
 -- The text of a verdict by any order, as it grows.
-use Rattle.std.proofs.Common.{◌≡◌, ℕ, ◌+◌, ◌<◌, Bool, List, [], ◌∷◌, ◌++◌, length, take, get_or, Option, Some, None, refl, sym, ap, ap₂, ◌∙◌, append_assoc, append-nil}
+use Rattle.std.proofs.Common.{◌≡◌, ℕ, ◌+◌, ◌<◌, Bool, List, [], ◌∷◌, ◌++◌, length, take, get_or, Option, refl, sym, ap, ap₂, ◌∙◌, append_assoc, append-nil}
 use Rattle.std.specs.Prelude.{slice_get}
 use Rattle.std.proofs.lemmas.List.{take_more}
 use Rattle.std.proofs.lemmas.Option.{slice_get-get_or}
@@ -7,7 +7,6 @@ use Rattle.txn_words.specs.declared.entry.Entry.{Entry}
 use Rattle.order_check.specs.declared.edge.Edge.{Edge}
 use Rattle.order_check.specs.declared.verdict.Verdict.{Verdict}
 use Rattle.order_check.specs.declared.verdict.Verdict.TheVariants.{Serializable, NotSerializable, Undecided}
-use Rattle.order_check.specs.Verdicts.{IsVerdictOn}
 use Rattle.judge_engine.specs.declared.order.Ordered.{Ordered}
 use Rattle.judge_engine.specs.OrderLines.{each_edge, first_from, from_or, order_lines, order_text, serializable_text, text_by, txn_line}
 use Rattle.judge_engine.specs.Ordered.{IsOrdered}

@@ -6,7 +6,7 @@ use Rattle.piece_files.specs.declared.file_fault.FileFault.{FileFault}
 use Rattle.history_check.specs.declared.verdict.Rule.{Rule}
 use Rattle.history_check.specs.declared.verdict.Verdict.{Verdict}
 use Rattle.history_check.specs.declared.verdict.Verdict.TheVariants.{Legal, Illegal}
-use Rattle.entry_lines.specs.Lines.{history_from, history_of_lines, split_lines}
+use Rattle.txn_files.specs.EntryLines.{history_from, history_of_lines, split_lines}
 use Rattle.judge_engine.specs.declared.basis.Basis.{Basis}
 use Rattle.judge_engine.specs.declared.watcher.Watcher.{Watcher}
 use Rattle.judge_engine.specs.Bases.{IsVerdictBy, IsLegalBy}

@@ -1,3 +1,4 @@
+-- PROMISES entries-as-lines: Checks
 -- The verdict on a history file, and the reasons why there is none.
 use Rattle.std.specs.Prelude.{◌≡◌, ℕ, Bool, true, false, List, take, Option, Ok, Err, IfSome}
 use Rattle.txn_words.specs.declared.entry.Entry.{Entry}

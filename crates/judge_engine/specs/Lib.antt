@@ -1,6 +1,8 @@
 pub mod Answers
 pub mod Bases
 pub mod Breaks
+pub mod Classes
+pub mod DotLines
 pub mod Faults
 pub mod Explained
 pub mod Files

@@ -1,3 +1,4 @@
+-- PROMISES a-verdict-by-any-order-is-right: order_text
 -- The text of a verdict by any order.
 use Rattle.std.specs.Prelude.{ℕ, Bool, List, [], ◌∷◌, ◌++◌, length, Option, Some, None, if◌then◌else◌, codes, decimal}
 use Rattle.txn_words.specs.declared.entry.Entry.{Entry}
@@ -8,9 +9,10 @@ use Rattle.order_check.specs.declared.edge.Edge.{Edge}
 use Rattle.order_check.specs.declared.edge.Kind.{Kind}
 use Rattle.order_check.specs.declared.edge.Kind.TheVariants.{Read, Replaced}
 use Rattle.order_check.specs.declared.verdict.Reason.{Reason}
-use Rattle.order_check.specs.declared.verdict.Reason.TheVariants.{Shape, Torn, Unwritten, Cycle}
+use Rattle.order_check.specs.declared.verdict.Reason.TheVariants.{Shape, Torn, Unwritten, Impossible, Cycle}
 use Rattle.order_check.specs.declared.verdict.Verdict.{Verdict}
 use Rattle.order_check.specs.declared.verdict.Verdict.TheVariants.{Serializable, NotSerializable, Undecided}
+use Rattle.judge_engine.specs.Classes.{class_of, class_words}
 use Rattle.judge_engine.specs.ReasonLines.{value_words}
 
 -- ---- an order
@@ -75,10 +77,10 @@ each_edge text (edge ∷ edges) end = text edge (first_from edges end) ++ each_e
 abbrev pub after_semicolon : Edge → ℕ → List ℕ
 after_semicolon edge u = codes "; " ++ edge_words edge u
 
--- How many edges a cycle has, and what each of them says.
+-- The class of a cycle, how many edges it has, and what each of them says.
 abbrev pub cycle_words : List Edge → List ℕ
 cycle_words edges =
-    (codes "cycle of " ++ decimal (length edges))
+    (class_words (class_of edges) ++ (codes ", cycle of " ++ decimal (length edges)))
     ++ each_edge after_semicolon edges (first_from edges 0)
 
 -- ---- the whole text
@@ -94,6 +96,11 @@ reason_words (Unwritten txn key value) =
     ++ (decimal txn ++ (codes " read "
     ++ (value_words value ++ (codes " at key "
     ++ (decimal key ++ codes ", which no committed transaction left")))))
+reason_words (Impossible txn key value) =
+    codes "transaction "
+    ++ (decimal txn ++ (codes " read "
+    ++ (value_words value ++ (codes " at key "
+    ++ (decimal key ++ codes ", which no serial order gives")))))
 reason_words (Cycle edges) = cycle_words edges.items
 
 abbrev pub reason_line : Reason → List ℕ

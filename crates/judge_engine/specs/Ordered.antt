@@ -1,3 +1,4 @@
+-- PROMISES a-verdict-by-any-order-is-right: IsAnswered
 -- The answer to whether the history of a file is serializable, in any order.
 use Rattle.std.specs.Prelude.{◌≡◌, ℕ, List, length, Option, Ok}
 use Rattle.std.specs.Io.KnownBytes.{Appends}

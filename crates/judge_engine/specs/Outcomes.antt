@@ -1,3 +1,4 @@
+-- PROMISES what-became-of-each-script: IsOutcomesText
 -- Which outcome each script of a script file has in the history of a history file.
 use Rattle.std.specs.Prelude.{◌≡◌, ◌↔◌, ℕ, ◌%◌, Bool, true, false, List, [], ◌∷◌, ◌++◌, length, Option, Some, Ok, Err, IsOk, slice_get, codes, decimal}
 use Prim.Native.Nat.{suc}
@@ -21,7 +22,7 @@ use Rattle.piece_files.specs.Faults.{words_of}
 use Rattle.piece_files.specs.declared.file_fault.FileFault.{FileFault}
 use Rattle.piece_files.specs.declared.file_fault.FileFault.TheVariants as files
 use Rattle.judge_engine.specs.Files.{OfFile}
-use Rattle.judge_engine.specs.Outputs.{AppendsPart}
+use Rattle.txn_files.specs.Output.{AppendsPart}
 
 -- The exit status after this fault.
 abbrev pub outcomes_status : OutcomesFault → ℕ

@@ -1,14 +1,11 @@
 -- The output for a verdict.
-use Rattle.std.specs.Prelude.{◌≡◌, ℕ, ◌<◌, Bool, List, length, take, Option}
+use Rattle.std.specs.Prelude.{◌≡◌, ℕ, Bool, List, Option}
 use Rattle.std.specs.Io.KnownBytes.{Appends, Keeps}
 use Rattle.history_check.specs.declared.verdict.Verdict.{Verdict}
 use Rattle.history_check.specs.Verdicts.{says_legal, verdict_line}
+use Rattle.txn_files.specs.Output.{AppendsPart}
 use Rattle.judge_engine.specs.declared.fault.Fault.{Fault}
 use Rattle.judge_engine.specs.declared.fault.Fault.TheVariants.{Input, Line, NoMemory, Read, Write}
-
--- The output, if its bytes are known, grew by a proper prefix of the text.
-abbrev pub AppendsPart : Option (List ℕ) → Option (List ℕ) → List ℕ → Type 0
-AppendsPart old new text = (n : ℕ) × (n < length text) × Appends old new (take n text)
 
 -- The output if a text was not written. If memory was refused, the output is unchanged. If a write
 -- failed, the output grew by a proper prefix of the text.

@@ -1,3 +1,4 @@
+-- PROMISES what-leads-to-a-bad-entry: reason_lines
 -- The lines that explain a bad entry.
 use Rattle.std.specs.Prelude.{ℕ, ◌+◌, ◌==◌, ◌&&◌, Bool, false, List, [], ◌∷◌, ◌++◌, length, slice_get, nat_eq, nat_le, Option, Some, None, if◌then◌else◌, codes, decimal}
 use Rattle.std.specs.Option.{option_eq}
@@ -11,7 +12,7 @@ use Rattle.txn_words.specs.Kinds.{caller_of}
 use Rattle.txn_words.specs.Map.{key_of}
 use Rattle.txn_words.specs.Shape.{Seat, own, seat_after}
 use Rattle.txn_trace.specs.Log.{log_of}
-use Rattle.entry_lines.specs.LineText.{line_of}
+use Rattle.txn_files.specs.EntryLines.{line_of}
 use Rattle.bad_entry.specs.declared.change.Change.{Change}
 use Rattle.bad_entry.specs.declared.change.Fate.{Fate}
 use Rattle.bad_entry.specs.declared.change.Fate.TheVariants as fates

@@ -2,7 +2,7 @@
 use Rattle.std.specs.Prelude.{◌≡◌, ℕ, List, ◌++◌, Option, Some, None}
 use Rattle.txn_words.specs.declared.entry.Entry.{Entry}
 use Rattle.piece_files.specs.declared.file_fault.FileFault.{FileFault}
-use Rattle.entry_lines.specs.Lines.{history_from, history_of_lines, split_lines}
+use Rattle.txn_files.specs.EntryLines.{history_from, history_of_lines, split_lines}
 use Rattle.judge_engine.specs.declared.basis.Basis.{Basis}
 use Rattle.judge_engine.specs.declared.watcher.Watcher.{Watcher}
 use Rattle.judge_engine.specs.Bases.{IsFedBy}

@@ -1,10 +1,11 @@
+-- PROMISES entries-as-lines: Watches
 -- The verdict on entries that are read as lines.
 use Rattle.std.specs.Prelude.{◌≡◌, ℕ, List, Option, Some, None, IfSome}
 use Rattle.txn_words.specs.declared.entry.Entry.{Entry}
 use Rattle.piece_files.specs.declared.file_fault.FileFault.{FileFault}
 use Rattle.history_check.specs.declared.verdict.Verdict.{Verdict}
 use Rattle.history_check.specs.Verdicts.{SaysLegal}
-use Rattle.entry_lines.specs.Lines.{history_of_lines}
+use Rattle.txn_files.specs.EntryLines.{history_of_lines}
 use Rattle.judge_engine.specs.declared.basis.Basis.{Basis}
 use Rattle.judge_engine.specs.declared.fault.Fault.{Fault}
 use Rattle.judge_engine.specs.declared.fault.Fault.TheVariants.{Input, Line, NoMemory, Read, Write}

@@ -11,7 +11,7 @@ use Rattle.txn_trace.specs.History.{txn_after}
 use Rattle.bad_entry.specs.Desks.{txn_in, waiting_in}
 use Rattle.order_check.specs.declared.edge.Edge.{Edge}
 use Rattle.order_check.specs.declared.verdict.Reason.{Reason}
-use Rattle.order_check.specs.declared.verdict.Reason.TheVariants.{Shape, Torn, Unwritten, Cycle}
+use Rattle.order_check.specs.declared.verdict.Reason.TheVariants.{Shape, Torn, Unwritten, Impossible, Cycle}
 use Rattle.order_check.specs.declared.verdict.Verdict.{Verdict}
 use Rattle.order_check.specs.declared.verdict.Verdict.TheVariants.{Serializable, NotSerializable, Undecided}
 use Rattle.judge_engine.specs.OrderLines.{each_edge, first_did, first_from, order_text, second_did}
@@ -96,6 +96,7 @@ abbrev pub why_reason_lines : List Entry → Reason → List ℕ
 why_reason_lines h (Shape i) = misshapen_lines h i (slice_get h i)
 why_reason_lines h (Torn t) = of_txn_lines h t None
 why_reason_lines h (Unwritten t k v) = of_txn_lines h t (Some k)
+why_reason_lines h (Impossible t k v) = of_txn_lines h t (Some k)
 why_reason_lines h (Cycle edges) = each_edge (edge_lines h) edges.items (first_from edges.items 0)
 
 abbrev pub why_verdict_lines : List Entry → Verdict → List ℕ

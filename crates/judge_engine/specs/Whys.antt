@@ -1,3 +1,5 @@
+-- PROMISES what-leads-to-a-bad-entry: WritesExplanation
+-- PROMISES what-is-wrong-with-a-refused-file: LeavesExplanation
 -- What `why` writes for a history file.
 use Rattle.std.specs.Prelude.{◌≡◌, ◌⊎◌, ℕ, Bool, List, [], ◌∷◌, ◌++◌, Option, Some, Err}
 use Rattle.std.specs.Io.KnownBytes.{Appends, Keeps}
@@ -11,7 +13,7 @@ use Rattle.piece_files.specs.declared.file_fault.FileFault.{FileFault}
 use Rattle.judge_engine.specs.declared.fault.Fault.{Fault}
 use Rattle.judge_engine.specs.declared.fault.Fault.TheVariants.{Input, Line, NoMemory, Read, Write}
 use Rattle.judge_engine.specs.Files.{IsExplainedFile, OfFile}
-use Rattle.judge_engine.specs.Outputs.{AppendsPart}
+use Rattle.txn_files.specs.Output.{AppendsPart}
 
 -- The text is the line of the verdict on the history file with these bytes, and the lines that
 -- explain the verdict. `legal` is true exactly if the verdict says legal.

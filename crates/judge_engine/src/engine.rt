@@ -1,3 +1,7 @@
+// PROMISES a-verdict-by-any-order-is-right: check_serializable
+// PROMISES entries-as-lines: watch, check
+// PROMISES what-leads-to-a-bad-entry: why
+// PROMISES what-is-wrong-with-a-refused-file: why
 //! The commands of `judge` that give a verdict. Each takes a reader and a writer, and leaves the
 //! reading, judging and writing to other modules. Each command makes the whole text of a verdict
 //! before it writes. So a fault before the first write leaves the output unchanged, except that
@@ -5,12 +9,12 @@
 //! memory; the others keep a whole file.
 ghost use Rattle.std.specs.Prelude.{IfOk, IfErr};
 ghost use Rattle.judge_engine.specs.Bases.{HasStripes};
+ghost use Rattle.judge_engine.specs.DotLines.{text_or_graph};
 ghost use Rattle.judge_engine.specs.Files.{Checks, FailsToCheck};
 ghost use Rattle.judge_engine.specs.OrderLines.{order_text};
 ghost use Rattle.judge_engine.specs.Ordered.{IsAnswerText, IsTextFor, WritesAnswer};
 ghost use Rattle.judge_engine.specs.Outputs.{LeavesOutput, LeavesText, WritesLine};
 ghost use Rattle.judge_engine.specs.Watching.{FailsToWatch, Watches};
-ghost use Rattle.judge_engine.specs.WhyLines.{why_text};
 ghost use Rattle.judge_engine.specs.Whys.{IsExplained, LeavesExplanation, WritesExplanation};
 
 use crate::answer::Answer;
@@ -188,6 +192,10 @@ pub fn why<R: Read + Drop, W: Write>(
 /// with the two transactions, their callers and the key, and then the requests of both at this key
 /// with their replies. Returns the answer that the verdict gives.
 ///
+/// If `as_graph` is true, a graph in the language of Graphviz' `dot` is written instead, with the
+/// verdict's line as a comment. For a cycle it has the class, a node for each transaction, and its
+/// edges, else nothing.
+///
 /// If the file is refused, the line of its flaw is written instead, as by `why`.
 ///
 /// # Errors
@@ -204,16 +212,17 @@ pub fn why<R: Read + Drop, W: Write>(
 /// that is refused, the cost of `bad_file`.
 pub fn why_serializable<R: Read + Drop, W: Write>(
     alloc: Global,
+    as_graph: bool,
     input: R,
     output: &mut W,
 ) -> Result<Answer, Fault>
-    ensures answers { IfOk result (λ answer. WritesAnswer why_text (R.remaining input) answer
-        (W.contents output.old) (W.contents output.new)) }
-    ensures fault { IfErr result (LeavesExplanation (IsTextFor why_text) (R.remaining input)
-        (W.contents output.old) (W.contents output.new)) }
+    ensures answers { IfOk result (λ answer. WritesAnswer (text_or_graph as_graph)
+        (R.remaining input) answer (W.contents output.old) (W.contents output.new)) }
+    ensures fault { IfErr result (LeavesExplanation (IsTextFor (text_or_graph as_graph))
+        (R.remaining input) (W.contents output.old) (W.contents output.new)) }
 {
     let bytes = read_file(alloc, input)?;
-    match explain_order(alloc, &bytes) {
+    match explain_order(alloc, as_graph, &bytes) {
         Ok((answer, text)) => write_answer(answer, text.as_str(), output),
         Err(fault) => Err(tell(alloc, fault, &bytes, output)),
     }

@@ -8,6 +8,7 @@ ghost use Rattle.judge_engine.specs.declared.fault.Fault.TheVariants as faults;
 use piece_files::FileFault;
 use std::alloc::AllocError;
 use std::fmt;
+use txn_files::Unwritten;
 
 /// Why there is no verdict. A fault is printed as one line, without a line feed.
 #[derive(Clone, Copy, Debug, PartialEq, Eq)]
@@ -63,6 +64,14 @@ impl From<AllocError> for Fault {
 
     fn from(_error: AllocError) -> Fault {
         Fault::NoMemory
+    }
+}
+
+impl From<Unwritten> for Fault {
+    ghost from_gives = { λ _ fault. fault ≡ faults.Write };
+
+    fn from(_unwritten: Unwritten) -> Fault {
+        Fault::Write
     }
 }
 

@@ -15,12 +15,14 @@
 
 mod answer;
 mod basis;
+mod class;
 mod engine;
 mod fault;
 mod file;
 mod judge;
 mod lines;
 mod order;
+mod order_dot;
 mod order_lines;
 mod order_why;
 mod outcomes;

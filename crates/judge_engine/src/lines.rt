@@ -1,3 +1,4 @@
+// PROMISES what-leads-to-a-bad-entry: lines_of
 //! The lines that explain a bad entry: each part of the reason that `bad_entry` gives, in words.
 //! `specs/ReasonLines.antt` defines the lines. A reason that lists entries takes a few more passes
 //! over the history.
@@ -22,10 +23,10 @@ ghost use Rattle.judge_engine.specs.ReasonLines.{transaction_lines};
 
 use crate::basis::Basis;
 use bad_entry::{Change, Fate, Held, Reason, last_commit, last_with_fate, next_txn, txn_of};
-use entry_lines::history_lines;
 use history_check::{Callers, Rule, Verdict};
 use std::alloc::{AllocError, Global};
 use std::fmt;
+use txn_files::history_lines;
 use txn_trace::{Entry, Holder, Phase, Reply, SmallEntry};
 
 /// A value, printed as `none` if there is no value.

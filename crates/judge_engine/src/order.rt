@@ -1,11 +1,12 @@
 //! The answer to whether the history of a file is serializable, in any order of its transactions.
-//! `order_check` judges the entries, `order_lines.rt` makes the text of its verdict, and
-//! `order_why.rt` the lines that explain it.
+//! `order_check` judges the entries, `order_lines.rt` makes the text of its verdict, `order_why.rt`
+//! the lines that explain it, and `order_dot.rt` the graph.
 ghost use Rattle.std.specs.Prelude.{◌≡◌, ◌<◌, List, IfOk, IfErr, string_bytes};
 ghost use Rattle.std.specs.List.{All};
 ghost use Rattle.txn_words.specs.Kinds.{caller_of};
 ghost use Rattle.txn_words.specs.declared.entry.Entry.{Entry};
 ghost use Rattle.judge_engine.specs.Answers.{answer_of};
+ghost use Rattle.judge_engine.specs.DotLines.{dot_text, text_or_graph};
 ghost use Rattle.judge_engine.specs.Files.{IsUnjudgedFile};
 ghost use Rattle.judge_engine.specs.OrderLines.{order_text};
 ghost use Rattle.judge_engine.specs.Ordered.{IsAnswered, IsOrdered};
@@ -13,6 +14,7 @@ ghost use Rattle.judge_engine.specs.WhyLines.{why_text};
 
 use crate::answer::Answer;
 use crate::fault::Fault;
+use crate::order_dot::put_graph;
 use crate::order_lines::text_by;
 use crate::order_why::put_why;
 use order_check::{Checker, Verdict};
@@ -113,7 +115,38 @@ fn why_text_of(
     Ok(text)
 }
 
-/// The answer for the history file with these bytes, and the text that explains it.
+/// The graph of the verdict on a history.
+fn graph_of(alloc: Global, entries: &[SmallEntry], ordered: &Ordered) -> Result<String, AllocError>
+    ensures { IsOrdered entries.now ordered.now → IfOk result (λ text.
+        string_bytes text ≡ dot_text entries.now ordered.now.verdict) }
+{
+    let line = text_of(alloc, false, ordered)?;
+    let mut text = String::new(alloc);
+    write!(text, "digraph {{\n  // {line}")?;
+    put_graph(&mut text, entries, &ordered.verdict)?;
+    writeln!(text, "}}")?;
+    Ok(text)
+}
+
+/// The text that explains the verdict on a history, or its graph if this is asked for.
+fn text_or_graph(
+    alloc: Global,
+    as_graph: bool,
+    entries: &[SmallEntry],
+    ordered: &Ordered,
+) -> Result<String, AllocError>
+    requires { All (λ entry. caller_of entry < 64) entries.now }
+    ensures { IsOrdered entries.now ordered.now → IfOk result (λ text.
+        string_bytes text ≡ text_or_graph as_graph entries.now ordered.now.verdict) }
+{
+    if as_graph {
+        graph_of(alloc, entries, ordered)
+    } else {
+        why_text_of(alloc, entries, ordered)
+    }
+}
+
+/// The answer for the history file with these bytes, and the text or the graph that explains it.
 ///
 /// # Errors
 ///
@@ -123,14 +156,18 @@ fn why_text_of(
 ///
 /// The cost of `order_file`, and a few passes over the entries for each transaction that the text
 /// names.
-pub(crate) fn explain_order(alloc: Global, bytes: &[u8]) -> Result<(Answer, String), Fault>
+pub(crate) fn explain_order(
+    alloc: Global,
+    as_graph: bool,
+    bytes: &[u8],
+) -> Result<(Answer, String), Fault>
     ensures ok { IfOk result (λ found.
-        IsAnswered why_text bytes.now found.0 (string_bytes found.1)) }
+        IsAnswered (text_or_graph as_graph) bytes.now found.0 (string_bytes found.1)) }
     ensures err { IfErr result (IsUnjudgedFile bytes.now) }
 {
     let (_, packed, _) = read_packed_history(alloc, bytes)?;
     let entries = packed.as_slice();
     let ordered = judge_entries(alloc, entries)?;
-    let text = why_text_of(alloc, entries, &ordered)?;
+    let text = text_or_graph(alloc, as_graph, entries, &ordered)?;
     Ok((answer_of(&ordered.verdict), text))
 }

@@ -5,6 +5,7 @@ ghost use Rattle.judge_engine.specs.OrderLines.{after_semicolon, cycle_words, ea
 ghost use Rattle.judge_engine.specs.OrderLines.{order_lines, order_lines_if, reason_line};
 ghost use Rattle.judge_engine.specs.OrderLines.{reason_words, serializable_text, text_by};
 
+use crate::class::class_of;
 use crate::lines::OrNone;
 use order_check::{Edge, Kind, Reason, Verdict};
 use std::alloc::{AllocError, Global};
@@ -93,12 +94,12 @@ fn put_edges(text: &mut String, edges: &[Edge], end: u64) -> Result<(), AllocErr
     Ok(())
 }
 
-/// Adds what the edges of a cycle say.
+/// Adds the class of a cycle, and what its edges say.
 fn put_cycle(text: &mut String, edges: &[Edge]) -> Result<(), AllocError>
     ensures { OnOk result (string_bytes text.new
         ≡ string_bytes text.old ++ cycle_words edges.now) }
 {
-    write!(text, "cycle of {}", edges.len())?;
+    write!(text, "{}, cycle of {}", class_of(edges), edges.len())?;
     put_edges(text, edges, from_at(edges, 0, 0))
 }
 
@@ -117,6 +118,13 @@ fn put_reason_words(text: &mut String, reason: &Reason) -> Result<(), AllocError
         Reason::Unwritten(txn, key, value) => write!(
             text,
             "transaction {} read {} at key {}, which no committed transaction left",
+            *txn,
+            OrNone(*value),
+            *key,
+        ),
+        Reason::Impossible(txn, key, value) => write!(
+            text,
+            "transaction {} read {} at key {}, which no serial order gives",
             *txn,
             OrNone(*value),
             *key,

@@ -22,7 +22,7 @@ use txn_trace::{Entry, Op, SmallEntry};
 
 /// A transaction and its caller, if it is known.
 #[derive(Clone, Copy)]
-struct Named(u64, Option<u64>);
+pub(crate) struct Named(pub(crate) u64, pub(crate) Option<u64>);
 
 impl fmt::Display for Named {
     ghost use Rattle.std.specs.Prelude.{Some};
@@ -67,7 +67,7 @@ fn beginner_after(txn: u64, caller: Option<u64>, entry: Entry) -> Option<u64>
 }
 
 /// The caller that began a transaction.
-fn beginner_in(entries: &[SmallEntry], txn: u64) -> Option<u64>
+pub(crate) fn beginner_in(entries: &[SmallEntry], txn: u64) -> Option<u64>
     ensures { result ≡ beginner_in txn entries.now }
 {
     let mut caller = None;
@@ -244,6 +244,7 @@ fn put_reason(
         Reason::Shape(index) => put_misshapen(alloc, text, entries, *index),
         Reason::Torn(txn) => put_txn(alloc, text, entries, *txn, None),
         Reason::Unwritten(txn, key, _) => put_txn(alloc, text, entries, *txn, Some(*key)),
+        Reason::Impossible(txn, key, _) => put_txn(alloc, text, entries, *txn, Some(*key)),
         Reason::Cycle(edges) => put_cycle(alloc, text, entries, edges, from_at(edges, 0, 0)),
     }
 }

@@ -1,3 +1,4 @@
+// PROMISES what-became-of-each-script: tell_outcomes
 //! The outcomes of a script file's scripts in a history file. This module is apart from the judges,
 //! since it checks no rule of histories: the history need not be legal. All lines are made before
 //! the first is written, so memory is taken for both files and for the text.
@@ -8,13 +9,12 @@ ghost use Rattle.judge_engine.specs.Files.{OfFile};
 ghost use Rattle.judge_engine.specs.Outcomes.{FailsForHistory, FailsForScripts, HistoryOf, IsWell, LeavesOutcomes, WritesOutcomes, has_abort, how_many, is_kind, outcome_lines, of_history, of_scripts, outcome_line, outcomes_message, outcomes_status, outcomes_text};
 
 use crate::fault::Fault;
-use crate::output::write_text;
 use crate::reading::read_file;
 use script_outcomes::{Outcome, outcomes};
 use std::alloc::{AllocError, Global};
 use std::fmt;
 use std::io::{Read, Write};
-use txn_files::{FileFault, read_packed_history, read_scripts};
+use txn_files::{FileFault, read_packed_history, read_scripts, write_text};
 use txn_trace::{Action, PackedAction, Script, Scripts, SmallEntry};
 
 /// Why there are no outcomes, and which file is at fault. A fault is printed as one line, without a

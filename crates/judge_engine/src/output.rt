@@ -1,12 +1,10 @@
-//! Only this module writes. Writing is the last step of each command. A text is made as a whole
-//! before its first byte is written, so the output is unchanged if memory is refused. A writer is
-//! not called again after it failed or took no bytes.
-ghost use Rattle.std.specs.Prelude.{◌≡◌, ◌++◌, IfErr, IfOk, OnErr, OnOk, string_bytes};
+//! Writing is the last step of each command. A text is made as a whole before its first byte is
+//! written, so the output is unchanged if memory is refused.
+ghost use Rattle.std.specs.Prelude.{◌≡◌, ◌++◌, IfErr, IfOk, OnOk, string_bytes};
 ghost use Rattle.std.specs.Io.KnownBytes.{Appends};
-ghost use Rattle.judge_engine.specs.declared.fault.Fault.TheVariants as faults;
 ghost use Rattle.history_check.specs.Verdicts.{says_legal, verdict_line};
 ghost use Rattle.judge_engine.specs.Files.{IsUnjudgedFile};
-ghost use Rattle.judge_engine.specs.Outputs.{AppendsPart, FailsToWrite};
+ghost use Rattle.judge_engine.specs.Outputs.{FailsToWrite};
 ghost use Rattle.judge_engine.specs.Whys.{FailsToTell, IsFlawLine, IsRefused, Tells, WritesFlaw};
 
 use crate::answer::Answer;
@@ -15,32 +13,7 @@ use bad_file::flaw_in;
 use history_check::Verdict;
 use std::alloc::{AllocError, Global};
 use std::io::Write;
-
-/// Writes the whole text.
-///
-/// # Errors
-///
-/// `Write` if the writer fails or takes nothing. Then a proper prefix of the text is written.
-///
-/// # Cost
-///
-/// One call of the writer for each part of the text that it takes. Takes no memory.
-pub(crate) fn write_text<W: Write>(output: &mut W, text: &[u8]) -> Result<(), Fault>
-    ensures ok { OnOk result (Appends (W.contents output.old) (W.contents output.new) text.now) }
-    ensures err { OnErr result (AppendsPart (W.contents output.old)
-        (W.contents output.new) text.now) }
-    ensures fault { IfErr result (λ fault. fault ≡ faults.Write) }
-{
-    let mut done = 0;
-    while done < text.len() {
-        match output.write(&text[done..]) {
-            Ok(0) => return Err(Fault::Write),
-            Ok(count) => done += count,
-            Err(_) => return Err(Fault::Write),
-        }
-    }
-    Ok(())
-}
+use txn_files::write_text;
 
 /// The line of a verdict. It has at most 61 bytes.
 fn line_of(alloc: Global, verdict: Verdict) -> Result<String, AllocError>
@@ -167,7 +140,8 @@ fn write_flaw<W: Write>(alloc: Global, bytes: &[u8], output: &mut W) -> Result<(
         (W.contents output.new)) }
 {
     let line = flaw_line(alloc, bytes)?;
-    write_text(output, line.as_bytes())
+    write_text(output, line.as_bytes())?;
+    Ok(())
 }
 
 /// If the fault is that a history file is refused, writes the flaw of the file with these bytes, in

@@ -4,7 +4,7 @@
 ghost use Rattle.std.specs.Prelude.{◌≡◌, ◌++◌, [], ◌∷◌, ℕ, List, Option, Some, None, Ok, IfOk, IfErr, OnOk, IfSome, MatchResult};
 ghost use Rattle.std.specs.List.{position};
 ghost use Rattle.txn_words.specs.declared.entry.Entry.{Entry};
-ghost use Rattle.entry_lines.specs.EntryLine.{entry_on};
+ghost use Rattle.txn_files.specs.EntryLine.{entry_on};
 ghost use Rattle.judge_engine.specs.declared.basis.Basis.{Basis};
 ghost use Rattle.judge_engine.specs.declared.fault.Fault.TheVariants as faults;
 ghost use Rattle.judge_engine.specs.Bases.{HasStripes, IsFedBy, IsLegalBy};
@@ -15,13 +15,10 @@ ghost use Rattle.judge_engine.specs.Watching.{IsJudgedLines, IsUnjudged};
 use crate::basis::Basis;
 use crate::fault::Fault;
 use crate::judge::Judge;
-use entry_lines::{Scratch, entry_on};
 use history_check::Verdict;
 use piece_files::FileFault;
 use std::alloc::{AllocError, Global};
-
-/// The largest number of bytes that a line may have.
-const MAX_LINE: usize = 1000;
+use txn_files::{MAX_LINE, Scratch, entry_on};
 
 /// The index of the first line feed.
 fn first_break(bytes: &[u8]) -> Option<usize>

@@ -1,3 +1,4 @@
+-- PROMISES one-holder-for-each-stripe: Grants, Refuses, Releases
 -- The effect of `lock` and of `release_all` on the list of the stripes' holders.
 use Rattle.std.specs.Prelude.{◌≡◌, ◌≢◌, ℕ, ◌⊎◌, List, length, slice_index_or, Option, None, Some, Bool, false, ◌==◌, if◌then◌else◌}
 use Rattle.key_locks.specs.declared.lock_answer.LockAnswer.{LockAnswer}

@@ -1,3 +1,4 @@
+// PROMISES one-holder-for-each-stripe: KeyLocks::lock, release_all
 //! The holders of the stripes, for use by one thread at a time. Each stripe has a byte for its
 //! holder, and the stripes of each caller form a chain. So `release_all` takes time only in
 //! proportion to the stripes that it frees. Invariant: each chain has exactly the stripes that its

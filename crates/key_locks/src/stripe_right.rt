@@ -1,3 +1,4 @@
+// PROMISES stripes-as-atomic-words: StripeRight::all
 //! The right to a stripe is a value that cannot be copied, so no stripe can have two holders. It is
 //! for maps whose callers do not take their stripes from a `KeyLocks`, and it takes one word. All
 //! rights to a map's stripes are made at once. After that, a right only moves from one owner to

@@ -1,3 +1,4 @@
+-- PROMISES stripes-as-atomic-words: HeldOnce
 -- Consequences of the rule of the words, `IsOrderly`.
 use Rattle.std.specs.Prelude.{◌≡◌, ℕ, Option}
 use mathlib.Core.Option.{some}

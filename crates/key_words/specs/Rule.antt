@@ -1,3 +1,4 @@
+-- PROMISES stripes-as-atomic-words: IsOrderly
 -- The rule about the stripes' words. It holds between any two atomic steps.
 use Rattle.std.specs.Prelude.{◌≡◌, ◌≢◌, ℕ, ◌+◌, ◌<◌, ◌⊎◌, List, length, slice_index, Contains, Option, Some}
 use mathlib.Core.Option.{some, none}

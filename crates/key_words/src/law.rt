@@ -1,3 +1,4 @@
+// PROMISES stripes-as-atomic-words: held_once
 //! States a law of the words as the contract of a function that does nothing. A crate that uses
 //! this one can then cite the law without naming a lemma. The contract of a call cannot state the
 //! law, because such a contract is about one seat, and the law compares the views of two seats.

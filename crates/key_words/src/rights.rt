@@ -1,3 +1,4 @@
+// PROMISES stripes-as-atomic-words: Rights::take, give_back
 //! A seat, and the rights of the stripes that it holds, in one value, so that no call can separate
 //! them. Invariant: there is exactly one right for each stripe that the seat holds. The list of
 //! rights has no index, so a take searches it before it tries a word.

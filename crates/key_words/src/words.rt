@@ -1,3 +1,4 @@
+// PROMISES stripes-as-atomic-words: KeyWords::take, give, new
 //! The words of the stripes, and a slot for each stripe's right. Invariant, between any two atomic
 //! steps: a stripe's word is 0 exactly if no seat has the stripe's slot and the slot has the
 //! stripe's right. Any other word names the one seat that holds the stripe.

@@ -1,3 +1,4 @@
+-- PROMISES nodes-and-cursors: fits, IsPlaced
 -- Cursors. These definitions say when a cursor's position has just been found by a seek, when a
 -- cursor was placed on the list, and when it fits.
 use Rattle.std.specs.Prelude.{◌≡◌, ◌≢◌, ℕ, ◌<◌, ◌≤◌, ◌-◌, ◌^◌, min, Option, Some, None, Bool, true, false, ◌==◌, ◌&&◌, not, if◌then◌else◌, IsSomeAnd, IsTrue}

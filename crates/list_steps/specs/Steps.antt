@@ -1,3 +1,4 @@
+-- PROMISES nodes-and-cursors: Links
 -- The effect of each step on a list.
 use Rattle.std.specs.Prelude.{◌≡◌, ◌≢◌, ℕ, List, [], ◌∷◌, Option, Some, None, true, false, Contains, IsSomeAnd, if◌then◌else◌}
 use Rattle.std.specs.List.{AllByRecursion}

@@ -1,3 +1,4 @@
+// PROMISES nodes-and-cursors: link, mark, swap
 //! Each call of this module tests a cursor and takes one step at the cursor's position. `steps.rt`
 //! has the test and the steps as separate calls. If the cursor does not fit, nothing changes, and a
 //! spare that was passed in is returned. Of the linked nodes, a call touches only the two that the

@@ -1,3 +1,4 @@
+// PROMISES nodes-and-cursors: seek
 //! The seek: a walk from a node to the position of a sort key, which unlinks the marked nodes that
 //! it passes. In this crate, only the seek and the sweep have loops over the list. All other steps
 //! take constant time. Only a seek makes cursors, and a new cursor fits the list as the seek leaves

@@ -1,3 +1,4 @@
+// PROMISES nodes-and-cursors: look, link_at, mark_at, swap_at
 //! The test of a cursor, and the steps that rely on its result: link, mark and swap. The steps are
 //! separate from the test, so that a caller that has called `look` need not test again. The
 //! contract of each step requires what the test has found. Each call takes constant time and no

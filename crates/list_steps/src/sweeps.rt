@@ -1,3 +1,4 @@
+// PROMISES nodes-and-cursors: sweep
 //! The sweep unlinks the first marked node, or reports that no node is marked. It is separate from
 //! the other steps, because it needs no cursor. A call unlinks at most one node, so other steps may
 //! be taken between two sweeps. If no node is marked, a sweep does not walk.

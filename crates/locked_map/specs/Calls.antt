@@ -1,3 +1,4 @@
+-- PROMISES callers-in-threads: IsHeld, WentOn
 -- The holds of a shared call, and the caller after the call.
 use Rattle.std.specs.Prelude.{ℕ, zero, suc, ◌≡◌, ◌≤◌, ◌⊎◌, true, false, List, ◌++◌, length}
 use Rattle.std.specs.Prelude.{Some, None, is_some, Result, Ok, Err}

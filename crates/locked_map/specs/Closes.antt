@@ -1,3 +1,4 @@
+-- PROMISES callers-in-threads: IsOwn
 -- The result of closing a map.
 use Rattle.std.specs.Prelude.{ℕ, ◌≡◌, ◌==◌, ◌<◌, List, length, IsTrue, All}
 use Rattle.std.specs.List.{list_any}

@@ -1,3 +1,4 @@
+// PROMISES callers-in-threads: every call of a shared map
 //! The calls that a caller of a shared map makes.
 //!
 //! Each call but `side` is a series of turns, each under one hold of the lock. A call adds to the

@@ -1,3 +1,4 @@
+// PROMISES callers-in-threads: SharedMap::close
 //! Closing a map: the map's history is compared with what the callers saw. Unlike the other calls,
 //! `close` takes the map and its callers by value, so it waits for no lock, and no entry is added
 //! meanwhile. The ledger has counted the entries that the callers saw. So if each caller's own

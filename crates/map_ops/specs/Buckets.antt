@@ -1,3 +1,4 @@
+-- PROMISES buckets: seek_answer, link_answer
 -- The answer and the changes of each call on the buckets of a table.
 use Rattle.std.specs.Prelude.{◌≡◌, ℕ, ◌/◌, Bool, false, Option, Result, Ok, Err, List, slice_index_or}
 use Rattle.std.specs.List.{slice_get}

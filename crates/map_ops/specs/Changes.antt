@@ -1,3 +1,4 @@
+-- PROMISES each-change-has-an-inverse: Applies, TakesBack
 -- The answer and the changes of each call.
 use Rattle.std.specs.Prelude.{◌≡◌, ◌≢◌, ◌<◌, ◌-◌, ◌^◌, ◌+◌, ℕ, Bool, true, false, Option, Some, None, is_some, if◌then◌else◌}
 use Rattle.txn_words.specs.declared.op.Op.{Op}

@@ -1,3 +1,4 @@
+-- PROMISES each-change-has-an-inverse: GoesAndReturns, TakesBackTwo
 -- The situations that the laws of the table are about.
 use Rattle.std.specs.Prelude.{◌≡◌, ℕ, Option, Some}
 use Rattle.txn_words.specs.declared.op.Op.{Op}

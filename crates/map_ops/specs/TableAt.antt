@@ -1,3 +1,4 @@
+-- PROMISES each-change-has-an-inverse: content, regular, Follows
 -- A table as contracts see it.
 use Rattle.std.specs.Prelude.{◌≡◌, ◌≢◌, ℕ, ◌<◌, ◌≤◌, ◌-◌, ◌%◌, ◌^◌, Bool, true, false, Option, Some, None, List, [], ◌∷◌, map, is_some, replicate, slice_index_or}
 use Rattle.std.specs.List.{AllByRecursion, fold, range_with_len}

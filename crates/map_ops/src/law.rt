@@ -1,3 +1,4 @@
+// PROMISES each-change-has-an-inverse: there_and_back, either_order
 //! The laws of the table, stated as contracts of functions that do nothing. One law is about a
 //! change followed by its inverse, the other about two inverses of different keys in either order.
 //! Both follow from the contracts of `apply` and `take_back` and need no code, so they are apart

@@ -1,3 +1,5 @@
+// PROMISES each-change-has-an-inverse: Table::apply, act, take_back, undo, regular_list
+// PROMISES buckets: Table::init_seek, init_link, init_store, double
 //! The table: list and buckets in one value, and all calls on them. Invariant: the list is sound,
 //! each node is at its position, each stored bucket names its linked dummy, and no bucket is stored
 //! before its parent. The parts that change only the list are in `change.rt`.

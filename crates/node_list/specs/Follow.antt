@@ -1,3 +1,4 @@
+-- PROMISES nodes-and-cursors: Follows
 -- Facts about nodes and spares that stay true while a list changes.
 use Rattle.std.specs.Prelude.{◌≡◌, ℕ, ◌<◌, ◌≤◌, ◌-◌, ◌^◌, ◌⊎◌, Some}
 use Rattle.node_list.specs.declared.node.Kind.TheVariants.{Dummy}

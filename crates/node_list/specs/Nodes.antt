@@ -1,3 +1,4 @@
+-- PROMISES nodes-and-cursors: Listing
 -- A list and a spare as contracts see them.
 use Rattle.std.specs.Prelude.{◌≡◌, ◌≢◌, ℕ, ◌+◌, ◌-◌, ◌^◌, min, List, [], ◌∷◌, Option, Some, None, Bool, true, false, ◌==◌, if◌then◌else◌, slice_index_or, ◌⊎◌, ◌&&◌, not}
 use Prim.Native.Nat.{zero, suc}

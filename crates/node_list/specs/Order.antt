@@ -1,3 +1,4 @@
+-- PROMISES nodes-and-cursors: IsRising
 -- The order of nodes, and their places.
 use Rattle.std.specs.Prelude.{◌≡◌, ◌≢◌, ℕ, List, [], ◌∷◌, Some}
 use Rattle.std.specs.List.{AllByRecursion}

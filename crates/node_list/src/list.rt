@@ -1,3 +1,4 @@
+// PROMISES nodes-and-cursors: NodeList
 //! The list: a slab of nodes that are chained by their places, and the counts of these nodes.
 //! `slots.rt` changes single slots. A method of this module makes a whole change of the list and
 //! keeps the invariant: the nodes are in strict order of their sort keys, and each counter has the

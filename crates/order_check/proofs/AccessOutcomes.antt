@@ -16,6 +16,7 @@ use Rattle.order_check.specs.Dependencies.{Needs, Writes, Replaces, ComesOnce as
 use Rattle.order_check.specs.Footprints.{Cell, Footprint, no_values, value_seen}
 use Rattle.order_check.specs.Forces.{dependency_of, Forces}
 use Rattle.order_check.specs.Graphs.{IsWay, IsCycle}
+use Rattle.order_check.specs.Joined.{NeedsAt}
 use Rattle.order_check.specs.Kept.{HaveAccesses}
 use Rattle.order_check.specs.Named.{name_at, named_edge}
 use Rattle.order_check.specs.Lists.{place}
@@ -131,12 +132,19 @@ module _ (h : List Entry) (accesses : List Access) (plain : ArePlain (length (co
   writes_at : (a : Access) → IsAmong a accesses → a.need ≢ a.left → Writes (footprints a.txn) a.key a.left
   writes_at a is_in changed = record { cell = cell_of a; there = foot_there accesses a plain.distinct is_in; now_is = refl; changed = changed }
 
+  pub needed_is : (a : Access) → NeedsAt accesses a.txn (a.key, a.need) → IsCommitted h (name a.txn) × NeedsValue h (name a.txn) a.key a.need
+  needed_is a needs =
+      let b = needs.by in
+      let below : a.txn < length (commits h) = subst (λ i. i < length (commits h)) needs.txn_is (plain.below b needs.is_among) in (
+        committed_at a.txn below,
+        needs_value a.txn a.key a.need below (subst (λ i. Needs (footprints i) a.key a.need) needs.txn_is (subst (λ k. Needs (footprints b.txn) k a.need) needs.key_is (subst (Needs (footprints b.txn) b.key) needs.need_is (needs_at b needs.is_among)))),
+      )
+
   pub unwritten_is : (a : Access) → IsLacking accesses a → IsCommitted h (name a.txn) × NeedsValue h (name a.txn) a.key a.need × IsUnwritten h a.key a.need
   unwritten_is a is =
-      let b = is.needs.by in
-      let below : a.txn < length (commits h) = subst (λ i. i < length (commits h)) is.needs.txn_is (plain.below b is.needs.is_among) in (
-        committed_at a.txn below,
-        needs_value a.txn a.key a.need below (subst (λ i. Needs (footprints i) a.key a.need) is.needs.txn_is (subst (λ k. Needs (footprints b.txn) k a.need) is.needs.key_is (subst (Needs (footprints b.txn) b.key) is.needs.need_is (needs_at b is.needs.is_among)))),
+      let needed = needed_is a is.needs in (
+        needed.0,
+        needed.1,
         λ t in_t may.
             let p = placed t in_t in
             let w = may_at t a.key a.need p may in

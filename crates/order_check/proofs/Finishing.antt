@@ -5,13 +5,13 @@ use Rattle.std.proofs.lemmas.Bool.{false≢true}
 use mathlib.Core.Logic.{inl, inr}
 use Rattle.order_check.specs.declared.access.Access.{Access}
 use Rattle.order_check.specs.declared.outcome.Outcome.{Outcome}
-use Rattle.order_check.specs.declared.outcome.Outcome.TheVariants.{Order, Unwritten, Cycle, Ambiguous}
+use Rattle.order_check.specs.declared.outcome.Outcome.TheVariants.{Order, Unwritten, Impossible, Cycle, Ambiguous}
 use Rattle.order_check.specs.Footprints.{Cell}
 use Rattle.order_check.specs.Forces.{Forces}
 use Rattle.order_check.specs.Graphs.{IsCycle}
 use Rattle.order_check.specs.Orders.{IsOrderOf, HasNoOrder}
 use Rattle.order_check.specs.Tables.{Version, DoesWrite, DoesBeside}
-use Rattle.order_check.specs.Joined.{AreDistinct, AreSourced}
+use Rattle.order_check.specs.Joined.{NeedsAt, AreDistinct, AreSourced}
 use Rattle.order_check.specs.Outcomes.{cell_of, footprints_of, ArePlain, AreAccesses, IsTxn, IsOutcome}
 use Rattle.order_check.specs.Choices.{AreSame, IsUnwritten}
 use Rattle.order_check.proofs.Choosing.{twin, writes_there}
@@ -58,12 +58,15 @@ beside_same xs ys q t same b =
     let o = twin ys xs b.by same b.is_among in
     record { by = o.other; is_among = o.is_among; does_it = (o.key_is ∙ b.does_it.0, o.left_is ∙ b.does_it.1, λ equal. b.does_it.2 (sym o.need_is ∙ equal ∙ o.left_is)); differs = λ equal. b.differs (sym o.txn_is ∙ equal) }
 
+needs_same : (xs ys : List Access) (t : ℕ) (q : Version) → AreSame xs ys → NeedsAt ys t q → NeedsAt xs t q
+needs_same xs ys t q same needs =
+    let o = twin ys xs needs.by (same_sym xs ys same) needs.is_among in
+    record { by = o.other; is_among = o.is_among; txn_is = o.txn_is ∙ needs.txn_is; key_is = o.key_is ∙ needs.key_is; need_is = o.need_is ∙ needs.need_is }
+
 unwritten_same : (xs ys : List Access) (a : Access) → AreSame xs ys → IsUnwritten ys a → IsUnwritten xs a
 unwritten_same xs ys a same is =
-    let back = same_sym xs ys same in
-    let o = twin ys xs is.needs.by back is.needs.is_among in
     record {
-      needs = record { by = o.other; is_among = o.is_among; txn_is = o.txn_is ∙ is.needs.txn_is; key_is = o.key_is ∙ is.needs.key_is; need_is = o.need_is ∙ is.needs.need_is };
+      needs = needs_same xs ys a.txn (a.key, a.need) same is.needs;
       some = is.some;
       none = λ b is_in w.
           let t = twin xs ys b same is_in in
@@ -73,6 +76,7 @@ unwritten_same xs ys a same is =
 pub outcome_same : (count : ℕ) (xs ys : List Access) (outcome : Outcome) → AreSame xs ys → IsOutcome count ys outcome → IsOutcome count xs outcome
 outcome_same count xs ys (Order ts) same is = subst (λ footprints. IsOrderOf (IsTxn count) footprints ts.items) (feet_same xs ys same) is
 outcome_same count xs ys (Unwritten a) same is = (unwritten_same xs ys a same is.0, subst (λ footprints. HasNoOrder (IsTxn count) footprints) (feet_same xs ys same) is.1)
+outcome_same count xs ys (Impossible a) same is = (needs_same xs ys a.txn (a.key, a.need) same is.0, subst (λ footprints. HasNoOrder (IsTxn count) footprints) (feet_same xs ys same) is.1)
 outcome_same count xs ys (Cycle ls) same is = (subst (λ footprints. IsCycle (Forces footprints) ls.items) (feet_same xs ys same) is.0, subst (λ footprints. HasNoOrder (IsTxn count) footprints) (feet_same xs ys same) is.1)
 outcome_same count xs ys (Ambiguous l) same is =
     let back = same_sym xs ys same in (

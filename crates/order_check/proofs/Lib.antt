@@ -27,3 +27,6 @@ pub mod Gathering
 pub mod EntrySteps
 pub mod AccessOutcomes
 pub mod Misshapen
+mod Latest
+mod Knowing
+mod Excluding

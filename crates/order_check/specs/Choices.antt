@@ -22,8 +22,12 @@ pub record IsUnwritten (accesses : List Access) (a : Access) : Type 0 where
   pub some : IsSome a.need
   pub none : (b : Access) → IsAmong b accesses → DoesWrite (a.key, a.need) b → ⊥
 
+-- The same accesses, each with a source that gives what it needs.
+abbrev pub IsSourced : List Access → List Access → Type 0
+IsSourced accesses sourced = AreSame accesses sourced × AreSourced sourced
+
 abbrev pub IsChoice : List Access → Choice → Type 0
-IsChoice accesses (Sourced v) = AreSame accesses v.items × AreSourced v.items
+IsChoice accesses (Sourced v) = IsSourced accesses v.items
 IsChoice accesses (Unwritten a) = IsUnwritten accesses a
 
 -- The transactions in the map write the values.

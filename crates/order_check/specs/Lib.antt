@@ -20,3 +20,5 @@ pub mod Named
 pub mod Verdicts
 pub mod PlainProps
 pub mod Fed
+pub mod Known
+pub mod Exclusions

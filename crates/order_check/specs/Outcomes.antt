@@ -3,7 +3,7 @@ use Rattle.std.specs.Prelude.{ℕ, ◌≡◌, ◌==◌, ◌<◌, ◌&&◌, Bool,
 use Rattle.std.specs.HashMap.{HashMap, get as told_at}
 use Rattle.order_check.specs.declared.access.Access.{Access}
 use Rattle.order_check.specs.declared.outcome.Outcome.{Outcome}
-use Rattle.order_check.specs.declared.outcome.Outcome.TheVariants.{Order, Unwritten, Cycle, Ambiguous}
+use Rattle.order_check.specs.declared.outcome.Outcome.TheVariants.{Order, Unwritten, Impossible, Cycle, Ambiguous}
 use Rattle.order_check.specs.declared.edge.Edge.{Edge}
 use Rattle.order_check.specs.declared.table.Doer.{Doer}
 use Rattle.order_check.specs.Footprints.{Cell, Footprint}
@@ -11,7 +11,7 @@ use Rattle.order_check.specs.Forces.{Forces}
 use Rattle.order_check.specs.Graphs.{IsCycle, Graph, HasEdge}
 use Rattle.order_check.specs.Orders.{IsOrderOf, HasNoOrder}
 use Rattle.order_check.specs.Tables.{Version, version_eq, IsAmong, DoesWrite, DoesBeside}
-use Rattle.order_check.specs.Joined.{DoesAt, AreDistinct, AreSourced}
+use Rattle.order_check.specs.Joined.{NeedsAt, DoesAt, AreDistinct, AreSourced}
 use Rattle.std.specs.List.{range_with_len}
 use Rattle.order_check.specs.Choices.{IsUnwritten}
 use Rattle.order_check.specs.InTurn.{AreRising}
@@ -70,11 +70,17 @@ IsRepeated accesses q =
     (t : ℕ) × DoesAt (DoesWrite q) accesses t
     × ((q.1 ≡ None) ⊎ DoesBeside (DoesWrite q) accesses t)
 
+-- One of the transactions needs the value of the access, and there is no order.
+abbrev pub IsImpossible : ℕ → List Access → Access → Type 0
+IsImpossible count accesses a =
+    NeedsAt accesses a.txn (a.key, a.need) × HasNoOrder (IsTxn count) (footprints_of accesses)
+
 -- The outcome on the accesses of so many transactions.
 abbrev pub IsOutcome : ℕ → List Access → Outcome → Type 0
 IsOutcome count accesses (Order ts) = IsOrderOf (IsTxn count) (footprints_of accesses) ts.items
 IsOutcome count accesses (Unwritten a) =
     IsUnwritten accesses a × HasNoOrder (IsTxn count) (footprints_of accesses)
+IsOutcome count accesses (Impossible a) = IsImpossible count accesses a
 IsOutcome count accesses (Cycle ls) =
     IsCycle (Forces (footprints_of accesses)) ls.items × HasNoOrder (IsTxn count) (footprints_of accesses)
 IsOutcome count accesses (Ambiguous l) = IsRepeated accesses (l.key, l.value)

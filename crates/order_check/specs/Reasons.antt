@@ -1,3 +1,4 @@
+-- PROMISES a-verdict-by-any-order-is-right: IsForced, IsRepeated
 -- Why a history is not serializable: what its transactions need and leave, and which of them must
 -- come first in every order.
 use Rattle.std.specs.Prelude.{ℕ, ◌≡◌, ◌≢◌, ◌⊎◌, false, Option, None, Some, List, [], ◌∷◌, ◌++◌, length}

@@ -1,3 +1,4 @@
+-- PROMISES a-verdict-by-any-order-is-right: IsSerializable, IsSerialOrder
 -- Serializable histories.
 use Rattle.std.specs.Prelude.{ℕ, IsSome, List, [], ◌∷◌}
 use Rattle.txn_words.specs.declared.entry.Entry.{Entry}

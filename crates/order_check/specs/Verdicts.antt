@@ -1,3 +1,4 @@
+-- PROMISES a-verdict-by-any-order-is-right: IsVerdictOn
 -- What a verdict says of a history.
 use Rattle.std.specs.Prelude.{◌≡◌, List}
 use Rattle.txn_words.specs.declared.entry.Entry.{Entry}
@@ -5,7 +6,7 @@ use Rattle.txn_words.specs.Shape.{IsShaped}
 use Rattle.txn_trace.specs.History.{commits}
 use Rattle.serial_check.specs.Commits.{IsTorn}
 use Rattle.order_check.specs.declared.verdict.Reason.{Reason}
-use Rattle.order_check.specs.declared.verdict.Reason.TheVariants.{Shape, Torn, Unwritten, Cycle}
+use Rattle.order_check.specs.declared.verdict.Reason.TheVariants.{Shape, Torn, Unwritten, Impossible, Cycle}
 use Rattle.order_check.specs.declared.verdict.Verdict.{Verdict}
 use Rattle.order_check.specs.declared.verdict.Verdict.TheVariants.{Serializable, NotSerializable, Undecided}
 use Rattle.order_check.specs.Graphs.{IsCycle}
@@ -18,6 +19,7 @@ IsReason h (Shape entry) = IsMisshapenAt h entry
 IsReason h (Torn txn) = IsCommitted h txn × IsTorn h txn
 IsReason h (Unwritten txn key value) =
     IsCommitted h txn × NeedsValue h txn key value × IsUnwritten h key value
+IsReason h (Impossible txn key value) = IsCommitted h txn × NeedsValue h txn key value
 IsReason h (Cycle edges) = IsCycle (IsForced h) edges.items
 
 -- What a verdict says. If it names an order, the history has the right shape, and this is a serial

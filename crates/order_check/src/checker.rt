@@ -1,3 +1,4 @@
+// PROMISES a-verdict-by-any-order-is-right: Checker::feed, verdict
 //! The checker that is fed the entries of a history one after another, and judges it by any order
 //! of its transactions. It has the callers, what is kept of the transactions, the number of entries
 //! and the first entry of the wrong shape. It judges only when it is asked for its verdict.

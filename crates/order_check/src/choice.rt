@@ -1,10 +1,12 @@
 //! Chooses the source of each access, in the order of the list.
-ghost use Rattle.std.specs.Prelude.{◌≡◌, IfOk, List};
-ghost use Rattle.order_check.specs.Choices.{IsChoice, LatestWrite, IsSourcing};
+ghost use Rattle.std.specs.Prelude.{◌≡◌, IfOk, IfSome, List};
+ghost use Rattle.order_check.specs.Choices.{IsChoice, IsSourced, LatestWrite, IsSourcing};
+ghost use Rattle.order_check.specs.Joined.{SourceIs};
 ghost use Rattle.order_check.specs.declared.access.Access.{Access};
 ghost use Rattle.order_check.specs.Tables.{AreTold};
 
 use crate::access::Access;
+use crate::forward::find_writers;
 use crate::table::{Tables, Version, make_tables};
 use std::alloc::{AllocError, Global};
 use std::collections::HashMap;
@@ -78,5 +80,64 @@ fn source_of(tables: &Tables, latest: &HashMap<Version, u64>, access: &Access) -
     match tables.writers.get(&(access.key, access.need)) {
         Some(doer) => Source::Txn(doer.txn as u64),
         None => Source::Nobody,
+    }
+}
+
+/// Searches for an order of so many transactions, and chooses the sources by it. Returns `None` if
+/// no order is found.
+pub(crate) fn find_sources(
+    alloc: Global,
+    count: usize,
+    accesses: &[Access],
+) -> Result<Option<Vec<Access>>, AllocError>
+    ensures { IfOk result (λ found. IfSome found (λ sourced.
+        IsSourced accesses.now sourced.items)) }
+{
+    match find_writers(alloc, count, accesses)? {
+        Some(writers) => with_writers(alloc, accesses, &writers),
+        None => Ok(None),
+    }
+}
+
+/// The accesses, each with the transaction of its writer as its source. A writer is the index of an
+/// access. Returns `None` if a writer does not write what is needed.
+fn with_writers(
+    alloc: Global,
+    accesses: &[Access],
+    writers: &[Option<usize>],
+) -> Result<Option<Vec<Access>>, AllocError>
+    ensures { IfOk result (λ found. IfSome found (λ sourced.
+        IsSourced accesses.now sourced.items)) }
+{
+    let mut sourced = Vec::new(alloc);
+    for access in accesses {
+        let Some(source) = source_by(accesses, access, writers.get(sourced.len())) else {
+            return Ok(None);
+        };
+        sourced.push(with_source(*access, source))?;
+    }
+    Ok(Some(sourced))
+}
+
+/// The source of an access, if this is its writer.
+fn source_by(
+    accesses: &[Access],
+    access: &Access,
+    writer: Option<&Option<usize>>,
+) -> Option<Option<u64>>
+    ensures { IfSome result (SourceIs accesses.now access.now) }
+{
+    let Some(index) = *writer? else {
+        return if access.need.is_none() {
+            Some(None)
+        } else {
+            None
+        };
+    };
+    let by = accesses.get(index)?;
+    if by.key == access.key && by.left == access.need && by.need != by.left {
+        Some(Some(by.txn as u64))
+    } else {
+        None
     }
 }

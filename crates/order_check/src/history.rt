@@ -1,3 +1,4 @@
+// PROMISES a-verdict-by-any-order-is-right: check, check_packed
 //! Checks a whole history that is in memory: a `Checker` is fed all its entries.
 ghost use Rattle.std.specs.Prelude.{◌<◌, IfOk};
 ghost use Rattle.std.specs.List.{All};

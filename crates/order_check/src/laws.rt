@@ -1,3 +1,4 @@
+// PROMISES a-verdict-by-any-order-is-right: by_commits
 //! The laws of serializable histories and of footprints. Each law is the contract of a function
 //! that does nothing. The first law is about histories. The others are about any transactions with
 //! footprints, so they say why the judge is right.

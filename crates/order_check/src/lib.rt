@@ -10,15 +10,15 @@
 //! keeps an access for each key: the value that the transaction needs, and the one that it leaves.
 //! Each value that is needed gets a source. A transaction comes after its sources, and before those
 //! that replace what it needs. These are the dependencies of Adya, "Weak Consistency" (1999). An
-//! order that keeps them is serial.
+//! order that keeps them is serial. Where values repeat, a search proposes other sources, or the
+//! edges that every order keeps exclude all of them.
 //!
 //! Proved: each verdict is right (`IsVerdictOn`), and names the order of the commits if that is a
 //! serial order.
 //!
 //! By the law `by_commits`, a history that is legal by locks is serializable.
 //!
-//! A verdict takes time and memory in proportion to the accesses (not measured). Only tested: that
-//! few verdicts are undecided. Missing: a search among several sources, and real time.
+//! Only tested: that few verdicts are undecided. Missing: real time.
 #![tactic(auto)]
 
 mod access;
@@ -26,13 +26,17 @@ mod checker;
 mod choice;
 mod edge;
 mod edges;
+mod exclusion;
+mod forward;
 mod gather;
 mod graph;
 mod history;
 mod in_turn;
+mod known;
 mod laws;
 mod naming;
 mod outcome;
+mod placing;
 mod search;
 mod table;
 mod transactions;

@@ -2,16 +2,17 @@
 ghost use Rattle.std.specs.Prelude.{◌≡◌, IfOk, IfSome, IsNone, true, false};
 ghost use Rattle.std.specs.HashMap.{get as told_at};
 ghost use Rattle.std.specs.List.{All};
-ghost use Rattle.order_check.specs.Outcomes.{AreAccesses, AreCertain, AreOnce, ArePlain, IsInTurn, IsOutcome, IsOnce, comes_once};
+ghost use Rattle.order_check.specs.Outcomes.{AreAccesses, AreCertain, AreOnce, ArePlain, IsInTurn, IsOutcome, IsOnce, IsRepeated, comes_once};
 ghost use Rattle.std.specs.List.{range_with_len};
 ghost use Rattle.order_check.specs.Footprints.{no_values};
 ghost use Rattle.order_check.specs.InTurn.{RunInTurn};
 ghost use Rattle.order_check.specs.Tables.{version_eq};
 
 use crate::access::Access;
-use crate::choice::{Choice, choose_sources};
+use crate::choice::{Choice, choose_sources, find_sources};
 use crate::edge::Edge;
 use crate::edges::add_edges;
+use crate::exclusion::find_impossible;
 use crate::graph::no_edges;
 use crate::in_turn::run_in_turn;
 use crate::search::{Found, find_order};
@@ -27,6 +28,8 @@ pub(crate) enum Outcome {
     Unwritten(Access),
     /// There is no order: in each order these edges would go forward, and they form a circle.
     Cycle(Vec<Edge>),
+    /// There is no order: in none does this access get what it needs.
+    Impossible(Access),
     /// The judge does not know. It found a circle with this edge, but the value of the edge comes
     /// more than once.
     Ambiguous(Edge),
@@ -42,7 +45,7 @@ pub(crate) fn judge(alloc: Global, count: usize, accesses: &[Access]) -> Result<
     if run_in_turn(alloc, accesses)? {
         return Ok(Outcome::Order(places(alloc, count)?));
     }
-    judge_plain(alloc, count, accesses)
+    judge_out_of_turn(alloc, count, accesses)
 }
 
 /// The numbers of so many transactions, in rising order.
@@ -54,6 +57,57 @@ fn places(alloc: Global, count: usize) -> Result<Vec<usize>, AllocError>
         order.push(place)?;
     }
     Ok(order)
+}
+
+/// Judges the accesses by a graph, and by a search where the graph does not tell.
+fn judge_out_of_turn(
+    alloc: Global,
+    count: usize,
+    accesses: &[Access],
+) -> Result<Outcome, AllocError>
+    requires { ArePlain count accesses.now }
+    ensures { IfOk result (IsOutcome count accesses.now) }
+{
+    match judge_plain(alloc, count, accesses)? {
+        Outcome::Ambiguous(edge) => judge_found(alloc, count, accesses, edge),
+        outcome => Ok(outcome),
+    }
+}
+
+/// Judges the accesses by the sources that a search finds. If it finds none, by those that are
+/// excluded.
+fn judge_found(
+    alloc: Global,
+    count: usize,
+    accesses: &[Access],
+    edge: Edge,
+) -> Result<Outcome, AllocError>
+    requires plain { ArePlain count accesses.now }
+    requires repeated { IsRepeated accesses.now (edge.key, edge.value) }
+    ensures { IfOk result (IsOutcome count accesses.now) }
+{
+    match find_sources(alloc, count, accesses)? {
+        Some(sourced) => judge_sourced(alloc, count, &sourced),
+        None => judge_excluding(alloc, count, accesses, edge),
+    }
+}
+
+/// Judges the accesses by the sources that are excluded. If too few are, the outcome is that the
+/// edge is ambiguous.
+fn judge_excluding(
+    alloc: Global,
+    count: usize,
+    accesses: &[Access],
+    edge: Edge,
+) -> Result<Outcome, AllocError>
+    requires plain { ArePlain count accesses.now }
+    requires repeated { IsRepeated accesses.now (edge.key, edge.value) }
+    ensures { IfOk result (IsOutcome count accesses.now) }
+{
+    match find_impossible(alloc, count, accesses)? {
+        Some(access) => Ok(Outcome::Impossible(access)),
+        None => Ok(Outcome::Ambiguous(edge)),
+    }
 }
 
 /// Judges the accesses by a graph.

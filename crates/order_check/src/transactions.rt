@@ -109,6 +109,11 @@ impl Transactions {
                 let reason = Reason::Unwritten(txn, access.key, access.need);
                 Ok(Verdict::NotSerializable(reason))
             }
+            Outcome::Impossible(access) => {
+                let txn = name_at(&self.committed, access.txn as u64);
+                let reason = Reason::Impossible(txn, access.key, access.need);
+                Ok(Verdict::NotSerializable(reason))
+            }
             Outcome::Cycle(edges) => {
                 let cycle = named_edges(alloc, &self.committed, &edges)?;
                 Ok(Verdict::NotSerializable(Reason::Cycle(cycle)))

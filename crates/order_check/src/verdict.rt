@@ -25,6 +25,9 @@ pub enum Reason {
     /// This committed transaction needs a value at a key, and no committed transaction writes it.
     /// The fields are the transaction, the key and the value.
     Unwritten(u64, u64, Option<u64>),
+    /// This committed transaction needs a value at a key, and gets it in no order. The fields are
+    /// the transaction, the key and the value.
+    Impossible(u64, u64, Option<u64>),
     /// Each of these edges would go forward in every order, and they form a circle. Each edge leads
     /// to the transaction from which the next one comes. The last edge leads to the transaction
     /// from which the first one comes.

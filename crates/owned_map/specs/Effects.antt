@@ -1,3 +1,4 @@
+-- PROMISES transactions-as-values: HasOperated
 -- Which steps a transaction's calls take on the core, and which answers these steps get.
 use Rattle.std.specs.Prelude.{ℕ, ◌≡◌, true, Option, is_some}
 use Rattle.txn_words.specs.declared.answer.Answer.{Answer}

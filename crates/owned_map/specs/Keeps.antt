@@ -1,3 +1,4 @@
+-- PROMISES transactions-as-values: Keeps
 -- A relation between a transaction before a call and after it. The relation holds for each call of
 -- a transaction, and for a work that is made of such calls.
 use Rattle.std.specs.Prelude.{◌≡◌}

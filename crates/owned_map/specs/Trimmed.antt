@@ -1,3 +1,4 @@
+-- PROMISES transactions-as-values: IsTrimmed, IsNotTrimmed
 -- Trimming a history: it is replaced by one transaction, which puts the pairs of the map.
 use Rattle.std.specs.Prelude.{ℕ, ◌^◌, ◌≡◌, ◌≢◌, ◌<◌, ◌≤◌, false, List, [], ◌∷◌, ◌++◌, None}
 use Rattle.std.specs.List.{flat_map}

@@ -1,3 +1,4 @@
+-- PROMISES transactions-as-values: IsRun, IsTakenBack, HasDone, IsGrown
 -- What the calls of one caller's transaction do, if no other caller takes a step in between.
 use Rattle.std.specs.Prelude.{ℕ, ◌+◌, ◌*◌, ◌-◌, ◌<◌, ◌≡◌, ◌≢◌, ◌⊎◌, true, List, [], ◌∷◌, ◌++◌, length, take, slice_index, Option, Some, nat_le, false, if◌then◌else◌}
 use Rattle.std.specs.List.{filter}

@@ -1,3 +1,4 @@
+// PROMISES transactions-as-values: OwnedMap::transact
 //! The map: a core, how far its table has grown, and the calls that need both.
 //!
 //! Each call of `Transaction` makes a call of `OwnedMap`, which names the caller and has a contract

@@ -1,3 +1,4 @@
+// PROMISES transactions-as-values: every call of `Transaction`
 //! A transaction as a value: its operations, and its end.
 //!
 //! A transaction borrows the map, so no other call can be made on the map while the transaction is

@@ -1,3 +1,4 @@
+// PROMISES transactions-as-values: OwnedMap::trim
 //! Cuts off a map's history, so that the map can be used without end in bounded memory.
 //!
 //! A trim makes a second core, which takes the place of the first. The new history begins with one

@@ -28,7 +28,7 @@ use json::{Invalid, Reader, Scratch, Token};
 use std::alloc::Global;
 
 /// How deep arrays and objects may nest.
-pub(crate) const MAX_DEPTH: usize = 127;
+pub const MAX_DEPTH: usize = 127;
 
 /// The names of a file's members, besides `version`.
 #[derive(Clone, Copy)]

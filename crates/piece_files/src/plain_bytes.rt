@@ -19,9 +19,9 @@ use crate::plain::Plain;
 /// Every number with this many digits is below 2^64, but not every number with one digit more.
 const FEW: usize = 19;
 
-/// Whether a byte is white space.
+/// Whether a byte is white space in JSON.
 #[inline(always)]
-fn is_space(byte: u8) -> bool
+pub fn is_space(byte: u8) -> bool
     ensures { result ≡ is_space byte }
 {
     byte == b' ' || byte == b'\t' || byte == b'\n' || byte == b'\r'

@@ -4,8 +4,8 @@
 //! line, and files. It is a trait, so a program can also be tried on a system in memory. `Host` is
 //! the system that a process runs on. `specs/Words.antt` has three definitions for a command line
 //! that `clap` reads: when a command of `clap` is built as an application defines it, which rule a
-//! word must meet that names a file, and which words are numerals. `command_line` and `judge_line`
-//! use them, with the lemmas of `proofs/`.
+//! word must meet that names a file, and which words are numerals. `command_line` and
+//! `judge_program` use them, with the lemmas of `proofs/`.
 //!
 //! Only tested: `Host` passes on each word of the call, and opens exactly the file that a word
 //! names (`tests/program.sh`).

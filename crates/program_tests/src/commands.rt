@@ -76,8 +76,8 @@ const USAGE: &str = "usage: boostmap replay FILE | boostmap run FILE
        boostmap mix --seed N FILE | boostmap check FILE
 
   replay FILE        runs the steps of a file, and prints answers, size, count and pairs
-  run FILE           runs the scripts of a file, a thread a worker, and prints the history
-  mix --seed N FILE  runs the scripts of a file, mixed as N says, and prints the history
+  run FILE           runs the scripts of a file, one thread per worker, and prints the history
+  mix --seed N FILE  runs the scripts of a file, interleaved by seed N, and prints the history
   check FILE         says whether a recorded history is legal, or which entry breaks which rule
 
 FILE is the path of a file, and may be /dev/stdin.
@@ -85,7 +85,7 @@ N is a whole number from 0 to 18446744073709551615, in decimal digits.
 
 Exit status: 0 all is well, 1 the history is illegal, 2 a usage error, 3 the file is refused,
 4 no memory, no thread, a failed read or write, or out of step.
-From 3 on one line on standard error says which.
+For 3 and 4, one line on standard error says why.
 
 Example: boostmap check examples/checked.json
 ";

@@ -1,3 +1,4 @@
+-- PROMISES scripts-that-take-turns: IsMixed
 -- Workers that take turns on one core.
 use Rattle.std.specs.Prelude.{◌≡◌, ◌≢◌, ℕ, ◌^◌, ◌-◌, ◌<◌, ◌⊎◌, false, List, length, slice_index_or}
 use Rattle.txn_words.specs.declared.action.Action.{Action}

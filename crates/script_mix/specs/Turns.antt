@@ -1,3 +1,4 @@
+-- PROMISES scripts-that-take-turns: TakeDrawn
 -- The worker that takes each turn, and the effect of the turn.
 use Rattle.std.specs.Prelude.{◌≡◌, ℕ, ◌+◌, ◌<◌, ◌%◌, if◌then◌else◌, List, [], ◌∷◌, ◌++◌, All, length, take, Option, None, is_some, slice_index_or, slice_set}
 use Prim.Native.Nat.{zero, suc}

@@ -1,3 +1,4 @@
+// PROMISES scripts-that-take-turns: mix_scripts
 //! The whole run: a live worker is drawn and takes its turn, again and again, until no worker has a
 //! step left. The loop's invariant says that every worker keeps to its scripts, which workers are
 //! live, and which worker was drawn for each turn.

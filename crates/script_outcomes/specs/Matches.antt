@@ -1,3 +1,4 @@
+-- PROMISES what-became-of-each-script: AbortsItself
 -- Whether the entries of a transaction are those of a script. Entries that take changes back are
 -- left out.
 use Rattle.std.specs.Prelude.{◌≡◌, ℕ, Some, None, List, [], ◌∷◌}

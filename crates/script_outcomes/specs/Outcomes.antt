@@ -1,3 +1,4 @@
+-- PROMISES what-became-of-each-script: AreOutcomes
 -- The outcome of each script in a history.
 use Rattle.std.specs.Prelude.{◌≡◌, ℕ, ◌+◌, ◌%◌, ◌<◌, ◌≤◌, ◌==◌, Bool, Option, Some, List, [], ◌∷◌, ◌++◌, length, take, slice_get, if◌then◌else◌}
 use Prim.Native.Nat.{suc}

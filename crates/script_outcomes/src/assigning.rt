@@ -1,3 +1,4 @@
+// PROMISES what-became-of-each-script: outcomes
 //! The pass over a history. Each entry is given to the `Way` of its caller's worker, and the `Way`
 //! writes the outcomes. Entries of callers without a worker are skipped. Only this module handles
 //! all workers together: it holds one `Way` for each worker and one outcome for each script.

@@ -1,3 +1,4 @@
+// PROMISES what-became-of-each-script: committed_plays, commits_are_counted
 //! Laws of outcomes. Each law is the contract of a function that does nothing when it runs. The
 //! laws say what an outcome means for the history, and that no commit is missed in a history that
 //! `mix` prints. They hold of histories of the right shape; `outcomes` does not test the shape.

@@ -1,3 +1,5 @@
+-- PROMISES scripts-that-take-turns: AreTrue
+-- PROMISES scripts-on-threads: AreAllTrue, IsAccount
 -- The outcomes of a caller's scripts: what each outcome says about the caller's own entries, and
 -- what it says about the whole history.
 use Rattle.std.specs.Prelude.{◌≡◌, ℕ, ◌+◌, ◌-◌, ◌*◌, ◌<◌, ◌≤◌, Bool, true, false, Option, Some, None, List, [], ◌∷◌, ◌++◌, length, slice_get}

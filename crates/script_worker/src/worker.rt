@@ -1,3 +1,4 @@
+// PROMISES scripts-that-take-turns: Worker::take_turn, told
 //! A worker: its number, the limits of the map and its task. `task` says what follows an answer.
 //! This module adds the type, whose invariant is that a worker with a script left has a step to
 //! take. With each turn and each answer the worker keeps to its scripts (`specs/Keeps.antt`).

@@ -1,3 +1,4 @@
+-- PROMISES a-verdict-by-the-order-of-commits-is-right: IsFed
 -- The entries that a checker was fed.
 use Rattle.std.specs.Prelude.{List}
 use Rattle.txn_words.specs.declared.entry.Entry.{Entry}

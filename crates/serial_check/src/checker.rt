@@ -1,3 +1,4 @@
+// PROMISES a-verdict-by-the-order-of-commits-is-right: Checker::feed, verdict
 //! The checker that judges a history by the order of its commits. Besides the `State`, the checker
 //! keeps the number of entries and the first bad entry. After a bad entry the verdict no longer
 //! changes. A transaction's replies are judged at its Committed entry. Before that entry, `misread`

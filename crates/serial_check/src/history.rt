@@ -1,3 +1,4 @@
+// PROMISES a-verdict-by-the-order-of-commits-is-right: check, check_packed
 //! Checks a whole history that is in memory, by the order of its commits: a `Checker` is fed all
 //! its entries. Only this module takes lists of entries, since a `Checker` needs none. Unlike the
 //! check of `history_check`, this check takes no stripes and no `Holder`, since it has no rule of

@@ -144,6 +144,42 @@ pub(crate) const NEW_KEYS: [Entry; 22] = [
     Entry::Committed(0, 3),
 ];
 
+/// The first transaction that commits must come last: a search that places it first goes back.
+pub(crate) const LAST_COMES_FIRST: [Entry; 12] = [
+    Entry::Began(0, 1),
+    Entry::Asked(0, Op::Put(1, 10)),
+    Entry::Did(0, None),
+    Entry::Committed(0, 1),
+    Entry::Began(0, 2),
+    Entry::Asked(0, Op::Take(1)),
+    Entry::Did(0, Some(11)),
+    Entry::Committed(0, 2),
+    Entry::Began(0, 3),
+    Entry::Asked(0, Op::Put(1, 11)),
+    Entry::Did(0, None),
+    Entry::Committed(0, 3),
+];
+
+/// Three transactions put the same value where the key was absent, and only one takes it.
+pub(crate) const TOO_MANY_PUTS: [Entry; 16] = [
+    Entry::Began(0, 1),
+    Entry::Asked(0, Op::Put(1, 10)),
+    Entry::Did(0, None),
+    Entry::Committed(0, 1),
+    Entry::Began(0, 2),
+    Entry::Asked(0, Op::Put(1, 10)),
+    Entry::Did(0, None),
+    Entry::Committed(0, 2),
+    Entry::Began(0, 3),
+    Entry::Asked(0, Op::Put(1, 10)),
+    Entry::Did(0, None),
+    Entry::Committed(0, 3),
+    Entry::Began(0, 4),
+    Entry::Asked(0, Op::Take(1)),
+    Entry::Did(0, Some(10)),
+    Entry::Committed(0, 4),
+];
+
 /// A history whose first commit has the number 2.
 pub(crate) const NUMBERED_WRONG: [Entry; 2] = [Entry::Began(0, 1), Entry::Committed(0, 2)];
 

@@ -6,8 +6,8 @@
 //! some it lies. They put the same values again, take keys, go back to savepoints, and abort.
 
 use crate::histories::{
-    BACK_TO_A_SAVEPOINT, NEW_KEYS, NUMBERED_WRONG, READS_BESIDE, READS_STALE, RIGHT_LATER,
-    WRITE_SKEW, WRONG_BUT_ABORTED, WRONG_BUT_TAKEN_BACK,
+    BACK_TO_A_SAVEPOINT, LAST_COMES_FIRST, NEW_KEYS, NUMBERED_WRONG, READS_BESIDE, READS_STALE,
+    RIGHT_LATER, TOO_MANY_PUTS, WRITE_SKEW, WRONG_BUT_ABORTED, WRONG_BUT_TAKEN_BACK,
 };
 use order_check::{Reason, Verdict, check};
 use std::alloc::{AllocError, Global};
@@ -381,6 +381,7 @@ struct Tally {
     orders: u64,
     torn: u64,
     unwritten: u64,
+    impossible: u64,
     cycles: u64,
     undecided: u64,
 }
@@ -412,6 +413,7 @@ fn judge_beside(
                 Reason::Shape(_) => assert!(rt; false, "{entries:?}"),
                 Reason::Torn(_) => add_one(&mut tally.torn),
                 Reason::Unwritten(..) => add_one(&mut tally.unwritten),
+                Reason::Impossible(..) => add_one(&mut tally.impossible),
                 Reason::Cycle(_) => add_one(&mut tally.cycles),
             }
         }
@@ -448,6 +450,8 @@ enum Wanted {
     Shape(u64),
     /// The transaction whose replies contradict one another.
     Torn(u64),
+    /// The transaction that gets what it needs in no order.
+    Impossible(u64),
     /// A cycle of so many edges.
     Cycle(usize),
     /// The key at which a value comes more than once.
@@ -460,6 +464,9 @@ fn says(verdict: &Verdict, wanted: &Wanted) -> bool {
         (Verdict::Serializable(order), Wanted::Order(txns)) => order.iter().eq(txns.iter()),
         (Verdict::NotSerializable(Reason::Shape(entry)), Wanted::Shape(index)) => entry == index,
         (Verdict::NotSerializable(Reason::Torn(txn)), Wanted::Torn(number)) => txn == number,
+        (Verdict::NotSerializable(Reason::Impossible(txn, ..)), Wanted::Impossible(number)) => {
+            txn == number
+        }
         (Verdict::NotSerializable(Reason::Cycle(edges)), Wanted::Cycle(count)) => {
             edges.len() == *count
         }
@@ -491,7 +498,9 @@ fn have_these_orders(rt: HostRuntime) -> Result<(), Fail> {
     judge(&rt, alloc, &RIGHT_LATER, &Wanted::Order(&[2, 1]))?;
     judge(&rt, alloc, &WRONG_BUT_TAKEN_BACK, &Wanted::Torn(1))?;
     judge(&rt, alloc, &BACK_TO_A_SAVEPOINT, &Wanted::Order(&[1]))?;
-    judge(&rt, alloc, &NEW_KEYS, &Wanted::Undecided(1))?;
+    judge(&rt, alloc, &NEW_KEYS, &Wanted::Impossible(3))?;
+    judge(&rt, alloc, &LAST_COMES_FIRST, &Wanted::Order(&[3, 2, 1]))?;
+    judge(&rt, alloc, &TOO_MANY_PUTS, &Wanted::Undecided(1))?;
     judge(&rt, alloc, &NUMBERED_WRONG, &Wanted::Shape(1))?;
     Ok(())
 }

@@ -16,14 +16,14 @@ use Rattle.striped_map.specs.Handling.{idle, GainsAtMost, KeepsHeld}
 use Rattle.striped_map.specs.Hands.{GoesOn, MovesHand}
 use Rattle.striped_map.specs.Rule.{Holds}
 use Rattle.striped_map.specs.Seats.{IsOf, known, stripes_of}
-use Rattle.striped_map.specs.Steps.{StateAfter, Extends, AddsIn, SeesIn, GainsStripe, SeesHolder, undoing}
+use Rattle.striped_map.specs.Steps.{StateAfter, Extends, AddsIn, Gathers, SeesIn, GainsStripe, SeesHolder, undoing}
 use Rattle.striped_map.specs.Additions.{due, entries_of}
 use Rattle.striped_map.specs.declared.addition.Addition.TheVariants.{Abort, Yield}
 use Rattle.striped_map.proofs.Hands.{extends_then, extends_none, own_same}
 use Rattle.striped_map.proofs.HandSoundness.{due_same}
 
 pub moved : (map : StripedMap) (a b : Hand) (es : List Entry) (left : StateAfter) → AddsIn (stripes_of map) (known a.seat) es left (known b.seat) → MovesHand map a es b
-moved map a b es left x = record { number_is = ap (λ (v : View). v.number) x.view_is; retired_is = ap (λ (v : View). v.retired) x.view_is; made_is = ap (λ (v : View). v.made) x.view_is; keep_is = ap (λ (v : View). v.keep) x.view_is; goes = x.goes }
+moved map a b es left x = record { number_is = ap (λ (v : View). v.number) x.view_is; retired_is = ap (λ (v : View). v.retired) x.view_is; made_is = ap (λ (v : View). v.made) x.view_is; parent_is = ap (λ (v : View). v.parent) x.view_is; keep_is = ap (λ (v : View). v.keep) x.view_is; goes = x.goes }
 
 -- If a hand adds entries and then gives its stripes back, both together are one step that adds
 -- these entries.
@@ -32,6 +32,7 @@ moved_idle map a b w es left x is = record {
   number_is = ap (λ (v : View). v.number) is ∙ ap (λ (v : View). v.number) x.view_is;
   retired_is = ap (λ (v : View). v.retired) is ∙ ap (λ (v : View). v.retired) x.view_is;
   made_is = ap (λ (v : View). v.made) is ∙ ap (λ (v : View). v.made) x.view_is;
+  parent_is = ap (λ (v : View). v.parent) is ∙ ap (λ (v : View). v.parent) x.view_is;
   keep_is = ap (λ (v : View). v.keep) is ∙ ap (λ (v : View). v.keep) x.view_is;
   goes = subst (Extends (stripes_of map) (known a.seat).number (known a.seat).held (known a.seat).seen es) (sym (ap (λ (v : View). v.seen) is)) x.goes;
 }
@@ -43,6 +44,7 @@ moved_then map a b c es on y = let x = on.moves in record {
   number_is = y.number_is ∙ x.number_is;
   retired_is = y.retired_is ∙ x.retired_is;
   made_is = y.made_is ∙ x.made_is;
+  parent_is = y.parent_is ∙ x.parent_is;
   keep_is = y.keep_is ∙ x.keep_is;
   goes = extends_then (stripes_of map) (known a.seat).number (known a.seat).held (known b.seat).held (known a.seat).seen (known b.seat).seen (es (known a.seat).number) (known c.seat).seen on.keeps x.goes
       (subst (λ (k : ℕ). Extends (stripes_of map) k (known b.seat).held (known b.seat).seen (es k) (known c.seat).seen) x.number_is y.goes);
@@ -63,6 +65,7 @@ moved_from map a d c es same y = record {
   number_is = y.number_is ∙ ap (λ z. z.me.0.number) same;
   retired_is = y.retired_is ∙ ap (λ z. z.me.0.retired) same;
   made_is = y.made_is ∙ ap (λ z. z.me.0.made) same;
+  parent_is = y.parent_is ∙ ap (λ z. z.me.0.parent) same;
   keep_is = y.keep_is ∙ ap (λ z. z.me.0.keep) same;
   goes = subst (λ z. Extends (stripes_of map) z.me.0.number z.me.0.held z.me.0.seen (es z.me.0.number) (known c.seat).seen) same y.goes;
 }
@@ -70,6 +73,10 @@ moved_from map a d c es same y = record {
 -- A step that adds no entry leaves the changes that can be taken back.
 pub due_kept : (map : StripedMap) (a b : Hand) → MovesHand map a [] b → due (known b.seat) ≡ due (known a.seat)
 due_kept map a b x = due_same (known a.seat) (known b.seat) x.number_is (own_same (stripes_of map) (known a.seat).number (known a.seat).held (known a.seat).seen (known b.seat).seen x.goes)
+
+-- A look at the history leaves the changes that can be taken back.
+pub due_gathered : (n : ℕ) (v w : View) (found : ℕ) → Gathers n v found w → due w ≡ due v
+due_gathered n v w found g = due_same v w (ap (λ (x : View). x.number) g.sees.view_is) (own_same n v.number v.held v.seen w.seen g.sees.goes)
 
 pub moved_busy : (map : StripedMap) (a b c : Hand) (op : Op) (holder : ℕ) → GoesOn map a b → MovesHand map b (entries_of (known b.seat) (Yield op holder)) c
     → MovesHand map a (Busy (known a.seat).number op holder ∷ undoing (known a.seat).number (due (known a.seat)) (Aborted (known a.seat).number)) c
@@ -84,13 +91,14 @@ moved_known map a b es x c same = record {
   number_is = ap (λ (v : View). v.number) same ∙ x.number_is;
   retired_is = ap (λ (v : View). v.retired) same ∙ x.retired_is;
   made_is = ap (λ (v : View). v.made) same ∙ x.made_is;
+  parent_is = ap (λ (v : View). v.parent) same ∙ x.parent_is;
   keep_is = ap (λ (v : View). v.keep) same ∙ x.keep_is;
   goes = subst (λ (v : View). Extends (stripes_of map) (known a.seat).number (known a.seat).held (known a.seat).seen es v.seen) (sym same) x.goes;
 }
 
 -- If a hand does not change, it makes a step that adds no entry.
 pub moved_still : (map : StripedMap) (a : Hand) → IsOf a.seat map → MovesHand map a [] a
-moved_still map a of = record { number_is = refl; retired_is = refl; made_is = refl; keep_is = refl; goes = extends_none (stripes_of map) (known a.seat).number (known a.seat).held (known a.seat).seen (subst (λ z. IsLegal Begun z.slots (known a.seat).seen) of a.sound.legal) }
+moved_still map a of = record { number_is = refl; retired_is = refl; made_is = refl; parent_is = refl; keep_is = refl; goes = extends_none (stripes_of map) (known a.seat).number (known a.seat).held (known a.seat).seen (subst (λ z. IsLegal Begun z.slots (known a.seat).seen) of a.sound.legal) }
 
 -- A hand that makes room for records makes a step that adds no entry.
 pub moved_roomy : (map : StripedMap) (a d : Hand) → IsOf a.seat map → d.seat.seat ≡ a.seat.seat → MovesHand map a [] d
@@ -109,6 +117,7 @@ on_from map a b c same x = record {
     number_is = subst (λ (s : MapSeat). (known c.seat).number ≡ (known s).number) same x.moves.number_is;
     retired_is = subst (λ (s : MapSeat). (known c.seat).retired ≡ (known s).retired) same x.moves.retired_is;
     made_is = subst (λ (s : MapSeat). (known c.seat).made ≡ (known s).made) same x.moves.made_is;
+    parent_is = subst (λ (s : MapSeat). (known c.seat).parent ≡ (known s).parent) same x.moves.parent_is;
     keep_is = subst (λ (s : MapSeat). (known c.seat).keep ≡ (known s).keep) same x.moves.keep_is;
     goes = subst (λ (s : MapSeat). Extends (stripes_of map) (known s).number (known s).held (known s).seen [] (known c.seat).seen) same x.moves.goes;
   };
@@ -124,7 +133,7 @@ holds_found n holder v w f other hold = subst (λ (u : View). Holds u other) (sy
 
 -- If a hand only sees more of the history, it makes a step that adds no entry.
 pub moved_seen : (map : StripedMap) (a b : Hand) → SeesIn (stripes_of map) (known a.seat) (known b.seat) → MovesHand map a [] b
-moved_seen map a b x = record { number_is = ap (λ (v : View). v.number) x.view_is; retired_is = ap (λ (v : View). v.retired) x.view_is; made_is = ap (λ (v : View). v.made) x.view_is; keep_is = ap (λ (v : View). v.keep) x.view_is; goes = x.goes }
+moved_seen map a b x = record { number_is = ap (λ (v : View). v.number) x.view_is; retired_is = ap (λ (v : View). v.retired) x.view_is; made_is = ap (λ (v : View). v.made) x.view_is; parent_is = ap (λ (v : View). v.parent) x.view_is; keep_is = ap (λ (v : View). v.keep) x.view_is; goes = x.goes }
 
 -- If a seat takes a stripe, it gains at most this stripe.
 pub gained_taken : (n k : ℕ) (v w : View) (part : PartAt) → GainsStripe n k v part w → GainsAtMost k v.held w.held

@@ -55,6 +55,10 @@ placed_as i j (e ∷ es) same = ap (λ (k : ℕ). (k, bare e) ∷ placed (i + 1)
 pub marks_seen : (c : ℕ) (seen rest : List Entry) → own c rest ≡ [] → marks c 0 (seen ++ rest) ≡ marks c 0 seen
 marks_seen c seen rest none = marks-append c 0 seen rest ∙ ap (λ (l : List Mark). marks c 0 seen ++ l) (marks-none c (0 + length seen) rest none) ∙ append-nil (marks c 0 seen)
 
+-- A caller without entries has none to mark.
+pub none_marked : (c d : ℕ) (log : List Entry) → d ≡ c → own c log ≡ [] → marks d 0 log ≡ []
+none_marked c d log same none = ap (λ (k : ℕ). marks k 0 log) same ∙ marks_seen c [] log none
+
 -- The measure of the empty history.
 pub measure_nil : (keep : Keep) → measure keep [] ≡ 0
 measure_nil Nothing = refl

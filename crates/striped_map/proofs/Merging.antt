@@ -2,7 +2,7 @@
 use Rattle.std.proofs.Common.{◌≡◌, ℕ, zero, suc, ◌+◌, ◌-◌, ◌^◌, ◌<◌, ◌≤◌, List, [], ◌∷◌, ◌++◌, Vec, Global, Option, None, Some, slice_get, get_or, take, take-suc, length, replicate, sym, refl, ap, subst, ◌∙◌, arith, length-append, true, cond, ne_eqb}
 use Rattle.std.proofs.lemmas.Bool.{false≢true}
 use mathlib.Core.Logic.{dite}
-use native.Mathlib.Decide.{ℕ_discrete}
+use native.Mathlib.Decide.{dec_le, ℕ_discrete}
 use Rattle.std.proofs.lemmas.List.{take_all, length-take-le, length-replicate}
 use Rattle.txn_words.specs.declared.entry.Entry.{Entry}
 use Rattle.txn_words.specs.declared.holder.Holder.TheVariants.{Begun}
@@ -10,7 +10,7 @@ use Rattle.txn_words.specs.Shape.{own, IsShaped}
 use Rattle.txn_trace.specs.Legal.{IsLegal}
 use Rattle.striped_map.specs.declared.record.Record.{Record}
 use Rattle.striped_map.specs.declared.view.View.{View}
-use Rattle.striped_map.specs.Steps.{HasAll, HasNoOther, marks, placed}
+use Rattle.striped_map.specs.Steps.{HasAll, HasNoOther, IsMerged, marks, placed}
 use Rattle.striped_map.specs.Rule.{HasEnded}
 use Rattle.striped_map.specs.Records.{spread, told_by}
 use Rattle.striped_map.specs.Gathered.{HasParts, is_taken, entries_in, entries_to, merged, numbered, records_of, written, written_from, written_to}
@@ -77,20 +77,27 @@ taken_at c (r ∷ rs) is = dite (ℕ_discrete r.0 c)
 -- If the host has merged each caller and then looks at the history, the records of all callers,
 -- merged by their positions, are the history.
 module _ (v : View) (mine : Vec Record Global) (parts : Parts) (has : HasParts v.retired parts) (all : HasAll v v.seen) where
-  part_marked : (c : ℕ) (part : Option (Vec Record Global)) → get_or parts c None ≡ part → (part ≡ None → ⊥) → marks (c + 1) 0 v.seen ≡ spread (c + 1) (records_of part)
-  part_marked c None is some = absurd (some refl)
-  part_marked c (Some rs) is some =
-      let one = taken_at (c + 1) v.retired (has.made c (λ none. some (sym is ∙ none))) in let r = one.1 in
+  part_marked : (c : ℕ) (part : Option (Vec Record Global)) → get_or parts c None ≡ part → (part ≡ None → own (c + 1) v.seen ≡ []) → marks (c + 1) 0 v.seen ≡ spread (c + 1) (records_of part)
+  part_marked c None is none = marks_seen (c + 1) [] v.seen (none refl)
+  part_marked c (Some rs) is none =
+      let one = taken_at (c + 1) v.retired (has.made c (λ none. absurd (cc (sym is ∙ none)))) in let r = one.1 in
       let same : r.0 ≡ c + 1 = one.3 in
       let at : get_or parts (r.0 - 1) None ≡ Some rs = ap (λ (k : ℕ). get_or parts k None) (omega arith) ∙ is in
       subst (λ (k : ℕ). marks k 0 v.seen ≡ spread k rs.items) same (ended_marked r.0 r.1 v.seen rs.items (all one.0 r one.2) (has.marked one.0 r one.2 rs at))
 
-  are_parts : marks 0 0 v.seen ≡ spread 0 mine.items → ((c : ℕ) → c < length parts → get_or parts c None ≡ None → ⊥) → AreParts (Some mine ∷ parts) v.seen
-  are_parts marked some zero lt = marked
-  are_parts marked some (suc c) lt =
+  -- A caller without records has no entries: its number was not given out.
+  are_parts : marks 0 0 v.seen ≡ spread 0 mine.items → ((c : ℕ) → 0 < c → c < v.made → get_or parts (c - 1) None ≡ None → ⊥) → HasNoOther v v.seen → AreParts (Some mine ∷ parts) v.seen
+  are_parts marked some others zero lt = marked
+  are_parts marked some others (suc c) lt =
       let next : c + 1 ≡ suc c = omega arith in
-      subst (λ (k : ℕ). marks k 0 v.seen ≡ spread k (records_of (get_or parts c None))) next (part_marked c (get_or parts c None) refl (some c (omega arith)))
+      subst (λ (k : ℕ). marks k 0 v.seen ≡ spread k (records_of (get_or parts c None))) next
+      (part_marked c (get_or parts c None) refl (λ none. dite (dec_le v.made (c + 1)) (λ (low : v.made ≤ c + 1). others (c + 1) low)
+      (λ high. absurd (some (c + 1) (omega arith) (omega arith) (ap (λ (k : ℕ). get_or parts k None) (omega arith) ∙ none)))))
 
-  pub host_history : (n : ℕ) (blank : Entry) → marks 0 0 v.seen ≡ spread 0 mine.items → ((c : ℕ) → c < length parts → get_or parts c None ≡ None → ⊥) → v.made ≡ length parts + 1
+  pub host_history : (n : ℕ) (blank : Entry) → marks 0 0 v.seen ≡ spread 0 mine.items → ((c : ℕ) → 0 < c → c < v.made → get_or parts (c - 1) None ≡ None → ⊥) → v.made ≤ length parts + 1
       → HasNoOther v v.seen → IsLegal Begun n v.seen → entries_in (Some mine ∷ parts) < 2 ^ 64 → merged blank (Some mine ∷ parts) ≡ v.seen
-  host_history n blank marked some made others legal small = merged_is (Some mine ∷ parts) v.seen (are_parts marked some) blank legal.shape (λ c low. others c (omega arith)) small
+  host_history n blank marked some made others legal small = merged_is (Some mine ∷ parts) v.seen (are_parts marked some others) blank legal.shape (λ c low. others c (omega arith)) small
+
+  -- If no caller below `made` lacks its records, all were merged.
+  pub all_merged : ((c : ℕ) → 0 < c → c < v.made → get_or parts (c - 1) None ≡ None → ⊥) → (c : ℕ) → 0 < c → c < v.made → IsMerged c v.retired
+  all_merged some c pos low = let one = taken_at (c - 1 + 1) v.retired (has.made (c - 1) (some c pos low)) in let same : one.1.0 ≡ c - 1 + 1 = one.3 in (one.0, one.1, one.2, omega arith)

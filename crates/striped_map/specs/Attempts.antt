@@ -1,3 +1,4 @@
+-- PROMISES the-striped-map: Fails
 -- A work that is tried several times, each time in a new transaction. `work` relates the caller
 -- before the work, the result of the work, and the caller after the work.
 use Rattle.std.specs.Prelude.{◌⊎◌, ◌≡◌, ℕ, zero, suc, [], ◌∷◌, Result, Ok, Err, false}

@@ -1,10 +1,12 @@
+-- PROMISES the-striped-map: IsStep, IsStopped, IsRun, IsTakenBack, HoldsEvery, TakesAtMost, IsAnother
 -- The entries that a caller's calls add to the history.
-use Rattle.std.specs.Prelude.{◌≡◌, ℕ, ◌<◌, ◌-◌, List, [], ◌∷◌, length, None, Some, slice_get, true, false, Option}
+use Rattle.std.specs.Prelude.{Bool, ◌≡◌, ◌≢◌, ℕ, ◌<◌, ◌≤◌, ◌+◌, ◌-◌, List, [], ◌∷◌, length, None, Some, slice_get, true, false, Option}
 use Rattle.txn_words.specs.declared.entry.Entry.{Entry}
 use Rattle.txn_words.specs.declared.entry.Entry.TheVariants.{Began, Leave, Committed, Busy as BusyEntry, Aborted}
 use Rattle.txn_words.specs.declared.op.Op.{Op}
 use Rattle.txn_words.specs.declared.op.Op.TheVariants.{Get}
-use Rattle.txn_words.specs.declared.refusal.Refusal.TheVariants.{AlreadyOpen, NoMemory, NoSuchLevel, NotOpen}
+use Rattle.txn_words.specs.declared.refusal.Refusal.{Refusal}
+use Rattle.txn_words.specs.declared.refusal.Refusal.TheVariants.{AlreadyOpen, Limit, NoMemory, NoSuchLevel, NotOpen}
 use Rattle.txn_trace.specs.Locks.{stripe_of}
 use Rattle.txn_words.specs.Kinds.{is_began, is_commit}
 use Rattle.txn_words.specs.Shape.{own, how_many}
@@ -14,6 +16,7 @@ use Rattle.striped_map.specs.declared.keep.Keep.TheVariants.{Entries}
 use Rattle.striped_map.specs.declared.map.StripedMap.{StripedMap}
 use Rattle.map_answers.specs.declared.stop.Stop.{Stop}
 use Rattle.map_answers.specs.declared.stop.Stop.TheVariants.{Busy, Refused}
+use Rattle.striped_map.specs.Rule.{most}
 use Rattle.striped_map.specs.Additions.{due, above}
 use Rattle.striped_map.specs.Handling.{GainsAtMost, HoldsAllOf, KeepsHeld}
 use Rattle.striped_map.specs.Steps.{Extends, seat_of, told_of, undoing}
@@ -51,6 +54,14 @@ changes_above level c = above level (known c.hand.seat)
 abbrev pub keeps : Caller → Keep
 keeps c = keep_of c.map.value
 
+-- Whether the caller has made another caller.
+abbrev pub has_made : Caller → Bool
+has_made c = (known c.hand.seat).parent
+
+-- How many numbers were given out when the caller last made another caller, or 0.
+abbrev pub numbers_seen : Caller → ℕ
+numbers_seen c = (known c.hand.seat).made
+
 -- The caller holds every stripe of its map.
 abbrev pub HoldsEvery : Caller → Type 0
 HoldsEvery c = HoldsAllOf (stripes_in c) (known c.hand.seat)
@@ -66,10 +77,12 @@ TakesAtMost key a b = b.is_open ≡ true
     → GainsAtMost (stripe_of (stripes_in a) key) (stripes_held a) (stripes_held b)
 
 -- From `a` to `b`, the caller added exactly the entries `es` to the history. Other callers may have
--- added entries before them, but asked for no operation on a key of a stripe that `a` holds.
+-- added entries before them, but asked for no operation on a key of a stripe that `a` holds. The
+-- caller made no other caller.
 pub record IsStep (a : Caller) (es : List Entry) (b : Caller) : Type 0 where
   pub map_is : b.map ≡ a.map
   pub number_is : number b ≡ number a
+  pub made_is : has_made b ≡ has_made a
   pub goes : Extends (stripes_in a) (number a) (stripes_held a) (seen a) es (seen b)
 
 -- Caller `b` is the same caller as `a`, in the same state. At most the memory that it has taken for
@@ -116,10 +129,11 @@ abbrev pub IsCut : Caller → Caller → Stop → Type 0
 IsCut a b stop = (key : ℕ) × IsStopped a (Get key) b stop
 
 -- Caller `b` is the same caller as `a`, at a later time. In between, it may have seen more of the
--- history, but it has committed nothing.
+-- history, but it has committed nothing, and made no other caller.
 pub record IsSince (a b : Caller) : Type 0 where
   pub map_is : b.map ≡ a.map
   pub number_is : number b ≡ number a
+  pub made_is : has_made b ≡ has_made a
   pub goes : (i : ℕ) (e : Entry) → slice_get (seen a) i ≡ Some e → slice_get (seen b) i ≡ Some e
   pub commits : how_many is_commit (own (number a) (seen b))
       ≡ how_many is_commit (own (number a) (seen a))
@@ -158,3 +172,40 @@ pub record IsNew (map : StripedMap) (stripes number_is : ℕ) (c : Caller) : Typ
   pub numbered : number c ≡ number_is
   pub closed : c.is_open ≡ false
   pub unseen : seen c ≡ []
+  pub childless : has_made c ≡ false
+
+-- Caller `b` is the same caller as `a`, in the same state: it has the same number, has seen the
+-- same history, and holds the same stripes. It may have made another caller in between.
+pub record IsMaker (a b : Caller) : Type 0 where
+  pub map_is : b.map ≡ a.map
+  pub open_is : b.is_open ≡ a.is_open
+  pub number_is : number b ≡ number a
+  pub seen_is : seen b ≡ seen a
+  pub held_is : stripes_held b ≡ stripes_held a
+  pub levels_are : levels b ≡ levels a
+  pub changes_are : changes_made b ≡ changes_made a
+
+-- Caller `c` was made by the caller `a`, which is then `b`. It is a caller of the same map, in no
+-- transaction, and holds no stripe. It has seen what `a` has seen, and none of these entries is its
+-- own. Its number was not given out before, as far as `a` knew. The number of the next caller that
+-- `b` makes is higher.
+pub record IsAnother (a b c : Caller) : Type 0 where
+  pub map_is : c.map.value ≡ a.map.value
+  pub some : 0 < number c
+  pub other : number c ≢ number a
+  pub new : numbers_seen a ≤ number c
+  pub counted : numbers_seen b ≡ number c + 1
+  pub made : has_made b ≡ true
+  pub closed : c.is_open ≡ false
+  pub idle : stripes_held c ≡ []
+  pub sees : seen c ≡ seen a
+  pub unused : own (number c) (seen c) ≡ []
+  pub childless : has_made c ≡ false
+
+-- Why a caller made no other caller. The caller `a` is then `b`.
+-- - `Limit`: the map has given out as many numbers as it can.
+-- - `NoMemory`: the map's count of owners is full. Nothing changes.
+abbrev pub IsNotAnother : Caller → Caller → Refusal → Type 0
+IsNotAnother a b Limit = (numbers_seen b ≡ most (keeps a)) × (has_made b ≡ has_made a)
+IsNotAnother a b NoMemory = b ≡ a
+IsNotAnother a b refusal = ⊥

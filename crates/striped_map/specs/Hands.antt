@@ -1,3 +1,4 @@
+-- PROMISES the-striped-map: ReadsPairs, IsUnread
 -- The outcomes of a hand's calls.
 use Rattle.std.specs.Prelude.{◌≡◌, ◌⊎◌, ℕ, List, [], ◌∷◌, None}
 use Rattle.txn_words.specs.declared.entry.Entry.{Entry}
@@ -12,7 +13,7 @@ use Rattle.striped_map.specs.declared.keep.Keep.TheVariants.{Entries}
 use Rattle.striped_map.specs.declared.map.StripedMap.{StripedMap}
 use Rattle.striped_map.specs.Handling.{KeepsHeld}
 use Rattle.striped_map.specs.Seats.{known, stripes_of}
-use Rattle.striped_map.specs.Steps.{Extends, HasAll, HasNoOther, IsAt, undoing}
+use Rattle.striped_map.specs.Steps.{Extends, Gathers, HasAll, IsAt, undoing}
 use Rattle.striped_map.specs.Additions.{due}
 use Rattle.map_answers.specs.declared.stop.Stop.{Stop}
 use Rattle.map_answers.specs.declared.stop.Stop.TheVariants.{Busy, Refused}
@@ -23,6 +24,7 @@ pub record MovesHand (map : StripedMap) (a : Hand) (es : List Entry) (b : Hand) 
   pub number_is : (known b.seat).number ≡ (known a.seat).number
   pub retired_is : (known b.seat).retired ≡ (known a.seat).retired
   pub made_is : (known b.seat).made ≡ (known a.seat).made
+  pub parent_is : (known b.seat).parent ≡ (known a.seat).parent
   pub keep_is : (known b.seat).keep ≡ (known a.seat).keep
   pub goes : Extends (stripes_of map) (known a.seat).number (known a.seat).held
       (known a.seat).seen es (known b.seat).seen
@@ -53,19 +55,21 @@ abbrev pub GivesUp : StripedMap → Hand → Hand → Type 0
 GivesUp map a b =
     MovesHand map a (Leave (known a.seat).number None ∷ Aborted (known a.seat).number ∷ []) b
 
--- A hand began a transaction, read the pairs in it, and aborted it. The hand is `a` before, `left`
--- when it has read, and `c` afterwards. Its entries are a Began, a Leave and an Aborted. The pairs
--- are those of the map of the history that `left` has seen. This history is legal. In it, each
--- merged caller has exactly the entries that its calls added, and only seats that were made have
--- entries.
+-- A hand began a transaction, read the pairs in it, looked at the history, and aborted the
+-- transaction. The hand is `a` before, `read` when it has read, `left` when it has looked, and `c`
+-- afterwards. Its entries are a Began, a Leave and an Aborted. The pairs are those of the map of
+-- the history that `left` has seen. This history is legal. In it, each merged caller has exactly
+-- the entries that its calls added, and only seats that were made have entries (`Gathers`).
 pub record ReadsPairs (map : StripedMap) (a c : Hand) (pairs : List (ℕ × ℕ)) : Type 0 where
   pub txn : ℕ
   pub during : Hand
   pub begun : MovesHand map a (Began (known a.seat).number txn ∷ []) during
+  pub read : Hand
+  pub reads : MovesHand map during [] read
+  pub found : ℕ
   pub left : Hand
-  pub goes : MovesHand map during [] left
+  pub gathers : Gathers (stripes_of map) (known read.seat) found (known left.seat)
   pub all : HasAll (known a.seat) (known left.seat).seen
-  pub others : HasNoOther (known a.seat) (known left.seat).seen
   pub pairs_are : pairs ≡ (now (known left.seat).seen).rows
   pub ended : GivesUp map left c
 

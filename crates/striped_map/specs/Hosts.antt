@@ -1,3 +1,4 @@
+-- PROMISES the-striped-map: IsOpened, IsNoHistory
 -- The facts that contracts name about a host.
 use Rattle.std.specs.Prelude.{ℕ, ◌≡◌, ◌≢◌, ◌+◌, ◌<◌, Bool, ◌&&◌, nat_le, true, false, List, [], length, Some, slice_get}
 use Rattle.std.specs.List.{HoldsAt}
@@ -13,15 +14,30 @@ use Rattle.striped_map.specs.declared.no_history.NoHistory.TheVariants.{NotKept,
 use Rattle.striped_map.specs.declared.open.Opening.{Opening}
 use Rattle.striped_map.specs.Callers.{IsNew}
 use Rattle.striped_map.specs.Seats.{keep_of, known}
+use Rattle.striped_map.specs.Steps.{HasWhole, IsMerged}
 
 -- The callers that were merged into the host, the newest first, each with its number and the
 -- beginning of the history that it had seen. This beginning has all its entries.
 abbrev pub taken : Host → List (ℕ × List Entry)
 taken host = (known host.hand.seat).retired
 
--- How many numbers were given out. The host has the number 0, and each caller got one number.
+-- How many numbers were given out when the host last looked at the history. The host has the number
+-- 0, and each caller got one number.
 abbrev pub numbers : Host → ℕ
 numbers host = (known host.hand.seat).made
+
+-- Whether a caller that was merged into the host had made another caller.
+abbrev pub have_made : Host → Bool
+have_made host = (known host.hand.seat).parent
+
+-- All callers with numbers that the host knows were merged, and none of them had made another. So
+-- there are no other callers.
+abbrev pub IsWhole : Host → Type 0
+IsWhole host = HasWhole (known host.hand.seat)
+
+-- A caller with this number was merged into the host.
+abbrev pub HasTaken : Host → ℕ → Type 0
+HasTaken host c = IsMerged c (taken host)
 
 -- The beginning of the history that the host has seen.
 abbrev pub seen_by : Host → List Entry
@@ -43,6 +59,7 @@ pub record IsOpened (asked : Opening) (host : Host) (all : List Caller) : Type 0
   pub keeps_are : kept_by host ≡ asked.keep
   pub numbers_are : numbers host ≡ asked.callers + 1
   pub none : taken host ≡ []
+  pub childless : have_made host ≡ false
   pub unseen : seen_by host ≡ []
   pub count : length all ≡ asked.callers
   pub each : (place : ℕ) → place < asked.callers

@@ -1,3 +1,4 @@
+-- PROMISES the-striped-map: Keeps
 -- A relation that holds between a transaction before a call and the transaction after the call. It
 -- also holds before and after a work that makes several such calls.
 use Rattle.std.specs.Prelude.{◌≡◌}

@@ -1,3 +1,4 @@
+-- PROMISES the-striped-map: RunsAlone
 -- What the contract of a commit promises about the transaction.
 use Rattle.std.specs.Prelude.{◌≡◌, ℕ, ◌+◌, List, [], ◌∷◌, ◌++◌, IsSome}
 use mathlib.Core.List.{IsPrefix}

@@ -1,3 +1,4 @@
+// PROMISES the-striped-map: transact, transact_waiting
 //! Defines `Caller::transact`, which runs a work in a transaction, and begins again if another
 //! caller holds a stripe. The method is not in the module `caller`, since it builds on
 //! `Transaction`. Each try runs the work in a `Transaction`, so a work that fails leaves no

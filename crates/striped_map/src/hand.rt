@@ -1,8 +1,7 @@
 //! A caller's hand: its seat, and the stripes, changes and levels of its transaction.
 //!
-//! The parts of the stripes that the hand holds stay in their slots, where an operation works on
-//! them as plain memory. A method may be called only in the right phase of a transaction, which the
-//! hand does not test.
+//! The parts of the stripes that the hand holds stay in their slots. A method may be called only in
+//! the right phase of a transaction, which the hand does not test.
 ghost use Rattle.std.specs.Prelude.{◌≡◌, ◌≢◌, ℕ, ◌+◌, ◌-◌, ◌/◌, ◌<◌, ◌≤◌, ◌%◌, ◌^◌, [], ◌∷◌, IfOk, IfErr, IfSome, OnOk, OnErr, None, Some, true, slice_get, slice_index, length, take, drop, vec_len, vec_capacity};
 ghost use mathlib.Core.List.{IsPrefix};
 ghost use Rattle.txn_words.specs.declared.entry.Entry.TheVariants.{Began, Asked, Did, Saved, Leave, Returned, Committed};
@@ -11,15 +10,19 @@ ghost use Rattle.txn_trace.specs.Locks.{stripe_of};
 ghost use Rattle.txn_words.specs.Map.{count_of, key_of};
 ghost use Rattle.txn_words.specs.declared.refusal.Refusal.TheVariants.{NoMemory};
 ghost use Rattle.txn_trace.specs.Now.{now};
+ghost use Rattle.txn_words.specs.declared.holder.Holder.TheVariants.{Begun};
+ghost use Rattle.txn_words.specs.Shape.{own};
+ghost use Rattle.txn_trace.specs.Legal.{IsLegal};
 ghost use Rattle.txn_words.specs.Owed.{may_change};
 ghost use Rattle.stripe_part.specs.Calls.{IsRefused};
 ghost use Rattle.striped_map.specs.Additions.{above, due, entries_of};
 ghost use Rattle.striped_map.specs.Handling.{GainsAtMost, HoldsAllOf, IsEnd, IsMiss, KeepsHeld, idle};
 ghost use Rattle.striped_map.specs.Lone.{RunsAlone};
 ghost use Rattle.striped_map.specs.declared.keep.Keep.TheVariants.{Entries};
-ghost use Rattle.striped_map.specs.Seats.{HasRoom, IsOf, known, part_in, stripes_of};
+ghost use Rattle.striped_map.specs.Rule.{most};
+ghost use Rattle.striped_map.specs.Seats.{HasRoom, IsNext, IsOf, keep_of, known, part_in, stripes_of};
 ghost use Rattle.striped_map.specs.Sound.{AreHeld, AreLogged, IsIndexed, IsSound, held_parts};
-ghost use Rattle.striped_map.specs.Steps.{AreMade, HasAll, HasNoOther, IsAt, SeesIn, seat_of, taken_in, told_of, rolled_back, undoing};
+ghost use Rattle.striped_map.specs.Steps.{AreMade, Gathers, IsAt, SeesIn, counting, renumbered, seat_of, taken_in, told_of, rolled_back, undoing};
 
 use crate::addition::Addition;
 use crate::contents;
@@ -171,9 +174,10 @@ fn give_all(map: &StripedMap, seat: &mut MapSeat, held: &mut Vec<usize>)
 impl Hand {
     ghost use Rattle.striped_map.specs.Hands.{GoesOn, ReadsPairs, IsCut, IsStopped, IsUnread, MovesHand};
 
-    /// A hand that holds no stripe. Its seat has seen no entries.
+    /// A hand that holds no stripe. Its seat has seen a legal history without entries of its own.
     pub(crate) fn new(alloc: Global, seat: MapSeat) -> Hand
-        requires seen { (known seat).seen ≡ [] }
+        requires legal { IsLegal Begun seat.seat.table_id.slots (known seat).seen }
+        requires unused { own (known seat).number (known seat).seen ≡ [] }
         requires held { (known seat).held ≡ [] }
         ensures { result.seat ≡ seat }
     {
@@ -390,16 +394,30 @@ impl Hand {
     }
 
     /// Looks at the history, which has all entries of the seats that were merged into this hand's
-    /// seat.
-    pub(crate) fn gather(&mut self, map: &StripedMap)
+    /// seat. Returns how many numbers were given out.
+    pub(crate) fn gather(&mut self, map: &StripedMap) -> u64
         requires map { IsOf self.old.seat map.now }
         ensures map { IsOf self.new.seat map.now }
-        ensures sees { SeesIn (stripes_of map.now) (known self.old.seat) (known self.new.seat) }
-        ensures all { HasAll (known self.old.seat) (known self.new.seat).seen }
-        ensures others { (known self.old.seat).number ≡ 0
-            → HasNoOther (known self.old.seat) (known self.new.seat).seen }
+        ensures gathers { Gathers (stripes_of map.now) (known self.old.seat) result
+            (known self.new.seat) }
     {
-        map.gather(&mut self.seat);
+        map.gather(&mut self.seat)
+    }
+
+    /// Makes a new seat, which has seen what this hand has seen. Returns `None` if all numbers were
+    /// given out.
+    pub(crate) fn another(&mut self, map: &StripedMap, alloc: Global) -> Option<MapSeat>
+        requires map { IsOf self.old.seat map.now }
+        requires keep { (known self.old.seat).keep ≡ keep_of map.now }
+        ensures map { IsOf self.new.seat map.now }
+        ensures levels { self.new.levels ≡ self.old.levels }
+        ensures legal { IsLegal Begun (stripes_of map.now) (known self.old.seat).seen }
+        ensures same { known self.new.seat ≡ renumbered (known self.old.seat) (known self.new.seat) }
+        ensures some { IfSome result (IsNext map.now (known self.old.seat) (known self.new.seat)) }
+        ensures none { result ≡ None
+            → known self.new.seat ≡ counting (known self.old.seat) (most (keep_of map.now)) }
+    {
+        map.another(alloc, &mut self.seat)
     }
 
     /// Looks at the history. The history that this hand has seen then begins with the history that
@@ -445,7 +463,8 @@ impl Hand {
         ensures idle { (known self.new.seat).held ≡ [] }
         ensures number { (known self.new.seat).number ≡ (known self.old.seat).number }
         ensures retired { (known self.new.seat).retired ≡ (known self.old.seat).retired }
-        ensures made { (known self.new.seat).made ≡ (known self.old.seat).made }
+        ensures made { (known self.old.seat).made ≤ (known self.new.seat).made }
+        ensures parent { (known self.new.seat).parent ≡ (known self.old.seat).parent }
         ensures ok { IfOk result (λ pairs. ReadsPairs map.now self.old self.new pairs.items) }
         ensures err { IfErr result (IsUnread map.now self.old self.new) }
     {

@@ -1,4 +1,6 @@
 //! What a map keeps of its history.
+ghost use Rattle.std.specs.Prelude.{◌≡◌};
+ghost use Rattle.striped_map.specs.Rule.{most};
 
 /// What a map keeps of its history. This is fixed when the map is opened (`Opening`). One word of
 /// the map counts what is kept, modulo 2^64 (`measure` in `specs/Rule.antt`).
@@ -12,4 +14,18 @@ pub enum Keep {
     /// Each caller's own entries, each with its position in the history. If all callers are merged,
     /// the host hands the history out (`Host::history`).
     Entries,
+}
+
+impl Keep {
+    /// How many numbers a map gives out that keeps this. The host has the number 0, and each caller
+    /// has another.
+    pub(crate) fn most(self) -> u64
+        ensures { result ≡ most self }
+    {
+        match self {
+            Keep::Nothing => 1 << 62,
+            Keep::Commits => 1 << 62,
+            Keep::Entries => 1 << 16,
+        }
+    }
 }

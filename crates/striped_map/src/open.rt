@@ -1,6 +1,6 @@
 //! Opens striped maps. This uses `map`, `host` and `caller`, so it belongs to none of these
-//! modules. Each caller gets a seat that is split off the first seat, which the host keeps. Only
-//! this module makes callers, so a map gets no more callers after it is opened.
+//! modules. Each caller gets a seat that is split off the first seat, which the host keeps. Later
+//! callers are made by callers (`Caller::another`).
 ghost use Rattle.std.specs.Prelude.{◌≡◌, ℕ, IfOk, IfErr, None, replicate};
 ghost use Rattle.striped_map.specs.declared.keep.Keep.TheVariants.{Nothing, Entries};
 ghost use Rattle.striped_map.specs.Hosts.{IsNotOpened, IsOpened, may_open};
@@ -10,11 +10,13 @@ use crate::host::Host;
 use crate::keep::Keep;
 use crate::map::StripedMap;
 use crate::record::Record;
+use crate::rule::Start;
 use std::alloc::{AllocError, Global};
 use std::sync::Arc;
 use txn_trace::Refusal;
 
-/// The largest number of stripes that a map may have, and also the largest number of callers.
+/// The largest number of stripes that a map may have, and also the largest number of callers that
+/// it may have at first.
 pub const MOST: usize = 4096;
 
 /// How to open a striped map.
@@ -23,7 +25,7 @@ pub struct Opening {
     /// How many stripes the map has, at least one and at most 4,096. Callers that use different
     /// stripes do not meet.
     pub stripes: usize,
-    /// How many callers the map has, at most 4,096.
+    /// How many callers the map has at first, at most 4,096.
     pub callers: usize,
     /// For how many keys the stripes have room. The stripes take no memory for the first keys, up
     /// to this number, if two conditions hold. The keys must be spread evenly over the stripes,
@@ -57,17 +59,13 @@ fn empty_parts(alloc: Global, count: usize) -> Result<Vec<Option<Vec<Record>>>, 
     Ok(parts)
 }
 
-/// A place for the records of each caller, if the map keeps its entries.
-fn no_parts(
-    alloc: Global,
-    keep: Keep,
-    callers: usize,
-) -> Result<Vec<Option<Vec<Record>>>, AllocError>
+/// A place for the records of each caller that there may ever be, if the map keeps its entries.
+fn no_parts(alloc: Global, keep: Keep) -> Result<Vec<Option<Vec<Record>>>, AllocError>
     ensures { IfOk result (λ parts. (count : ℕ) × (parts.items ≡ replicate count None)
-        × (keep ≡ Entries → count ≡ callers)) }
+        × (keep ≡ Entries → count ≡ 65535)) }
 {
     match keep {
-        Keep::Entries => empty_parts(alloc, callers),
+        Keep::Entries => empty_parts(alloc, (1 << 16) - 1),
         _ => empty_parts(alloc, 0),
     }
 }
@@ -101,7 +99,8 @@ impl Opening {
     /// # Cost
     ///
     /// Time and memory in proportion to the stripes, the callers and the keys. Without room for
-    /// keys, the part of a stripe takes memory with its first change.
+    /// keys, the part of a stripe takes memory with its first change. If the map keeps its entries,
+    /// also up to 2 megabytes for the records of all callers.
     pub fn open(&self, alloc: Global) -> Result<(Host, Vec<Caller>), Refusal>
         ensures ok { IfOk result (λ made. IsOpened self.now made.0 made.1.items) }
         ensures err { IfErr result (IsNotOpened self.now) }
@@ -116,7 +115,8 @@ impl Opening {
         if !may_open(stripes, callers) {
             return Err(Refusal::Limit);
         }
-        let (map, mut first) = StripedMap::new(alloc, keep, stripes, keys, seed)?;
+        let start = Start { keep, callers };
+        let (map, mut first) = StripedMap::new(alloc, start, stripes, keys, seed)?;
         let Ok(map) = Arc::new(alloc, map) else {
             return Err(Refusal::NoMemory);
         };
@@ -125,10 +125,10 @@ impl Opening {
             let Ok(owned) = Arc::try_clone(&map) else {
                 return Err(Refusal::NoMemory);
             };
-            let seat = map.seat(alloc, &mut first, place + 1);
+            let seat = map.seat(alloc, &mut first, place as u64 + 1);
             all.push_reserved(Caller::new(alloc, owned, seat));
         }
-        let parts = no_parts(alloc, keep, callers)?;
+        let parts = no_parts(alloc, keep)?;
         Ok((Host::new(alloc, map, first, parts), all))
     }
 }

@@ -140,7 +140,7 @@ fn commits_in(alloc: Global, entries: &[Entry]) -> Result<Option<u64>, AllocErro
 }
 
 /// The host hands out a legal history with this number of commits.
-fn hands_out<R: Abort>(rt: &R, alloc: Global, host: &mut Host, wanted: u64) {
+pub(crate) fn hands_out<R: Abort>(rt: &R, alloc: Global, host: &mut Host, wanted: u64) {
     let history = host.history();
     assert!(rt; history.is_ok());
     if let Ok(entries) = history {
@@ -150,7 +150,9 @@ fn hands_out<R: Abort>(rt: &R, alloc: Global, host: &mut Host, wanted: u64) {
 }
 
 /// The host hands out no history, for this reason.
-fn hands_out_nothing<R: Abort>(rt: &R, host: &mut Host, why: NoHistory) {
+pub(crate) fn hands_out_nothing<R: Abort>(rt: &R, host: &mut Host, why: NoHistory)
+    ensures map { host.new.map ≡ host.old.map }
+{
     let history = host.history();
     assert!(rt; matches!(history, Err(found) if found == why));
 }

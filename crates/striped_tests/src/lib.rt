@@ -1,10 +1,12 @@
-//! Tests of `striped_map`, and of `transfer` of `accounts`. They test what no contract says: as
-//! long as there is memory, each call succeeds. A worked run lists each call with its answer, and
-//! the pairs that remain at the end.
+//! Tests of `striped_map`, and of `transfer` of `samples::accounts`. They test what no contract
+//! says: as long as there is memory, each call succeeds. A worked run lists each call with its
+//! answer, and the pairs that remain at the end.
 //!
 //! Most functions that make calls have no contract; `calls` says why.
 #![tactic(auto)]
 
+#[cfg(test)]
+mod another;
 #[cfg(test)]
 mod at_once;
 #[cfg(test)]

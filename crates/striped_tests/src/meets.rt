@@ -6,7 +6,7 @@ ghost use Rattle.std.specs.Prelude.{◌≡◌, ◌<◌, ℕ, length, HoldsAt};
 
 use crate::calls::{Ask, Home, NEW, Told, ask_row, has_left, leaves, play};
 use crate::transfers::FILLED;
-use accounts::transfer;
+use samples::accounts::transfer;
 use std::alloc::Global;
 use std::process::Abort;
 use std::thread;

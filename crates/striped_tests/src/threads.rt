@@ -2,8 +2,10 @@
 //! `Work` says what the callers do there. This module has no tests. `histories` and `transfers`
 //! call `in_threads`. The closure of a thread scope has no `assert!`, which would be slow to prove
 //! there.
+use crate::another::come_and_go;
 use crate::calls::{Row, ask_row};
 use crate::transfers::{move_many, take_part};
+use std::alloc::Global;
 use std::process::Abort;
 use std::sync::Wait;
 use std::thread;
@@ -13,6 +15,8 @@ use striped_map::Caller;
 /// The work of each caller in its thread.
 #[derive(Clone, Copy)]
 pub(crate) enum Work<'a> {
+    /// Makes callers, which move a sum, and drops them.
+    ComesAndGoes(Global),
     /// Makes these calls.
     Calls(&'a [Row]),
     /// Moves many sums between accounts.
@@ -32,6 +36,7 @@ fn ask_all<R: Abort>(rt: &R, caller: &mut Caller, rows: &[Row]) {
 /// Does the work of the caller at this place.
 fn do_work<R: Abort>(rt: &R, caller: &mut Caller, place: usize, what: Work) {
     match what {
+        Work::ComesAndGoes(alloc) => come_and_go(rt, alloc, caller),
         Work::Calls(rows) => ask_all(rt, caller, rows),
         Work::Moves => move_many(rt, caller, place as u64),
         Work::TakesPart => take_part(rt, caller, place),

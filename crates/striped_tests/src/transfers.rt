@@ -1,9 +1,9 @@
-//! Tests of `transfer` of the crate `accounts`, by one caller and by several in their threads. No
+//! Tests of `transfer` of `samples::accounts`, by one caller and by several in their threads. No
 //! contract says that a transfer is made as soon as its stripes are free. The balances were worked
 //! out by hand. After four threads have moved sums that look random, only the total is known.
 use crate::calls::{Ask, Home, NEW, Row, Told, answer, leaves, must, open, play};
 use crate::threads::{Work, in_threads};
-use accounts::transfer;
+use samples::accounts::transfer;
 use std::process::Abort;
 use std::sync::Wait;
 use std::thread;

@@ -225,10 +225,7 @@ const WORDS: [(InitRefusal, &str); 6] = [
         InitRefusal::ParentMissing,
         "the bucket's parent is not stored",
     ),
-    (
-        InitRefusal::NoSuchHelper,
-        "there is no helper of this number",
-    ),
+    (InitRefusal::NoSuchHelper, "there is no such helper"),
     (
         InitRefusal::HelperOutOfOrder,
         "the helper has no cursor to link at, or no dummy to store",

@@ -1,3 +1,4 @@
+-- PROMISES scripts-on-threads: MayCome
 -- The outcomes that the actions of a script allow.
 use Rattle.std.specs.Prelude.{Bool, true, false, IsTrue, List}
 use Rattle.std.specs.List.{list_any}

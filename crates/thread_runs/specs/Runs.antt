@@ -1,3 +1,4 @@
+-- PROMISES scripts-on-threads: HasRunScripts, HasReported
 -- The entries that a worker's run of a script adds, and the result of a run of all scripts.
 use Rattle.std.specs.Prelude.{◌≡◌, ◌<◌, ◌⊎◌, ℕ, Bool, Option, Some, None, true, false, List, ◌++◌, length, map, slice_get, is_some}
 use Rattle.std.specs.List.{All, AllByRecursion}

@@ -1,3 +1,4 @@
+// PROMISES scripts-on-threads: run_scripts
 //! A run of scripts, from a new map to the outcomes in the scripts' order. The parts of a run are
 //! in the other modules. A run chooses the types of its ledger and of its terms, so callers of
 //! `run_scripts` name neither. Before a thread starts, room is made for the entries of one attempt

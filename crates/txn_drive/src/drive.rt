@@ -1,3 +1,4 @@
+// PROMISES scripts-that-take-turns: Drive::turn, told
 //! A call in progress: its phase, its next turn, and its phase after an answer. A drive does not
 //! take steps itself, so a core, a lock and a test can all use the same drive. The state of a drive
 //! determines which entries its steps have added to the history (`specs/Made.antt`).

@@ -1,5 +1,7 @@
 pub mod InRange
 pub mod Joined
 pub mod KeptEntries
-pub mod PlainPieces
 pub mod Lines
+pub mod OnLine
+pub mod PlainPieces
+pub mod Writes

@@ -1,3 +1,4 @@
+-- PROMISES from-words-and-bytes-to-bytes: history_of
 -- Bytes as a history file: its content, or the first fault.
 use Rattle.std.specs.Prelude.{ℕ, List, [], ◌∷◌, Bool, ◌-◌, ◌&&◌, nat_le, Option, None, option_map, Result, Ok, Err, if◌then◌else◌, codes}
 use Rattle.std.specs.List.{list_all}

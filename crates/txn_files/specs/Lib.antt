@@ -2,11 +2,14 @@ pub mod Operations
 pub mod Steps
 pub mod StepFile
 pub mod Entries
+pub mod EntryLine
+pub mod EntryLines
 pub mod HistoryFile
 pub mod HistoryText
 pub mod HistoryLine
 pub mod Actions
 pub mod ScriptFile
+pub mod Output
 pub mod Reading
 -- The faults of files, and the definitions of `piece_files` that the definitions here use.
 pub use Rattle.piece_files.specs.declared.part.Part

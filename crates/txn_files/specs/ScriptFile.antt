@@ -1,3 +1,4 @@
+-- PROMISES from-words-and-bytes-to-bytes: scripts_of
 -- Bytes as a script file: its content, or the first fault.
 use Rattle.std.specs.Prelude.{ℕ, List, [], ◌∷◌, length, Bool, ◌&&◌, nat_le, Result, Ok, Err, if◌then◌else◌, codes}
 use Rattle.std.specs.List.{list_all}

@@ -1,3 +1,4 @@
+-- PROMISES from-words-and-bytes-to-bytes: file_of
 -- What bytes are when they are read as a step file: the file's content, or its first fault.
 use Rattle.std.specs.Prelude.{ℕ, true, List, [], ◌∷◌, nat_le, Result, Ok, Err, if◌then◌else◌, codes}
 use Rattle.txn_words.specs.Sizes.{Sizes, limits_of}

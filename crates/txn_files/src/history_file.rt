@@ -1,26 +1,23 @@
-//! History files. This module says which shapes and ranges entries have; `piece_files` has the
-//! loops over tokens. Entries are kept packed. An entry whose caller is too large is out of range,
-//! and cannot be packed. A substitute is kept in its place. The substitute can be packed and is out
-//! of range too, so the fault of the file stays the same.
+// PROMISES from-words-and-bytes-to-bytes: read_history
+//! History files. `entry` says which entries there are, and `piece_files` has the loops over
+//! tokens. Entries are kept packed. An entry whose caller is too large is out of range, and cannot
+//! be packed. A substitute is kept in its place. The substitute can be packed and is out of range
+//! too, so the fault of the file stays the same.
 ghost use Rattle.std.specs.Prelude.{◌≡◌, map, true, false, IfOk};
 ghost use Rattle.std.specs.List.{list_all};
 ghost use Rattle.piece_files.specs.Plain.{data_of};
 ghost use Rattle.piece_files.specs.Faults.{Gives};
-ghost use Rattle.txn_files.specs.Entries.{busy_of, entry_named, entry_of, is_old_entry, transaction_entry};
+ghost use Rattle.txn_files.specs.Entries.{is_old_entry};
 ghost use Rattle.txn_files.specs.HistoryFile.{max_entries, is_in_range, is_history, entries_from, history_of, kept, kept_of, kept_history_of, holder_rule};
 
-use crate::operation::{is_old_op, leading_op_in, op_in};
+use crate::entry::{MAX_ELEMENTS, entry_in, is_in_range, is_old_entry};
 use arrayvec::ArrayVec;
 use json::Reader;
 use piece_files::{
-    FileFault, Part, PieceKind, Plain, Stop, elements_at, end_in, number_in, one_in, optional_in,
-    plain_elements, read_file, word_in,
+    FileFault, Part, PieceKind, Plain, Stop, elements_at, plain_elements, read_file,
 };
 use std::alloc::{AllocError, Global};
 use txn_words::{Entry, Holder, Limits, Op, SmallEntry};
-
-/// The largest number that a caller may have.
-const MAX_CALLER: u64 = Limits::MAX_CALLERS - 1;
 
 /// The number of the caller in a substitute entry (`kept`). It is out of range, but small enough to
 /// be packed.
@@ -32,81 +29,6 @@ const MAX_ENTRIES: usize = 1_000_000;
 /// The last version of history files that has the rule `Holder::Now`: the caller that a Busy entry
 /// names must hold the stripe.
 const LAST_OF_NOW: u64 = 2;
-
-/// The number of elements of the longest entry: `["busy",0,"put_if",1,10,12,2]`.
-const MAX_ELEMENTS: usize = 7;
-
-#[tactic(auto, unfolding(crate::specs::Entries::busy_of))]
-fn busy_in(caller: u64, values: &[Plain<'_>]) -> Option<Entry>
-    ensures { result ≡ busy_of caller (map data_of values.now) }
-{
-    let (op, rest) = leading_op_in(values)?;
-    let holder = one_in(rest)?;
-    Some(Entry::Busy(caller, op, holder))
-}
-
-/// The entry that has this name, this caller and these further elements, if the name is one of
-/// `began`, `saved`, `leave`, `returned`, `committed` and `aborted`.
-#[tactic(auto, unfolding(crate::specs::Entries::transaction_entry))]
-fn transaction_entry_in(name: &str, caller: u64, values: &[Plain<'_>]) -> Option<Entry>
-    ensures { result ≡ transaction_entry name.now caller (map data_of values.now) }
-{
-    if name == "began" {
-        Some(Entry::Began(caller, one_in(values)?))
-    } else if name == "saved" {
-        end_in(values)?;
-        Some(Entry::Saved(caller))
-    } else if name == "leave" {
-        Some(Entry::Leave(caller, optional_in(values)?))
-    } else if name == "returned" {
-        Some(Entry::Returned(caller, one_in(values)?))
-    } else if name == "committed" {
-        Some(Entry::Committed(caller, one_in(values)?))
-    } else if name == "aborted" {
-        end_in(values)?;
-        Some(Entry::Aborted(caller))
-    } else {
-        None
-    }
-}
-
-/// The entry, of any kind, that has this name, this caller and these further elements.
-#[tactic(auto, unfolding(crate::specs::Entries::entry_named))]
-fn entry_named_in(name: &str, caller: u64, values: &[Plain<'_>]) -> Option<Entry>
-    ensures { result ≡ entry_named name.now caller (map data_of values.now) }
-{
-    if name == "asked" {
-        Some(Entry::Asked(caller, op_in(values)?))
-    } else if name == "busy" {
-        busy_in(caller, values)
-    } else if name == "did" {
-        Some(Entry::Did(caller, optional_in(values)?))
-    } else if name == "undone" {
-        end_in(values)?;
-        Some(Entry::Undone(caller))
-    } else {
-        transaction_entry_in(name, caller, values)
-    }
-}
-
-#[tactic(auto, unfolding(crate::specs::Entries::entry_of))]
-fn entry_in(values: &[Plain<'_>]) -> Option<Entry>
-    ensures { result ≡ entry_of (map data_of values.now) }
-{
-    let (name, rest) = word_in(values)?;
-    let (caller, rest) = number_in(rest)?;
-    entry_named_in(name, caller, rest)
-}
-
-/// Whether version 1 has this entry too.
-fn is_old_entry(entry: Entry) -> bool
-    ensures { result ≡ is_old_entry entry }
-{
-    match entry {
-        Entry::Asked(_, op) | Entry::Busy(_, op, _) => is_old_op(op),
-        _ => true,
-    }
-}
 
 /// Packs an entry. If the entry's caller or holder is too large to be packed, the entry is out of
 /// range. The function then returns a substitute that is out of range too.
@@ -194,29 +116,11 @@ impl PieceKind for EntryKind {
     }
 }
 
-/// Whether the callers of an entry are in range.
-fn is_in_range(entry: &SmallEntry) -> bool
-    ensures { result ≡ is_in_range entry.now }
-{
-    match entry.entry() {
-        Entry::Busy(caller, _, holder) => caller <= MAX_CALLER && holder <= MAX_CALLER,
-        Entry::Began(caller, _)
-        | Entry::Asked(caller, _)
-        | Entry::Did(caller, _)
-        | Entry::Saved(caller)
-        | Entry::Leave(caller, _)
-        | Entry::Undone(caller)
-        | Entry::Returned(caller, _)
-        | Entry::Committed(caller, _)
-        | Entry::Aborted(caller) => caller <= MAX_CALLER,
-    }
-}
-
 /// Whether the callers of all entries are in range.
 fn are_in_range(entries: &[SmallEntry]) -> bool
     ensures { result ≡ list_all is_in_range entries.now }
 {
-    entries.iter().all(|entry| is_in_range(entry))
+    entries.iter().all(|entry| is_in_range(entry.entry()))
 }
 
 /// Whether the number of stripes and the callers of a history are in range.

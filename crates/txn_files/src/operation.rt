@@ -20,8 +20,7 @@ fn leading_put_if_in<'v, 'a>(key: u64, values: &'v [Plain<'a>]) -> Option<(Op, &
         ≡ put_if_at key (map data_of values.now) }
 {
     let (expected, rest) = leading_optional_in(values)?;
-    let (value, rest) = number_in(rest)?;
-    Some((Op::PutIf(key, expected, value), rest))
+    number_in(rest).map(|(value, rest)| (Op::PutIf(key, expected, value), rest))
 }
 
 /// Reads the operation at the start of the elements. Returns the operation, and the elements after
@@ -37,17 +36,12 @@ pub fn leading_op_in<'v, 'a>(values: &'v [Plain<'a>]) -> Option<(Op, &'v [Plain<
 {
     let (name, rest) = word_in(values)?;
     let (key, rest) = number_in(rest)?;
-    if name == "put" {
-        let (value, rest) = number_in(rest)?;
-        Some((Op::Put(key, value), rest))
-    } else if name == "take" {
-        Some((Op::Take(key), rest))
-    } else if name == "get" {
-        Some((Op::Get(key), rest))
-    } else if name == "put_if" {
-        leading_put_if_in(key, rest)
-    } else {
-        None
+    match name {
+        "put" => number_in(rest).map(|(value, rest)| (Op::Put(key, value), rest)),
+        "take" => Some((Op::Take(key), rest)),
+        "get" => Some((Op::Get(key), rest)),
+        "put_if" => leading_put_if_in(key, rest),
+        _ => None,
     }
 }
 
@@ -62,8 +56,10 @@ pub fn leading_op_in<'v, 'a>(values: &'v [Plain<'a>]) -> Option<(Op, &'v [Plain<
 pub fn op_in(values: &[Plain<'_>]) -> Option<Op>
     ensures { result ≡ op_of (map data_of values.now) }
 {
-    let (op, rest) = leading_op_in(values)?;
-    if rest.is_empty() { Some(op) } else { None }
+    match leading_op_in(values)? {
+        (op, []) => Some(op),
+        _ => None,
+    }
 }
 
 /// Returns true if version 1 of the files has this operation too.

@@ -1,3 +1,4 @@
+// PROMISES from-words-and-bytes-to-bytes: read_scripts
 //! Script files. This module says which shapes and ranges actions and scripts have; `piece_files`
 //! has the loops over tokens. All actions of a script are kept, packed, before the module tests how
 //! many there are.

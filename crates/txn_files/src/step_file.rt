@@ -1,3 +1,4 @@
+// PROMISES from-words-and-bytes-to-bytes: read_steps
 //! Step files. This module says which shapes and ranges the thirteen kinds of steps have, and has
 //! the limits that script files share; `piece_files` has the loops over tokens. Steps are kept
 //! packed, which takes five sevenths of the memory that unpacked steps take. Only `read_steps`

@@ -1,3 +1,4 @@
+// PROMISES entries-as-lines: history_lines
 //! Writes histories as compact JSON: each entry as an array, and the object around the arrays.
 //! `text_of_history` defines the text from the version, the number of stripes and the entries.
 //! Making the text takes time and memory in proportion to its length.
@@ -7,6 +8,7 @@
 ghost use Rattle.std.specs.Prelude.{◌≡◌, ◌≤◌, ◌∷◌, ◌++◌, codes, decimal, length, map};
 ghost use Rattle.std.specs.Prelude.{OnOk, IfOk, string_bytes};
 ghost use Rattle.std.specs.List.{join_with_byte};
+ghost use Rattle.txn_files.specs.EntryLines.{text_of_lines};
 ghost use Rattle.txn_files.specs.HistoryLine.{further_text};
 ghost use Rattle.txn_files.specs.HistoryText.{comma, entry_text, optional_text, text_of_history};
 ghost use Rattle.txn_words.specs.declared.entry.Entry.{Entry};
@@ -177,5 +179,29 @@ pub fn history_text(
     text.push_str("{\"entries\":[")?;
     put_entries(&mut text, entries)?;
     write!(text, "],\"stripes\":{stripes},\"version\":{version}}}")?;
+    Ok(text)
+}
+
+/// The text of a history as lines: one for each entry, such as `["began",0,1]`, followed by a line
+/// feed. A line depends only on its own entry, so a store can append lines while it runs, and after
+/// a crash those that were completely written can be read. If all callers and holders are below 64,
+/// reading the lines gives the history back.
+///
+/// # Errors
+///
+/// `AllocError` if memory is refused.
+///
+/// # Cost
+///
+/// Time and memory in proportion to the entries.
+pub fn history_lines(alloc: Global, entries: &[Entry]) -> Result<String, AllocError>
+    ensures { IfOk result (λ text. string_bytes text ≡ text_of_lines entries.now) }
+{
+    let mut text = String::new(alloc);
+    let mut line = Line::new();
+    for entry in entries {
+        set_entry(&mut line, *entry);
+        writeln!(text, "{}", line.text())?;
+    }
     Ok(text)
 }

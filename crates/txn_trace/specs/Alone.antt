@@ -1,3 +1,4 @@
+-- PROMISES each-transaction-as-if-alone: alone
 -- A transaction that runs alone: the maps that it goes through, if its replies are right.
 use Rattle.std.specs.Prelude.{ℕ, ◌+◌, Option, Some, None, List, [], ◌∷◌, ◌++◌, length, take, nat_eq, slice_get, if◌then◌else◌}
 use Rattle.std.specs.Option.{option_eq, option_and_then}

@@ -1,3 +1,4 @@
+-- PROMISES the-present-map: erase
 -- Histories without their aborted transactions.
 use Rattle.std.specs.Prelude.{Bool, true, not, Some, None, List, map}
 use Rattle.std.specs.List.{filter}

@@ -1,3 +1,5 @@
+-- PROMISES each-transaction-as-if-alone: IsLegal
+-- PROMISES the-judge-of-histories: verdict, IsLegal
 -- Legal histories, and the verdict on any history.
 use Rattle.std.specs.Prelude.{ℕ, ◌+◌, Bool, true, false, not, Option, Some, None, is_some, List, [], ◌∷◌, ◌++◌, length, max, if◌then◌else◌}
 use Rattle.std.specs.List.{filter, fold, list_all, range_with_len}

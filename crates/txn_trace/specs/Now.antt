@@ -1,3 +1,4 @@
+-- PROMISES the-present-map: now
 -- The map `now`: the committed map, with those changes of the open transactions that are not taken
 -- back.
 use Rattle.std.specs.Prelude.{ℕ, Option, List, [], ◌∷◌, map, nat_eq, if◌then◌else◌}

@@ -1,3 +1,5 @@
+-- PROMISES what-became-of-each-script: IsPlayed
+-- PROMISES scripts-that-take-turns: Plays
 -- The script that a transaction plays, and the scripts that the transactions of one caller play.
 use Rattle.std.specs.Prelude.{◌≡◌, ℕ, ◌%◌, ◌<◌, ◌≤◌, ◌==◌, Bool, true, false, not, ◌&&◌, Some, List, [], ◌∷◌, ◌++◌, length, slice_get, if◌then◌else◌}
 use Prim.Native.Nat.{suc}

@@ -1,3 +1,4 @@
+// PROMISES the-present-map: erased
 //! The laws of histories. Each law is the contract of a function that does nothing, so a crate that
 //! uses this one can cite the law without naming a lemma of `proofs/`. The only law here is that
 //! aborted transactions leave nothing behind. It holds for both rules of `Holder` and for any

@@ -1,3 +1,4 @@
+-- PROMISES each-change-has-an-inverse: ordered
 -- The order in which a split-ordered table lists its keys.
 use Rattle.std.specs.Prelude.{ℕ, List, []}
 use Rattle.std.specs.FinMap.Entries.{put}

@@ -49,7 +49,7 @@ pub enum Refusal {
     OutOfStep,
     /// 16: no stamp below 2^64 - 1 is left.
     StampsUsedUp,
-    /// 17: callers of the map are missing: it is closed with one caller of each number.
+    /// 17: callers of the map are missing: `close` needs all of them.
     CallersMissing,
     /// 18: a worker could not be started.
     NoThread,
@@ -116,19 +116,17 @@ impl Refusal {
     {
         match self {
             Refusal::BadKey => "the key is 2^63 or more, and the map takes half keys only",
-            Refusal::NoSuchCaller => "there is no caller of this number",
+            Refusal::NoSuchCaller => "there is no such caller",
             Refusal::NotOpen => "the caller has no open transaction",
             Refusal::AlreadyOpen => "the caller has an open transaction already",
             Refusal::OperationUnfinished => "an operation of the caller has no reply yet",
             Refusal::Leaving => "the caller is taking its changes back",
             Refusal::Unplaced => "there is no cursor to act on",
-            Refusal::NothingToSeek => {
-                "there is neither an operation to seek for nor a change to take back"
-            }
+            Refusal::NothingToSeek => "there is nothing to seek",
             Refusal::NoSuchLevel => "the transaction has no savepoint of this number",
             Refusal::NoSuchBucket => "the bucket is not below the size of the table",
             Refusal::ParentMissing => "the parent of the bucket is not initialised",
-            Refusal::NoSuchHelper => "there is no helper of this number",
+            Refusal::NoSuchHelper => "there is no such helper",
             Refusal::HelperOutOfOrder => {
                 "the helper has no cursor to link at, or no dummy to store"
             }
@@ -139,7 +137,7 @@ impl Refusal {
             Refusal::NoThread => "a thread could not be started",
             Refusal::StaleWord => "the claim to the stripe is stale",
             Refusal::NotJson => "the file is not JSON",
-            Refusal::WrongShape => "the file has a piece of another shape than it should have",
+            Refusal::WrongShape => "an element of the file has the wrong shape",
             Refusal::Limit => "a size or a number is out of range",
         }
     }

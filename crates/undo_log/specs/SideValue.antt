@@ -1,3 +1,4 @@
+-- PROMISES inverses-newest-first: words_at, IsUndoable
 -- The words of a side value at each level, as the jobs of its undo log determine them.
 use Rattle.std.specs.Prelude.{ℕ, zero, suc, ◌≡◌, ◌≤◌, List, [], ◌∷◌, map, length}
 use Rattle.undo_log.specs.UndoLog.{LogAt}

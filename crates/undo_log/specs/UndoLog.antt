@@ -1,3 +1,4 @@
+-- PROMISES inverses-newest-first: LogAt
 -- An undo log as contracts see it, and the jobs above a level.
 use Rattle.std.specs.Prelude.{ℕ, ◌∷◌, ◌-◌, nat_lt, List, length, slice_get, slice_index, Option, None, if◌then◌else◌}
 

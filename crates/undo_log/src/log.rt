@@ -1,3 +1,4 @@
+// PROMISES inverses-newest-first: JobLog, UndoLog
 //! The log of a transaction: its jobs, oldest first, and how many of them each savepoint keeps. A
 //! log runs no job. The same type works with both kinds of job store. Room for a job is reserved
 //! first, so adding or taking out a job takes no memory, and neither does dropping savepoints.

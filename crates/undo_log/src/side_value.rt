@@ -1,3 +1,4 @@
+// PROMISES inverses-newest-first: SideValue
 //! A side value with the log of its changes, as one value, so that no change is made without its
 //! job. Invariant: if the jobs are run, newest first, they restore the words that the value had at
 //! each level. So a level's words are not stored, and going back takes no memory except what the

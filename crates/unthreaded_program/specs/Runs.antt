@@ -1,3 +1,4 @@
+-- PROMISES from-words-and-bytes-to-bytes: Runs
 -- What the program does, given the words of its call, and how it ends.
 use Rattle.std.specs.Prelude.{◌≡◌, ◌⊎◌, ℕ, Bool, true, false, List, Option, Result, Ok, Err}
 use Rattle.std.specs.Io.KnownBytes.{Appends, Keeps}

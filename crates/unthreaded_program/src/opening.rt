@@ -45,7 +45,7 @@ fn fault_of(reason: NoCall) -> Fault
 ///
 /// # Errors
 ///
-/// - `Usage` if the words are not texts, or are no call of the program.
+/// - `Usage` if the words are not texts, or not a valid call.
 /// - `Read` if the file cannot be opened.
 /// - `NoMemory` if memory is refused.
 ///

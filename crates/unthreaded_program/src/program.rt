@@ -1,3 +1,4 @@
+// PROMISES from-words-and-bytes-to-bytes: `run` without threads
 //! A command on an open file (`run_command`), and the whole program without threads (`run`), from
 //! the words of a call to the exit status. The system and both outputs are type parameters, so that
 //! contracts and tests reach the whole program. `boostmap_program` calls `run_command` for every

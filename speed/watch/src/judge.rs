@@ -165,17 +165,23 @@ impl<R: Rules> Judge<R> {
         self.bad.is_none()
     }
 
+    pub fn rules(&self) -> &R {
+        &self.rules
+    }
+
+    /// How many commits there are, and how many callers are in a transaction.
+    pub fn counts(&self) -> String {
+        let is_open = |caller: &&Caller| !matches!(caller.phase, Phase::Closed);
+        let open = self.callers.iter().filter(is_open).count();
+        format!("{} commits {open} open", self.committed)
+    }
+
     /// The line of the verdict, and whether the history is legal.
     pub fn verdict(&self) -> (String, bool) {
         if let Some(rule) = self.bad {
             let rule = rule as u64;
             return (format!("illegal entry {} rule {rule}", self.fed), false);
         }
-        let is_open = |caller: &&Caller| !matches!(caller.phase, Phase::Closed);
-        let open = self.callers.iter().filter(is_open).count();
-        (
-            format!("legal {} commits {open} open", self.committed),
-            true,
-        )
+        (format!("legal {}", self.counts()), true)
     }
 }

@@ -1,16 +1,21 @@
 //! The command `watch` of the program `judge` in plain Rust: reads an entry a line with typed serde, judges it, and prints the
-//! verdict. It writes what the program writes, and nothing is proved of it. See docs/SPEED.md.
+//! verdict; and `check` of a serializable history file. It writes what the program writes, and nothing is proved of it. See
+//! docs/SPEED.md.
 //!
-//! Usage: watch --stripes N | watch --commit-order
+//! Usage: watch --stripes N | watch --commit-order | check --serializable FILE
 mod entry;
 mod judge;
+mod order;
 mod rules;
 
 use entry::{Entry, Event};
 use judge::{Judge, Rules};
+use order::Order;
 use rules::{Commits, Locks};
+use serde::Deserialize;
 use std::env;
 use std::error::Error;
+use std::fs;
 use std::io::{self, BufRead, BufReader};
 use std::process::ExitCode;
 
@@ -28,6 +33,24 @@ fn read_entry(line: &[u8]) -> Result<Entry, Box<dyn Error>> {
     } else {
         Err("a caller is out of range".into())
     }
+}
+
+#[derive(Deserialize)]
+struct History {
+    entries: Vec<Entry>,
+}
+
+/// Whether the history of a file has a serial order. Its line does not say why it has none.
+fn check_order(file: &str) -> Result<(String, bool), Box<dyn Error>> {
+    let history: History = serde_json::from_slice(&fs::read(file)?)?;
+    let mut judge = Judge::new(Order::new());
+    let is_serializable = history.entries.iter().all(|entry| judge.feed(entry)) && judge.rules().is_serializable();
+    let line = if is_serializable {
+        format!("serializable {}", judge.counts())
+    } else {
+        "not serializable".into()
+    };
+    Ok((line, is_serializable))
 }
 
 /// The line of the verdict on the entries that standard input has, and whether they are legal.
@@ -53,6 +76,7 @@ fn verdict() -> Result<(String, bool), Box<dyn Error>> {
     match words.iter().map(String::as_str).collect::<Vec<_>>()[..] {
         ["watch", "--stripes", stripes] => watch(Locks::new(stripes.parse()?)),
         ["watch", "--commit-order"] => watch(Commits::new()),
+        ["check", "--serializable", file] => check_order(file),
         _ => Err("no such words".into()),
     }
 }

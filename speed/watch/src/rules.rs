@@ -11,16 +11,42 @@ pub struct Locks {
 }
 
 /// A key that a transaction asked for: what it must have before the transaction, and what it has for it now.
-struct Cell {
-    need: Reply,
-    now: Reply,
+pub struct Cell {
+    pub need: Reply,
+    pub now: Reply,
 }
 
 /// The keys that a transaction asked for, and whether its replies fit no map.
 #[derive(Default)]
-struct Footprint {
-    cells: HashMap<u64, Cell>,
-    is_torn: bool,
+pub struct Footprint {
+    pub cells: HashMap<u64, Cell>,
+    pub is_torn: bool,
+}
+
+impl Footprint {
+    pub fn answer(&mut self, op: Op, reply: Reply) {
+        let first = Cell {
+            need: reply,
+            now: reply,
+        };
+        let cell = self.cells.entry(op.key()).or_insert(first);
+        if cell.now == reply {
+            cell.now = op.leaves(reply);
+        } else {
+            self.is_torn = true;
+        }
+    }
+
+    pub fn put_back(&mut self, key: u64, before: Reply) {
+        if let Some(cell) = self.cells.get_mut(&key) {
+            cell.now = before;
+        }
+    }
+
+    pub fn clear(&mut self) {
+        self.cells.clear();
+        self.is_torn = false;
+    }
 }
 
 /// By the order of commits: the map that the committed transactions leave, and each caller's footprint.
@@ -118,24 +144,12 @@ impl Rules for Commits {
     }
 
     fn answer(&mut self, caller: usize, op: Op, reply: Reply) -> Result<(), Rule> {
-        let footprint = &mut self.footprints[caller];
-        let first = Cell {
-            need: reply,
-            now: reply,
-        };
-        let cell = footprint.cells.entry(op.key()).or_insert(first);
-        if cell.now == reply {
-            cell.now = op.leaves(reply);
-        } else {
-            footprint.is_torn = true;
-        }
+        self.footprints[caller].answer(op, reply);
         Ok(())
     }
 
     fn put_back(&mut self, caller: usize, key: u64, before: Reply) {
-        if let Some(cell) = self.footprints[caller].cells.get_mut(&key) {
-            cell.now = before;
-        }
+        self.footprints[caller].put_back(key, before);
     }
 
     fn commit(&mut self, caller: usize) -> Result<(), Rule> {
@@ -154,7 +168,6 @@ impl Rules for Commits {
     }
 
     fn abort(&mut self, caller: usize) {
-        self.footprints[caller].cells.clear();
-        self.footprints[caller].is_torn = false;
+        self.footprints[caller].clear();
     }
 }

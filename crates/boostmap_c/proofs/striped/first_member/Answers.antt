@@ -1,17 +1,15 @@
-use Rattle.std.proofs.Common.{◌≡◌, [], ◌∷◌, ◌++◌, sym, ap, subst, ◌∙◌}
+use Rattle.std.proofs.Common.{[], ◌∷◌, ◌++◌, sym, subst, ◌∙◌}
+use Rattle.striped_map.specs.declared.open.Opening.{Opening}
 use Rattle.striped_map.specs.Hosts.{IsOpened}
 use Rattle.boostmap_c.proofs.striped.first_member.Goals as goal
 
-pub returns-clause-ok : goal.returns-clause-ok
-returns-clause-ok c =
-    let items : c.in-Ok.waiting.items ≡ c.pop.new.self.items ++ c.in-Some-pop.caller ∷ [] = c.in-Some-pop.ensures.items in
-    let waiting = ap (λ v. v.items ++ c.in-Some-pop.caller ∷ []) (sym c.new.ensures.waiting) in
-    let caller = ap (λ a. c.new.result.waiting.items ++ a ∷ []) (sym c.new.ensures.caller) in
-    let all = c.in-Ok-new.member.value.waiting.items ++ c.in-Ok-new.member.value.caller ∷ [] in
-    let opening = ap (λ m. m.opening) c.in-Ok-new.ensures.ok ∙ c.new.ensures.opening in record {
-      kept = c.in-Some.kept;
-      keep_is = sym c.keep_of.ensures ∙ c.in-Some.is;
-      opening = opening;
-      host = c.in-Ok._host;
-      opened = subst (λ o. IsOpened o c.in-Ok._host all) (sym opening) (subst (IsOpened _ c.in-Ok._host) (items ∙ waiting ∙ caller ∙ ap (λ m. m.waiting.items ++ m.caller ∷ []) (sym c.in-Ok-new.ensures.ok)) c.in-Ok.ensures.ok);
-    }
+pub returns-in-Ok-made_member-clause-ok : goal.returns-in-Ok-made_member-clause-ok
+returns-in-Ok-made_member-clause-ok c = let made = c.in-Ok-made_member in record {
+  kept = c.in-Some.kept;
+  keep_is = sym c.keep_of.ensures ∙ c.in-Some.is;
+  opening = made.ensures.opening;
+  host = c.in-Ok.host;
+  hosts = made.ensures.host;
+  counts_are = made.ensures.counts;
+  opened = subst (λ (o : Opening). IsOpened o c.in-Ok.host (made.member.value.group.waiting.items ++ made.member.value.caller ∷ [])) (sym made.ensures.opening) made.ensures.ok;
+}

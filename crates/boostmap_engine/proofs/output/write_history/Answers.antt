@@ -3,7 +3,7 @@ use Rattle.std.proofs.lemmas.Result.{err_from_is_err_and}
 use Rattle.std.specs.Io.KnownBytes.{Appends}
 use Rattle.txn_files.specs.HistoryText.{text_of_history}
 use Rattle.boostmap_engine.specs.Report.{line}
-use Rattle.boostmap_engine.proofs.Known.{Appends-then}
+use Rattle.txn_files.proofs.Writes.{Appends-then}
 use Rattle.boostmap_engine.proofs.WrittenPieces.{piece_written, part_written, nothing_left, whole_written}
 use Rattle.boostmap_engine.proofs.output.write_history.Goals as goal
 
@@ -21,7 +21,7 @@ returns-in_err-write_text-clause-err g c =
     let before = c.loop-pieces.invariant in
     let left = c.next_piece.ensures.whole ∙ ap (λ (xs : List ℕ). xs ++ c.next_piece.new.self) (sym c.text.ensures) in
     let p = err_from_is_err_and c.from_residual-in_err-write_text.result c.from_residual-in_err-write_text.ensures.1 in
-    rw (p.1, p.2, c.in_err-write_text.ensures.fault)
+    rw (p.1, p.2)
     (part_written (g.W.Write.contents c.args.output.now) (g.W.Write.contents c.loop-pieces.output) (g.W.Write.contents c.write_text.new.output)
     (line (text_of_history c.args.version c.args.stripes c.args.entries.now)) before.0 c.loop-pieces.pieces c.text.result.now c.next_piece.new.self before.1 left before.2 c.in_err-write_text.ensures.err)
 

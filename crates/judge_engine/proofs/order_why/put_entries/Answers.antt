@@ -1,4 +1,4 @@
-use Rattle.std.proofs.Common.{◌++◌, ◌∷◌, [], List, take, subst, sym}
+use Rattle.std.proofs.Common.{List, take, subst, sym}
 use Rattle.std.specs.Prelude.{string_bytes}
 use Rattle.txn_words.specs.declared.entry.Entry.{Entry}
 use Rattle.txn_words.specs.Kinds.{caller_of}

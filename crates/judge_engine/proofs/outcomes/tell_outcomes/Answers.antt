@@ -3,7 +3,7 @@ use Rattle.std.specs.Prelude.{◌↔◌, string_bytes}
 use Rattle.std.specs.Io.KnownBytes.{Appends}
 use Rattle.std.proofs.lemmas.Result.{err_from_is_err_and}
 use Rattle.judge_engine.specs.Outcomes.{IsWell}
-use Rattle.judge_engine.specs.Outputs.{AppendsPart}
+use Rattle.txn_files.specs.Output.{AppendsPart}
 use Rattle.judge_engine.proofs.Telling.{leaves_history, told}
 use Rattle.judge_engine.proofs.outcomes.tell_outcomes.Goals as goal
 

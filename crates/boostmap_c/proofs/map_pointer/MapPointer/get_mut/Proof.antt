@@ -28,7 +28,7 @@ use denote.Triple.Walked.{says, Stays, stay_dropped, walk_of, ends_at, Goes-spen
 use Rattle.core.proofs.alloc.Shapes.{after}
 use Rattle.std.proofs.raw_atomic.Walks.{proved}
 use Rattle.std_alloc.specs.Box.Ownership.{box_owns}
-use Rattle.owned_pointer.proofs.Words.{word}
+use Rattle.boostmap_c.proofs.PointerWords.{word}
 use Rattle.boostmap_c.specs.declared.held_map.HeldMap.{HeldMap}
 use Rattle.boostmap_c.specs.contracts.held_map.HeldMap as held_map
 use Rattle.boostmap_c.specs.Held.{owns_map}

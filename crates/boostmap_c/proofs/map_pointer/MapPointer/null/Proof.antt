@@ -14,7 +14,7 @@ use denote.RawPtr.{null_ptr}
 use denote.Steps.{nothing}
 use denote.Triple.Walked.{Stays, walk_of}
 use Rattle.std.proofs.raw_atomic.Walks.{proved_at, leaves}
-use Rattle.owned_pointer.proofs.Words.{word}
+use Rattle.boostmap_c.proofs.PointerWords.{word}
 use Rattle.boostmap_c.proofs.MapWords.{makes_map}
 use Rattle.boostmap_c.specs.contracts.map_pointer.MapPointer.null.{ended, clauses}
 use Rattle.boostmap_c.specs.contracts.map_pointer.MapPointer.null.Key.{name as #self}

@@ -24,7 +24,7 @@ use denote.Triple.Walked.{Stays, stay_dropped, walk_of}
 use Rattle.core.proofs.alloc.Calls.{Goes-blank}
 use Rattle.std.proofs.raw_atomic.Walks.{proved_at, leaves}
 use Rattle.std_alloc.specs.Box.Ownership.{box_owns}
-use Rattle.owned_pointer.proofs.Words.{word, makes_pointer}
+use Rattle.boostmap_c.proofs.PointerWords.{word, makes_pointer}
 use Rattle.boostmap_c.specs.declared.member.Member.{Member}
 use Rattle.boostmap_c.specs.contracts.member.Member as member
 use Rattle.boostmap_c.specs.Held.{owns_member}

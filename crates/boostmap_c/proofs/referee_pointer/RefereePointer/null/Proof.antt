@@ -14,7 +14,7 @@ use denote.RawPtr.{null_ptr}
 use denote.Steps.{nothing}
 use denote.Triple.Walked.{Stays, walk_of}
 use Rattle.std.proofs.raw_atomic.Walks.{proved_at, leaves}
-use Rattle.owned_pointer.proofs.Words.{word}
+use Rattle.boostmap_c.proofs.PointerWords.{word}
 use Rattle.boostmap_c.proofs.RefereeWords.{makes_referee}
 use Rattle.boostmap_c.specs.contracts.referee_pointer.RefereePointer.null.{ended, clauses}
 use Rattle.boostmap_c.specs.contracts.referee_pointer.RefereePointer.null.Key.{name as #self}

@@ -5,7 +5,7 @@ use Rattle.txn_trace.specs.History.{commits}
 use Rattle.serial_check.specs.Serializable.{IsSerializableByCommits}
 use Rattle.order_check.specs.declared.access.Access.{Access}
 use Rattle.order_check.specs.declared.outcome.Outcome.{Outcome}
-use Rattle.order_check.specs.declared.outcome.Outcome.TheVariants.{Order, Unwritten, Cycle, Ambiguous}
+use Rattle.order_check.specs.declared.outcome.Outcome.TheVariants.{Order, Unwritten, Impossible, Cycle, Ambiguous}
 use Rattle.order_check.specs.declared.transactions.Transactions.{Transactions}
 use Rattle.order_check.specs.Footprints.{no_values}
 use Rattle.order_check.specs.Graphs.{IsCycle}
@@ -19,7 +19,7 @@ use Rattle.order_check.proofs.Alike.{torn_no_order}
 use Rattle.order_check.proofs.ByCommits.{serializable_in_order}
 use Rattle.order_check.proofs.Histories.{order_by_places, none_by_places}
 use Rattle.order_check.proofs.AccessOrder.{names_all}
-use Rattle.order_check.proofs.AccessOutcomes.{outcome_on, by_commits_in_turn, cycle_is, unwritten_is, repeated_is}
+use Rattle.order_check.proofs.AccessOutcomes.{outcome_on, by_commits_in_turn, cycle_is, needed_is, unwritten_is, repeated_is}
 use Rattle.order_check.specs.Outcomes.{footprints_of}
 use Rattle.order_check.proofs.transactions.Transactions.verdict.Goals as goal
 
@@ -80,6 +80,19 @@ returns-in-Unwritten-clause-verdict c h shape shows =
       λ serializable. none_by_places h shape (footprints_of kept.accesses.items) none outcome.1 serializable.order serializable.in_order,
     )
 
+pub returns-in-Impossible-clause-verdict : goal.returns-in-Impossible-clause-verdict
+returns-in-Impossible-clause-verdict c h shape shows =
+    let kept = c.args.self.now in
+    let none = accesses_are h kept shows c.in_default.is in
+    let outcome : IsOutcome (length (commits h)) kept.accesses.items (Impossible c.in-Impossible.access) =
+    outcome_on c.len.result (length (commits h)) c.deref.result.now kept.accesses.items c.in_ok-places.field-0 (Impossible c.in-Impossible.access) (count_is h kept c.len.result shows c.len.ensures) c.deref.ensures.value c.in-Impossible.is c.in_ok-places.ensures.outcome in
+    let a = c.in-Impossible.access in
+    let named : c.name_at-txn-in-Impossible.result ≡ name_at (commits h) a.txn = c.name_at-txn-in-Impossible.ensures ∙ ap (λ ts. name_at ts a.txn) (c.deref-in-Impossible.ensures.value ∙ shows.committed) in
+    let needed = needed_is h kept.accesses.items (plain_on h kept shows) none a outcome.0 in (
+      subst (λ t. IsCommitted h t × NeedsValue h t a.key a.need) (sym named) needed,
+      λ serializable. none_by_places h shape (footprints_of kept.accesses.items) none outcome.1 serializable.order serializable.in_order,
+    )
+
 pub returns-in_ok-cycle-in-Cycle-clause-verdict : goal.returns-in_ok-cycle-in-Cycle-clause-verdict
 returns-in_ok-cycle-in-Cycle-clause-verdict c h shape shows =
     let kept = c.args.self.now in
@@ -108,3 +121,6 @@ returns-in_ok-cycle-in-Cycle-clause-commits c h shows by_commits = in_turn h c.a
 
 pub returns-in-Ambiguous-clause-commits : goal.returns-in-Ambiguous-clause-commits
 returns-in-Ambiguous-clause-commits c h shows by_commits = in_turn h c.args.self.now c.deref.result.now c.in_ok-places.field-0 (Ambiguous c.in-Ambiguous.edge) c.len.result shows c.in_default.is c.len.ensures c.deref.ensures.value c.in_ok-places.ensures.in_turn c.in-Ambiguous.is by_commits
+
+pub returns-in-Impossible-clause-commits : goal.returns-in-Impossible-clause-commits
+returns-in-Impossible-clause-commits c h shows by_commits = in_turn h c.args.self.now c.deref.result.now c.in_ok-places.field-0 (Impossible c.in-Impossible.access) c.len.result shows c.in_default.is c.len.ensures c.deref.ensures.value c.in_ok-places.ensures.in_turn c.in-Impossible.is by_commits

@@ -7,4 +7,4 @@ use Rattle.striped_map.proofs.hand.Hand.new.Goals as goal
 
 pub invariant_of-result : goal.invariant_of-result
 invariant_of-result c = let n = c.args.seat.seat.table_id.slots in let v = known c.args.seat in
-    record { sound = sound_lists n v _ _ _ (ap (held_parts c.args.seat) c.new.ensures.items) c.new-3.ensures.items c.new-4.ensures.items (sound_new n v c.requires.seen c.requires.held); indexed = indexed_none _ _ c.new.ensures.items }
+    record { sound = sound_lists n v _ _ _ (ap (held_parts c.args.seat) c.new.ensures.items) c.new-3.ensures.items c.new-4.ensures.items (sound_new n v c.requires.legal c.requires.unused c.requires.held); indexed = indexed_none _ _ c.new.ensures.items }

@@ -1,4 +1,4 @@
-use Rattle.std.proofs.Common.{inl, inr, refl, ◌≡◌, ℕ, ◌≤◌, List, Some, slice_get, sym, ap, subst, ◌∙◌, mod-lt}
+use Rattle.std.proofs.Common.{inl, inr, refl, ◌≡◌, ℕ, List, Some, slice_get, sym, ap, subst, ◌∙◌, mod-lt}
 use Rattle.txn_words.specs.declared.entry.Entry.{Entry}
 use Rattle.txn_trace.specs.Locks.{stripe_of}
 use Rattle.txn_words.specs.Map.{Map}
@@ -8,25 +8,26 @@ use Rattle.map_answers.specs.declared.stop.Stop.TheVariants.{Refused}
 use Rattle.striped_map.specs.Hands.{IsCut}
 use Rattle.striped_map.specs.Rule.{HasEnded}
 use Rattle.striped_map.specs.Seats.{known}
-use Rattle.striped_map.proofs.Ends.{due_kept, moved_back, moved_seen, moved_on}
+use Rattle.striped_map.proofs.Ends.{due_gathered, due_kept, moved_back}
 use Rattle.striped_map.proofs.hand.Hand.read.Goals as goal
 
 pub returns-in-Ok-pairs-clause-ok : goal.returns-in-Ok-pairs-clause-ok
 returns-in-Ok-pairs-clause-ok c = let map = c.args.map.now in let n = map.table.shared.table_id.slots in
-    let begun = c.in-Ok.ensures.begun in let done = c.in-Ok-pairs.ensures.ok in let sees = c.gather.ensures.sees in let ended = c.leave.ensures.moves in
+    let begun = c.in-Ok.ensures.begun in let done = c.in-Ok-pairs.ensures.ok in let gathers = c.gather.ensures.gathers in let sees = gathers.sees in let ended = c.leave.ensures.moves in
     let a = known c.args.self.now.seat in let v = known c.pairs.new.self.seat in let w = known c.gather.new.self.seat in
     let same : now w.seen ≡ now v.seen = same_map (now w.seen) (now v.seen) (λ key. sees.still key (c.in-Ok-pairs.ensures.all (stripe_of n key) (mod-lt key map.some))) in
     let retired : v.retired ≡ a.retired = done.1.retired_is ∙ begun.1.retired_is in
-    let goes = moved_on map c.begin.new.self c.pairs.new.self c.gather.new.self (record { moves = done.1; keeps = c.in-Ok-pairs.ensures.keeps done.0 }) (moved_seen map c.pairs.new.self c.gather.new.self sees) in
-    let unchanged = due_kept map c.begin.new.self c.gather.new.self goes in
+    let unchanged = due_gathered n v w c.gather.result gathers ∙ due_kept map c.begin.new.self c.pairs.new.self done.1 in
     record {
       txn = begun.0;
       during = c.begin.new.self;
       begun = begun.1;
+      read = c.pairs.new.self;
+      reads = done.1;
+      found = c.gather.result;
       left = c.gather.new.self;
-      goes = goes;
-      all = subst (λ (rs : List (ℕ × List Entry)). (j : ℕ) (r : ℕ × List Entry) → slice_get rs j ≡ Some r → HasEnded r.0 r.1 w.seen) retired c.gather.ensures.all;
-      others = λ k low. c.gather.ensures.others (done.1.number_is ∙ begun.1.number_is ∙ c.requires.first) k (subst (λ (x : ℕ). x ≤ k) (sym (done.1.made_is ∙ begun.1.made_is)) low);
+      gathers = gathers;
+      all = subst (λ (rs : List (ℕ × List Entry)). (j : ℕ) (r : ℕ × List Entry) → slice_get rs j ≡ Some r → HasEnded r.0 r.1 w.seen) retired gathers.all;
       pairs_are = done.2 ∙ ap (λ (m : Map). m.rows) (sym same);
       ended = moved_back map c.gather.new.self c.leave.new.self (unchanged ∙ c.in-Ok.ensures.fresh) ended;
     }

@@ -3,6 +3,10 @@ use Rattle.std.proofs.lemmas.List.{length-replicate}
 use Rattle.striped_map.specs.declared.record.Record.{Record}
 use Rattle.striped_map.specs.declared.seat.MapSeat.{MapSeat}
 use Rattle.striped_map.specs.declared.view.View.{View}
+use Rattle.txn_words.specs.declared.holder.Holder.TheVariants.{Begun}
+use Rattle.txn_words.specs.Shape.{own}
+use Rattle.txn_trace.specs.Legal.{IsLegal}
+use Rattle.txn_trace.proofs.BadEntries.{legal_none}
 use Rattle.striped_map.specs.Gathered.{HasParts}
 use Rattle.striped_map.specs.Rule.{view}
 use Rattle.striped_map.specs.Seats.{keep_of, known}
@@ -20,9 +24,12 @@ invariant_of-result c = let seat = c.new.result.seat in
       of = ap (λ z. z.table_id) same ∙ c.requires.table;
       alike = ap (λ (v : View). v.keep) is;
       first = ap (λ (v : View). v.number) is;
-      closed = at_new (known seat) (ap (λ (v : View). v.seen) is);
+      closed = at_new (known seat) (ap (λ (v : View). own v.number v.seen) is);
       idle = ap (λ (v : View). v.held) is;
-      sized = λ all. ap (λ z. z.me.0.made) same ∙ parts.2 (sym (ap (λ (v : View). v.keep) is) ∙ all)
-          ∙ (let long = ap length parts.1 ∙ length-replicate parts.0 (let p : Option (Vec Record Global) = None in p) in let o = c.args.parts.ok.0 in omega arith);
+      sized = λ all. (let count = parts.2 (sym (ap (λ (v : View). v.keep) is) ∙ all) in let long = ap length parts.1 ∙ length-replicate parts.0 (let p : Option (Vec Record Global) = None in p) in let o = c.args.parts.ok.0 in omega arith);
       parted = λ all. subst (λ (v : View). HasParts v.retired c.args.parts.items) (sym is) (none_merged parts.0 c.args.parts.items parts.1);
     }
+
+pub new-requires-clause-legal : goal.new-requires-clause-legal
+new-requires-clause-legal c = let first = c.requires.first in
+    subst (IsLegal Begun _) (sym (ap (λ z. z.me.0.seen) c.fresh.ensures ∙ ap (λ (m : Sat). m.0.seen) first.1)) (legal_none _)

@@ -42,6 +42,7 @@ invariant_of-seat g c = let seat = c.args.seat.now in let e = c.fetch_add-at.ens
     let found = c.fetch_add-at.result in let is = e.2.1.view_is in
     record {
       low = seat.low;
+      placed = seat.placed;
       acting = ap (λ (v : View). v.acts) is ∙ seat.acting;
       moded = ap (λ (v : View). v.keep) is ∙ seat.moded;
       marked = λ all. subst (λ (rs : List Record). marks seat.number 0 w.seen ≡ spread seat.number rs) (sym c.push_reserved.ensures.items)

@@ -16,6 +16,7 @@ invariant_of-seat c = let k = c.args.stripe in let seat = c.args.seat.now in let
     let view = ap (λ (m : Sat). m.0) is in
     record {
       low = seat.low;
+      placed = seat.placed;
       acting = ap (λ (v : View). v.acts) view ∙ seat.acting;
       moded = ap (λ (v : View). v.keep) view ∙ seat.moded;
       marked = λ all. ap (λ (v : View). marks seat.number 0 v.seen) view ∙ seat.marked all;

@@ -6,8 +6,7 @@ use Rattle.atomic_table.specs.Table.{Joins}
 use Rattle.striped_map.specs.declared.view.View.{View}
 use Rattle.striped_map.specs.Rule.{Holds, IsKept}
 use Rattle.striped_map.specs.Steps.{Sat, SeesIn, blank, heard, places}
-use Rattle.striped_map.proofs.Meets.{witnesses, hears, sees_met}
-use Rattle.striped_map.proofs.MergedSeats.{gathers}
+use Rattle.striped_map.proofs.Meets.{witnesses, hears, meets_up, sees_met}
 use Rattle.txn_words.specs.declared.seat.Phase.TheVariants.{Opened}
 use Rattle.striped_map.proofs.Rooms.{at_between}
 use Rattle.striped_map.proofs.map.StripedMap.catch_up.Goals as goal
@@ -26,7 +25,7 @@ join_seat-requires c = let me = c.args.seat.now in let s = c.args.self.now.sized
 
 pub load-requires : goal.load-requires
 load-requires c = let me = c.args.seat.now in let s = c.args.self.now.sized in
-    (c.join_seat.ensures.0 ∙ c.requires.seat, omega arith, gathers _ _ _ _ (ap (λ (m : Sat). m.0.acts) c.join_seat.ensures.2 ∙ me.acting))
+    (c.join_seat.ensures.0 ∙ c.requires.seat, omega arith, meets_up _ _ _ _ (ap (λ (m : Sat). m.0.acts) c.join_seat.ensures.2 ∙ me.acting))
 
 pub returns-clause-sees : goal.returns-clause-sees
 returns-clause-sees c = let v : View = c.args.seat.now.seat.me.0 in let heard_view = ap (λ (m : Sat). m.0) c.join_seat.ensures.2 in
@@ -38,6 +37,7 @@ invariant_of-seat c = let seat = c.args.seat.now in let w = c.load.new.seat.me.0
     let is = sees.view_is in
     record {
       low = seat.low;
+      placed = seat.placed;
       acting = ap (λ (v : View). v.acts) is ∙ seat.acting;
       moded = ap (λ (v : View). v.keep) is ∙ seat.moded;
       marked = λ all. still_marked _ seat.number seat.seat.me.0 w seat.records.items seat.numbered sees.goes (seat.marked all);

@@ -1,0 +1,139 @@
+/* Threads run transactions on a striped map that keeps its entries, and are busy at times. Each frees its caller, and
+ * the host hands out the whole history, which the judge must find legal; with one reply forged it must not. The statuses
+ * of the host's calls come before. Usage: history [THREADS] */
+#include "boostmap.h"
+#include "check.h"
+#include <pthread.h>
+#include <string.h>
+
+enum { MOST = 16, STRIPES = 8, KEYS = 32, ROUNDS = 2000 };
+
+static boostmap_caller callers[MOST];
+
+static uint64_t draw(uint64_t *seed, uint64_t below) {
+    *seed = *seed * 6364136223846793005u + 1442695040888963407u;
+    return (*seed >> 33) % below;
+}
+
+/* A transaction of some operations, with a savepoint at times, that commits, aborts or is busy. */
+static void round_of(boostmap_caller *caller, uint64_t *seed) {
+    uint64_t w, level = 0;
+    CHECK(boostmap_striped_begin(caller) == BOOSTMAP_DONE);
+    for (uint64_t i = draw(seed, 6); i-- > 0;) {
+        uint64_t key = draw(seed, KEYS), what = draw(seed, 7);
+        boostmap_status status = BOOSTMAP_DONE;
+        if (what == 0) status = boostmap_striped_take(caller, key, &w);
+        else if (what == 1) status = boostmap_striped_get(caller, key, &w);
+        else if (what == 2) status = boostmap_striped_put_if_absent(caller, key, i, &w);
+        else if (what == 3) status = boostmap_striped_put_if_equal(caller, key, 1, i, &w);
+        else if (what == 4) status = boostmap_striped_save(caller, &level);
+        else if (what == 5 && level) status = boostmap_striped_back(caller, draw(seed, level + 1));
+        else status = boostmap_striped_put(caller, key, i, &w);
+        if (status == BOOSTMAP_BUSY) return;
+        if (status == BOOSTMAP_NO_SUCH_LEVEL) continue;
+        CHECK(status <= BOOSTMAP_ABSENT);
+    }
+    if (draw(seed, 4)) CHECK(boostmap_striped_commit(caller, &w) == BOOSTMAP_DONE && w == 0);
+    else CHECK(boostmap_striped_abort(caller) == BOOSTMAP_DONE);
+}
+
+static void *run(void *caller) {
+    uint64_t seed = (uint64_t)((boostmap_caller *)caller - callers) + 1;
+    for (int i = 0; i < ROUNDS; i++) round_of(caller, &seed);
+    if (seed % 2) CHECK(boostmap_striped_begin(caller) == BOOSTMAP_DONE); /* aborted by the free */
+    CHECK(boostmap_striped_free(caller) == BOOSTMAP_DONE);
+    return NULL;
+}
+
+static boostmap_verdict judged(const boostmap_entry *entries, uint64_t count, uint32_t rule) {
+    boostmap_judge judge = BOOSTMAP_INIT;
+    boostmap_verdict verdict;
+    uint64_t fed;
+    CHECK(boostmap_judge_new(&judge, STRIPES, rule) == BOOSTMAP_DONE);
+    CHECK(boostmap_judge_feed_all(&judge, entries, count, &fed) == BOOSTMAP_DONE && fed == count);
+    CHECK(boostmap_judge_verdict(&judge, &verdict) == BOOSTMAP_DONE);
+    CHECK(boostmap_judge_free(&judge) == BOOSTMAP_DONE);
+    return verdict;
+}
+
+/* Threads run, and their history is judged. */
+static void threads_are_judged(uint64_t count) {
+    boostmap_host host = BOOSTMAP_INIT;
+    boostmap_entry *entries = NULL;
+    boostmap_verdict verdict;
+    pthread_t threads[MOST];
+    uint64_t word, forged = 0;
+    CHECK(boostmap_striped_open(&callers[0], count, STRIPES, 0, BOOSTMAP_KEEP_ENTRIES, 0, &word) == BOOSTMAP_DONE);
+    CHECK(boostmap_striped_host(&callers[0], &host) == BOOSTMAP_DONE);
+    for (uint64_t i = 1; i < count; i++) CHECK(boostmap_striped_join(&callers[0], &callers[i], &word) == BOOSTMAP_DONE);
+    for (uint64_t i = 0; i < count; i++) CHECK(!pthread_create(&threads[i], NULL, run, &callers[i]));
+    for (int i = 0; i < 100; i++) {
+        boostmap_status status = boostmap_host_history(&host, entries ? entries : (boostmap_entry[1]){{0}}, 1, &word);
+        CHECK(status == BOOSTMAP_MISSING || status == BOOSTMAP_SHORT);
+    }
+    for (uint64_t i = 0; i < count; i++) CHECK(!pthread_join(threads[i], NULL));
+    CHECK(boostmap_host_entries(&host, &entries, &word) == BOOSTMAP_DONE && word > count * ROUNDS);
+    verdict = judged(entries, word, BOOSTMAP_HOLDER_BEGUN);
+    CHECK(verdict.is_legal == 1 && verdict.running == 0 && verdict.commits > count * ROUNDS / 8);
+    CHECK(judged(entries, word, BOOSTMAP_BY_COMMITS).is_legal == 1);
+    while (forged < word && entries[forged].kind != BOOSTMAP_DID) forged++;
+    entries[forged].has = 1;
+    entries[forged].value ^= 1u << 20;
+    verdict = judged(entries, word, BOOSTMAP_HOLDER_BEGUN);
+    CHECK(verdict.is_legal == 0 && verdict.entry == forged && verdict.rule == 1);
+    free(entries);
+    CHECK(boostmap_host_free(&host) == BOOSTMAP_DONE);
+}
+
+/* What the calls answer when there is no history. */
+static void statuses(void) {
+    boostmap_caller first = BOOSTMAP_INIT, next = BOOSTMAP_INIT, plain = BOOSTMAP_INIT;
+    boostmap_host host = BOOSTMAP_INIT, other = BOOSTMAP_INIT, none = BOOSTMAP_INIT;
+    boostmap_entry entries[8], before[8];
+    uint64_t w;
+    memset(before, 0x55, sizeof before);
+    memcpy(entries, before, sizeof before);
+    CHECK(boostmap_striped_host(&first, &host) == BOOSTMAP_EMPTY);
+    CHECK(boostmap_host_history(&host, entries, 8, &w) == BOOSTMAP_EMPTY);
+    CHECK(boostmap_host_free(&host) == BOOSTMAP_EMPTY);
+    CHECK(boostmap_striped_open(&first, 3, 4, 0, BOOSTMAP_KEEP_ENTRIES, 0, &w) == BOOSTMAP_DONE);
+    CHECK(boostmap_striped_option(&first, BOOSTMAP_OPTION_KEEP, &w) == BOOSTMAP_DONE && w == BOOSTMAP_KEEP_ENTRIES);
+    CHECK(boostmap_striped_join(&first, &next, &w) == BOOSTMAP_DONE && w == 2);
+    CHECK(boostmap_striped_host(&next, &host) == BOOSTMAP_NO_HOST);
+    CHECK(boostmap_striped_host(&first, &host) == BOOSTMAP_DONE);
+    CHECK(boostmap_striped_host(&first, &host) == BOOSTMAP_FULL);
+    CHECK(boostmap_striped_host(&first, &other) == BOOSTMAP_NO_HOST);
+    CHECK(memcmp(&other, &none, sizeof none) == 0);
+    CHECK(boostmap_striped_begin(&next) == BOOSTMAP_DONE);
+    CHECK(boostmap_striped_put(&next, 1, 10, &w) == BOOSTMAP_ABSENT);
+    CHECK(boostmap_striped_commit(&next, &w) == BOOSTMAP_DONE && w == 0);
+    CHECK(boostmap_host_history(&host, entries, 8, &w) == BOOSTMAP_MISSING && w == 1);
+    CHECK(boostmap_striped_free(&first) == BOOSTMAP_DONE); /* and caller 1, which waits */
+    CHECK(boostmap_host_history(&host, entries, 8, &w) == BOOSTMAP_MISSING && w == 2);
+    CHECK(memcmp(entries, before, sizeof before) == 0);
+    CHECK(boostmap_striped_free(&next) == BOOSTMAP_DONE);
+    CHECK(boostmap_host_history(&host, entries, 3, &w) == BOOSTMAP_SHORT && w == 4);
+    CHECK(memcmp(entries, before, sizeof before) == 0);
+    for (int i = 0; i < 2; i++) {
+        CHECK(boostmap_host_history(&host, entries, 8, &w) == BOOSTMAP_DONE && w == 4);
+        CHECK(entries[0].kind == BOOSTMAP_BEGAN && entries[0].caller == 2 && entries[0].number == 1);
+        CHECK(entries[1].kind == BOOSTMAP_ASKED && entries[1].operation == BOOSTMAP_PUT && entries[1].key == 1 && entries[1].value == 10);
+        CHECK(entries[2].kind == BOOSTMAP_DID && entries[2].has == 0);
+        CHECK(entries[3].kind == BOOSTMAP_COMMITTED && entries[3].number == 1);
+        CHECK(memcmp(entries + 4, before + 4, 4 * sizeof *entries) == 0);
+    }
+    CHECK(boostmap_host_free(&host) == BOOSTMAP_DONE && memcmp(&host, &none, sizeof none) == 0);
+    CHECK(boostmap_striped_open(&plain, 1, 4, 0, BOOSTMAP_KEEP_COMMITS, 0, &w) == BOOSTMAP_DONE);
+    CHECK(boostmap_striped_host(&plain, &host) == BOOSTMAP_DONE);
+    CHECK(boostmap_host_history(&host, entries, 8, &w) == BOOSTMAP_NOT_KEPT);
+    CHECK(boostmap_striped_free(&plain) == BOOSTMAP_DONE);
+    CHECK(boostmap_host_history(&host, entries, 8, &w) == BOOSTMAP_NOT_KEPT);
+    CHECK(boostmap_host_free(&host) == BOOSTMAP_DONE);
+    CHECK(boostmap_striped_open(&plain, 1, 4, 0, 3, 0, &w) == BOOSTMAP_LIMIT);
+}
+
+int main(int argc, char **argv) {
+    statuses();
+    threads_are_judged(argc > 1 ? strtoull(argv[1], NULL, 10) : 4);
+    return 0;
+}

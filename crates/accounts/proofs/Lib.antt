@@ -1,4 +1,0 @@
-pub mod Adding
-pub mod Commits
-pub mod Works
-pub mod Tries

@@ -1,0 +1,36 @@
+-- The pointer that `null` returns owns nothing.
+use Rattle.std.proofs.Common.{◌≡◌, [], ◌∷◌, refl, lit<}
+use Rattle.std.specs.Prelude.{None}
+use mir.Val.{Val}
+use base.Logic.{SProp, emp}
+use base.Fml.{ftrue}
+use types.Kit.{‵, raw, ◌⊛◌, ◌$◌, ◌∵◌, !, qed, by, keep, use0}
+use types.Run.{lit, no_more, and_then, returns, enter}
+use types.ByLocal.{alloc_all, pass_all, free_all, look_at, sets}
+use types.Part.{agg}
+use contract.Monad.{fact, fact_i}
+use contract.Running.{tables}
+use denote.RawPtr.{null_ptr}
+use denote.Steps.{nothing}
+use denote.Triple.Walked.{Stays, walk_of}
+use Rattle.std.proofs.raw_atomic.Walks.{proved_at, leaves}
+use Rattle.boostmap_c.proofs.PointerWords.{word}
+use Rattle.boostmap_c.proofs.KeeperWords.{makes_keeper}
+use Rattle.boostmap_c.specs.contracts.keeper_pointer.KeeperPointer.null.{ended, clauses}
+use Rattle.boostmap_c.specs.contracts.keeper_pointer.KeeperPointer.null.Key.{name as #self}
+use Rattle.boostmap_c.proofs.keeper_pointer.KeeperPointer.null.Statement.{statement}
+use Rattle.boostmap_c.proofs.keeper_pointer.KeeperPointer.null.Code as code
+
+pub null_spec : {M : Type 1} → statement M
+null_spec 𝓤 𝓛 𝓜 𝓡 wired =
+    let 𝓣 = tables 𝓤 𝓛.H 𝓜 𝓡 𝓡.env in let c = clauses 𝓛 𝓜.mem 𝓡.returns in let fn = code.function in
+    let hs : Stays ended.signature.params ended.kept = tt in
+    proved_at 𝓛 ended hs c 𝓜 𝓡 tt #self fn (code.unfolded 𝓤 𝓛.H 𝓜 𝓡 wired) (λ z are.
+    let Post : Val → SProp 𝓤 = (walk_of 𝓛 ended hs c).post z in
+    qed 𝓛 ((‵ ftrue ⊛ ‵ ftrue) ∷ ‵ ftrue ∷ []) ∵ keep ! [] $
+    enter ! 𝓣.C 𝓣.Λ fn [] Post $ alloc_all ! (λ l. pass_all ! refl tt $
+    sets ! (agg ! (and_then ! (lit ! tt) (no_more !))) refl (tt, (record { fits = lit< tt }, tt)) $
+    -- The end of the function needs an empty resource, the pointer and the fact that the contract
+    -- ensures.
+    nothing ! $ makes_keeper ! null_ptr None $ use0 𝓛 (raw (fact 𝓤 (None ≡ None))) (fact_i 𝓤 (None ≡ None) (emp 𝓤) refl) $ nothing ! $ nothing ! $
+    returns ! (look_at ! 0 refl) $ free_all ! refl $ keep ! (0 ∷ 1 ∷ 3 ∷ 2 ∷ []) $ by ! (leaves 𝓛 ended hs c z (word null_ptr) (record { at = null_ptr; keeper = None }) tt tt)))

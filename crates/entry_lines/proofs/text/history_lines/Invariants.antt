@@ -1,7 +1,0 @@
-use Rattle.std.proofs.Common.{◌≡◌, take}
-use Rattle.std.specs.Prelude.{string_bytes}
-use Rattle.entry_lines.specs.LineText.{text_of_lines}
-use Rattle.entry_lines.proofs.text.history_lines.Given as goal
-
-abbrev pub invariant-loop-entry : goal.invariant-loop-entry
-invariant-loop-entry l = string_bytes l.text ≡ text_of_lines (take l.entry-index l.entries)

@@ -1,3 +1,0 @@
-pub mod EntryLine
-pub mod Lines
-pub mod LineText

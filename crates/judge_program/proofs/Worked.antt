@@ -1,0 +1,168 @@
+-- Examples of command lines, each with the call that its words ask for: the rows of the usage, and
+-- lines that ask for no call.
+use Rattle.std.proofs.Common.{true, false, inl, List, [], ◌∷◌, Some, None, codes, refl}
+use Rattle.clap.specs.declared.error.kind.ErrorKind.TheVariants.{ArgumentConflict, DisplayHelp, DisplayVersion, MissingRequiredArgument, MissingSubcommand, UnknownArgument}
+use Rattle.clap.specs.Words.{Text}
+use Rattle.clap.proofs.OnLiterals.{clap_on_literals}
+use Rattle.txn_words.specs.declared.holder.Holder.TheVariants.{Begun}
+use Rattle.judge_engine.specs.declared.basis.Basis.TheVariants.{Locks, Commits}
+use Rattle.judge_program.specs.Words.{Spells, Check, CheckSerializable, Why, WhySerializable, Watch, Outcomes, Help, Version}
+
+abbrev call : List Text → List Text
+call words = codes "judge" ∷ words
+
+check : Spells (call (codes "check" ∷ codes "a.json" ∷ [])) (Some (Check false (codes "a.json")))
+unfolding clap_on_literals
+check = refl
+
+check_by_commits : Spells (call (codes "check" ∷ codes "--commit-order" ∷ codes "a.json" ∷ [])) (Some (Check true (codes "a.json")))
+unfolding clap_on_literals
+check_by_commits = refl
+
+serializable : Spells (call (codes "check" ∷ codes "--serializable" ∷ codes "a.json" ∷ [])) (Some (CheckSerializable false (codes "a.json")))
+unfolding clap_on_literals
+serializable = refl
+
+show_order : Spells (call (codes "check" ∷ codes "--show-order" ∷ codes "a.json" ∷ codes "--serializable" ∷ [])) (Some (CheckSerializable true (codes "a.json")))
+unfolding clap_on_literals
+show_order = refl
+
+no_order : Spells (call (codes "check" ∷ codes "--show-order" ∷ codes "a.json" ∷ [])) None
+unfolding clap_on_literals
+no_order = refl
+
+two_rules : Spells (call (codes "check" ∷ codes "--commit-order" ∷ codes "--serializable" ∷ codes "a.json" ∷ [])) None
+unfolding clap_on_literals
+two_rules = refl
+
+watched_in_any_order : Spells (call (codes "watch" ∷ codes "--serializable" ∷ [])) None
+unfolding clap_on_literals
+watched_in_any_order = (UnknownArgument, inl refl, refl)
+
+flag_behind : Spells (call (codes "check" ∷ codes "-" ∷ codes "--commit-order" ∷ [])) (Some (Check true (codes "-")))
+unfolding clap_on_literals
+flag_behind = refl
+
+why : Spells (call (codes "why" ∷ codes "--" ∷ codes "-a" ∷ [])) (Some (Why false (codes "-a")))
+unfolding clap_on_literals
+why = refl
+
+why_by_commits : Spells (call (codes "why" ∷ codes "--commit-order" ∷ codes "a.json" ∷ [])) (Some (Why true (codes "a.json")))
+unfolding clap_on_literals
+why_by_commits = refl
+
+why_serializable : Spells (call (codes "why" ∷ codes "--serializable" ∷ codes "a.json" ∷ [])) (Some (WhySerializable false (codes "a.json")))
+unfolding clap_on_literals
+why_serializable = refl
+
+graph : Spells (call (codes "why" ∷ codes "--dot" ∷ codes "a.json" ∷ codes "--serializable" ∷ [])) (Some (WhySerializable true (codes "a.json")))
+unfolding clap_on_literals
+graph = refl
+
+no_graph : Spells (call (codes "why" ∷ codes "--commit-order" ∷ codes "--dot" ∷ codes "a.json" ∷ [])) None
+unfolding clap_on_literals
+no_graph = refl
+
+graph_of_check : Spells (call (codes "check" ∷ codes "--serializable" ∷ codes "--dot" ∷ codes "a.json" ∷ [])) None
+unfolding clap_on_literals
+graph_of_check = (UnknownArgument, inl refl, refl)
+
+watch : Spells (call (codes "watch" ∷ [])) (Some (Watch (Locks 4096 Begun)))
+unfolding clap_on_literals
+watch = refl
+
+watch_by_stripes : Spells (call (codes "watch" ∷ codes "--stripes" ∷ codes "7" ∷ [])) (Some (Watch (Locks 7 Begun)))
+unfolding clap_on_literals
+watch_by_stripes = refl
+
+with_plus : Spells (call (codes "watch" ∷ codes "--stripes=+0007" ∷ [])) (Some (Watch (Locks 7 Begun)))
+unfolding clap_on_literals
+with_plus = refl
+
+most_stripes : Spells (call (codes "watch" ∷ codes "--stripes=4096" ∷ [])) (Some (Watch (Locks 4096 Begun)))
+unfolding clap_on_literals
+most_stripes = refl
+
+watch_by_commits : Spells (call (codes "watch" ∷ codes "--commit-order" ∷ [])) (Some (Watch Commits))
+unfolding clap_on_literals
+watch_by_commits = refl
+
+outcomes : Spells (call (codes "outcomes" ∷ codes "a.json" ∷ codes "b.json" ∷ [])) (Some (Outcomes (codes "a.json") (codes "b.json")))
+unfolding clap_on_literals
+outcomes = refl
+
+history_of_standard : Spells (call (codes "outcomes" ∷ codes "a.json" ∷ codes "-" ∷ [])) (Some (Outcomes (codes "a.json") (codes "-")))
+unfolding clap_on_literals
+history_of_standard = refl
+
+no_stripes : Spells (call (codes "watch" ∷ codes "--stripes" ∷ codes "0" ∷ [])) None
+unfolding clap_on_literals
+no_stripes = refl
+
+many_stripes : Spells (call (codes "watch" ∷ codes "--stripes" ∷ codes "4097" ∷ [])) None
+unfolding clap_on_literals
+many_stripes = refl
+
+no_number : Spells (call (codes "watch" ∷ codes "--stripes=x" ∷ [])) None
+unfolding clap_on_literals
+no_number = refl
+
+both_rules : Spells (call (codes "watch" ∷ codes "--commit-order" ∷ codes "--stripes" ∷ codes "7" ∷ [])) None
+unfolding clap_on_literals
+both_rules = refl
+
+standard_twice : Spells (call (codes "outcomes" ∷ codes "-" ∷ codes "-" ∷ [])) None
+unfolding clap_on_literals
+standard_twice = refl
+
+no_command : Spells (call []) None
+unfolding clap_on_literals
+no_command = (MissingSubcommand, inl refl, refl)
+
+other_command : Spells (call (codes "undo" ∷ codes "a.json" ∷ [])) None
+unfolding clap_on_literals
+other_command = (UnknownArgument, inl refl, refl)
+
+no_file : Spells (call (codes "check" ∷ [])) None
+unfolding clap_on_literals
+no_file = (MissingRequiredArgument, inl refl, refl)
+
+two_files : Spells (call (codes "why" ∷ codes "a" ∷ codes "b" ∷ [])) None
+unfolding clap_on_literals
+two_files = (UnknownArgument, inl refl, refl)
+
+one_file : Spells (call (codes "outcomes" ∷ codes "a" ∷ [])) None
+unfolding clap_on_literals
+one_file = (MissingRequiredArgument, inl refl, refl)
+
+watched_file : Spells (call (codes "watch" ∷ codes "a" ∷ [])) None
+unfolding clap_on_literals
+watched_file = (UnknownArgument, inl refl, refl)
+
+stripes_elsewhere : Spells (call (codes "check" ∷ codes "--stripes=7" ∷ codes "a" ∷ [])) None
+unfolding clap_on_literals
+stripes_elsewhere = (UnknownArgument, inl refl, refl)
+
+flag_twice : Spells (call (codes "check" ∷ codes "--commit-order" ∷ codes "--commit-order" ∷ codes "a" ∷ [])) None
+unfolding clap_on_literals
+flag_twice = (ArgumentConflict, inl refl, refl)
+
+help : Spells (call (codes "--help" ∷ [])) (Some Help)
+unfolding clap_on_literals
+help = (DisplayHelp, inl refl, refl)
+
+help_word : Spells (call (codes "help" ∷ [])) (Some Help)
+unfolding clap_on_literals
+help_word = (DisplayHelp, inl refl, refl)
+
+help_of_command : Spells (call (codes "watch" ∷ codes "-h" ∷ [])) (Some Help)
+unfolding clap_on_literals
+help_of_command = (DisplayHelp, inl refl, refl)
+
+version : Spells (call (codes "-V" ∷ [])) (Some Version)
+unfolding clap_on_literals
+version = (DisplayVersion, inl refl, refl)
+
+no_version : Spells (call (codes "check" ∷ codes "-V" ∷ [])) None
+unfolding clap_on_literals
+no_version = (UnknownArgument, inl refl, refl)

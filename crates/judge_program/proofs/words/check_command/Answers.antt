@@ -1,0 +1,14 @@
+use Rattle.std.proofs.Common.{codes}
+use Rattle.std.proofs.lemmas.Result.{IfOk-weaker}
+use Rattle.clap.specs.Words.{with_rule}
+use Rattle.program_host.specs.Words.{file_word}
+use Rattle.judge_program.specs.Words.{flag_word, ruled}
+use Rattle.program_host.proofs.Building.{with_word}
+use Rattle.judge_program.proofs.words.check_command.Goals as goal
+
+pub returns : goal.returns
+returns c =
+    let show = flag_word (codes "show-order") in
+    let shows = with_word c.in_ok-ruled_command.field-0 c.flag.result c.in_ok-command.command (ruled (codes "check")) show c.in_ok-ruled_command.ensures c.flag.ensures.rule c.flag.ensures.local c.in_ok-command.ensures in
+    IfOk-weaker c.arg-2.result _ _
+    (λ command adds. with_word c.in_ok-command.command c.file_name.result command (with_rule (ruled (codes "check")) show) (file_word (codes "FILE")) shows c.file_name.ensures.rule c.file_name.ensures.local adds) c.arg-2.ensures

@@ -1,0 +1,255 @@
+// PROMISES entries-as-lines: run
+//! The whole call of `judge`: words, files, the engine, the line of a failure, the exit status. The
+//! engines take readers, so the files that a call names are opened here. The system and both
+//! outputs are type parameters, so that tests can run a call on words and files in memory.
+ghost use Rattle.std.specs.Prelude.{◌≡◌, ◌⊎◌, Result, Some, IfOk, IfErr, IfSome};
+ghost use Rattle.std.specs.IoError.{error_kind};
+ghost use Rattle.judge_engine.specs.declared.answer.Answer.{Answer};
+ghost use Rattle.judge_engine.specs.declared.fault.Fault.TheVariants as faults;
+ghost use Rattle.judge_engine.specs.Bases.{HasStripes};
+ghost use Rattle.judge_program.specs.declared.failure.Failure.{Failure};
+ghost use Rattle.judge_program.specs.declared.failure.Failure.TheVariants as failures;
+ghost use Rattle.judge_program.specs.Runs.{RunsCall, EndsWith, Runs, Prints, TellsError, memory_or, status_after};
+ghost use Rattle.judge_program.specs.Words as asked;
+ghost use Rattle.judge_program.specs.Words.{HasStripesIf, asked_of};
+
+use crate::failure::{Failure, USAGE};
+use crate::words::{Call, STANDARD, call_in};
+use judge_engine::{
+    Answer, Basis, Fault, OutcomesFault, check, check_serializable, tell_outcomes, watch, why,
+    why_serializable,
+};
+use program_host::System;
+use std::alloc::Global;
+use std::io;
+use std::io::{Read, Write};
+
+/// The text that is printed for a call that asks for the version.
+const VERSION: &str = "judge 1.0.0";
+
+/// How a run of the program ended.
+#[derive(Clone, Copy, Debug, PartialEq, Eq)]
+pub struct Ending {
+    /// The exit status. It is that of the answer: 0 if all is well; 1 if a history is illegal or
+    /// not serializable, or a script that has no `abort` was given up; 5 if it is undecided whether
+    /// a history is serializable. After a failure it is the failure's status.
+    pub status: u8,
+    /// True if the whole message was written to standard error, or if there is no message.
+    pub is_told: bool,
+}
+
+/// Writes a line. Returns `Yes` (all is well) if the write succeeds.
+fn show<W: Write>(output: &mut W, text: &str) -> Result<Answer, Failure>
+    ensures { EndsWith (Prints text.now (W.contents output.old) (W.contents output.new))
+        (λ fault. fault ≡ faults.Write) result }
+{
+    match output.writeln(text) {
+        Ok(()) => Ok(Answer::Yes),
+        Err(_) => Err(Failure::Fault(Fault::Write)),
+    }
+}
+
+/// `NoMemory` if the error is that memory was refused, else the other failure.
+fn memory_or(error: &io::Error, other: Failure) -> Failure
+    ensures { result ≡ memory_or (error_kind error.now) other }
+{
+    match error.kind() {
+        io::ErrorKind::OutOfMemory => Failure::Fault(Fault::NoMemory),
+        _ => other,
+    }
+}
+
+/// Opens the source with this name. On an error, returns `NoMemory` if memory was refused, else the
+/// given failure.
+fn open<S: System>(system: &S, name: &str, failure: Failure) -> Result<S::Input, Failure>
+    ensures ok { IfOk result (λ source. IfSome (S.bytes system.now name.now)
+        (λ known. S.Input.remaining source ≡ Some known)) }
+    ensures err { IfErr result (λ found.
+        (found ≡ failures.Fault faults.NoMemory) ⊎ (found ≡ failure)) }
+{
+    match system.open(name) {
+        Ok(source) => Ok(source),
+        Err(error) => Err(memory_or(&error, failure)),
+    }
+}
+
+/// Judges the history file with this name.
+fn check_file<S: System, W: Write>(
+    alloc: Global,
+    system: &S,
+    by_commits: bool,
+    name: &str,
+    output: &mut W,
+) -> Result<Answer, Failure>
+    ensures { RunsCall (asked.Check by_commits name.now) (S.bytes system.now)
+        (W.contents output.old) (W.contents output.new) result }
+{
+    let source = open(system, name, Failure::Fault(Fault::Read))?;
+    Ok(Answer::from(check(alloc, by_commits, source, output)?))
+}
+
+/// Judges the history file with this name by any order of its transactions.
+fn check_order<S: System, W: Write>(
+    alloc: Global,
+    system: &S,
+    shows_order: bool,
+    name: &str,
+    output: &mut W,
+) -> Result<Answer, Failure>
+    ensures { RunsCall (asked.CheckSerializable shows_order name.now) (S.bytes system.now)
+        (W.contents output.old) (W.contents output.new) result }
+{
+    let source = open(system, name, Failure::Fault(Fault::Read))?;
+    Ok(check_serializable(alloc, shows_order, source, output)?)
+}
+
+/// Judges the history file with this name, and writes what leads to its bad entry.
+fn explain_file<S: System, W: Write>(
+    alloc: Global,
+    system: &S,
+    by_commits: bool,
+    name: &str,
+    output: &mut W,
+) -> Result<Answer, Failure>
+    ensures { RunsCall (asked.Why by_commits name.now) (S.bytes system.now)
+        (W.contents output.old) (W.contents output.new) result }
+{
+    let source = open(system, name, Failure::Fault(Fault::Read))?;
+    Ok(Answer::from(why(alloc, by_commits, source, output)?))
+}
+
+/// Judges the history file with this name by any order of its transactions, and writes what leads
+/// to the reason.
+fn explain_order<S: System, W: Write>(
+    alloc: Global,
+    system: &S,
+    as_graph: bool,
+    name: &str,
+    output: &mut W,
+) -> Result<Answer, Failure>
+    ensures { RunsCall (asked.WhySerializable as_graph name.now) (S.bytes system.now)
+        (W.contents output.old) (W.contents output.new) result }
+{
+    let source = open(system, name, Failure::Fault(Fault::Read))?;
+    Ok(why_serializable(alloc, as_graph, source, output)?)
+}
+
+/// Judges the entries on standard input.
+fn watch_standard<S: System, W: Write>(
+    alloc: Global,
+    system: &S,
+    basis: Basis,
+    output: &mut W,
+) -> Result<Answer, Failure>
+    requires { HasStripes basis }
+    ensures { RunsCall (asked.Watch basis) (S.bytes system.now)
+        (W.contents output.old) (W.contents output.new) result }
+{
+    let mut source = open(system, STANDARD, Failure::Fault(Fault::Read))?;
+    Ok(Answer::from(watch(alloc, basis, &mut source, output)?))
+}
+
+/// Writes what became of the scripts of one file in the history of another file.
+fn outcomes_in<S: System, W: Write>(
+    alloc: Global,
+    system: &S,
+    scripts: &str,
+    history: &str,
+    output: &mut W,
+) -> Result<Answer, Failure>
+    ensures { RunsCall (asked.Outcomes scripts.now history.now) (S.bytes system.now)
+        (W.contents output.old) (W.contents output.new) result }
+{
+    let no_scripts = Failure::Outcomes(OutcomesFault::ScriptsRead);
+    let no_history = Failure::Outcomes(OutcomesFault::HistoryRead);
+    let scripts = open(system, scripts, no_scripts)?;
+    let history = open(system, history, no_history)?;
+    Ok(Answer::from(tell_outcomes(alloc, scripts, history, output)?))
+}
+
+/// Does what a call asks for, and returns the answer.
+fn answer<S: System, W: Write>(
+    alloc: Global,
+    system: &S,
+    call: Call<'_>,
+    output: &mut W,
+) -> Result<Answer, Failure>
+    requires { HasStripesIf (asked_of call) }
+    ensures { RunsCall (asked_of call.entry) (S.bytes system.now)
+        (W.contents output.old) (W.contents output.new) result }
+{
+    match call {
+        Call::Help => show(output, USAGE),
+        Call::Version => show(output, VERSION),
+        Call::Check { by_commits, file } => check_file(alloc, system, by_commits, file, output),
+        Call::CheckSerializable { shows_order, file } => {
+            check_order(alloc, system, shows_order, file, output)
+        }
+        Call::Outcomes { scripts, history } => {
+            outcomes_in(alloc, system, scripts, history, output)
+        }
+        Call::Watch { basis } => watch_standard(alloc, system, basis, output),
+        Call::Why { by_commits, file } => explain_file(alloc, system, by_commits, file, output),
+        Call::WhySerializable { as_graph, file } => {
+            explain_order(alloc, system, as_graph, file, output)
+        }
+    }
+}
+
+/// Reads the words, and does what they ask for.
+fn run_words<S: System, W: Write>(
+    alloc: Global,
+    system: &S,
+    output: &mut W,
+) -> Result<Answer, Failure>
+    ensures { Runs (S.spoken system.now) (S.bytes system.now)
+        (W.contents output.old) (W.contents output.new) result }
+{
+    let words = match system.words(alloc) {
+        Ok(words) => words,
+        Err(error) => return Err(memory_or(&error, Failure::Usage)),
+    };
+    let call = call_in(alloc, &words)?;
+    answer(alloc, system, call, output)
+}
+
+/// The exit status after a run with this outcome. Constant time.
+fn status_of(outcome: &Result<Answer, Failure>) -> u8
+    ensures { result ≡ status_after outcome.now }
+{
+    match outcome {
+        Ok(answer) => answer.status(),
+        Err(failure) => failure.status(),
+    }
+}
+
+/// Does all that the program does: reads the words of the call, and does what they ask for. The
+/// result is written to `output`. After a failure, its line is written to `errors`; for words that
+/// are no call, this is the usage. If this write fails, `is_told` is `false`, and the exit status
+/// stays the same.
+///
+/// # Cost
+///
+/// The cost of the engine, plus time and memory in proportion to the length of the words.
+pub fn run<S: System, W: Write, E: Write>(
+    alloc: Global,
+    system: &S,
+    output: &mut W,
+    errors: &mut E,
+) -> Ending
+    ensures { (outcome : Result Answer Failure)
+        × Runs (S.spoken system.now) (S.bytes system.now)
+        (W.contents output.old) (W.contents output.new) outcome
+        × (result.status ≡ status_after outcome)
+        × TellsError (E.contents errors.old) (E.contents errors.new) result.is_told outcome }
+{
+    let outcome = run_words(alloc, system, output);
+    let is_told = match &outcome {
+        Ok(_) => true,
+        Err(failure) => errors.writeln(failure).is_ok(),
+    };
+    Ending {
+        status: status_of(&outcome),
+        is_told,
+    }
+}

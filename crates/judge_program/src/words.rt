@@ -1,0 +1,335 @@
+// PROMISES entries-as-lines: call_in
+//! Reads the command line of `judge`, by the rules of `clap`, and finds the call that the words ask
+//! for. Numbers are tested here, so an engine can run every call that is found (`HasStripesIf`):
+//! `watch` has 1 to 4,096 locks. Each command is made and added separately, which keeps the proof
+//! of `command` short.
+ghost use Rattle.std.specs.Prelude.{◌≡◌, ◌⊎◌, false, Some, None, IfOk, IfErr, IfSome, codes, map, option_map};
+ghost use Rattle.std.specs.String.{string_bytes};
+ghost use Rattle.clap.specs.Words.{first_of, found_of, rows_of, rule_of};
+ghost use Rattle.judge_engine.specs.declared.fault.Fault.TheVariants as faults;
+ghost use Rattle.judge_engine.specs.Bases.{HasStripes};
+ghost use Rattle.judge_program.specs.declared.failure.Failure.TheVariants as failures;
+ghost use Rattle.program_host.specs.Words.{IsApp, file_word};
+ghost use Rattle.judge_program.specs.Words.{Spells, IsCallOf, HasStripesIf, asked_in, asked_of, basis_for};
+ghost use Rattle.judge_program.specs.Words.{check_for, checking, command_line, explaining, flag_word};
+ghost use Rattle.judge_program.specs.Words.{flagged, is_set, outcomes_for, over_both, ruled};
+ghost use Rattle.judge_program.specs.Words.{stripes_in_word, stripes_word, watching, why_for};
+
+use crate::failure::Failure;
+use clap::error::ErrorKind;
+use clap::{Arg, ArgAction, ArgMatches, Command};
+use judge_engine::{Basis, Fault};
+use std::alloc::{AllocError, Global};
+use txn_words::Holder;
+
+/// A call of the program: the work that its words ask for.
+#[derive(Clone, Copy, Debug, PartialEq, Eq)]
+pub enum Call<'a> {
+    /// Judge a history file.
+    Check {
+        /// True to judge by the order of commits, false to judge by locks.
+        by_commits: bool,
+        /// The file's name.
+        file: &'a str,
+    },
+    /// Say whether the history of a file is serializable, in any order.
+    CheckSerializable {
+        /// True to show the order.
+        shows_order: bool,
+        /// The file's name.
+        file: &'a str,
+    },
+    /// Show the usage.
+    Help,
+    /// Say what became of each script of a script file in a history file.
+    Outcomes {
+        /// The script file's name.
+        scripts: &'a str,
+        /// The history file's name.
+        history: &'a str,
+    },
+    /// Show the version.
+    Version,
+    /// Judge the entries on standard input.
+    Watch {
+        /// The rules to judge by.
+        basis: Basis,
+    },
+    /// Judge a history file and explain its first bad entry.
+    Why {
+        /// True to judge by the order of commits, false to judge by locks.
+        by_commits: bool,
+        /// The file's name.
+        file: &'a str,
+    },
+    /// Say whether the history of a file is serializable, in any order, and what leads to the
+    /// reason if it is not.
+    WhySerializable {
+        /// True for the graph of a cycle, false for lines.
+        as_graph: bool,
+        /// The file's name.
+        file: &'a str,
+    },
+}
+
+/// The file name that stands for standard input.
+pub(crate) const STANDARD: &str = "-";
+
+/// The greatest number of locks, which is also the default.
+const MAX_STRIPES: u64 = 4096;
+
+/// A flag with this name.
+fn flag<'a>(alloc: Global, name: &'a str) -> Arg<'a>
+    ensures rule { rule_of result ≡ flag_word name.entry.now }
+    ensures local { result.global ≡ false }
+{
+    Arg::new(alloc, name).long(name).action(ArgAction::SetTrue)
+}
+
+/// The option for the number of locks, which may be left out.
+fn stripes_option<'a>(alloc: Global) -> Arg<'a>
+    ensures rule { rule_of result ≡ stripes_word }
+    ensures local { result.global ≡ false }
+{
+    Arg::new(alloc, "stripes")
+        .long("stripes")
+        .action(ArgAction::Set)
+}
+
+/// The argument for the name of a file, which may not be left out.
+fn file_name<'a>(alloc: Global, name: &'a str) -> Arg<'a>
+    ensures rule { rule_of result ≡ file_word name.entry.now }
+    ensures local { result.global ≡ false }
+{
+    Arg::new(alloc, name).required(true).action(ArgAction::Set)
+}
+
+/// Makes a command with this name that has the flag to judge by the order of commits.
+fn flagged_command<'a>(alloc: Global, name: &'a str) -> Result<Command<'a>, AllocError>
+    ensures { IfOk result (λ command. IsApp command (flagged name.entry.now)) }
+{
+    Command::new(alloc, name).arg(flag(alloc, "commit-order"))
+}
+
+/// Makes a command with this name that has the flags to judge by the order of commits and by any
+/// order.
+fn ruled_command<'a>(alloc: Global, name: &'a str) -> Result<Command<'a>, AllocError>
+    ensures { IfOk result (λ command. IsApp command (ruled name.entry.now)) }
+{
+    flagged_command(alloc, name)?.arg(flag(alloc, "serializable"))
+}
+
+/// The command `check`.
+fn check_command<'a>(alloc: Global) -> Result<Command<'a>, AllocError>
+    ensures { IfOk result (λ command. IsApp command checking) }
+{
+    let command = ruled_command(alloc, "check")?.arg(flag(alloc, "show-order"))?;
+    command.arg(file_name(alloc, "FILE"))
+}
+
+/// The command `why`.
+fn why_command<'a>(alloc: Global) -> Result<Command<'a>, AllocError>
+    ensures { IfOk result (λ command. IsApp command explaining) }
+{
+    let command = ruled_command(alloc, "why")?.arg(flag(alloc, "dot"))?;
+    command.arg(file_name(alloc, "FILE"))
+}
+
+/// The command `outcomes`.
+fn outcomes_command<'a>(alloc: Global) -> Result<Command<'a>, AllocError>
+    ensures { IfOk result (λ command. IsApp command over_both) }
+{
+    let command = Command::new(alloc, "outcomes").arg(file_name(alloc, "SCRIPTS"))?;
+    command.arg(file_name(alloc, "HISTORY"))
+}
+
+/// The command `watch`.
+fn watch_command<'a>(alloc: Global) -> Result<Command<'a>, AllocError>
+    ensures { IfOk result (λ command. IsApp command watching) }
+{
+    flagged_command(alloc, "watch")?.arg(stripes_option(alloc))
+}
+
+/// The command line of the program. Each command is added as soon as it is made, so that little
+/// must be freed if memory is refused.
+fn command<'a>(alloc: Global) -> Result<Command<'a>, AllocError>
+    ensures { IfOk result (λ command. IsApp command command_line) }
+{
+    Command::new(alloc, "judge")
+        .version("1.0.0")
+        .subcommand_required(true)
+        .subcommand(check_command(alloc)?)?
+        .subcommand(outcomes_command(alloc)?)?
+        .subcommand(watch_command(alloc)?)?
+        .subcommand(why_command(alloc)?)
+}
+
+/// Returns true if the words have the flag with this name.
+fn has_flag(found: &ArgMatches<'_>, name: &str) -> bool
+    ensures { result ≡ is_set (first_of name.now (rows_of (found_of found.now))) }
+{
+    match found.get_str(name) {
+        Some(word) => word == "true",
+        None => false,
+    }
+}
+
+/// Returns the number of locks that a word asks for, if the number is from 1 to 4,096.
+fn stripes_in(word: &str) -> Option<u64>
+    ensures { result ≡ stripes_in_word word.now }
+{
+    let stripes = word.parse::<u64>().ok()?;
+    if 1 <= stripes && stripes <= MAX_STRIPES {
+        Some(stripes)
+    } else {
+        None
+    }
+}
+
+/// Returns the rules to judge by, given the flag and the word for the number of locks. Returns
+/// `None` if both are given, or if the word is no number from 1 to 4,096.
+fn basis_in(by_commits: bool, word: Option<&str>) -> Option<Basis>
+    ensures basis { result ≡ basis_for by_commits (option_map (λ text. text.now) word.entry) }
+    ensures stripes { IfSome result HasStripes }
+{
+    let holder = Holder::Begun;
+    match (by_commits, word) {
+        (true, None) => Some(Basis::Commits),
+        (true, Some(_)) => None,
+        (false, None) => Some(Basis::Locks {
+            stripes: MAX_STRIPES,
+            holder,
+        }),
+        (false, Some(word)) => {
+            let stripes = stripes_in(word)?;
+            Some(Basis::Locks { stripes, holder })
+        }
+    }
+}
+
+/// Returns the call to judge a file, given the flags. Returns `None` if two rules are asked for, or
+/// if an order is to be shown and none is looked for.
+fn check_of<'a>(
+    by_commits: bool,
+    is_serializable: bool,
+    shows_order: bool,
+    file: &'a str,
+) -> Option<Call<'a>>
+    ensures call { option_map asked_of result
+        ≡ check_for by_commits is_serializable shows_order file.entry.now }
+    ensures stripes { IfSome result (λ call. HasStripesIf (asked_of call)) }
+{
+    match (by_commits, is_serializable, shows_order) {
+        (_, false, false) => Some(Call::Check { by_commits, file }),
+        (false, true, _) => Some(Call::CheckSerializable { shows_order, file }),
+        (true, true, _) | (_, false, true) => None,
+    }
+}
+
+/// Returns the call to explain the verdict on a file, given the flags. Returns `None` if two rules
+/// are asked for, or a graph by a rule that has none.
+fn why_of<'a>(
+    by_commits: bool,
+    is_serializable: bool,
+    as_graph: bool,
+    file: &'a str,
+) -> Option<Call<'a>>
+    ensures call { option_map asked_of result
+        ≡ why_for by_commits is_serializable as_graph file.entry.now }
+    ensures stripes { IfSome result (λ call. HasStripesIf (asked_of call)) }
+{
+    match (by_commits, is_serializable, as_graph) {
+        (_, false, false) => Some(Call::Why { by_commits, file }),
+        (false, true, _) => Some(Call::WhySerializable { as_graph, file }),
+        (_, false, true) | (true, true, _) => None,
+    }
+}
+
+/// Returns the call for the outcomes of these files, or `None` if both are standard input.
+fn outcomes_of<'a>(scripts: &'a str, history: &'a str) -> Option<Call<'a>>
+    ensures call { option_map asked_of result ≡ outcomes_for scripts.entry.now history.entry.now }
+    ensures stripes { IfSome result (λ call. HasStripesIf (asked_of call)) }
+{
+    if scripts == STANDARD && history == STANDARD {
+        None
+    } else {
+        Some(Call::Outcomes { scripts, history })
+    }
+}
+
+/// The call of the command with this name, given the arguments that were found.
+fn call_named<'a>(name: &str, found: &ArgMatches<'a>) -> Option<Call<'a>>
+    ensures call { option_map asked_of result ≡ asked_in name.now (rows_of (found_of found.now)) }
+    ensures stripes { IfSome result (λ call. HasStripesIf (asked_of call)) }
+{
+    let by_commits = has_flag(found, "commit-order");
+    let is_serializable = has_flag(found, "serializable");
+    let shows_order = has_flag(found, "show-order");
+    let as_graph = has_flag(found, "dot");
+    match name {
+        "check" => {
+            let file = found.get_str("FILE")?;
+            check_of(by_commits, is_serializable, shows_order, file)
+        }
+        "outcomes" => {
+            let scripts = found.get_str("SCRIPTS")?;
+            let history = found.get_str("HISTORY")?;
+            outcomes_of(scripts, history)
+        }
+        "watch" => {
+            let basis = basis_in(by_commits, found.get_str("stripes"))?;
+            Some(Call::Watch { basis })
+        }
+        "why" => {
+            let file = found.get_str("FILE")?;
+            why_of(by_commits, is_serializable, as_graph, file)
+        }
+        _ => None,
+    }
+}
+
+/// Returns the call that words ask for, given the error that `clap` returns for these words. For
+/// `clap`, words that ask for help or for the version are errors; here they are calls. Other errors
+/// are failures here too.
+fn call_for<'a>(kind: ErrorKind) -> Result<Call<'a>, Failure>
+    ensures call { IfOk result (λ call. IsCallOf kind (Some (asked_of call))) }
+    ensures stripes { IfOk result (λ call. HasStripesIf (asked_of call)) }
+    ensures err { IfErr result (λ failure. (failure ≡ failures.Fault faults.NoMemory)
+        ⊎ ((failure ≡ failures.Usage) × IsCallOf kind None)) }
+{
+    match kind {
+        ErrorKind::OutOfMemory => Err(Failure::Fault(Fault::NoMemory)),
+        ErrorKind::DisplayHelp => Ok(Call::Help),
+        ErrorKind::DisplayVersion => Ok(Call::Version),
+        _ => Err(Failure::Usage),
+    }
+}
+
+/// Returns the call that the words ask for, by the rules of `clap`. The first word is the program's
+/// name.
+///
+/// # Errors
+///
+/// - `NoMemory` if memory is refused.
+/// - Otherwise `Usage`, exactly if the words are no call of the program.
+///
+/// # Cost
+///
+/// Time and memory in proportion to the length of the words.
+pub fn call_in<'a>(alloc: Global, words: &'a [String]) -> Result<Call<'a>, Failure>
+    ensures call { IfOk result (λ call.
+        Spells (map string_bytes words.entry.now) (Some (asked_of call))) }
+    ensures stripes { IfOk result (λ call. HasStripesIf (asked_of call)) }
+    ensures err { IfErr result (λ failure. (failure ≡ failures.Fault faults.NoMemory)
+        ⊎ ((failure ≡ failures.Usage) × Spells (map string_bytes words.entry.now) None)) }
+{
+    let command = command(alloc)?;
+    let matches = match command.try_get_matches_from(words) {
+        Ok(matches) => matches,
+        Err(error) => return call_for(error.kind()),
+    };
+    let Some((name, found)) = matches.subcommand() else {
+        return Err(Failure::Usage);
+    };
+    call_named(name, found).ok_or(Failure::Usage)
+}

@@ -1,0 +1,15 @@
+use Rattle.std.proofs.Common.{arith, ◌<◌, length, get_or}
+use Rattle.order_check.proofs.Noting.{no_access}
+use Rattle.order_check.proofs.Turning.{among_at}
+use Rattle.order_check.proofs.Excluding.{source_first, none_between}
+use Rattle.order_check.proofs.exclusion.learn_by.Goals as goal
+
+pub loop-change-init : goal.loop-change-init
+loop-change-init c n accesses were all certain = c.learn_source.ensures n accesses were (source_first n accesses c.args.access.now c.args.source certain)
+
+pub loop-change-preserved : goal.loop-change-preserved
+loop-change-preserved c n accesses were all certain =
+    let x = get_or c.args.changes.now c.loop-change.change-index no_access in
+    let below : c.loop-change.change-index < length c.args.changes.now = omega arith in
+    let o = all.only x (among_at c.args.changes.now c.loop-change.change-index no_access below) in
+    c.learn_of.ensures n accesses (c.loop-change.invariant n accesses were all certain) (none_between n accesses c.args.access.now c.args.source x certain o.0 o.1)

@@ -1,0 +1,9 @@
+use Rattle.std.proofs.Common.{ℕ, List}
+use Rattle.order_check.specs.declared.access.Access.{Access}
+use Rattle.order_check.specs.Exclusions.{AreChanges, IsCertain}
+use Rattle.order_check.specs.Known.{AreKnown}
+use Rattle.order_check.proofs.exclusion.learn_by.Given as goal
+
+abbrev pub invariant-loop-change : goal.invariant-loop-change
+invariant-loop-change l = (n : ℕ) (accesses : List Access) → AreKnown n accesses l.fn.known → AreChanges accesses l.access.key l.changes
+    → IsCertain n accesses l.access l.source → AreKnown n accesses l.known

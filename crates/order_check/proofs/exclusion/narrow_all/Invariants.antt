@@ -1,0 +1,7 @@
+use Rattle.std.proofs.Common.{ℕ}
+use Rattle.order_check.specs.Known.{AreKnown}
+use Rattle.order_check.specs.Outcomes.{ArePlain}
+use Rattle.order_check.proofs.exclusion.narrow_all.Given as goal
+
+abbrev pub invariant-loop-access : goal.invariant-loop-access
+invariant-loop-access l = (n : ℕ) → ArePlain n l.accesses → AreKnown n l.accesses l.initial.known → AreKnown n l.accesses l.known

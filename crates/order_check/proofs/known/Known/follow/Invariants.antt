@@ -1,0 +1,7 @@
+use Rattle.std.proofs.Common.{ℕ, List}
+use Rattle.order_check.specs.declared.access.Access.{Access}
+use Rattle.order_check.specs.Known.{AreKnown}
+use Rattle.order_check.proofs.known.Known.follow.Given as goal
+
+abbrev pub invariant-loop-second : goal.invariant-loop-second
+invariant-loop-second l = (n : ℕ) (accesses : List Access) → AreKnown n accesses l.initial.self → AreKnown n accesses l.self

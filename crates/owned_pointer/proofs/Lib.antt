@@ -1,2 +1,0 @@
-mod Heap
-pub mod Words

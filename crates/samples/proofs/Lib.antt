@@ -1,0 +1,8 @@
+pub mod Adding
+pub mod Commits
+pub mod Merging
+pub mod Sums
+pub mod Tries
+pub mod Whole
+pub mod Whys
+pub mod Works

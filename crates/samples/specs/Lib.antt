@@ -1,0 +1,4 @@
+pub mod OwnedTransfers
+pub mod StripedTransfers
+pub mod Transfers
+pub mod Visits
