@@ -1,6 +1,8 @@
 -- How a caller's member counts the ends of its transactions.
 use Rattle.std.specs.Prelude.{◌+◌, ◌%◌, ◌^◌, Result, Ok, Err}
 use Rattle.map_answers.specs.declared.stop.Stop.{Stop}
+use Rattle.striped_map.specs.declared.runs.RunEnd.{RunEnd}
+use Rattle.striped_map.specs.declared.runs.RunEnd.TheVariants.{Committed, Missed}
 use Rattle.map_answers.specs.declared.stop.Stop.TheVariants.{Busy, Refused}
 use Rattle.boostmap_c.specs.declared.counts.Counts.{Counts}
 
@@ -28,3 +30,10 @@ counted ends counts (Err stop) = busied counts stop
 -- A call that ends no transaction unless it is busy.
 abbrev pub goes_on : Counts → Counts
 goes_on counts = counts
+
+-- The counts after a run with this answer. A run that was missed is an abort. One that memory was
+-- refused to is not counted.
+abbrev pub counted_run : Counts → Result RunEnd Stop → Counts
+counted_run counts (Ok (Committed found)) = committed counts
+counted_run counts (Ok Missed) = aborted counts
+counted_run counts (Err stop) = busied counts stop

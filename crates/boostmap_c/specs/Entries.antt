@@ -1,11 +1,13 @@
 -- The numbers given by C stand for this entry of a history, and the numbers that C gets for an entry.
-use Rattle.std.specs.Prelude.{ℕ, nat_eq, nat_le, Option, Some, None, if◌then◌else◌}
+use Rattle.std.specs.Prelude.{◌≡◌, ◌⊎◌, ℕ, nat_eq, nat_le, List, slice_get, Option, Some, None, if◌then◌else◌}
 use Rattle.txn_words.specs.declared.op.Op.{Op}
 use Rattle.txn_words.specs.declared.op.Op.TheVariants.{Put, PutIf, Take, Get}
 use Rattle.txn_words.specs.declared.entry.Entry.{Entry}
 use Rattle.txn_words.specs.declared.entry.Entry.TheVariants.{Began, Asked, Did, Saved, Leave, Undone, Returned, Committed, Busy, Aborted}
+use Rattle.txn_words.specs.declared.refusal.Refusal.TheVariants.{NoMemory}
 use Rattle.txn_words.specs.Kinds.{caller_of}
 use Rattle.boostmap_c.specs.declared.c_entry.CEntry.{CEntry}
+use Rattle.boostmap_c.specs.Replies.{no_entry, refused}
 
 -- The number, or none if the flag is 0.
 abbrev pub optional : ℕ → ℕ → Option ℕ
@@ -51,6 +53,13 @@ accepted_entry (Some entry) = if nat_le 64 (caller_of entry) then None else Some
 
 abbrev pub judged_entry : CEntry → Option Entry
 judged_entry e = accepted_entry (entry_of e)
+
+-- A list of C's numbers was not read, with this status: some of them stand for nothing, or memory was
+-- refused.
+abbrev pub IsUnreadable : {A : Type 0} → (CEntry → Option A) → List CEntry → ℕ → Type 0
+IsUnreadable read entries status = (status ≡ refused NoMemory)
+    ⊎ ((status ≡ no_entry) × (i : ℕ) × (e : CEntry) × (slice_get entries i ≡ Some e)
+    × (read e ≡ None))
 
 -- The numbers that C gets for an entry which is not Asked or Busy. Members that no parameter gives
 -- are 0.

@@ -18,3 +18,5 @@ pub mod Shelved
 pub mod Keepers
 pub mod Options
 pub mod StripedContents
+pub mod StripedRuns
+pub mod AnyOrders

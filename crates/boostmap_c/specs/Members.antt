@@ -1,15 +1,18 @@
--- PROMISES from-c: Joins
+-- PROMISES from-c: Joins, MakesAnother
 -- The effect of a striped map's call on a handle, in terms of the member that the handle owns
--- before and after. Only `Opens` and `Joins` give a member to an empty handle. For every other
--- call on an empty handle the status says that the handle is empty.
-use Rattle.std.specs.Prelude.{◌≡◌, ℕ, ◌&&◌, nat_eq, nat_le, is_some, Bool, true, [], ◌∷◌, ◌++◌, length, Option, Some, None, Result, if◌then◌else◌}
+-- before and after. Only `Opens`, `Joins` and `MakesAnother` give a member to an empty handle. For
+-- every other call on an empty handle the status says that the handle is empty.
+use Rattle.std.specs.Prelude.{◌≡◌, ◌⊎◌, ℕ, ◌&&◌, nat_eq, nat_le, is_some, Bool, true, [], ◌∷◌, ◌++◌, length, Option, Some, None, Result, if◌then◌else◌}
+use Rattle.txn_words.specs.declared.refusal.Refusal.{Refusal}
 use Rattle.txn_words.specs.declared.refusal.Refusal.TheVariants.{NoMemory, NoSuchCaller, Limit}
 use Rattle.striped_map.specs.declared.caller.Caller.{Caller}
 use Rattle.map_answers.specs.declared.stop.Stop.{Stop}
 use Rattle.striped_map.specs.declared.host.Host.{Host}
 use Rattle.striped_map.specs.declared.keep.Keep.{Keep}
 use Rattle.striped_map.specs.declared.keep.Keep.TheVariants.{Nothing, Commits as KeepCommits, Entries as KeepEntries}
+use Rattle.striped_map.specs.Callers.{number, keeps, numbers_seen, IsAnother, IsMaker}
 use Rattle.striped_map.specs.Hosts.{IsOpened}
+use Rattle.striped_map.specs.Rule.{most}
 use Rattle.boostmap_c.specs.declared.counts.Counts.{Counts}
 use Rattle.boostmap_c.specs.declared.member.Group.{Group}
 use Rattle.boostmap_c.specs.declared.member.Member.{Member}
@@ -136,7 +139,7 @@ JoinsOf old status before after new (Some made) =
     (new.caller ≡ old.caller) × (new.counts ≡ old.counts) × (made.counts ≡ none_ended)
     × IsAlike old.group new.group × IsJoined old.group made.group
     × (old.group.waiting.items ≡ new.group.waiting.items ++ made.caller ∷ [])
-    × (status ≡ done) × (after ≡ length old.group.waiting.items)
+    × (made.group.place ≡ length new.group.waiting.items) × (status ≡ done) × (after ≡ length old.group.waiting.items)
 JoinsOf old status before after new None =
     IsSame old new × (after ≡ before)
     × (status ≡ refused (if nat_le 1 (length old.group.waiting.items) then NoMemory else NoSuchCaller))
@@ -151,6 +154,36 @@ Joins None None status before after new made =
 Joins first (Some next) status before after new made =
     (status ≡ full) × (after ≡ before) × (new ≡ first) × (made ≡ Some next)
 Joins (Some old) None status before after None made = ⊥
+
+-- Why the member's caller made no other caller.
+-- - `Limit`: the map keeps its entries, or has given out all its numbers.
+-- - `NoMemory`: memory was refused.
+abbrev pub IsNotMade : Member → Member → Refusal → Type 0
+IsNotMade old new Limit = (old.group.opening.keep ≡ KeepEntries)
+    ⊎ (numbers_seen new.caller ≡ most (keeps old.caller))
+IsNotMade old new refusal = refusal ≡ NoMemory
+
+-- Either the caller of the old member has made another caller, which has its own member, in which no
+-- caller waits, and the word is its number, or none was made.
+abbrev pub IsMade : Member → ℕ → ℕ → ℕ → Member → Option Member → Type 0
+IsMade old status before after new (Some made) =
+    IsAnother old.caller new.caller made.caller × (made.counts ≡ none_ended)
+    × IsJoined old.group made.group × (status ≡ done) × (after ≡ number made.caller)
+IsMade old status before after new None =
+    (after ≡ before) × (why : Refusal) × IsNotMade old new why × (status ≡ refused why)
+
+-- The first handle's caller makes another (`IsMade`), and is the same afterwards. The other caller
+-- gets the second handle, which must be empty.
+abbrev pub MakesAnother : Option Member → Option Member → ℕ → ℕ → ℕ → Option Member
+    → Option Member → Type 0
+MakesAnother (Some old) None status before after (Some new) made =
+    IsMaker old.caller new.caller × (new.counts ≡ old.counts) × (new.group ≡ old.group)
+    × IsMade old status before after new made
+MakesAnother None None status before after new made =
+    (status ≡ empty_handle) × (after ≡ before) × (new ≡ None) × (made ≡ None)
+MakesAnother first (Some next) status before after new made =
+    (status ≡ full) × (after ≡ before) × (new ≡ first) × (made ≡ Some next)
+MakesAnother (Some old) None status before after None made = ⊥
 
 -- The handle no longer has a member. If the member's caller was in a transaction, this was
 -- aborted.

@@ -44,6 +44,10 @@ not_kept = 11
 abbrev pub missing : ℕ
 missing = 12
 
+-- The status of a run that a PutIf ended.
+abbrev pub missed : ℕ
+missed = 13
+
 -- The status of a refusal.
 abbrev pub refused : Refusal → ℕ
 refused refusal = 16 + number_of refusal

@@ -2,7 +2,9 @@
 use Rattle.std.specs.Prelude.{ℕ, Option, Some, None, Result, Ok, Err}
 use Rattle.map_answers.specs.declared.stop.Stop.{Stop}
 use Rattle.map_answers.specs.declared.stop.Stop.TheVariants.{Busy, Refused}
-use Rattle.boostmap_c.specs.Replies.{done, absent, busy, refused}
+use Rattle.striped_map.specs.declared.runs.RunEnd.{RunEnd}
+use Rattle.striped_map.specs.declared.runs.RunEnd.TheVariants.{Committed, Missed}
+use Rattle.boostmap_c.specs.Replies.{done, absent, busy, missed, refused}
 
 -- The status for the reason why a call was not done. `word_of_stop` gives the word for this reason.
 abbrev pub status_of_stop : Stop → ℕ
@@ -47,3 +49,14 @@ word_of_place before (Err stop) = word_of_stop before stop
 abbrev pub status_of_end : Result Unit Stop → ℕ
 status_of_end (Ok nothing) = done
 status_of_end (Err stop) = status_of_stop stop
+
+-- The status for a run. The word is that of a commit, if the run was committed.
+abbrev pub status_of_run : Result RunEnd Stop → ℕ
+status_of_run (Ok (Committed found)) = done
+status_of_run (Ok Missed) = missed
+status_of_run (Err stop) = status_of_stop stop
+
+abbrev pub word_of_run : ℕ → Result RunEnd Stop → ℕ
+word_of_run before (Ok (Committed found)) = word_of_place before (Ok found)
+word_of_run before (Ok Missed) = before
+word_of_run before (Err stop) = word_of_stop before stop

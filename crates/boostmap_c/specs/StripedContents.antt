@@ -1,11 +1,14 @@
--- How a caller reads the content of a whole striped map for C. The caller takes every stripe, so no
--- other caller can change the map meanwhile.
+-- PROMISES from-c: ReadsStripe
+-- How a caller reads the content of a striped map for C. To read the whole map the caller takes every
+-- stripe, so no other caller can change the map meanwhile.
 use Rattle.std.specs.Prelude.{◌≡◌, ◌⊎◌, ℕ, List, [], true, Option, Some, None, Result, Ok, Err}
 use Rattle.txn_words.specs.Map.{count_of}
 use Rattle.txn_trace.specs.Now.{now}
 use Rattle.striped_map.specs.declared.caller.Caller.{Caller}
 use Rattle.map_answers.specs.declared.stop.Stop.{Stop}
-use Rattle.striped_map.specs.Callers.{seen, HoldsEvery, IsCut, IsStep}
+use Rattle.txn_words.specs.declared.op.Op.TheVariants.{Get}
+use Rattle.striped_map.specs.Callers.{seen, stripes_in, HoldsEvery, HoldsStripe, IsCut, IsStep, IsStopped, TakesAtMost}
+use Rattle.striped_map.specs.Contents.{rows_with}
 use Rattle.boostmap_c.specs.declared.member.Member.{Member}
 use Rattle.boostmap_c.specs.declared.read.CPair.{CPair}
 use Rattle.boostmap_c.specs.Counting.{busied}
@@ -36,3 +39,20 @@ ReadsMap (Some old) status before after was word (Some new) =
 ReadsMap None status before after was word None =
     (status ≡ empty_handle) × (after ≡ before) × (word ≡ was)
 ReadsMap old status before after was word new = ⊥
+
+-- C gets the pairs of the map whose keys are in the stripe of this key, in the order of their keys.
+-- If the array is too short, C gets only the number of pairs. If the call was not done, the status
+-- gives the reason. The caller then holds this stripe, and at most this stripe is new.
+abbrev pub ReadsStripe : ℕ → Option Member → ℕ → List CPair → List CPair → ℕ → ℕ → Option Member
+    → Type 0
+ReadsStripe key (Some old) status before after was word (Some new) =
+    (new.group ≡ old.group) × TakesAtMost key old.caller new.caller
+    × (((old.caller.is_open ≡ true) × (new.caller.is_open ≡ true) × IsStep old.caller [] new.caller
+    × HoldsStripe key new.caller × (new.counts ≡ old.counts)
+    × LaysOf (rows_with (stripes_in old.caller) key (now (seen new.caller))) status before after word)
+    ⊎ ((stop : Stop) × IsStopped old.caller (Get key) new.caller stop
+    × (new.counts ≡ busied old.counts stop) × (status ≡ status_of_stop stop)
+    × (word ≡ word_of_stop was stop) × (after ≡ before)))
+ReadsStripe key None status before after was word None =
+    (status ≡ empty_handle) × (after ≡ before) × (word ≡ was)
+ReadsStripe key old status before after was word new = ⊥

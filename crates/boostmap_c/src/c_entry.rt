@@ -153,7 +153,7 @@ impl CEntry {
     }
 
     /// The operation that these numbers stand for, if `operation` names one.
-    fn op(&self) -> Option<Op>
+    pub(crate) fn op(&self) -> Option<Op>
         ensures { result ≡ op_of self.now }
     {
         if self.operation == PUT {

@@ -5,7 +5,7 @@ ghost use Rattle.boostmap_c.specs.Counted.{TellsCounts};
 
 use crate::member_handle::CallerHandle;
 use crate::status::{DONE, EMPTY};
-use striped_map::Stop;
+use striped_map::{RunEnd, Stop};
 use txn_trace::Reply;
 
 /// How many of a caller's transactions ended by a commit, by an abort, and by a busy answer, which
@@ -19,7 +19,7 @@ pub struct Counts {
 }
 
 impl Counts {
-    ghost use Rattle.boostmap_c.specs.Counting.{aborted, busied, committed, counted, goes_on, none_ended};
+    ghost use Rattle.boostmap_c.specs.Counting.{aborted, busied, committed, counted, counted_run, goes_on, none_ended};
 
     /// No transaction has ended.
     pub(crate) fn none() -> Counts
@@ -84,6 +84,17 @@ impl Counts {
     {
         match answer {
             Ok(()) => self.aborts = self.aborts.wrapping_add(1),
+            Err(stop) => self.see_stop(stop),
+        }
+    }
+
+    /// Counts the answer of a run.
+    pub(crate) fn see_run(&mut self, answer: &Result<RunEnd, Stop>)
+        ensures { self.new ≡ counted_run self.old answer.now }
+    {
+        match answer {
+            Ok(RunEnd::Committed(_)) => self.commits = self.commits.wrapping_add(1),
+            Ok(RunEnd::Missed) => self.aborts = self.aborts.wrapping_add(1),
             Err(stop) => self.see_stop(stop),
         }
     }

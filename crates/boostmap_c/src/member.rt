@@ -6,17 +6,20 @@
 //! A join takes a caller from the list of those that wait, and makes a member of it. If there is no
 //! memory for the member, the caller goes back to the list. This takes no memory, since the list
 //! has kept the room for the caller.
-ghost use Rattle.std.specs.Prelude.{◌≡◌, Some};
+ghost use Rattle.std.specs.Prelude.{◌≡◌, ◌≤◌, Some, IfOk, IfErr, OnOk, OnErr, length, vec_len};
 ghost use Rattle.std.specs.List.{All};
 ghost use Rattle.striped_map.specs.declared.host.Host.{Host as HostOf};
 ghost use Rattle.boostmap_c.specs.Shelves.{IsOver};
 ghost use Rattle.boostmap_c.specs.Shelved.{host_of};
 
+use crate::c_entry::CEntry;
 use crate::counts::Counts;
 use crate::shelf::Shelf;
+use crate::striped_run::read_operations;
 use std::alloc::Global;
 use std::sync::Arc;
-use striped_map::{Caller, Host, Opening};
+use striped_map::{Caller, Host, Opening, RunEnd, Stop};
+use txn_trace::{Op, Reply};
 
 /// What a member has besides its caller.
 #[derive(Drop)]
@@ -36,7 +39,8 @@ pub struct Group {
         → h.map.value ≡ (host_of shelf.value).map.value },
 }
 
-/// A caller of a striped map, the counts of its transactions, and its group.
+/// A caller of a striped map, the counts of its transactions, and its group. It keeps the room for
+/// the operations and the replies of a run for the next run.
 ///
 /// Every call writes to the caller. So no other thread may write to the same line of the cache, or
 /// each of its writes would slow the call down. Processors fetch lines of 64 bytes in pairs, so two
@@ -50,6 +54,8 @@ pub struct Member {
     before: [u64; 16],
     pub(crate) caller: Caller,
     pub(crate) counts: Counts,
+    ops: Vec<Op>,
+    pub(crate) replies: Vec<Reply>,
     pub(crate) group: Group,
     behind: [u64; 16],
     ghost of: { caller.map.value ≡ (host_of group.shelf.value).map.value },
@@ -57,9 +63,11 @@ pub struct Member {
 
 impl Member {
     ghost use Rattle.boostmap_c.specs.Counting.{none_ended};
+    ghost use Rattle.boostmap_c.specs.Entries.{op_of, IsUnreadable};
+    ghost use Rattle.boostmap_c.specs.StripedRuns.{RunsOn};
 
     /// A member with this caller and this group.
-    pub(crate) fn new(caller: Caller, group: Group) -> Member
+    pub(crate) fn new(alloc: Global, caller: Caller, group: Group) -> Member
         requires { caller.map.value ≡ (host_of group.shelf.value).map.value }
         ensures caller { result.caller ≡ caller }
         ensures group { result.group ≡ group }
@@ -69,9 +77,33 @@ impl Member {
             before: [0; 16],
             caller,
             counts: Counts::none(),
+            ops: Vec::new(alloc),
+            replies: Vec::new(alloc),
             group,
             behind: [0; 16],
         }
+    }
+
+    /// Has the caller run a transaction of these operations, and counts its end. The replies are
+    /// then in the member's list. If the operations cannot be read, returns the status for that.
+    pub(crate) fn run(
+        &mut self,
+        operations: &[CEntry],
+        strict: bool,
+    ) -> Result<Result<RunEnd, Stop>, u32>
+        ensures group { self.new.group ≡ self.old.group }
+        ensures ok { IfOk result (λ answer. RunsOn operations.now strict self.new.replies.items
+            self.old.caller self.old.counts answer self.new.caller self.new.counts) }
+        ensures few { OnOk result (vec_len self.new.replies ≤ length operations.now) }
+        ensures err { IfErr result (IsUnreadable op_of operations.now) }
+        ensures unchanged { OnErr result ((self.new.caller ≡ self.old.caller)
+            × (self.new.counts ≡ self.old.counts)) }
+    {
+        read_operations(operations, &mut self.ops)?;
+        self.replies.clear();
+        let answer = self.caller.run(&self.ops, strict, &mut self.replies);
+        self.counts.see_run(&answer);
+        Ok(answer)
     }
 
     /// The caller and the group, without the room beside them.
@@ -82,6 +114,8 @@ impl Member {
             before: _,
             caller,
             counts: _,
+            ops: _,
+            replies: _,
             group,
             behind: _,
         } = self;

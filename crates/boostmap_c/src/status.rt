@@ -36,6 +36,9 @@ pub(crate) const NOT_KEPT: u32 = 11;
 /// A caller of the map has not ended. The word is the number of that caller.
 pub(crate) const MISSING: u32 = 12;
 
+/// A `PutIf` found another value than it expects, and the run was to end there.
+pub(crate) const MISSED: u32 = 13;
+
 /// The status of a refusal is this number plus the refusal's number.
 const REFUSED: u32 = 16;
 

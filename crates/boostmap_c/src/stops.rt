@@ -2,10 +2,10 @@
 //! a result has no word, C's word is unchanged.
 ghost use Rattle.std.specs.Prelude.{◌≡◌};
 ghost use Rattle.boostmap_c.specs.Keepers.{status_of_no_history, word_of_no_history};
-ghost use Rattle.boostmap_c.specs.Stops.{status_of_end, status_of_number, status_of_place, status_of_reply, status_of_stop, word_of_number, word_of_place, word_of_reply, word_of_stop};
+ghost use Rattle.boostmap_c.specs.Stops.{status_of_end, status_of_number, status_of_place, status_of_reply, status_of_run, status_of_stop, word_of_number, word_of_place, word_of_reply, word_of_run, word_of_stop};
 
-use crate::status::{ABSENT, BUSY, DONE, MISSING, NOT_KEPT, refused};
-use striped_map::{NoHistory, Stop};
+use crate::status::{ABSENT, BUSY, DONE, MISSED, MISSING, NOT_KEPT, refused};
+use striped_map::{NoHistory, RunEnd, Stop};
 use txn_trace::{Refusal, Reply};
 
 /// Writes the holder, if there is one, and returns the status.
@@ -65,6 +65,18 @@ pub(crate) fn tell_place(answer: Result<Option<u64>, Stop>, word: &mut u64) -> u
             *word = place;
             DONE
         }
+        Err(stop) => tell_stop(stop, word),
+    }
+}
+
+/// Writes the commit number or the holder, if there is one, and returns the status of a run.
+pub(crate) fn tell_run(answer: Result<RunEnd, Stop>, word: &mut u64) -> u32
+    ensures status { result ≡ status_of_run answer }
+    ensures word { word.new ≡ word_of_run word.old answer }
+{
+    match answer {
+        Ok(RunEnd::Committed(found)) => tell_place(Ok(found), word),
+        Ok(RunEnd::Missed) => MISSED,
         Err(stop) => tell_stop(stop, word),
     }
 }

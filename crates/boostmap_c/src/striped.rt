@@ -1,7 +1,7 @@
 //! Opens and frees a striped map for C. Each caller of the map gets a handle of its own, and the
 //! map is freed with its last caller. Only the calls of this module fill and empty a caller's
-//! handle. All callers are made when the map is opened, so a join takes memory only for its
-//! member.
+//! handle. A join hands out a caller that was made when the map was opened, so it takes memory only
+//! for its member. Any caller can make another later.
 ghost use Rattle.std.specs.Prelude.{◌≡◌, ◌≤◌, ◌++◌, [], ◌∷◌, IfOk, IfErr, OnOk, OnErr, Some, true, false, length, nat_le, if◌then◌else◌};
 ghost use Rattle.txn_words.specs.declared.refusal.Refusal.TheVariants.{NoMemory, NoSuchCaller, Limit};
 ghost use Rattle.boostmap_c.specs.Striped.{Aborts};
@@ -10,7 +10,8 @@ ghost use Rattle.striped_map.specs.Hosts.{IsOpened};
 ghost use Rattle.boostmap_c.specs.Shelves.{IsOver};
 ghost use Rattle.boostmap_c.specs.Shelved.{host_of};
 ghost use Rattle.boostmap_c.specs.Counting.{none_ended};
-ghost use Rattle.boostmap_c.specs.Members.{IsAlike, IsFirstMember, IsJoined, Joins, LeavesMap, Opens, are_numbers, are_striped_limits, keep_at};
+ghost use Rattle.striped_map.specs.Callers.{IsAnother, IsMaker};
+ghost use Rattle.boostmap_c.specs.Members.{IsAlike, IsFirstMember, IsJoined, IsNotMade, Joins, LeavesMap, MakesAnother, Opens, are_numbers, are_striped_limits, keep_at};
 
 use crate::member::{Group, Member};
 use crate::member_handle::{CallerHandle, put_in, take_out};
@@ -90,7 +91,7 @@ fn made_member(
         unreachable!()
     };
     let group = first_group(alloc, opening, host, waiting)?;
-    match Box::new(alloc, Member::new(caller, group)) {
+    match Box::new(alloc, Member::new(alloc, caller, group)) {
         Ok(member) => Ok(member),
         Err(_) => Err(AllocError),
     }
@@ -132,10 +133,17 @@ fn first_member(
     }
 }
 
-/// A member with this caller, of the group's map. On an error, returns the caller.
-fn joined(alloc: Global, group: &Group, caller: Caller) -> Result<Box<Member, Global>, Caller>
+/// A member with this caller, of the group's map, and with this place on the shelf. On an error,
+/// returns the caller.
+fn joined(
+    alloc: Global,
+    group: &Group,
+    place: usize,
+    caller: Caller,
+) -> Result<Box<Member, Global>, Caller>
     requires { IsOver (host_of group.now.shelf.value) caller }
     ensures caller { IfOk result (λ made. made.value.caller ≡ caller) }
+    ensures place { IfOk result (λ made. made.value.group.place ≡ place) }
     ensures counts { IfOk result (λ made. made.value.counts ≡ none_ended) }
     ensures group { IfOk result (λ made. IsJoined group.now made.value.group) }
     ensures err { IfErr result (λ same. same ≡ caller) }
@@ -147,10 +155,10 @@ fn joined(alloc: Global, group: &Group, caller: Caller) -> Result<Box<Member, Gl
         waiting: Vec::new(alloc),
         host: None,
         shelf,
-        place: group.waiting.len(),
+        place,
         opening: group.opening,
     };
-    match Box::new(alloc, Member::new(caller, own)) {
+    match Box::new(alloc, Member::new(alloc, caller, own)) {
         Ok(member) => Ok(member),
         Err(failed) => Err(failed.value.into_caller()),
     }
@@ -160,6 +168,8 @@ fn joined(alloc: Global, group: &Group, caller: Caller) -> Result<Box<Member, Gl
 fn next_member(alloc: Global, group: &mut Group) -> Result<Box<Member, Global>, Refusal>
     ensures alike { IsAlike group.old group.new }
     ensures joined { IfOk result (λ member. IsJoined group.old member.value.group) }
+    ensures place { IfOk result (λ member. member.value.group.place
+        ≡ length group.new.waiting.items) }
     ensures counts { IfOk result (λ member. member.value.counts ≡ none_ended) }
     ensures ok { IfOk result (λ member. group.old.waiting.items
         ≡ group.new.waiting.items ++ member.value.caller ∷ []) }
@@ -170,12 +180,33 @@ fn next_member(alloc: Global, group: &mut Group) -> Result<Box<Member, Global>, 
     let Some(caller) = group.waiting.pop() else {
         return Err(Refusal::NoSuchCaller);
     };
-    match joined(alloc, group, caller) {
+    match joined(alloc, group, group.waiting.len(), caller) {
         Ok(member) => Ok(member),
         Err(caller) => {
             group.waiting.push_reserved(caller);
             Err(Refusal::NoMemory)
         }
+    }
+}
+
+/// A member with a caller that the member's caller makes. It has no place on the shelf.
+fn another_member(alloc: Global, member: &mut Member) -> Result<Box<Member, Global>, Refusal>
+    ensures maker { IsMaker member.old.caller member.new.caller }
+    ensures counts { member.new.counts ≡ member.old.counts }
+    ensures group { member.new.group ≡ member.old.group }
+    ensures none { IfOk result (λ made. made.value.counts ≡ none_ended) }
+    ensures joined { IfOk result (λ made. IsJoined member.old.group made.value.group) }
+    ensures ok { IfOk result (λ made.
+        IsAnother member.old.caller member.new.caller made.value.caller) }
+    ensures err { IfErr result (IsNotMade member.old member.new) }
+{
+    if let Keep::Entries = member.group.opening.keep {
+        return Err(Refusal::Limit);
+    }
+    let caller = member.caller.another(alloc)?;
+    match joined(alloc, &member.group, member.group.opening.callers, caller) {
+        Ok(made) => Ok(made),
+        Err(_) => Err(Refusal::NoMemory),
     }
 }
 
@@ -284,6 +315,46 @@ pub extern "C" fn boostmap_striped_join(
         Ok(joined) => {
             put_in(next, joined);
             *word = number;
+            DONE
+        }
+        Err(refusal) => refused(refusal),
+    }
+}
+
+/// Makes another caller of the map, and gives the second handle to it. Any caller can do this, at
+/// any time, also in a transaction, which then continues. The word is the new caller's number, which
+/// no caller of the map has or had. It is used up when the caller is freed.
+///
+/// # Errors
+///
+/// On an error the second handle is unchanged. The status is 4 if it has a caller already, 3 if the
+/// first handle has no caller, 38 (`Limit`) if the map keeps its entries, or if it has given out all
+/// its numbers, 2^62, and 30 (`NoMemory`) if memory is refused.
+///
+/// # Cost
+///
+/// The cost of `striped_map::Caller::another`. Takes constant memory, which the free gives back.
+#[unsafe(no_mangle)]
+pub extern "C" fn boostmap_striped_another(
+    alloc: Global,
+    caller: &mut CallerHandle,
+    next: &mut CallerHandle,
+    word: &mut u64,
+) -> u32
+    ensures { MakesAnother caller.old.held.member next.old.held.member result word.old word.new
+        caller.new.held.member next.new.held.member }
+{
+    if next.is_live() {
+        return FULL;
+    }
+    if !caller.is_live() {
+        return EMPTY;
+    }
+    let made = another_member(alloc, caller.held.get_mut());
+    match made {
+        Ok(member) => {
+            *word = member.caller.number();
+            put_in(next, member);
             DONE
         }
         Err(refusal) => refused(refusal),

@@ -1,10 +1,9 @@
-//! Reads the content of a striped map, in a transaction that takes every stripe. The calls of this
-//! module are the only ones that look at the whole map. Each takes time in proportion to the
-//! stripes. The read also walks over each stripe's hash map, and sorts the pairs. After a call that
-//! returns 0 or 7, the transaction holds every stripe. Until this transaction ends, no operation of
-//! another caller succeeds.
+//! Reads the content of a striped map. A transaction that counts or reads the whole map takes every
+//! stripe. This takes time in proportion to the stripes. The read also walks over each stripe's
+//! hash map, and sorts the pairs. After such a call that returns 0 or 7, the transaction holds every
+//! stripe. Until this transaction ends, no operation of another caller succeeds.
 ghost use Rattle.boostmap_c.specs.Members.{TellsNumber};
-ghost use Rattle.boostmap_c.specs.StripedContents.{Counts, ReadsMap};
+ghost use Rattle.boostmap_c.specs.StripedContents.{Counts, ReadsMap, ReadsStripe};
 
 use crate::member_handle::CallerHandle;
 use crate::read::{CPair, lay_all};
@@ -68,6 +67,45 @@ pub extern "C" fn boostmap_striped_read(
     }
     let member = caller.held.get_mut();
     let answer = member.caller.pairs();
+    match answer {
+        Ok(listed) => lay_all(&listed, pairs, word),
+        Err(stop) => {
+            member.counts.see_stop(&stop);
+            tell_stop(stop, word)
+        }
+    }
+}
+
+/// Takes the stripe of a key, and writes the pairs of the map whose keys are in this stripe,
+/// including the transaction's own changes, to the front of an array, by rising keys. The word is
+/// the number of pairs. The stripe stays held until the transaction ends.
+///
+/// The keys below the number of stripes are in different stripes. So a walk over them reads each
+/// pair of the map once.
+///
+/// # Errors
+///
+/// The errors of `boostmap_striped_get`, and 7 if the array has too few places. After 7 the word is
+/// the number of places that are needed. The array is unchanged after each error.
+///
+/// # Cost
+///
+/// The cost of `striped_map::Caller::pairs_with`.
+#[unsafe(no_mangle)]
+pub extern "C" fn boostmap_striped_read_stripe(
+    caller: &mut CallerHandle,
+    key: u64,
+    pairs: &mut [CPair],
+    word: &mut u64,
+) -> u32
+    ensures { ReadsStripe key caller.old.held.member result pairs.old pairs.new word.old word.new
+        caller.new.held.member }
+{
+    if !caller.is_live() {
+        return EMPTY;
+    }
+    let member = caller.held.get_mut();
+    let answer = member.caller.pairs_with(key);
     match answer {
         Ok(listed) => lay_all(&listed, pairs, word),
         Err(stop) => {

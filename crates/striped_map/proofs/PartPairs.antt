@@ -22,17 +22,14 @@ use Rattle.stripe_part.specs.PartAt.{PartAt}
 use Rattle.striped_map.specs.declared.view.View.{View}
 use Rattle.striped_map.specs.Rule.{Holds, IsPartOf}
 use Rattle.striped_map.specs.Sound.{HeldPart, AreHeld, stripes_in, with_part}
-use Rattle.striped_map.specs.Contents.{count_at, pairs_at, pairs_in, whole}
+use Rattle.striped_map.specs.Contents.{count_at, is_in, pairs_at, pairs_in, whole}
 use Rattle.striped_map.proofs.Hands.{holds_at, stripe_at}
 
 abbrev Pair : Type 0
 Pair = ℕ × ℕ
 
--- `is_in` is true if the key of a pair is in the stripe k. `sub` is the pair with its sub-key in
--- place of its key. `sub_rows` applies `sub` to the pairs in the stripe k.
-abbrev pub is_in : ℕ → ℕ → Pair → Bool
-is_in n k pair = stripe_of n pair.0 == k
-
+-- `sub` is the pair with its sub-key in place of its key. `sub_rows` applies `sub` to the pairs in
+-- the stripe k.
 abbrev pub sub : ℕ → Pair → Pair
 sub n pair = (pair.0 / n, pair.1)
 
@@ -143,7 +140,7 @@ all_stripes n ks once some (row ∷ rows) = IsPermutation-trans _ _ _ (IsPermuta
     (one_more n row rows ks (once (stripe_of n row.0) (mod-lt row.0 some)))
 
 -- If a part fits the map, its pairs are the map's rows in its stripe.
-part_pairs : (n : ℕ) (h : HeldPart) (m : Map) → h.stripe < n → IsPartOf n h.stripe h.part m
+pub part_pairs : (n : ℕ) (h : HeldPart) (m : Map) → h.stripe < n → IsPartOf n h.stripe h.part m
     → pairs_at n h ≡ filter (is_in n h.stripe) m.rows
 part_pairs n h m lt fits = ap (map (whole n h.stripe)) (part_rows n h.stripe lt h.part.content m fits) ∙ whole_sub n h.stripe m.rows
 

@@ -16,7 +16,7 @@ use Rattle.striped_map.specs.declared.keep.Keep.TheVariants.{Entries}
 use Rattle.striped_map.specs.declared.map.StripedMap.{StripedMap}
 use Rattle.map_answers.specs.declared.stop.Stop.{Stop}
 use Rattle.map_answers.specs.declared.stop.Stop.TheVariants.{Busy, Refused}
-use Rattle.striped_map.specs.Rule.{most}
+use Rattle.striped_map.specs.Rule.{Holds, most}
 use Rattle.striped_map.specs.Additions.{due, above}
 use Rattle.striped_map.specs.Handling.{GainsAtMost, HoldsAllOf, KeepsHeld}
 use Rattle.striped_map.specs.Steps.{Extends, seat_of, told_of, undoing}
@@ -65,6 +65,10 @@ numbers_seen c = (known c.hand.seat).made
 -- The caller holds every stripe of its map.
 abbrev pub HoldsEvery : Caller → Type 0
 HoldsEvery c = HoldsAllOf (stripes_in c) (known c.hand.seat)
+
+-- The caller holds the stripe of this key.
+abbrev pub HoldsStripe : ℕ → Caller → Type 0
+HoldsStripe key c = Holds (known c.hand.seat) (stripe_of (stripes_in c) key)
 
 -- Unless the call ends the transaction, the caller still holds every stripe that it held before.
 abbrev pub KeepsStripes : Caller → Caller → Type 0

@@ -1,6 +1,7 @@
 -- The pairs of several parts together.
-use Rattle.std.specs.Prelude.{ℕ, ◌+◌, ◌*◌, List, map, flat_map}
-use Rattle.txn_words.specs.Map.{count_of}
+use Rattle.std.specs.Prelude.{ℕ, Bool, ◌+◌, ◌*◌, ◌==◌, List, filter, map, flat_map}
+use Rattle.txn_trace.specs.Locks.{stripe_of}
+use Rattle.txn_words.specs.Map.{Map, count_of}
 use Rattle.striped_map.specs.Sound.{HeldPart}
 
 -- How many pairs a part has.
@@ -19,3 +20,11 @@ pairs_at stripes h = map (whole stripes h.stripe) h.part.content.rows
 -- sub-keys.
 abbrev pub pairs_in : ℕ → List HeldPart → List (ℕ × ℕ)
 pairs_in stripes held = flat_map (pairs_at stripes) held
+
+-- Whether the key of a pair is in this stripe.
+abbrev pub is_in : ℕ → ℕ → ℕ × ℕ → Bool
+is_in stripes stripe pair = stripe_of stripes pair.0 == stripe
+
+-- The pairs of a map whose keys are in the stripe of this key, by rising keys.
+abbrev pub rows_with : ℕ → ℕ → Map → List (ℕ × ℕ)
+rows_with stripes key m = filter (is_in stripes (stripe_of stripes key)) m.rows

@@ -1,9 +1,9 @@
 //! Reads the parts of all stripes that a seat holds: how many pairs these parts have, and the pairs
 //! with their whole keys.
 //!
-//! A part has the pairs of its stripe under sub-keys. The two functions read parts and change
-//! nothing. `count_of` takes constant time for each part. `pairs_of` takes the time and memory of
-//! `Part::pairs` for each part, and memory for all pairs.
+//! A part has the pairs of its stripe under sub-keys. The functions read parts and change nothing.
+//! `count_of` takes constant time for each part. `add_pairs` takes the time and memory of
+//! `Part::pairs`, and `pairs_of` that for each part, and memory for all pairs.
 ghost use Rattle.std.specs.Prelude.{◌≡◌, ◌+◌, ◌*◌, ◌++◌, sum_by, IfOk, IfSome, OnOk};
 ghost use Rattle.striped_map.specs.Contents.{count_at, pairs_at, pairs_in};
 ghost use Rattle.striped_map.specs.Rule.{Holds};
@@ -39,7 +39,7 @@ fn whole_key(stripes: u64, stripe: usize, sub_key: u64) -> Option<u64>
 }
 
 /// Adds the pairs of a stripe's part to `pairs`, with their whole keys.
-fn add_pairs(
+pub(crate) fn add_pairs(
     alloc: Global,
     map: &StripedMap,
     seat: &mut MapSeat,

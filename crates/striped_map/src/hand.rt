@@ -8,6 +8,8 @@ ghost use Rattle.txn_words.specs.declared.entry.Entry.TheVariants.{Began, Asked,
 ghost use Rattle.txn_words.specs.declared.seat.Phase.TheVariants.{Closed, Opened};
 ghost use Rattle.txn_trace.specs.Locks.{stripe_of};
 ghost use Rattle.txn_words.specs.Map.{count_of, key_of};
+ghost use Rattle.txn_words.specs.declared.op.Op.TheVariants.{Get};
+ghost use Rattle.striped_map.specs.Contents.{rows_with};
 ghost use Rattle.txn_words.specs.declared.refusal.Refusal.TheVariants.{NoMemory};
 ghost use Rattle.txn_trace.specs.Now.{now};
 ghost use Rattle.txn_words.specs.declared.holder.Holder.TheVariants.{Begun};
@@ -19,7 +21,7 @@ ghost use Rattle.striped_map.specs.Additions.{above, due, entries_of};
 ghost use Rattle.striped_map.specs.Handling.{GainsAtMost, HoldsAllOf, IsEnd, IsMiss, KeepsHeld, idle};
 ghost use Rattle.striped_map.specs.Lone.{RunsAlone};
 ghost use Rattle.striped_map.specs.declared.keep.Keep.TheVariants.{Entries};
-ghost use Rattle.striped_map.specs.Rule.{most};
+ghost use Rattle.striped_map.specs.Rule.{Holds, most};
 ghost use Rattle.striped_map.specs.Seats.{HasRoom, IsNext, IsOf, keep_of, known, part_in, stripes_of};
 ghost use Rattle.striped_map.specs.Sound.{AreHeld, AreLogged, IsIndexed, IsSound, held_parts};
 ghost use Rattle.striped_map.specs.Steps.{AreMade, Gathers, IsAt, SeesIn, counting, renumbered, seat_of, taken_in, told_of, rolled_back, undoing};
@@ -391,6 +393,45 @@ impl Hand {
             return Err(Stop::Refused(Refusal::NoMemory));
         };
         Ok(pairs)
+    }
+
+    /// Takes the stripe of a key, and returns the pairs of this stripe by rising keys.
+    #[tactic(auto, using(crate::proofs::Ends::moved_busy))]
+    pub(crate) fn pairs_with(
+        &mut self,
+        map: &StripedMap,
+        alloc: Global,
+        key: u64,
+    ) -> Result<Vec<(u64, u64)>, Stop>
+        requires map { IsOf self.old.seat map.now }
+        requires open { IsAt Opened (known self.old.seat) }
+        ensures map { IsOf self.new.seat map.now }
+        ensures levels { OnOk result (self.new.levels ≡ self.old.levels) }
+        ensures ok { IfOk result (λ pairs. IsAt Opened (known self.new.seat)
+            × MovesHand map.now self.old [] self.new × (pairs.items
+            ≡ rows_with (stripes_of map.now) key (now (known self.new.seat).seen))) }
+        ensures holds { OnOk result
+            (Holds (known self.new.seat) (stripe_of (stripes_of map.now) key)) }
+        ensures gained { IsAt Opened (known self.new.seat)
+            → GainsAtMost (stripe_of (stripes_of map.now) key) (known self.old.seat).held
+            (known self.new.seat).held }
+        ensures err { IfErr result (IsStopped map.now self.old (Get key) self.new) }
+    {
+        let stripe = (key % map.stripes() as u64) as usize;
+        match self.hold(map, stripe) {
+            Ok(_) => {
+                let mut pairs = Vec::new(alloc);
+                match contents::add_pairs(alloc, map, &mut self.seat, stripe, &mut pairs) {
+                    Ok(()) => Ok(pairs),
+                    Err(_) => Err(Stop::Refused(Refusal::NoMemory)),
+                }
+            }
+            Err(Stop::Busy { holder }) => {
+                self.leave(map, Addition::Yield(Op::Get(key), holder));
+                Err(Stop::Busy { holder })
+            }
+            Err(Stop::Refused(refusal)) => Err(Stop::Refused(refusal)),
+        }
     }
 
     /// Looks at the history, which has all entries of the seats that were merged into this hand's

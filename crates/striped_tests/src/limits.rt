@@ -9,7 +9,7 @@ use crate::calls::{
 use std::alloc::{AllocError, Global};
 use std::process::Abort;
 use std::test::Fail;
-use striped_map::Opening;
+use striped_map::{Opening, Stop};
 use txn_words::{Op, Refusal};
 
 /// Opens a map with these numbers of stripes and callers, and returns how many callers it has.
@@ -361,21 +361,56 @@ fn sees<R: Abort>(rt: &R, home: &mut Home, wanted: &[(u64, u64)]) {
     assert!(rt; is_seen);
 }
 
+/// Checks that the first caller reads the same pairs stripe by stripe: each once, by rising keys in
+/// each stripe, and each in the stripe of its key.
+fn sees_by_stripes<R: Abort>(rt: &R, home: &mut Home, wanted: &[(u64, u64)], stripes: u64) {
+    assert!(rt; 0 < home.callers.len());
+    let mut left = wanted.len();
+    for stripe in 0..stripes {
+        let found = home.callers[0].pairs_with(stripe);
+        left = left.saturating_sub(all_of(rt, found, wanted, stripe, stripes));
+    }
+    assert!(rt; left == 0);
+}
+
+/// Checks that these are the wanted pairs in this stripe. Returns their number.
+fn all_of<R: Abort>(
+    rt: &R,
+    found: Result<Vec<(u64, u64)>, Stop>,
+    wanted: &[(u64, u64)],
+    stripe: u64,
+    stripes: u64,
+) -> usize {
+    let mut number = 0;
+    if let Ok(pairs) = found {
+        for &pair in wanted {
+            if pair.0 % stripes == stripe {
+                assert!(rt; pairs.get(number) == Some(&pair));
+                number += 1;
+            }
+        }
+        assert!(rt; pairs.len() == number);
+    }
+    number
+}
+
 /// Puts the pairs. The caller sees them before the commit, and the host after it.
-fn play_scattered<R: Abort>(rt: &R, home: &mut Home, wanted: &[(u64, u64)]) {
+fn play_scattered<R: Abort>(rt: &R, home: &mut Home, wanted: &[(u64, u64)], stripes: usize) {
     put_scattered(rt, home);
+    sees_by_stripes(rt, home, wanted, stripes as u64);
     sees(rt, home, wanted);
     play(rt, home, &[(0, Ask::Commit, Told::Number(1))]);
     has_left(rt, &mut home.host, wanted);
 }
 
-/// A read of all pairs returns them in the order of their keys, on any number of stripes.
+/// A read of all pairs returns them in the order of their keys, on any number of stripes. So does a
+/// read of each stripe.
 #[test]
 fn pairs_rise(rt: HostRuntime) -> Result<(), Fail> {
     let wanted = rising(rt.alloc())?;
     for &stripes in &[1, 7, 64, 4096usize] {
         let home = &mut open(&rt, rt.alloc(), stripes, 1);
-        play_scattered(&rt, home, wanted.as_slice());
+        play_scattered(&rt, home, wanted.as_slice(), stripes);
     }
     Ok(())
 }

@@ -1,7 +1,7 @@
 //! Tests of `Transaction`: each call, each way to end a transaction, and a drop after any number of
-//! calls. `Call` lists the calls of a transaction. `Ask` lacks four of them: `contains_key`,
-//! `swap`, `is_empty` and `pairs`. The first three are also tested on a caller. The values of each
-//! row were worked out by hand.
+//! calls. `Call` lists the calls of a transaction. `Ask` lacks five of them: `contains_key`,
+//! `swap`, `is_empty`, `pairs` and `pairs_with`. The first three are also tested on a caller. The
+//! values of each row were worked out by hand.
 use crate::calls::{Ask, Home, NEW, Row, Told, leaves, must, open, play};
 use std::process::Abort;
 use striped_map::{Caller, Stop, Transaction};
@@ -18,9 +18,10 @@ enum Call {
     Len,
     Empty,
     Pairs,
+    PairsWith(u64),
 }
 
-/// The answer to a request: done, a reply, a number (for `Pairs` the number of pairs), yes or no,
+/// The answer to a request: done, a reply, a number (of pairs for `Pairs` and `PairsWith`), yes or no,
 /// or why the call stopped.
 #[derive(Clone, Copy, PartialEq, Eq)]
 enum Answer {
@@ -55,6 +56,7 @@ fn make_call(t: &mut Transaction<'_>, what: Call) -> Result<Answer, Stop> {
         Call::Len => Ok(Answer::Number(t.len()?)),
         Call::Empty => Ok(Answer::Is(t.is_empty()?)),
         Call::Pairs => Ok(Answer::Number(t.pairs()?.len() as u64)),
+        Call::PairsWith(key) => Ok(Answer::Number(t.pairs_with(key)?.len() as u64)),
     }
 }
 
@@ -76,6 +78,7 @@ const CALLS: &[Line] = &[
     (Call::Swap(2, Some(5), 9), Answer::Is(false)),
     (Call::Swap(2, None, 20), Answer::Is(true)),
     (Call::Do(Op::Put(3, 30)), NONE),
+    (Call::PairsWith(7), Answer::Number(1)),
     (Call::Save, Answer::Number(1)),
     (Call::Do(Op::Take(1)), Answer::Replied(Some(8))),
     (
@@ -190,14 +193,14 @@ fn taken_back<R: Abort>(rt: &R, home: &mut Home, calls: usize, end: End) {
 
 #[test]
 fn dropped_at_every_point(rt: HostRuntime) {
-    for calls in 0..20usize {
+    for calls in 0..21usize {
         taken_back(&rt, &mut open(&rt, rt.alloc(), 4, 2), calls, End::IsDropped);
     }
 }
 
 #[test]
 fn aborted(rt: HostRuntime) {
-    taken_back(&rt, &mut open(&rt, rt.alloc(), 4, 2), 19, End::Aborts);
+    taken_back(&rt, &mut open(&rt, rt.alloc(), 4, 2), 20, End::Aborts);
 }
 
 /// Caller 1 makes all calls of `CALLS` and commits. The pairs that remain are checked.

@@ -1,0 +1,56 @@
+-- PROMISES from-c: TellsRun
+-- How a caller runs a whole transaction for C.
+use Rattle.std.specs.Prelude.{◌≡◌, ◌⊎◌, ◌<◌, ℕ, Bool, not, nat_eq, true, List, [], length, map, take, drop, Option, Some, None, Result, Ok, Err}
+use Rattle.txn_words.specs.declared.op.Op.{Op}
+use Rattle.map_answers.specs.declared.stop.Stop.{Stop}
+use Rattle.striped_map.specs.declared.caller.Caller.{Caller}
+use Rattle.striped_map.specs.declared.runs.RunEnd.{RunEnd}
+use Rattle.striped_map.specs.Runs.{IsNotRun, IsRunTo}
+use Rattle.boostmap_c.specs.declared.c_entry.CEntry.{CEntry}
+use Rattle.boostmap_c.specs.declared.counts.Counts.{Counts}
+use Rattle.boostmap_c.specs.declared.member.Member.{Member}
+use Rattle.boostmap_c.specs.declared.striped_run.CReply.{CReply}
+use Rattle.boostmap_c.specs.Counting.{counted_run}
+use Rattle.boostmap_c.specs.Entries.{op_of, IsUnreadable}
+use Rattle.boostmap_c.specs.Replies.{empty_handle, short}
+use Rattle.boostmap_c.specs.Stops.{status_of_run, word_of_run}
+
+abbrev pub c_reply_of : Option ℕ → CReply
+c_reply_of None = record { value = 0; has = 0 }
+c_reply_of (Some value) = record { value = value; has = 1 }
+
+-- The replies lie at the front of an array, whose rest is unchanged.
+pub record LieReplies (replies : List (Option ℕ)) (before after : List CReply) : Type 0 where
+  pub front : take (length replies) after ≡ map c_reply_of replies
+  pub rest : drop (length replies) after ≡ drop (length replies) before
+
+-- The caller ran a transaction of these operations, with these replies, or did not run it to its
+-- end. If it was in a transaction before, there are no replies.
+abbrev pub Runs : Bool → List Op → List (Option ℕ) → Caller → Result RunEnd Stop → Caller → Type 0
+Runs strict ops replies a (Ok end) b = IsRunTo strict a b ops replies end
+Runs strict ops replies a (Err stop) b = IsNotRun strict a b ops replies stop
+    × (a.is_open ≡ true → replies ≡ [])
+
+-- The entries name the operations of the run. The counts of the caller are those after its end.
+abbrev pub RunsOn : List CEntry → Bool → List (Option ℕ) → Caller → Counts → Result RunEnd Stop
+    → Caller → Counts → Type 0
+RunsOn entries strict replies a counts answer b after = (ops : List Op)
+    × (map Some ops ≡ map op_of entries) × Runs strict ops replies a answer b
+    × (after ≡ counted_run counts answer)
+
+-- Either the member's caller ran the transaction (`RunsOn`), or nothing was run, since the array is
+-- too short for the replies or there is no list of operations.
+abbrev pub TellsRun : List CEntry → ℕ → Option Member → ℕ → List CReply → List CReply → ℕ → ℕ → ℕ
+    → ℕ → Option Member → Type 0
+TellsRun entries strict (Some old) status before after done_before done was word (Some new) =
+    (new.group ≡ old.group)
+    × (((replies : List (Option ℕ)) × (answer : Result RunEnd Stop)
+    × RunsOn entries (not (nat_eq strict 0)) replies old.caller old.counts answer new.caller
+    new.counts × (status ≡ status_of_run answer) × (word ≡ word_of_run was answer)
+    × (done ≡ length replies) × LieReplies replies before after)
+    ⊎ ((((status ≡ short) × (length before < length entries)) ⊎ IsUnreadable op_of entries status)
+    × (new.caller ≡ old.caller) × (new.counts ≡ old.counts) × (after ≡ before) × (done ≡ 0)
+    × (word ≡ was)))
+TellsRun entries strict None status before after done_before done was word None =
+    (status ≡ empty_handle) × (after ≡ before) × (done ≡ done_before) × (word ≡ was)
+TellsRun entries strict old status before after done_before done was word new = ⊥

@@ -1,0 +1,115 @@
+//! Runs a whole transaction of a striped map's caller by one call. C passes the operations as
+//! entries, as the judge reads them, and gets the replies.
+ghost use Rattle.std.specs.Prelude.{◌≡◌, ◌≤◌, Some, IfErr, OnOk, length, map, vec_len};
+ghost use Rattle.boostmap_c.specs.Entries.{op_of, IsUnreadable};
+ghost use Rattle.boostmap_c.specs.StripedRuns.{LieReplies, TellsRun, c_reply_of};
+
+use crate::c_entry::CEntry;
+use crate::member_handle::CallerHandle;
+use crate::status::{EMPTY, NO_ENTRY, SHORT, refused};
+use crate::stops::tell_run;
+use txn_trace::{Op, Refusal, Reply};
+
+/// The reply to an operation.
+#[repr(C)]
+#[derive(Clone, Copy)]
+pub struct CReply {
+    /// The value that the key had, or 0.
+    pub value: u64,
+    /// 0 if the key had no value, else 1.
+    pub has: u64,
+}
+
+impl CReply {
+    /// The numbers of a value, or of none.
+    pub(crate) fn of(reply: Reply) -> CReply
+        ensures { result ≡ c_reply_of reply }
+    {
+        match reply {
+            None => CReply { value: 0, has: 0 },
+            Some(value) => CReply { value, has: 1 },
+        }
+    }
+}
+
+/// Puts the operations that these entries name into the list, in place of what it has. On an error,
+/// returns the status.
+pub(crate) fn read_operations(entries: &[CEntry], ops: &mut Vec<Op>) -> Result<(), u32>
+    ensures ok { OnOk result (map Some ops.new.items ≡ map op_of entries.now) }
+    ensures len { OnOk result (vec_len ops.new ≡ length entries.now) }
+    ensures err { IfErr result (IsUnreadable op_of entries.now) }
+{
+    ops.clear();
+    if ops.reserve(entries.len()).is_err() {
+        return Err(refused(Refusal::NoMemory));
+    }
+    'reads: for i in 0..entries.len() {
+        match entries[i].op() {
+            Some(op) => ops.push_reserved(op),
+            None => return Err(NO_ENTRY),
+        }
+    }
+    Ok(())
+}
+
+/// Writes replies to the front of an array that has room for them.
+fn lay(listed: &[Reply], replies: &mut [CReply])
+    requires room { length listed.now ≤ length replies.old }
+    ensures { LieReplies listed.now replies.old replies.new }
+{
+    'lays: for i in 0..listed.len() {
+        replies[i] = CReply::of(listed[i]);
+    }
+}
+
+/// Runs a whole transaction: begins it, does the operations that these entries name, one after the
+/// other, and commits. Of each entry only the members of its operation are read. If `strict` is not
+/// 0, a `put if` that finds another value than it expects ends the run. `done` is the number of the
+/// operations that were done, whose replies are then at the front of the array. If the map keeps its
+/// commits, the word is the commit number, else it is 0.
+///
+/// # Errors
+///
+/// The status is one of these. After the first three, the transaction has been taken back.
+///
+/// - 13 if a `put if` ended the run. The last reply is its own.
+/// - 2 if another caller held the stripe of an operation's key. The word is that caller's number.
+/// - 30 (`NoMemory`) if memory is refused, perhaps before the transaction was begun.
+/// - 20 (`AlreadyOpen`) if the caller is in a transaction, which then continues.
+/// - 7 if the array has fewer places than there are operations, and 8 if the entry of an operation
+///   names none. Nothing was run.
+/// - 3 if the handle has no caller. `done` is unchanged.
+///
+/// # Cost
+///
+/// The cost of `striped_map::Caller::run`, and a step for each operation. Takes memory for the
+/// operations and the replies, which the caller keeps for its next runs.
+#[unsafe(no_mangle)]
+pub extern "C" fn boostmap_striped_run(
+    caller: &mut CallerHandle,
+    operations: &[CEntry],
+    strict: u32,
+    replies: &mut [CReply],
+    done: &mut u64,
+    word: &mut u64,
+) -> u32
+    ensures { TellsRun operations.now strict caller.old.held.member result replies.old replies.new
+        done.old done.new word.old word.new caller.new.held.member }
+{
+    if !caller.is_live() {
+        return EMPTY;
+    }
+    *done = 0;
+    if replies.len() < operations.len() {
+        return SHORT;
+    }
+    let member = caller.held.get_mut();
+    match member.run(operations, strict != 0) {
+        Ok(answer) => {
+            *done = member.replies.len() as u64;
+            lay(&member.replies, replies);
+            tell_run(answer, word)
+        }
+        Err(status) => status,
+    }
+}
