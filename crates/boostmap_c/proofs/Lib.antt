@@ -10,3 +10,4 @@ pub mod Collecting
 pub mod Referees
 pub mod Feeding
 pub mod Back
+pub mod Reading

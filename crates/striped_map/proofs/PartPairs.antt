@@ -1,6 +1,6 @@
 -- Shows that the pairs of the parts of all stripes are the pairs of the map, because each key is in
 -- one stripe, whose part has the map's value under its sub-key.
-use Rattle.std.proofs.Common.{take, drop, append-nil, append_assoc, ◌≡◌, ◌≢◌, ℕ, zero, suc, ◌+◌, ◌*◌, ◌/◌, ◌%◌, ◌<◌, ◌≤◌, ◌==◌, Bool, cond, T, List, [], ◌∷◌, ◌++◌, length, map, filter, flat_map, sum_by, reverse, Some, slice_get, sym, refl, ◌∙◌, ap, subst, arith, eq-eqb, ne_eqb, IsPermutation, is_lt, nat_cmp, Less, le_of_eq, lt_of_not-le, mod-lt}
+use Rattle.std.proofs.Common.{take, drop, append-nil, append_assoc, ◌≡◌, ◌≢◌, ℕ, zero, suc, ◌+◌, ◌*◌, ◌/◌, ◌%◌, ◌<◌, ◌≤◌, cond, T, List, [], ◌∷◌, ◌++◌, length, map, filter, flat_map, sum_by, reverse, Some, slice_get, sym, refl, ◌∙◌, ap, subst, arith, eq-eqb, ne_eqb, IsPermutation, is_lt, nat_cmp, Less, le_of_eq, lt_of_not-le, mod-lt}
 use mathlib.Core.Logic.{dite}
 use native.Mathlib.Decide.{ℕ_discrete}
 use Rattle.std.specs.FinMap.{nat_cmp-IsAntisymmetric}

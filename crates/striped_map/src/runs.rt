@@ -29,10 +29,11 @@ impl Caller {
     /// Does these operations in the caller's transaction, up to the first that fails or ends the
     /// run. Adds the replies to the list, which must have room for them. Returns true if no
     /// operation ends the run.
-    #[tactic(auto, using(crate::proofs::Ran::does_next, crate::proofs::Ran::does_until))]
+    #[tactic(auto, using(crate::proofs::Ran::does_next, crate::proofs::Ran::does_until, crate::proofs::CallSpans::stopped_map))]
     fn do_all(&mut self, ops: &[Op], strict: bool, replies: &mut Vec<Reply>) -> Result<bool, Stop>
         requires none { replies.old.items ≡ [] }
         requires room { length ops.now ≤ vec_capacity replies.old }
+        ensures map { self.new.map ≡ self.old.map }
         ensures open { OnOk result (self.old.is_open ≡ true → self.new.is_open ≡ true) }
         ensures all { IfOk result (λ done. done ≡ true
             → DoesAll strict ops.now replies.new.items self.old self.new) }
@@ -74,6 +75,7 @@ impl Caller {
         strict: bool,
         replies: &mut Vec<Reply>,
     ) -> Result<RunEnd, Stop>
+        ensures map { self.new.map ≡ self.old.map }
         ensures closed { self.old.is_open ≡ false → self.new.is_open ≡ false }
         ensures untouched { self.old.is_open ≡ true → replies.new ≡ replies.old }
         ensures few { self.old.is_open ≡ false → vec_len replies.new ≤ length ops.now }

@@ -4,6 +4,7 @@ use Rattle.striped_map.proofs.caller.Caller.do_all.Given as goal
 
 abbrev pub invariant-loop-place : goal.invariant-loop-place
 invariant-loop-place l = record {
+  map : l.self.map ≡ l.initial.self.map;
   stays : l.initial.self.is_open ≡ true → l.self.is_open ≡ true;
   does : DoesAll l.strict (take l.place l.ops) l.replies.items l.initial.self l.self;
   len : vec_len l.replies ≡ l.place;

@@ -1,4 +1,4 @@
-use Rattle.std.proofs.Common.{[], ◌∷◌, ℕ, ◌≡◌, ◌<◌, ◌%◌, ◌++◌, Some, List, filter, slice_get, sym, ap, subst, ◌∙◌}
+use Rattle.std.proofs.Common.{[], ℕ, ◌≡◌, ◌<◌, ◌%◌, ◌++◌, List, filter, sym, ap, subst, ◌∙◌}
 use Rattle.txn_trace.specs.Now.{now}
 use Rattle.txn_trace.specs.Locks.{stripe_of}
 use Rattle.txn_words.specs.declared.seat.Phase.TheVariants.{Opened}
