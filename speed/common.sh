@@ -14,24 +14,20 @@ quietly() {
   fi
 }
 
-run_crate() (
-  cd "crates/$1"
-  ${RT:-rt} run -- "${@:2}"
-)
-
-# Builds a program of crates/, which proves it, and runs it once with the arguments after its name. It is then `proved` in $work.
+# Proves and builds a program of crates/, and runs it once with the arguments after its name. It is then `proved` in $work.
 build_proved() {
-  quietly run_crate "$@"
-  cp "crates/$1/out/$1" "$work/proved"
+  quietly ./build.py "$1"
+  cp "out/$1" "$work/proved"
+  quietly "$work/proved" "${@:2}"
 }
 
 # Takes the program, which is then `proved` in $work: the file that PROGRAM names, or else that of this repository, which is
 # proved and built if necessary.
 take_program() {
   if [ -z "${PROGRAM:-}" ]; then
-    quietly ./boostmap run examples/first_scripts.json
+    quietly ./build.py boostmap
   fi
-  cp "${PROGRAM:-crates/boostmap/out/boostmap}" "$work/proved"
+  cp "${PROGRAM:-out/boostmap}" "$work/proved"
 }
 
 # Builds a program in plain Rust, which is then `plain` in $work.

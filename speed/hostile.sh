@@ -8,7 +8,7 @@ set -euo pipefail
 cd "$(dirname "${BASH_SOURCE[0]}")/.."
 work=$(mktemp -d)
 trap 'rm -rf "$work"' EXIT
-python3 - "$work" "${1:-crates/boostmap/out/boostmap}" <<'PYTHON'
+python3 - "$work" "${1:-out/boostmap}" <<'PYTHON'
 import os
 import subprocess
 import sys

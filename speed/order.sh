@@ -7,7 +7,7 @@
 source "$(dirname "${BASH_SOURCE[0]}")/common.sh"
 rounds=${1:-9}
 if [ -z "${PROGRAM:-}" ]; then
-  quietly ./judge check examples/checked.json
+  quietly ./build.py judge
 fi
 cp "${PROGRAM:-out/judge}" "$work/proved"
 quietly cargo build --release --offline --manifest-path speed/watch/Cargo.toml --target-dir "$work/target" \

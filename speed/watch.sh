@@ -11,9 +11,9 @@ entries=${1:-10000000}
 rounds=${2:-5}
 
 if [ -z "${PROGRAM:-}" ]; then
-  quietly ./judge check examples/checked.json
+  quietly ./build.py judge
 fi
-cp "${PROGRAM:-crates/judge/out/judge}" "$work/proved"
+cp "${PROGRAM:-out/judge}" "$work/proved"
 quietly cargo build --release --offline --manifest-path speed/watch/Cargo.toml --target-dir "$work/target" \
   --config 'source.crates-io.replace-with="here"' \
   --config "source.here.directory=\"${CRATES:-/usr/share/cargo/registry}\""
