@@ -1,3 +1,4 @@
+import contextlib
 import random
 import signal
 import sys
@@ -7,6 +8,23 @@ import unittest
 
 import boostmap
 from boostmap import Busy, Counts, Entry, Host, Judge, Map, NotFed, Refused, Verdict, open_striped
+
+
+class Thread(threading.Thread):
+    """A thread whose join raises what its target raised."""
+
+    raised = None
+
+    def run(self):
+        try:
+            super().run()
+        except BaseException as error:
+            self.raised = error
+
+    def join(self, timeout=None):
+        super().join(timeout)
+        if self.raised:
+            raise self.raised
 
 
 class Interrupt(Exception):
@@ -571,7 +589,9 @@ class Operations(unittest.TestCase):
                 caller.transact(moves)
             audits.append(sum(caller.items().values()))
             if draw.random() < 0.5:
-                caller.transaction().__enter__().put(1, 10**6)
+                left = caller.transaction().__enter__()  # open until the caller is closed
+                with contextlib.suppress(Busy):
+                    left.put(1, 10**6)
             commits.append(caller.counts().commits)
             caller.close()
 
@@ -579,7 +599,7 @@ class Operations(unittest.TestCase):
         for caller in callers[1:]:
             if len(threads) >= 4:
                 threads.pop(0).join()
-            threads.append(threading.Thread(target=visits, args=(caller,)))
+            threads.append(Thread(target=visits, args=(caller,)))
             threads[-1].start()
         for thread in threads:
             thread.join()
