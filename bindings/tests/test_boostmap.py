@@ -32,24 +32,30 @@ class Interrupt(Exception):
 
 
 def interrupted(job, seconds):
-    """Runs a job again and again, and raises Interrupt in it at many moments. Returns how often it was raised."""
+    """Runs a job again and again, and raises Interrupt in it at many moments: for so long, and on a loaded machine until
+    it was raised eleven times and the job has returned once, at most a minute. Returns how often it was raised."""
 
     def handle(*_):
         raise Interrupt
 
     def runs():  # its own function, since a loop's jump back may lie outside of its try
-        signal.setitimer(signal.ITIMER_REAL, 1e-5 + count % 97 * 1e-6)
+        nonlocal returned
+        signal.setitimer(signal.ITIMER_REAL, 1e-5 * 1.05 ** (rounds % 97))
+        ends = time.monotonic() + 0.02
         while time.monotonic() < ends:  # an interrupt in a destructor is lost
             job()
+            returned += 1
         signal.setitimer(signal.ITIMER_REAL, 0)
 
-    before, count, ends = signal.signal(signal.SIGALRM, handle), 0, time.monotonic() + seconds
+    before, starts = signal.signal(signal.SIGALRM, handle), time.monotonic()
+    count = rounds = returned = 0
     try:
-        while time.monotonic() < ends:
+        while time.monotonic() < starts + (seconds if count > 10 and returned else 60):
             try:
                 runs()
             except Interrupt:
                 count += 1
+            rounds += 1
     finally:
         signal.setitimer(signal.ITIMER_REAL, 0)
         signal.signal(signal.SIGALRM, before)
@@ -205,7 +211,7 @@ class Calls(unittest.TestCase):
                 except Busy:
                     pass
 
-        threads = [threading.Thread(target=transfers, args=(me,)) for me in range(4)]
+        threads = [Thread(target=transfers, args=(me,)) for me in range(4)]
         for thread in threads:
             thread.start()
         for thread in threads:
@@ -319,10 +325,11 @@ class Callers(unittest.TestCase):
 
         def handle(*_):
             done.append((len(m), caller.abort()))
+            signal.setitimer(signal.ITIMER_REAL, 1e-4)  # and not before: a slow handler would come in itself
 
         before = signal.signal(signal.SIGALRM, handle)
         try:
-            signal.setitimer(signal.ITIMER_REAL, 1e-4, 1e-4)
+            signal.setitimer(signal.ITIMER_REAL, 1e-4)
             while len(done) < 20:
                 len(m)
                 caller.abort()
@@ -365,9 +372,9 @@ class Callers(unittest.TestCase):
                     t.put(one, max(has - 1, 0))
                     t.put(other, t.get(other) + min(has, 1))
 
-                caller.transact(moves, tries=10**6)
+                caller.transact(moves)
 
-        threads = [threading.Thread(target=transfers, args=(caller,)) for caller in callers]
+        threads = [Thread(target=transfers, args=(caller,)) for caller in callers]
         for thread in threads:
             thread.start()
         for thread in threads:
@@ -501,9 +508,9 @@ class Operations(unittest.TestCase):
         one, other = open_striped(callers=2)
         holds, replies = one.transaction().__enter__(), []
         holds.put(5, 50)
-        waits = threading.Thread(target=lambda: replies.extend([other.get(5), other.run([("add", 5, 1)])]))
+        waits = Thread(target=lambda: replies.extend([other.get(5), other.run([("add", 5, 1)])]))
         waits.start()
-        while not other.counts().busy:
+        while waits.is_alive() and not other.counts().busy:
             time.sleep(1e-3)
         holds.__exit__(None, None, None)
         waits.join()
@@ -534,8 +541,8 @@ class Operations(unittest.TestCase):
             with one.transaction() as holds:
                 holds.put(5, 50)
                 for waits in (lambda: other.get(5), lambda: other.run([("get", 5)]), lambda: other.transact(lambda t: t.get(5))):
-                    signal.setitimer(signal.ITIMER_REAL, 0.02)
                     with self.assertRaises(Interrupt):
+                        signal.setitimer(signal.ITIMER_REAL, 0.02)
                         waits()
         finally:
             signal.setitimer(signal.ITIMER_REAL, 0)
@@ -682,7 +689,8 @@ class Judges(unittest.TestCase):
         sys.setswitchinterval(1000)
         try:
             other.start()
-            for _ in range(100):  # other programs may keep the thread from its turn
+            ends = time.monotonic() + 60
+            while time.monotonic() < ends:  # other programs may keep the thread from its turn
                 with Judge() as judge:
                     before = ticks[0]
                     judge.feed_all(entries)

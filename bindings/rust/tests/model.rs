@@ -277,7 +277,10 @@ fn visit(caller: &mut Caller) -> Result<(), Error> {
                 Ok::<_, Error>(())
             })
         }));
-        assert!(panics || moved.is_ok());
+        match moved {
+            Ok(ended) => ended?,
+            Err(_) => assert!(panics),
+        }
         if round % 20 == 0 {
             assert_eq!(caller.items()?.iter().map(|(_, value)| value).sum::<u64>(), 1000);
         }
