@@ -43,10 +43,23 @@ static int round_of(boostmap_caller *caller, uint64_t *seed) {
     return 0;
 }
 
+/* The same by one call, without a savepoint, and strict at times. */
+static int run_of(boostmap_caller *caller, uint64_t *seed) {
+    boostmap_entry operations[6];
+    boostmap_reply replies[6];
+    uint64_t w, done, count = draw(seed, 6);
+    for (uint64_t i = 0; i < count; i++)
+        operations[i] = (boostmap_entry){.operation = BOOSTMAP_PUT + (uint32_t)draw(seed, 4), .key = draw(seed, KEYS),
+                                         .value = i, .has = draw(seed, 2), .expected = 1};
+    boostmap_status status = boostmap_striped_run(caller, operations, count, (uint32_t)draw(seed, 2), replies, 6, &done, &w);
+    CHECK(status == BOOSTMAP_DONE || status == BOOSTMAP_BUSY || status == BOOSTMAP_MISSED);
+    return status == BOOSTMAP_DONE;
+}
+
 static void *run(void *caller) {
     size_t me = (size_t)((boostmap_caller *)caller - callers);
     uint64_t seed = me + 1;
-    for (int i = 0; i < ROUNDS; i++) commits[me] += (uint64_t)round_of(caller, &seed);
+    for (int i = 0; i < ROUNDS; i++) commits[me] += (uint64_t)(i % 4 ? round_of : run_of)(caller, &seed);
     if (seed % 2) CHECK(boostmap_striped_begin(caller) == BOOSTMAP_DONE); /* aborted by the free */
     CHECK(boostmap_striped_free(caller) == BOOSTMAP_DONE);
     return NULL;
