@@ -27,7 +27,7 @@ mod caller;
 mod host;
 mod judge;
 
-pub use caller::{open_striped, Caller, CallerTransaction, Counts, Keep, Opening};
+pub use caller::{open_striped, Caller, CallerTransaction, Counts, Keep, Opening, Pages, Ran};
 pub use host::Host;
 pub use judge::{Entry, Holder, Judge, NotFed, Operation, Rule, Verdict};
 
@@ -93,6 +93,13 @@ mod sys {
 
     #[repr(C)]
     #[derive(Clone, Copy, Default)]
+    pub struct Reply {
+        pub value: u64,
+        pub has: u64,
+    }
+
+    #[repr(C)]
+    #[derive(Clone, Copy, Default)]
     pub struct Counts {
         pub commits: u64,
         pub aborts: u64,
@@ -117,6 +124,7 @@ mod sys {
     pub const NO_HOST: u32 = 10;
     pub const NOT_KEPT: u32 = 11;
     pub const MISSING: u32 = 12;
+    pub const MISSED: u32 = 13;
     pub const NO_SUCH_CALLER: u32 = 18;
     pub const NOT_OPEN: u32 = 19;
     pub const ALREADY_OPEN: u32 = 20;
@@ -193,6 +201,23 @@ mod sys {
 
         pub fn boostmap_striped_count(caller: *mut Handle, word: *mut u64) -> u32;
         pub fn boostmap_striped_read(caller: *mut Handle, pairs: *mut Pair, places: usize, word: *mut u64) -> u32;
+        pub fn boostmap_striped_read_stripe(
+            caller: *mut Handle,
+            key: u64,
+            pairs: *mut Pair,
+            places: usize,
+            word: *mut u64,
+        ) -> u32;
+        pub fn boostmap_striped_run(
+            caller: *mut Handle,
+            operations: *const Entry,
+            count: usize,
+            strict: u32,
+            replies: *mut Reply,
+            places: usize,
+            done: *mut u64,
+            word: *mut u64,
+        ) -> u32;
 
         pub fn boostmap_striped_host(first: *mut Handle, host: *mut Handle) -> u32;
         pub fn boostmap_host_history(host: *mut Handle, entries: *mut Entry, places: usize, word: *mut u64) -> u32;
