@@ -106,29 +106,21 @@ write_run_file() {
     }' >"$work/run.json"
 }
 
-# Lays out the crates of the maps as a separate repository, in $work/maps, with the proofs that this one keeps in out/.
-lay_out_maps() {
-  local crate
-  quietly samples/new.sh "$work/maps"
-  for crate in txn_drive undo_log key_locks node_list list_steps bucket_table map_ops boost_core owned_map; do
-    mkdir "$work/maps/crates/$crate"
-    cp -r crates/$crate/{src,specs,proofs} "$work/maps/crates/$crate/"
-    grep "^$crate\b" crates.txt >>"$work/maps/crates.txt"
-  done
-  for crate in "$work"/maps/crates/*; do
-    if [ -d "crates/${crate##*/}/out" ]; then cp -r "crates/${crate##*/}/out" "$crate/"; fi
-  done
-}
-
-# Proves and builds the program of speed/NAME.rt.txt on those crates, and runs it once: NAME, its line of crates.txt after the
-# name, and the arguments of that run. It is then `NAME` in $work.
+# Proves and builds the program of speed/NAME.rt.txt, as one more crate beside those of the repository, and runs it once: NAME, its
+# line of crates.txt after the name, and the arguments of that run. It is then `NAME` in $work.
 build_on_maps() {
-  local there=$work/maps/crates/$1
-  [ -e "$work/maps" ] || lay_out_maps
-  mkdir -p "$there"/{src,specs,proofs}
-  touch "$there"/{specs,proofs}/Lib.antt
-  cp "speed/$1.rt.txt" "$there/src/main.rt"
-  echo "$1$2" >>"$work/maps/crates.txt"
-  (cd "$there" && quietly ${RT:-rt} run -- "${@:3}")
+  local there=$work/maps
+  if [ ! -e "$there" ]; then
+    mkdir -p "$there/crates" "$there/out" out/proved
+    cp build.py tools.sh crates.txt "$there/"
+    ln -s "$PWD"/crates/* "$there/crates/"
+    ln -s "$PWD/out/proved" "$there/out/proved"
+  fi
+  mkdir -p "$there/crates/$1"/{src,specs,proofs}
+  touch "$there/crates/$1"/{specs,proofs}/Lib.antt
+  cp "speed/$1.rt.txt" "$there/crates/$1/src/main.rt"
+  echo "$1$2" >>"$there/crates.txt"
+  quietly "$there/build.py" "$1"
   cp "$there/out/$1" "$work/"
+  quietly "$work/$1" "${@:3}"
 }

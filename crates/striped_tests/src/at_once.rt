@@ -8,6 +8,7 @@ use striped_map::{Caller, RunEnd, Stop};
 use txn_words::{Op, Refusal, Reply};
 
 /// A run: its operations, whether a `PutIf` may end it, its answer, and its replies.
+#[derive(Clone, Copy)]
 struct Row<'a> {
     ops: &'a [Op],
     strict: bool,
