@@ -84,6 +84,7 @@ in_c() {
   c_test read c99
   c_test owned c99
   c_test judge c99
+  c_test any_order c99
   c_test recorded c99
   c_test threads c11 -D_GNU_SOURCE -pthread
   c_test striped c99
@@ -93,6 +94,7 @@ in_c() {
   try 'history with 16' within "$work/history" 16
   c_test striped_recorded c11 -pthread
   try 'striped_recorded with 16' within "$work/striped_recorded" 16
+  c_test another c11 -pthread -Wl,--wrap=malloc -Wl,--wrap=realloc -Wl,--wrap=free
   c_test door c11 -pthread
   c_test no_memory c11 -Wl,--wrap=malloc -Wl,--wrap=realloc -Wl,--wrap=free
   c_test whole c99
@@ -115,6 +117,8 @@ in_c_again() {
     for name in statuses read owned no_memory threads striped whole; do
       try "$name under valgrind" "${checked[@]}" "$work/$name"
     done
+    try 'any_order under valgrind' "${checked[@]}" "$work/any_order"
+    try 'another with 10000 under valgrind' "${checked[@]}" --fair-sched=yes "$work/another" 10000
     try 'model of 40000 calls under valgrind' "${checked[@]}" "$work/model" 40000
     for name in 4 16; do
       try "striped_threads with $name under valgrind" "${checked[@]}" --fair-sched=yes "$work/striped_threads" "$name" 1000
