@@ -1,7 +1,7 @@
 /* Callers that other callers make: each status, in a transaction that continues, numbers that differ, also from two threads,
  * and a map that lives as long as one of them. A million that are made and freed leave no memory behind. Status 30 is in
  * no_memory.c. Linked with -Wl,--wrap= of malloc, realloc and free.
- * Usage: another [COUNT]: so many instead of a million */
+ * Usage: another [COUNT]: so many instead of a million, and a tenth of them in each of the two threads, at most EACH */
 #include "boostmap.h"
 #include "check.h"
 #include <pthread.h>
@@ -152,11 +152,12 @@ static struct maker {
     pthread_t thread;
     uint64_t numbers[EACH];
 } makers[2];
+static size_t each = EACH;
 
 static void *make_each(void *arg) {
     struct maker *m = arg;
     boostmap_caller next = BOOSTMAP_INIT, none = BOOSTMAP_INIT;
-    for (size_t i = 0; i < EACH; i++) {
+    for (size_t i = 0; i < each; i++) {
         m->numbers[i] = makes(&m->caller, &next);
         CHECK(boostmap_striped_free(&m->caller) == BOOSTMAP_DONE);
         m->caller = next; /* moved */
@@ -172,16 +173,16 @@ static int by_number(const void *a, const void *b) {
 
 static void numbers(void) {
     static uint64_t all[2 * EACH + 2];
-    IS(boostmap_striped_open(&makers[0].caller, 2, STRIPES, 0, BOOSTMAP_KEEP_NOTHING, 0, &all[2 * EACH]), BOOSTMAP_DONE);
-    IS(boostmap_striped_join(&makers[0].caller, &makers[1].caller, &all[2 * EACH + 1]), BOOSTMAP_DONE);
+    IS(boostmap_striped_open(&makers[0].caller, 2, STRIPES, 0, BOOSTMAP_KEEP_NOTHING, 0, &all[2 * each]), BOOSTMAP_DONE);
+    IS(boostmap_striped_join(&makers[0].caller, &makers[1].caller, &all[2 * each + 1]), BOOSTMAP_DONE);
     for (int i = 0; i < 2; i++) CHECK(!pthread_create(&makers[i].thread, NULL, make_each, &makers[i]));
     for (int i = 0; i < 2; i++) {
         CHECK(!pthread_join(makers[i].thread, NULL));
-        memcpy(all + i * EACH, makers[i].numbers, sizeof makers[i].numbers);
+        memcpy(all + (size_t)i * each, makers[i].numbers, each * sizeof *all);
         IS(boostmap_striped_free(&makers[i].caller), BOOSTMAP_DONE);
     }
-    qsort(all, 2 * EACH + 2, sizeof *all, by_number);
-    for (size_t i = 0; i < 2 * EACH + 1; i++) CHECK(all[i] < all[i + 1]);
+    qsort(all, 2 * each + 2, sizeof *all, by_number);
+    for (size_t i = 0; i < 2 * each + 1; i++) CHECK(all[i] < all[i + 1]);
 }
 
 /* So many are made and freed, each after a transaction. */
@@ -211,11 +212,13 @@ static void a_million(uint64_t count) {
 }
 
 int main(int argc, char **argv) {
+    uint64_t count = argc > 1 ? strtoull(argv[1], NULL, 10) : 1000000;
+    if (count / 10 < EACH) each = (size_t)(count / 10);
     statuses();
     keeping_entries();
     in_transactions();
     numbers();
-    a_million(argc > 1 ? strtoull(argv[1], NULL, 10) : 1000000);
+    a_million(count);
     CHECK(live == 0 && live_bytes == 0);
     return 0;
 }
