@@ -364,7 +364,7 @@ typedef struct boostmap_counts {
     uint64_t busy;
 } boostmap_counts;
 
-/* Writes the counts of the caller, since it was joined.    0; 3, which writes nothing */
+/* Writes the counts of the caller, since it was joined or made.    0; 3, which writes nothing */
 boostmap_status boostmap_striped_counts(boostmap_caller *caller, boostmap_counts *counts);
 
 /* Begins a transaction. If the map keeps its entries, boostmap_striped_begin and boostmap_striped_back
