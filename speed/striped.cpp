@@ -2,7 +2,9 @@
 // and on RocksDB's TransactionDB, which locks keys and not stripes, without a log on disk; for striped.sh. Each thread makes transactions of four operations: half puts, a quarter takes, a quarter gets, keys drawn
 // evenly, two keys in three there at the beginning. A tenth abort. A transaction that finds a stripe held aborts, and is not tried
 // again. The callers are joined one after the other, by one thread.
-// Usage: striped nothing|commits|tbb|rocksdb THREADS KEYS TRANSACTIONS shared|own. With `own` each thread has its own stripes.
+// Usage: striped nothing|commits|calls|run|tbb|rocksdb THREADS KEYS TRANSACTIONS shared|own. With `own` each thread has its own
+// stripes. `calls` and `run` make the same transactions on a map that keeps nothing, but none aborts: by the calls of its
+// operations, and as a whole by boostmap_striped_run.
 // Prints the transactions that were not busy a second, in millions, the nanoseconds of processor time of one, and the part that
 // was busy. Or: striped audit THREADS KEYS COUNTS, where one more thread counts all pairs so often beside the others' transactions,
 // each time in a transaction of its own; prints the part of these that were busy.
@@ -69,6 +71,7 @@ public:
 
 // Callers of the striped map.
 class boosted {
+protected:
     std::vector<boostmap_caller> callers_;
 
 public:
@@ -102,6 +105,36 @@ public:
         if (boostmap_striped_begin(&callers_[me]) != BOOSTMAP_DONE) std::exit(3);
         if (boostmap_striped_count(&callers_[me], &w) == BOOSTMAP_BUSY) return false;
         return boostmap_striped_commit(&callers_[me], &w) == BOOSTMAP_DONE;
+    }
+};
+
+// Transactions that all commit.
+class by_calls : public boosted {
+public:
+    using boosted::boosted;
+    bool run(word me, transaction made, word &sum) {
+        made.commits = true;
+        return boosted::run(me, made, sum);
+    }
+};
+
+class by_run : public boosted {
+public:
+    using boosted::boosted;
+    bool run(word me, const transaction &made, word &sum) {
+        static constexpr std::uint32_t operations[] = {BOOSTMAP_PUT, BOOSTMAP_TAKE, BOOSTMAP_GET};
+        boostmap_entry asked[4];
+        boostmap_reply replies[4];
+        word done = 0, w = 0;
+        for (int i = 0; i < 4; i++) {
+            asked[i].operation = operations[made.ops[i].what];
+            asked[i].key = made.ops[i].key;
+            asked[i].value = made.ops[i].value;
+        }
+        boostmap_status status = boostmap_striped_run(&callers_[me], asked, 4, 0, replies, 4, &done, &w);
+        if (status != BOOSTMAP_DONE && status != BOOSTMAP_BUSY) std::exit(3);
+        for (word i = 0; i < done; i++) sum += replies[i].has ? replies[i].value : NONE;
+        return status == BOOSTMAP_DONE;
     }
 };
 
@@ -268,6 +301,8 @@ int main(int argc, char **argv) {
     bool own = !std::strcmp(argv[5], "own");
     if (!std::strcmp(argv[1], "nothing")) measure<boosted>(threads, keys, count, own, BOOSTMAP_KEEP_NOTHING);
     else if (!std::strcmp(argv[1], "commits")) measure<boosted>(threads, keys, count, own, BOOSTMAP_KEEP_COMMITS);
+    else if (!std::strcmp(argv[1], "calls")) measure<by_calls>(threads, keys, count, own, BOOSTMAP_KEEP_NOTHING);
+    else if (!std::strcmp(argv[1], "run")) measure<by_run>(threads, keys, count, own, BOOSTMAP_KEEP_NOTHING);
 #ifdef HAS_TBB
     else if (!std::strcmp(argv[1], "tbb")) measure<tbb_boosted>(threads, keys, count, own, BOOSTMAP_KEEP_NOTHING);
 #endif

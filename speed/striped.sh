@@ -4,6 +4,7 @@
 # oneTBB boosted and on RocksDB's TransactionDB, which makes a tenth of the transactions. The programs take turns in random order in each round. Prints the medians: millions of transactions a second that were not busy, by
 # the clock; nanoseconds of processor time of one; and how many percent were busy. `own` gives each thread its own stripes.
 # With one thread all must give the same replies. Writes the table to striped.tsv, of which picture.py draws docs/striped.svg.
+# Then prints what one of these transactions takes by its calls and as a run, if all commit.
 # Usage: speed/striped.sh [TRANSACTIONS_A_THREAD [ROUNDS]]
 source "$(dirname "${BASH_SOURCE[0]}")/common.sh"
 count=${1:-1000000}
@@ -84,4 +85,23 @@ column -t speed/striped.tsv
 
 for threads in 1 2 4; do
   echo "of 10,000 counts of all pairs beside $threads writers on 100,000 keys, busy: $("$work/striped" audit $threads 100000 10000)"
+done
+
+for keys in 1000 100000; do
+  for threads in 1 4; do
+    for _ in $(seq "$rounds"); do
+      # The names are two.
+      # shellcheck disable=SC2046
+      for name in $(shuffled calls run); do run_one "$name" "$keys" shared "$threads"; done
+    done
+  done
+done >"$work/runs"
+awk '$4 == 1 { print $2, $8 }' "$work/runs" | sort -u | awk 'END { exit NR != 2 }' || { echo 'the replies differ' >&2; exit 1; }
+for keys in 1000 100000; do
+  for threads in 1 4; do
+    row="$keys shared $threads"
+    # The row has three words.
+    # shellcheck disable=SC2086
+    echo "nanoseconds of processor time of a transaction, $keys keys and $threads threads: $(median calls $row 6) by its calls, $(median run $row 6) as a run"
+  done
 done

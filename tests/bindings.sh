@@ -88,6 +88,8 @@ in_c() {
   c_test recorded c99
   c_test threads c11 -D_GNU_SOURCE -pthread
   c_test striped c99
+  c_test run c99
+  c_test stripe c99
   c_test striped_threads c11 -D_GNU_SOURCE -pthread
   try 'striped_threads with 16' within "$work/striped_threads" 16
   c_test history c11 -pthread
@@ -114,7 +116,7 @@ in_c() {
 in_c_again() {
   local name checked=(within valgrind -q --error-exitcode=9 --leak-check=full)
   if has valgrind 'the tests in C under it'; then
-    for name in statuses read owned no_memory threads striped whole; do
+    for name in statuses read owned no_memory threads striped run stripe whole; do
       try "$name under valgrind" "${checked[@]}" "$work/$name"
     done
     try 'any_order under valgrind' "${checked[@]}" "$work/any_order"

@@ -60,6 +60,7 @@
  *     5, 6      of boostmap_checked.h: a null pointer, or a handle that is in another call
  *     7, 8, 9   an array that is too short, numbers that are no entry, a sum beyond 64 bits
  *     10 to 12  of a map's history: no host, no entries kept, a caller that has not ended
+ *     13        a put_if of a strict run found another value than it expects
  *     16 + n    refused; n is the number of the refusal, from 2 to 22
  *
  * OWNERSHIP
@@ -141,12 +142,14 @@ enum {
     BOOSTMAP_FULL = 4,   /* the handle is in use already; nothing was done */
     BOOSTMAP_NULL = 5,   /* only from boostmap_checked.h: a null pointer */
     BOOSTMAP_IN_CALL = 6, /* only from boostmap_checked.h: the handle is in another call */
-    BOOSTMAP_SHORT = 7,  /* from a read: the array is too short; *word is the number of places needed */
-    BOOSTMAP_NO_ENTRY = 8, /* from a judge: these numbers are no entry of a caller below 64 */
+    BOOSTMAP_SHORT = 7,  /* an array is too short; from a read, *word is the number of places needed */
+    BOOSTMAP_NO_ENTRY = 8, /* from a judge: these numbers are no entry of a caller below 64; from a run: they are
+                              no operation */
     BOOSTMAP_OVERFLOW = 9, /* from an add: the sum would be below 0 or above 2^64 - 1 */
     BOOSTMAP_NO_HOST = 10, /* this caller is not the first of its map, or the host has a handle already */
     BOOSTMAP_NOT_KEPT = 11, /* the map does not keep its entries */
     BOOSTMAP_MISSING = 12, /* for the history: caller *word of the map has not been freed */
+    BOOSTMAP_MISSED = 13, /* from a strict run: a put_if found another value than it expects */
     /* 16 + the number of a refusal: nothing has changed, unless the comment of the call says so */
     BOOSTMAP_NO_SUCH_CALLER = 18,  /* the caller's number is not below the number of callers; from
                                       boostmap_striped_join: no caller waits */
@@ -177,6 +180,7 @@ static inline const char *boostmap_text(boostmap_status status) {
     case BOOSTMAP_NO_HOST: return "the caller does not have the map's host";
     case BOOSTMAP_NOT_KEPT: return "the map does not keep its entries";
     case BOOSTMAP_MISSING: return "a caller of the map has not been freed";
+    case BOOSTMAP_MISSED: return "a put_if found another value than it expects";
     case BOOSTMAP_NO_SUCH_CALLER: return "there is no such caller";
     case BOOSTMAP_NOT_OPEN: return "the caller has no transaction";
     case BOOSTMAP_ALREADY_OPEN: return "the caller has a transaction already";
@@ -406,6 +410,33 @@ boostmap_status boostmap_striped_count(boostmap_caller *caller, uint64_t *word);
  * unchanged, and *word is the number of places that it needs; the call took about as long as a full one.
  * 0; 2, after which the transaction has been aborted; 3; 7; 19; 30 */
 boostmap_status boostmap_striped_read(boostmap_caller *caller, boostmap_pair *pairs, size_t places, uint64_t *word);
+
+/* Takes the stripe of the key, and writes the pairs of this stripe, by rising keys and with the transaction's own changes,
+ * to the front of an array of `places` elements; *word: the number of pairs. The keys 0 to stripes - 1 are in different
+ * stripes, so a walk over them reads each pair once; with a transaction for each it is no snapshot. After 7 the array is
+ * unchanged, and *word is the number of places that it needs.
+ * 0; 2, after which the transaction has been aborted; 3; 7; 19; 30, after which the transaction may hold the stripe */
+boostmap_status boostmap_striped_read_stripe(boostmap_caller *caller, uint64_t key, boostmap_pair *pairs, size_t places,
+                                             uint64_t *word);
+
+/* The reply to an operation of a run. */
+typedef struct boostmap_reply {
+    uint64_t value; /* that the key had; 0 if it had none */
+    uint64_t has;   /* 0: the key had no value; else 1 */
+} boostmap_reply;
+
+struct boostmap_entry;
+
+/* Runs a whole transaction by one call: begins it, does `count` operations one after the other, and commits. Each is an
+ * entry as the judge below has it, of which only operation, key, value, expected and has are read, as of an ASKED one. The
+ * replies lie at the front of an array of `places` elements; *done: their number. If `strict` is not 0, a put_if that finds
+ * another value than it expects ends the run, and the last reply is its own. After 2, 13 and 30 the transaction has been
+ * taken back; it is not tried again. After 7, 8 and 20 nothing was run, and *done is 0; after 3 *done is unchanged.
+ * 0: *word as boostmap_striped_commit has it; 2; 3; 7: fewer places than operations; 8: an operation is none of the four;
+ * 13; 20; 30 */
+boostmap_status boostmap_striped_run(boostmap_caller *caller, const struct boostmap_entry *operations, size_t count,
+                                     uint32_t strict, boostmap_reply *replies, size_t places, uint64_t *done,
+                                     uint64_t *word);
 
 /* ---- the judge of histories ---------------------------------------------------------------------
  *
@@ -703,7 +734,7 @@ static inline boostmap_status boostmap_striped_update(boostmap_caller *caller, u
 }
 
 /* All pairs of the map by rising keys, in a new array that the program frees by free(); *word: their
- * number. Takes every stripe, as boostmap_striped_read: no call reads only a part of a map.
+ * number. Takes every stripe, as boostmap_striped_read.
  * 0; as boostmap_striped_count */
 static inline boostmap_status boostmap_striped_items(boostmap_caller *caller, boostmap_pair **pairs,
                                                      uint64_t *word) {

@@ -29,6 +29,7 @@
 #include <string>
 #include <type_traits>
 #include <utility>
+#include <variant>
 #include <vector>
 
 namespace boostmap_cpp {
@@ -260,6 +261,12 @@ struct opening {
 // How a caller's transactions ended: by a commit, by an abort, and by a busy call, which aborts too.
 using counts = boostmap_counts;
 
+// What a strict run came to if a put_if found another value than it expects: the replies up to that of this put_if.
+// Everything has been taken back.
+struct missed {
+    std::vector<value> replies;
+};
+
 class caller_calls;
 class caller_job;
 class caller_transaction;
@@ -326,6 +333,16 @@ public:
     void put_all(const std::vector<boostmap_pair> &pairs);
     std::uint64_t clear();
 
+    // Runs operations, made by the functions of `operation` below, in one transaction by one call of the archive, and
+    // returns their replies. Waits for ever while it is busy.
+    std::vector<value> run(const std::vector<boostmap_entry> &operations);
+    // The same, but a put_if that finds another value than it expects ends it, and takes everything back.
+    std::variant<std::vector<value>, missed> run_strict(const std::vector<boostmap_entry> &operations);
+
+    // Walks over the map: calls `visit` with the pairs of each stripe, by rising keys. Each stripe is read in a transaction
+    // of its own, which waits for ever while it is busy, and is over before the visit. So the pairs are no snapshot.
+    template <class Visit> void for_each_page(Visit &&visit);
+
 private:
     friend class caller_calls;
     friend std::vector<caller> open_striped(std::uint64_t callers, std::uint64_t stripes,
@@ -336,6 +353,7 @@ private:
         std::swap(handle_, other.handle_);
         std::swap(number_, other.number_);
     }
+    bool commits(const std::vector<boostmap_entry> &operations, bool is_strict, std::vector<value> &replies);
     boostmap_caller handle_ = BOOSTMAP_INIT;
     std::uint64_t number_ = 0;
 };
@@ -446,8 +464,23 @@ public:
     std::uint64_t save() { return *call(boostmap_striped_save); }
     void back(std::uint64_t level) { detail::check(boostmap_striped_back(handle(), level)); }
 
-    // The number of keys of the map, and its pairs by rising keys. Both take every stripe: no call reads
-    // only a part of a map.
+    // The pairs of the key's stripe, by rising keys. Takes only this stripe. The keys below the number of stripes are in
+    // different ones.
+    std::vector<boostmap_pair> page(std::uint64_t key) {
+        std::vector<boostmap_pair> all(16);
+        for (bool fits = false;;) {
+            value count = call([&](boostmap_caller *called, std::uint64_t *word) {
+                boostmap_status status = boostmap_striped_read_stripe(called, key, all.data(), all.size(), word);
+                fits = status != BOOSTMAP_SHORT;
+                if (!fits) status = BOOSTMAP_DONE; // with the number of places that it needs
+                return status;
+            });
+            all.resize(*count);
+            if (fits) return all;
+        }
+    }
+
+    // The number of keys of the map, and its pairs by rising keys. Both take every stripe.
     std::uint64_t count() { return *call(boostmap_striped_count); }
     std::vector<boostmap_pair> items() {
         std::vector<boostmap_pair> all(count() + 1); // one more, so that data() is not null
@@ -576,6 +609,42 @@ inline void caller::put_all(const std::vector<boostmap_pair> &pairs) {
 }
 inline std::uint64_t caller::clear() {
     return transact([](auto &t) { return t.clear(); });
+}
+
+// Whether a run commits. Memory for the replies is taken before it, so that nothing is thrown after the commit.
+inline bool caller::commits(const std::vector<boostmap_entry> &operations, bool is_strict, std::vector<value> &replies) {
+    const boostmap_entry none = {};
+    const boostmap_entry *first = operations.empty() ? &none : operations.data();
+    std::vector<boostmap_reply> found(operations.size() + 1); // one more, so that data() is not null
+    replies.resize(operations.size());
+    for (std::uint64_t waits = 0;; boostmap_wait(&waits)) {
+        std::uint64_t done = 0, word = 0;
+        boostmap_status status = boostmap_striped_run(&handle_, first, operations.size(), is_strict, found.data(), found.size(),
+                                                      &done, &word);
+        if (status == BOOSTMAP_BUSY) continue;
+        if (status != BOOSTMAP_MISSED) detail::check(status);
+        replies.resize(done);
+        for (std::size_t i = 0; i < done; i++)
+            if (found[i].has) replies[i] = found[i].value;
+        return status == BOOSTMAP_DONE;
+    }
+}
+inline std::vector<value> caller::run(const std::vector<boostmap_entry> &operations) {
+    std::vector<value> replies;
+    commits(operations, false, replies);
+    return replies;
+}
+inline std::variant<std::vector<value>, missed> caller::run_strict(const std::vector<boostmap_entry> &operations) {
+    std::vector<value> replies;
+    if (commits(operations, true, replies)) return {std::move(replies)};
+    return missed{std::move(replies)};
+}
+
+template <class Visit> void caller::for_each_page(Visit &&visit) {
+    for (std::uint64_t key = 0, stripes = options().stripes; key < stripes; key++) {
+        auto page = transact([key](auto &t) { return t.page(key); });
+        visit(page);
+    }
 }
 
 // The judge of histories, fed entry by entry. The functions of `entry` below make entries.
@@ -746,6 +815,17 @@ inline boostmap_entry found_busy(const boostmap_entry &asked, std::uint64_t hold
 }
 inline boostmap_entry aborted(std::uint64_t caller) { return of(BOOSTMAP_ABORTED, caller); }
 } // namespace entry
+
+// The operations of `caller::run`.
+namespace operation {
+inline boostmap_entry get(std::uint64_t key) { return entry::asked(0, BOOSTMAP_GET, key); }
+inline boostmap_entry take(std::uint64_t key) { return entry::asked(0, BOOSTMAP_TAKE, key); }
+inline boostmap_entry put(std::uint64_t key, std::uint64_t to) { return entry::asked(0, BOOSTMAP_PUT, key, to); }
+// Puts if the key has the expected value, or, without one, if it is absent.
+inline boostmap_entry put_if(std::uint64_t key, value expected, std::uint64_t to) {
+    return entry::asked(0, BOOSTMAP_PUT_IF, key, to, expected);
+}
+} // namespace operation
 
 } // namespace boostmap_cpp
 #endif

@@ -1,5 +1,5 @@
-/* The calls of boostmap.h behind a door: instead of undefined behaviour, a null handle, array, entry
- * or verdict returns BOOSTMAP_NULL, and a handle that is in another call BOOSTMAP_IN_CALL. So any
+/* The calls of boostmap.h behind a door: instead of undefined behaviour, a null handle, array, entry,
+ * verdict or `done` returns BOOSTMAP_NULL, and a handle that is in another call BOOSTMAP_IN_CALL. So any
  * thread may call at any time: the door is a seq_cst exchange, which also orders the calls. `word` may
  * be null if the number is not needed. This header needs C11 or C++11 and is only tested. A door costs
  * about 20 ns a call.
@@ -132,6 +132,16 @@ BOOSTMAP_CHECKED_WORD(striped_count, (boostmap_caller_door *door, uint64_t *word
                       boostmap_striped_count(&door->caller, word))
 BOOSTMAP_CHECKED_WORD(striped_read, (boostmap_caller_door *door, boostmap_pair *pairs, size_t places, uint64_t *word),
                       pairs ? boostmap_striped_read(&door->caller, pairs, places, word) : (boostmap_status)BOOSTMAP_NULL)
+BOOSTMAP_CHECKED_WORD(striped_read_stripe,
+                      (boostmap_caller_door *door, uint64_t key, boostmap_pair *pairs, size_t places, uint64_t *word),
+                      pairs ? boostmap_striped_read_stripe(&door->caller, key, pairs, places, word)
+                            : (boostmap_status)BOOSTMAP_NULL)
+BOOSTMAP_CHECKED_WORD(striped_run,
+                      (boostmap_caller_door *door, const boostmap_entry *operations, size_t count, uint32_t strict,
+                       boostmap_reply *replies, size_t places, uint64_t *done, uint64_t *word),
+                      operations && replies && done
+                          ? boostmap_striped_run(&door->caller, operations, count, strict, replies, places, done, word)
+                          : (boostmap_status)BOOSTMAP_NULL)
 
 /* The inner half of a join, behind the second door. */
 BOOSTMAP_CHECKED_WORD(striped_joined_to, (boostmap_caller_door *door, boostmap_caller *first, uint64_t *word),

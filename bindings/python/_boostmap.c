@@ -1,11 +1,12 @@
 /* The striped map's callers and transactions for Python, in C: a call costs a tenth of what it costs by
  * ctypes, or less, and no signal handler runs between a call and its bookkeeping. boostmap.py has the same classes
  * by ctypes, for machines without Python's headers, and their documentation. Short calls hold the
- * interpreter's lock; `items`, `len` and waits release it. */
+ * interpreter's lock; `items`, `page`, `len` and waits release it. */
 #define PY_SSIZE_T_CLEAN
 #include <Python.h>
 #include <boostmap.h>
 #include <stdlib.h>
+#include <string.h>
 
 #if PY_VERSION_HEX < 0x030A0000
 static PyObject *Py_NewRef(PyObject *object) {
@@ -14,8 +15,8 @@ static PyObject *Py_NewRef(PyObject *object) {
 }
 #endif
 
-/* boostmap.Busy, boostmap.Refused and boostmap.CallerTransaction. */
-static PyObject *busy_type, *refused_type, *transaction_type;
+/* boostmap.Busy, boostmap.Refused, boostmap.Missed and boostmap.CallerTransaction. */
+static PyObject *busy_type, *refused_type, *missed_type, *transaction_type;
 
 typedef struct {
     PyObject_HEAD
@@ -106,6 +107,7 @@ static int read_delta(PyObject *from, int64_t *delta) {
 /* Reads the arguments of an operation: 0, or -1 with an exception. */
 static int read_operation(Operation *op, int kind, PyObject *const *given, Py_ssize_t count) {
     Py_ssize_t wanted = kind == PUT_IF ? 3 : kind == GET || kind == TAKE ? 1 : 2;
+    memset(op, 0, sizeof *op);
     op->kind = kind;
     if (count != wanted) {
         PyErr_Format(PyExc_TypeError, "the operation takes %zd arguments, and not %zd", wanted, count);
@@ -157,37 +159,84 @@ static boostmap_status perform(boostmap_caller *handle, const Operation *op, uin
     }
 }
 
-/* What an operation came to. */
+/* A transaction of operations, and the replies of those that were done. */
 typedef struct {
-    boostmap_status status;
-    uint64_t word;
-} Reply;
+    size_t count;
+    int is_strict;
+    Operation *ops;
+    boostmap_entry *entries; /* the operations for one call of the archive; NULL: they are made one by one */
+    boostmap_reply *replies;
+    uint64_t done;
+} Run;
 
-/* Performs operations in a transaction of their own, again and again until it is not busy. Returns 0 and
- * the replies, or -1 with an exception. */
-static int perform_all(Caller *caller, const Operation *ops, Reply *replies, Py_ssize_t count) {
-    uint64_t waits = 0, place = 0, word = 0;
-    for (;;) {
-        int is_over = 1;
-        boostmap_status status;
-        enter(caller);
-        status = boostmap_striped_begin(caller->handle);
-        if (status == BOOSTMAP_DONE) {
-            for (Py_ssize_t i = 0; i < count && status <= BOOSTMAP_ABSENT; i++) {
-                status = replies[i].status = perform(caller->handle, &ops[i], &word);
-                replies[i].word = word;
-            }
-            is_over = boostmap_caller_ends(caller->handle, &status, &place);
+/* Whether a put_if found another value than it expects. */
+static int misses(const Operation *op, boostmap_reply reply) {
+    if (op->kind == PUT_IF) return reply.has != 0;
+    return op->kind == PUT_IF_EQUAL && (!reply.has || reply.value != op->expected);
+}
+
+/* Makes the transaction. Returns 0 if it was busy. */
+static int make(Caller *caller, Run *run, boostmap_status *status, uint64_t *word) {
+    uint64_t place;
+    enter(caller);
+    run->done = 0;
+    if (run->entries) {
+        *status = boostmap_striped_run(caller->handle, run->entries, run->count, (uint32_t)run->is_strict, run->replies,
+                                       run->count, &run->done, word);
+        return *status != BOOSTMAP_BUSY;
+    }
+    *status = boostmap_striped_begin(caller->handle);
+    if (*status != BOOSTMAP_DONE) return 1;
+    while (run->done < run->count && *status <= BOOSTMAP_ABSENT) {
+        const Operation *op = &run->ops[run->done];
+        *status = perform(caller->handle, op, word);
+        if (*status <= BOOSTMAP_ABSENT) {
+            boostmap_reply reply = {*word, *status == BOOSTMAP_DONE};
+            run->replies[run->done++] = reply;
+            if (run->is_strict && misses(op, reply)) *status = BOOSTMAP_MISSED;
         }
-        if (is_over) {
-            if (status > BOOSTMAP_ABSENT) raise_status(status, word);
-            return status > BOOSTMAP_ABSENT ? -1 : 0;
-        }
+    }
+    return boostmap_caller_ends(caller->handle, status, &place);
+}
+
+static PyObject *reply_of(boostmap_reply reply) {
+    if (reply.has) return PyLong_FromUnsignedLongLong(reply.value);
+    Py_RETURN_NONE;
+}
+
+/* A list of the replies. */
+static PyObject *replies_of(const Run *run) {
+    PyObject *all = PyList_New((Py_ssize_t)run->done), *reply;
+    for (uint64_t i = 0; all && i < run->done; i++) {
+        reply = reply_of(run->replies[i]);
+        if (reply) PyList_SET_ITEM(all, (Py_ssize_t)i, reply);
+        else Py_CLEAR(all);
+    }
+    return all;
+}
+
+/* Raises that a put_if has ended the run. */
+static void raise_missed(const Run *run) {
+    PyObject *replies = replies_of(run), *raised = replies ? PyObject_CallFunctionObjArgs(missed_type, replies, NULL) : NULL;
+    if (raised) PyErr_SetObject(missed_type, raised);
+    Py_XDECREF(raised);
+    Py_XDECREF(replies);
+}
+
+/* Makes the transaction again and again until it is not busy: 0, or -1 with an exception. */
+static int perform_all(Caller *caller, Run *run) {
+    uint64_t waits = 0, word = 0;
+    boostmap_status status;
+    while (!make(caller, run, &status, &word)) {
         Py_BEGIN_ALLOW_THREADS
         boostmap_wait(&waits);
         Py_END_ALLOW_THREADS
         if (PyErr_CheckSignals()) return -1;
     }
+    if (status <= BOOSTMAP_ABSENT) return 0;
+    if (status == BOOSTMAP_MISSED) raise_missed(run);
+    else raise_status(status, word);
+    return -1;
 }
 
 /* ---- callers ---- */
@@ -304,37 +353,50 @@ static PyObject *caller_options(PyObject *self, PyObject *none) {
 /* One operation in a transaction of its own. */
 static PyObject *at_once(PyObject *self, int kind, PyObject *const *given, Py_ssize_t count) {
     Operation op;
-    Reply reply;
-    if (read_operation(&op, kind, given, count) || perform_all((Caller *)self, &op, &reply, 1)) return NULL;
-    return answer(reply.status, reply.word);
+    boostmap_reply reply;
+    Run run = {1, 0, &op, NULL, &reply, 0};
+    if (read_operation(&op, kind, given, count) || perform_all((Caller *)self, &run)) return NULL;
+    return reply_of(reply);
+}
+
+/* An operation as an entry of a run; its `operation` is 0 if the archive has no such operation. */
+static boostmap_entry entry_of(const Operation *op) {
+    static const uint32_t known[] = {BOOSTMAP_GET, BOOSTMAP_TAKE, BOOSTMAP_PUT, BOOSTMAP_PUT_IF, BOOSTMAP_PUT_IF, 0, 0};
+    boostmap_entry entry = {0};
+    entry.operation = known[op->kind];
+    entry.key = op->key;
+    entry.value = op->value;
+    entry.expected = op->expected;
+    entry.has = op->kind == PUT_IF_EQUAL;
+    return entry;
 }
 
 /* Performs the operations of a sequence, and returns a list of their replies. */
-static PyObject *run_all(Caller *caller, PyObject *sequence, Operation *ops, Reply *replies) {
-    Py_ssize_t count = PySequence_Fast_GET_SIZE(sequence);
-    PyObject *all, *reply;
-    for (Py_ssize_t i = 0; i < count; i++)
-        if (read_named(&ops[i], PySequence_Fast_GET_ITEM(sequence, i))) return NULL;
-    if (perform_all(caller, ops, replies, count)) return NULL;
-    all = PyList_New(count);
-    for (Py_ssize_t i = 0; all && i < count; i++) {
-        reply = answer(replies[i].status, replies[i].word);
-        if (reply) PyList_SET_ITEM(all, i, reply);
-        else Py_CLEAR(all);
+static PyObject *run_all(Caller *caller, PyObject *sequence, Run run) {
+    boostmap_entry *entries = run.entries;
+    for (size_t i = 0; i < run.count; i++) {
+        if (read_named(&run.ops[i], PyTuple_GET_ITEM(sequence, (Py_ssize_t)i))) return NULL;
+        entries[i] = entry_of(&run.ops[i]);
+        if (!entries[i].operation) run.entries = NULL;
     }
-    return all;
+    return perform_all(caller, &run) ? NULL : replies_of(&run);
 }
 
-static PyObject *caller_run(PyObject *self, PyObject *given) {
-    PyObject *sequence = PySequence_Tuple(given), *all;
-    Operation *ops;
-    Reply *replies;
+static PyObject *caller_run(PyObject *self, PyObject *args, PyObject *names) {
+    static char *known[] = {"operations", "strict", NULL};
+    PyObject *given, *sequence, *all;
+    Run run = {0};
+    if (!PyArg_ParseTupleAndKeywords(args, names, "O|p:run", known, &given, &run.is_strict)) return NULL;
+    sequence = PySequence_Tuple(given);
     if (!sequence) return NULL;
-    ops = PyMem_New(Operation, PyTuple_GET_SIZE(sequence) + 1);
-    replies = PyMem_New(Reply, PyTuple_GET_SIZE(sequence) + 1);
-    all = ops && replies ? run_all((Caller *)self, sequence, ops, replies) : PyErr_NoMemory();
-    PyMem_Free(ops);
-    PyMem_Free(replies);
+    run.count = (size_t)PyTuple_GET_SIZE(sequence);
+    run.ops = PyMem_New(Operation, run.count + 1);
+    run.entries = PyMem_New(boostmap_entry, run.count + 1);
+    run.replies = PyMem_New(boostmap_reply, run.count + 1);
+    all = run.ops && run.entries && run.replies ? run_all((Caller *)self, sequence, run) : PyErr_NoMemory();
+    PyMem_Free(run.ops);
+    PyMem_Free(run.entries);
+    PyMem_Free(run.replies);
     Py_DECREF(sequence);
     return all;
 }
@@ -378,8 +440,10 @@ static PyMethodDef caller_methods[] = {
      "Runs a job, which is given the transaction, and commits. If a call of the transaction was busy, waits and tries "
      "again, at most `tries` times if that is given: it yields at first, and then sleeps, each time about twice as "
      "long, up to half a millisecond. Returns the job's result."},
-    {"run", caller_run, METH_O,
-     "Runs operations in one transaction, such as [(\"get\", 1), (\"put\", 2, 20)], and returns their replies."},
+    {"run", (PyCFunction)(void (*)(void))caller_run, METH_VARARGS | METH_KEYWORDS,
+     "run(operations, strict=False)\n--\n\n"
+     "Runs operations in one transaction, such as [(\"get\", 1), (\"put\", 2, 20)], and returns their replies. If it is "
+     "strict, a put_if that finds another value than it expects takes everything back, and raises Missed."},
     {"abort", caller_abort, METH_NOARGS, "Aborts the caller's transaction, and returns whether there was one."},
     {"close", caller_close, METH_NOARGS, "Frees the caller. An open transaction is aborted."},
     {0},
@@ -581,14 +645,15 @@ static PyObject *transaction_roll_back(PyObject *self, PyObject *none) {
     Py_RETURN_NONE;
 }
 
-/* Counts the keys, or with an array reads them, while other threads run. */
-static boostmap_status look(Caller *caller, boostmap_pair *pairs, size_t places, uint64_t *word) {
+/* Counts the keys, or with an array reads the pairs, those of a key's stripe or all, while other threads run. */
+static boostmap_status look(Caller *caller, const uint64_t *key, boostmap_pair *pairs, size_t places, uint64_t *word) {
     boostmap_status status;
     enter(caller);
     caller->is_looked_at = 1;
     PyThread_acquire_lock(caller->lock, WAIT_LOCK);
     Py_BEGIN_ALLOW_THREADS
-    if (pairs) status = boostmap_striped_read(caller->handle, pairs, places, word);
+    if (key) status = boostmap_striped_read_stripe(caller->handle, *key, pairs, places, word);
+    else if (pairs) status = boostmap_striped_read(caller->handle, pairs, places, word);
     else status = boostmap_striped_count(caller->handle, word);
     Py_END_ALLOW_THREADS
     caller->is_looked_at = 0;
@@ -604,7 +669,7 @@ static Py_ssize_t transaction_length(PyObject *self) {
         raise_status(BOOSTMAP_NOT_OPEN, 0);
         return -1;
     }
-    status = look(t->caller, NULL, 0, &word);
+    status = look(t->caller, NULL, NULL, 0, &word);
     if (status == BOOSTMAP_DONE) return (Py_ssize_t)word;
     if (status == BOOSTMAP_BUSY) note_busy(t);
     raise_status(status, word);
@@ -614,6 +679,39 @@ static Py_ssize_t transaction_length(PyObject *self) {
 static int transaction_bool(PyObject *self) {
     (void)self;
     return 1;
+}
+
+/* A dictionary of these pairs. */
+static PyObject *dictionary_of(const boostmap_pair *pairs, uint64_t count) {
+    PyObject *all = PyDict_New();
+    for (uint64_t i = 0; all && i < count; i++) {
+        PyObject *key = PyLong_FromUnsignedLongLong(pairs[i].key);
+        PyObject *value = PyLong_FromUnsignedLongLong(pairs[i].value);
+        if (!key || !value || PyDict_SetItem(all, key, value)) Py_CLEAR(all);
+        Py_XDECREF(key);
+        Py_XDECREF(value);
+    }
+    return all;
+}
+
+static PyObject *transaction_page(PyObject *self, PyObject *given) {
+    Transaction *t = (Transaction *)self;
+    boostmap_pair *pairs = NULL;
+    PyObject *all;
+    uint64_t key, count = 16;
+    boostmap_status status;
+    if (read_number(given, &key)) return NULL;
+    if (!t->is_open) return raise_status(BOOSTMAP_NOT_OPEN, 0);
+    do {
+        free(pairs);
+        pairs = calloc((size_t)count, sizeof *pairs);
+        if (!pairs) return PyErr_NoMemory();
+        status = look(t->caller, &key, pairs, (size_t)count, &count);
+    } while (status == BOOSTMAP_SHORT);
+    if (status == BOOSTMAP_BUSY) note_busy(t);
+    all = status == BOOSTMAP_DONE ? dictionary_of(pairs, count) : raise_status(status, count);
+    free(pairs);
+    return all;
 }
 
 static PyObject *transaction_items(PyObject *self, PyObject *none) {
@@ -626,15 +724,8 @@ static PyObject *transaction_items(PyObject *self, PyObject *none) {
     if (places < 0) return NULL;
     pairs = calloc((size_t)places + 1, sizeof *pairs);
     if (!pairs) return PyErr_NoMemory();
-    status = look(((Transaction *)self)->caller, pairs, (size_t)places, &count);
-    all = status == BOOSTMAP_DONE ? PyDict_New() : raise_status(status, count);
-    for (uint64_t i = 0; all && i < count; i++) {
-        PyObject *key = PyLong_FromUnsignedLongLong(pairs[i].key);
-        PyObject *value = PyLong_FromUnsignedLongLong(pairs[i].value);
-        if (!key || !value || PyDict_SetItem(all, key, value)) Py_CLEAR(all);
-        Py_XDECREF(key);
-        Py_XDECREF(value);
-    }
+    status = look(((Transaction *)self)->caller, NULL, pairs, (size_t)places, &count);
+    all = status == BOOSTMAP_DONE ? dictionary_of(pairs, count) : raise_status(status, count);
     free(pairs);
     return all;
 }
@@ -665,6 +756,9 @@ static PyMethodDef transaction_methods[] = {
          "Takes back every change since the level was set; 0 is the beginning of the transaction."),
     {"roll_back", transaction_roll_back, METH_NOARGS,
      "Lets the end of the `with` take everything back, instead of committing."},
+    {"page", transaction_page, METH_O,
+     "A dictionary of the pairs of the key's stripe, by rising keys, with the transaction's own changes. Takes only this "
+     "stripe. The keys below the number of stripes are in different ones."},
     {"items", transaction_items, METH_NOARGS,
      "A dictionary of the whole map, with the transaction's own changes. Takes every stripe."},
     {0},
@@ -694,16 +788,17 @@ static PyType_Spec transaction_spec = {"_boostmap.Transaction", sizeof(Transacti
 
 static PyObject *set_types(PyObject *self, PyObject *args) {
     (void)self;
-    if (!PyArg_ParseTuple(args, "OOO", &busy_type, &refused_type, &transaction_type)) return NULL;
+    if (!PyArg_ParseTuple(args, "OOOO", &busy_type, &refused_type, &missed_type, &transaction_type)) return NULL;
     Py_INCREF(busy_type);
     Py_INCREF(refused_type);
+    Py_INCREF(missed_type);
     Py_INCREF(transaction_type);
     Py_RETURN_NONE;
 }
 
 static PyMethodDef module_methods[] = {
     {"set_types", set_types, METH_VARARGS,
-     "Sets the exceptions of busy and refused calls, and the type of transactions that `transact` makes."},
+     "Sets the exceptions of busy and refused calls and of missed runs, and the type of transactions that `transact` makes."},
     {0},
 };
 

@@ -34,7 +34,7 @@ except ImportError:
 __all__ = [
     "open_striped", "Caller", "CallerTransaction", "Counts", "Options", "Host", "Map", "Transaction", "Judge", "Entry", "Verdict",
     "judge_any_order", "Finding", "Link",
-    "Error", "Busy", "Refused", "NotFed",
+    "Error", "Busy", "Refused", "Missed", "NotFed",
 ]
 
 __version__ = "1.0.0"
@@ -55,6 +55,10 @@ class _Entry(ctypes.Structure):
         (name, _U64) for name in ("caller", "key", "value", "expected", "number", "has")]
 
 
+class _Reply(ctypes.Structure):
+    _fields_ = [("value", _U64), ("has", _U64)]
+
+
 class _Verdict(ctypes.Structure):
     _fields_ = [(name, _U64) for name in ("is_legal", "commits", "running", "entry", "rule")]
 
@@ -71,7 +75,7 @@ _HANDLE = ctypes.POINTER(_Handle)
 _WORD = ctypes.POINTER(_U64)
 
 # Statuses of boostmap.h that this module treats in a special way.
-_DONE, _ABSENT, _BUSY, _EMPTY, _SHORT, _NO_HOST, _NOT_OPEN = 0, 1, 2, 3, 7, 10, 19
+_DONE, _ABSENT, _BUSY, _EMPTY, _SHORT, _NO_HOST, _MISSED, _NOT_OPEN = 0, 1, 2, 3, 7, 10, 13, 19
 
 # The calls of boostmap.h: the number of arguments between the handle and the word, and whether there
 # is a word.
@@ -116,6 +120,9 @@ def _load():
         call.restype = ctypes.c_uint32
     library.boostmap_read.argtypes = [_HANDLE, ctypes.POINTER(_Pair), ctypes.c_size_t, _WORD]
     library.boostmap_striped_read.argtypes = library.boostmap_read.argtypes
+    library.boostmap_striped_read_stripe.argtypes = [_HANDLE, _U64, ctypes.POINTER(_Pair), ctypes.c_size_t, _WORD]
+    library.boostmap_striped_run.argtypes = [_HANDLE, ctypes.POINTER(_Entry), ctypes.c_size_t, ctypes.c_uint32,
+                                             ctypes.POINTER(_Reply), ctypes.c_size_t, _WORD, _WORD]
     library.boostmap_striped_join.argtypes = [_HANDLE, _HANDLE, _WORD]
     library.boostmap_striped_another.argtypes = [_HANDLE, _HANDLE, _WORD]
     library.boostmap_striped_host.argtypes = [_HANDLE, ctypes.c_void_p]
@@ -128,8 +135,9 @@ def _load():
     library.boostmap_judge_verdict.argtypes = [_HANDLE, ctypes.POINTER(_Verdict)]
     library.boostmap_judge_any_order.argtypes = [
         ctypes.POINTER(_Entry), ctypes.c_size_t, ctypes.POINTER(_Link), ctypes.c_size_t, ctypes.POINTER(_Finding)]
-    for name in ("read", "history", "striped_read", "striped_join", "striped_host", "striped_counts", "host_history", "judge_new", "judge_feed",
-                 "judge_feed_all", "judge_verdict", "striped_another", "judge_any_order"):
+    for name in ("read", "history", "striped_read", "striped_read_stripe", "striped_run", "striped_join", "striped_another",
+                 "striped_host", "striped_counts", "host_history", "judge_new", "judge_feed", "judge_feed_all", "judge_verdict",
+                 "judge_any_order"):
         getattr(library, "boostmap_" + name).restype = ctypes.c_uint32
     return library
 
@@ -157,6 +165,15 @@ class Refused(Error):
     def __init__(self, status):
         super().__init__(_REASONS.get(status, f"status {status}"))
         self.status = status
+
+
+class Missed(Error):
+    """A put_if of a strict run found another value than it expects: its reply is the last of `replies`. Everything has been
+    taken back."""
+
+    def __init__(self, replies):
+        super().__init__("a put_if found another value than it expects")
+        self.replies = replies
 
 
 class NotFed(Refused):
@@ -393,6 +410,12 @@ def open_striped(callers=1, stripes=64, keys=0, keep=None, seed=None):
     return others[::-1] + [first]  # numbers are counted down
 
 
+def _wait(done):
+    """Waits before a busy transaction is tried again, after so many tries."""
+    longest = min(2 ** min(done - 5, 9) * 1e-6, 5e-4)
+    time.sleep(longest * random.uniform(0.5, 1) if done > 4 else 0)
+
+
 class _AtOnce:
     """What callers have whose transactions are not made by _boostmap: `transact`, and the operations of a caller, each
     in a transaction of its own."""
@@ -407,7 +430,7 @@ class _AtOnce:
         """Runs a job, which is given the transaction, and commits. If a call of the transaction was busy, waits and tries
         again, at most `tries` times if that is given: it yields at first, and then sleeps, each time about twice as
         long, up to half a millisecond. Returns the job's result."""
-        done, longest = 0, 1e-6
+        done = 0
         while True:
             t = self.transaction()
             try:
@@ -417,11 +440,7 @@ class _AtOnce:
                 if not t.was_busy or done == tries:
                     raise
             done += 1
-            if done <= 4:
-                time.sleep(0)
-            else:
-                time.sleep(longest * random.uniform(0.5, 1))
-                longest = min(2 * longest, 5e-4)
+            _wait(done)
 
     def get(self, key):
         """The value at the key, in a transaction of its own, as are all operations of a caller."""
@@ -448,16 +467,61 @@ class _AtOnce:
         """Puts only if the key has no value; returns the value that it has now."""
         return self.transact(lambda t: t.get_or_put(key, value))
 
-    def run(self, operations):
-        """Runs operations in one transaction, such as [("get", 1), ("put", 2, 20)], and returns their replies."""
+    def run(self, operations, strict=False):
+        """Runs operations in one transaction, such as [("get", 1), ("put", 2, 20)], and returns their replies. If it is
+        strict, a put_if that finds another value than it expects takes everything back, and raises Missed."""
         operations = [tuple(operation) for operation in operations]
         for operation in operations:
             if not operation or operation[0] not in _NAMES:
                 raise ValueError(f"{operation!r} is no operation")
-        return self.transact(lambda t: [getattr(t, name)(*numbers) for name, *numbers in operations])
+        if all(operation[0] in _ASKED for operation in operations):
+            return self._run([_asked(*operation) for operation in operations], strict)
+
+        def performs(t):
+            replies = []
+            for name, *numbers in operations:
+                replies.append(getattr(t, name)(*numbers))
+                if strict and name == "put_if" and replies[-1] != numbers[1]:
+                    raise Missed(replies)
+            return replies
+
+        return self.transact(performs)
+
+    def _run(self, asked, strict):
+        """Runs operations by one call of the archive, again and again until it is not busy."""
+        count, done, word, tries = len(asked), _U64(0), _U64(0), 0
+        entries, replies = (_Entry * count)(*asked), (_Reply * count)()
+        while True:
+            with self._lock:
+                status = _library.boostmap_striped_run(
+                    self._handle, entries, count, bool(strict), replies, count, done, word)
+            if status != _BUSY:
+                break
+            tries += 1
+            _wait(tries)
+        found = [reply.value if reply.has else None for reply in replies[:done.value]]
+        if status == _MISSED:
+            raise Missed(found)
+        _check(status)
+        return found
 
 
 _NAMES = {"get", "put", "take", "put_if", "add", "get_or_put"}
+
+# The operations that the archive runs by one call: their key, value and expected value.
+_ASKED = {
+    "get": lambda key: (key, 0, None),
+    "take": lambda key: (key, 0, None),
+    "put": lambda key, value: (key, value, None),
+    "put_if": lambda key, expected, value: (key, value, expected),
+}
+
+
+def _asked(name, *numbers):
+    """An operation as an entry of a run."""
+    key, value, expected = _ASKED[name](*numbers)
+    has = expected is not None
+    return _Entry(0, _OPERATIONS[name], 0, _number(key), _number(value), _number(expected) if has else 0, 0, has)
 
 
 class _InTransaction:
@@ -601,6 +665,21 @@ class _CtypesTransaction(_InTransaction):
         """Takes back every change since the level was set; 0 is the beginning of the transaction."""
         self._call("striped_back", level)
 
+    def page(self, key):
+        """A dictionary of the pairs of the key's stripe, by rising keys, with the transaction's own changes. Takes only this
+        stripe. The keys below the number of stripes are in different ones."""
+        key, status, word = _number(key), _SHORT, _U64(16)
+        while status == _SHORT:
+            if not self._is_open:
+                raise Refused(_NOT_OPEN)
+            places = word.value
+            pairs = (_Pair * places)()
+            with self._caller._lock:
+                status = _library.boostmap_striped_read_stripe(self._caller._handle, key, pairs, places, word)
+        if status == _BUSY:
+            self._is_open, self.was_busy = False, True
+        return {pair.key: pair.value for pair in pairs[:_value(status, word)]}
+
     def items(self):
         """A dictionary of the whole map, with the transaction's own changes. Takes every stripe."""
         places, word = len(self), _U64(0)
@@ -636,8 +715,14 @@ class Caller(_boostmap.Caller if _boostmap else _CtypesCaller):
         return self.transact(len)
 
     def items(self):
-        """A dictionary of the whole map, by rising keys. Takes every stripe: no call reads only a part of a map."""
+        """A dictionary of the whole map, by rising keys. Takes every stripe."""
         return self.transact(lambda t: t.items())
+
+    def pages(self):
+        """Walks over the map: yields a dictionary of the pairs of each stripe, by rising keys. Each stripe is read in a
+        transaction of its own, which waits while it is busy. So the pairs are no snapshot."""
+        for key in range(self.options().stripes):
+            yield self.transact(lambda t: t.page(key))
 
     def put_all(self, pairs):
         """Puts the pairs of a dictionary, or pairs in their order, in one transaction."""
@@ -700,7 +785,7 @@ class CallerTransaction(_boostmap.Transaction if _boostmap else _CtypesTransacti
 
 
 if _boostmap:
-    _boostmap.set_types(Busy, Refused, CallerTransaction)
+    _boostmap.set_types(Busy, Refused, Missed, CallerTransaction)
 
 
 class Host(_Owned):

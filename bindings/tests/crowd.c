@@ -133,11 +133,13 @@ static boostmap_status audit(boostmap_recorded *r, void *with) {
     return BOOSTMAP_DONE;
 }
 
+/* Audits until the visits are over, and until there were enough audits: on a loaded machine the last ones come after the
+ * visits. */
 static void *audits_all(void *is_over) {
     const struct timespec pause = {0, 200000};
     uint64_t w;
     joins(&callers[1]);
-    while (!*(atomic_int *)is_over) {
+    while (!*(atomic_int *)is_over || audits < AUDITS) {
         boostmap_status status = boostmap_recorded_transact(&callers[1], UINT64_MAX, audit, 0, &w);
         CHECK(status == BOOSTMAP_DONE || status == BOOSTMAP_NO_MEMORY);
         audits += status == BOOSTMAP_DONE;
@@ -154,7 +156,7 @@ static boostmap_status fills(boostmap_recorded *r, void *with) {
     return BOOSTMAP_DONE;
 }
 
-/* Visits, so many at a time, until there were enough of them and of audits. */
+/* Visits, so many at a time, until there were enough of them and of audits, or no handle is left. */
 static long all_visits(int at_once) {
     pthread_t threads[MOST];
     long next = 0;
@@ -211,8 +213,7 @@ int main(int argc, char **argv) {
            at_once, (long)visits, (long)broken_off, (unsigned long long)w, (long)audits,
            (long)refusals);
     CHECK(verdict.is_legal && verdict.commits == w && verdict.running == 0);
-    CHECK(audits >= AUDITS && broken_off > 0 && (refusals > 0) == refuses &&
-          (refused_calls > 0) == refuses);
+    CHECK(broken_off > 0 && (refusals > 0) == refuses && (refused_calls > 0) == refuses);
     forge(count + 1);
     verdict = judged((size_t)count + 2);
     CHECK(!verdict.is_legal && verdict.rule == 1);

@@ -31,6 +31,23 @@ static void *get_often(void *arg) {
     return arg;
 }
 
+/* Runs of one operation. */
+static void runs_at_a_caller(void) {
+    const boostmap_entry take = {.operation = BOOSTMAP_TAKE, .key = 1};
+    boostmap_reply reply = {0, 0};
+    uint64_t done = 7, w;
+    CHECK(boostmap_checked_striped_run(0, &take, 1, 0, &reply, 1, &done, &w) == BOOSTMAP_NULL);
+    CHECK(boostmap_checked_striped_run(&caller, 0, 1, 0, &reply, 1, &done, &w) == BOOSTMAP_NULL);
+    CHECK(boostmap_checked_striped_run(&caller, &take, 1, 0, 0, 1, &done, &w) == BOOSTMAP_NULL);
+    CHECK(boostmap_checked_striped_run(&caller, &take, 1, 0, &reply, 1, 0, &w) == BOOSTMAP_NULL);
+    atomic_store(&caller.is_in_call, 1);
+    CHECK(boostmap_checked_striped_run(&caller, &take, 1, 0, &reply, 1, &done, &w) == BOOSTMAP_IN_CALL);
+    atomic_store(&caller.is_in_call, 0);
+    CHECK(done == 7 && reply.has == 0);
+    CHECK(boostmap_checked_striped_run(&caller, &take, 1, 0, &reply, 1, &done, 0) == BOOSTMAP_DONE);
+    CHECK(done == 1 && reply.has == 1 && reply.value == 10);
+}
+
 static void at_a_caller(void) {
     uint64_t w;
     pthread_t threads[THREADS];
@@ -63,7 +80,15 @@ static void at_a_caller(void) {
     CHECK(boostmap_checked_striped_read(&caller, 0, 0, &w) == BOOSTMAP_NULL);
     boostmap_pair pair;
     CHECK(boostmap_checked_striped_read(&caller, &pair, 1, 0) == BOOSTMAP_DONE && pair.value == 10);
+    pair.value = 0;
+    CHECK(boostmap_checked_striped_read_stripe(0, 1, &pair, 1, &w) == BOOSTMAP_NULL);
+    CHECK(boostmap_checked_striped_read_stripe(&caller, 1, 0, 1, &w) == BOOSTMAP_NULL);
+    CHECK(boostmap_checked_striped_read_stripe(&caller, 1, &pair, 1, 0) == BOOSTMAP_DONE && pair.value == 10);
+    atomic_store(&caller.is_in_call, 1);
+    CHECK(boostmap_checked_striped_read_stripe(&caller, 1, &pair, 1, &w) == BOOSTMAP_IN_CALL);
+    atomic_store(&caller.is_in_call, 0);
     CHECK(boostmap_checked_striped_commit(&caller, &w) == BOOSTMAP_DONE && w == 1);
+    runs_at_a_caller();
     CHECK(boostmap_checked_striped_free(&caller) == BOOSTMAP_DONE);
     CHECK(boostmap_checked_striped_free(&next) == BOOSTMAP_DONE);
 }

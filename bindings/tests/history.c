@@ -9,14 +9,16 @@
 enum { MOST = 16, STRIPES = 8, KEYS = 32, ROUNDS = 2000 };
 
 static boostmap_caller callers[MOST];
+static uint64_t commits[MOST]; /* of each thread */
 
 static uint64_t draw(uint64_t *seed, uint64_t below) {
     *seed = *seed * 6364136223846793005u + 1442695040888963407u;
     return (*seed >> 33) % below;
 }
 
-/* A transaction of some operations, with a savepoint at times, that commits, aborts or is busy. */
-static void round_of(boostmap_caller *caller, uint64_t *seed) {
+/* A transaction of some operations, with a savepoint at times, that commits, aborts or is busy. Returns whether it
+ * has committed. */
+static int round_of(boostmap_caller *caller, uint64_t *seed) {
     uint64_t w, level = 0;
     CHECK(boostmap_striped_begin(caller) == BOOSTMAP_DONE);
     for (uint64_t i = draw(seed, 6); i-- > 0;) {
@@ -29,17 +31,35 @@ static void round_of(boostmap_caller *caller, uint64_t *seed) {
         else if (what == 4) status = boostmap_striped_save(caller, &level);
         else if (what == 5 && level) status = boostmap_striped_back(caller, draw(seed, level + 1));
         else status = boostmap_striped_put(caller, key, i, &w);
-        if (status == BOOSTMAP_BUSY) return;
+        if (status == BOOSTMAP_BUSY) return 0;
         if (status == BOOSTMAP_NO_SUCH_LEVEL) continue;
         CHECK(status <= BOOSTMAP_ABSENT);
     }
-    if (draw(seed, 4)) CHECK(boostmap_striped_commit(caller, &w) == BOOSTMAP_DONE && w == 0);
-    else CHECK(boostmap_striped_abort(caller) == BOOSTMAP_DONE);
+    if (draw(seed, 4)) {
+        CHECK(boostmap_striped_commit(caller, &w) == BOOSTMAP_DONE && w == 0);
+        return 1;
+    }
+    CHECK(boostmap_striped_abort(caller) == BOOSTMAP_DONE);
+    return 0;
+}
+
+/* The same by one call, without a savepoint, and strict at times. */
+static int run_of(boostmap_caller *caller, uint64_t *seed) {
+    boostmap_entry operations[6];
+    boostmap_reply replies[6];
+    uint64_t w, done, count = draw(seed, 6);
+    for (uint64_t i = 0; i < count; i++)
+        operations[i] = (boostmap_entry){.operation = BOOSTMAP_PUT + (uint32_t)draw(seed, 4), .key = draw(seed, KEYS),
+                                         .value = i, .has = draw(seed, 2), .expected = 1};
+    boostmap_status status = boostmap_striped_run(caller, operations, count, (uint32_t)draw(seed, 2), replies, 6, &done, &w);
+    CHECK(status == BOOSTMAP_DONE || status == BOOSTMAP_BUSY || status == BOOSTMAP_MISSED);
+    return status == BOOSTMAP_DONE;
 }
 
 static void *run(void *caller) {
-    uint64_t seed = (uint64_t)((boostmap_caller *)caller - callers) + 1;
-    for (int i = 0; i < ROUNDS; i++) round_of(caller, &seed);
+    size_t me = (size_t)((boostmap_caller *)caller - callers);
+    uint64_t seed = me + 1;
+    for (int i = 0; i < ROUNDS; i++) commits[me] += (uint64_t)(i % 4 ? round_of : run_of)(caller, &seed);
     if (seed % 2) CHECK(boostmap_striped_begin(caller) == BOOSTMAP_DONE); /* aborted by the free */
     CHECK(boostmap_striped_free(caller) == BOOSTMAP_DONE);
     return NULL;
@@ -88,7 +108,7 @@ static void threads_are_judged(uint64_t count) {
     boostmap_entry *entries = NULL;
     boostmap_verdict verdict;
     pthread_t threads[MOST];
-    uint64_t word, forged = 0;
+    uint64_t word, forged = 0, committed = 0;
     CHECK(boostmap_striped_open(&callers[0], count, STRIPES, 0, BOOSTMAP_KEEP_ENTRIES, 0, &word) == BOOSTMAP_DONE);
     CHECK(boostmap_striped_host(&callers[0], &host) == BOOSTMAP_DONE);
     for (uint64_t i = 1; i < count; i++) CHECK(boostmap_striped_join(&callers[0], &callers[i], &word) == BOOSTMAP_DONE);
@@ -97,13 +117,17 @@ static void threads_are_judged(uint64_t count) {
         boostmap_status status = boostmap_host_history(&host, entries ? entries : (boostmap_entry[1]){{0}}, 1, &word);
         CHECK(status == BOOSTMAP_MISSING || status == BOOSTMAP_SHORT);
     }
-    for (uint64_t i = 0; i < count; i++) CHECK(!pthread_join(threads[i], NULL));
+    for (uint64_t i = 0; i < count; i++) {
+        CHECK(!pthread_join(threads[i], NULL));
+        committed += commits[i];
+    }
     CHECK(boostmap_host_entries(&host, &entries, &word) == BOOSTMAP_DONE && word > count * ROUNDS);
     verdict = judged(entries, word, BOOSTMAP_HOLDER_BEGUN);
-    CHECK(verdict.is_legal == 1 && verdict.running == 0 && verdict.commits > count * ROUNDS / 8);
+    CHECK(verdict.is_legal == 1 && verdict.running == 0 && verdict.commits == committed && committed > 0);
     CHECK(judged(entries, word, BOOSTMAP_BY_COMMITS).is_legal == 1);
     is_serializable(entries, word);
     while (forged < word && entries[forged].kind != BOOSTMAP_DID) forged++;
+    CHECK(forged < word);
     entries[forged].has = 1;
     entries[forged].value ^= 1u << 20;
     verdict = judged(entries, word, BOOSTMAP_HOLDER_BEGUN);

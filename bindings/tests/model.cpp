@@ -13,6 +13,8 @@ using boostmap_cpp::error;
 using boostmap_cpp::value;
 using contents = std::map<std::uint64_t, std::uint64_t>;
 
+enum { STRIPES = 7 };
+
 static long before_refusal = -1; // the number of allocations before the one that is refused, or -1
 
 static void *allocated(std::size_t bytes) {
@@ -58,6 +60,51 @@ template <class Calls> static void add(Calls &t, contents &model, std::uint64_t 
     } catch (const error &e) { CHECK(e.status == BOOSTMAP_OVERFLOW && !fits); }
 }
 
+// Checks the pairs of the key's stripe.
+static void is_page(const std::vector<boostmap_pair> &pairs, std::uint64_t key, const contents &model) {
+    contents due;
+    for (auto &entry : model)
+        if (entry.first % STRIPES == key % STRIPES) due.insert(entry);
+    CHECK(are_equal(pairs, due));
+}
+
+// A run of drawn operations. One that is strict ends at the first put_if that misses, and then changes nothing.
+static std::uint64_t run(caller &c, contents &model) {
+    namespace op = boostmap_cpp::operation;
+    std::vector<boostmap_entry> operations;
+    std::vector<value> due;
+    contents changed = model;
+    bool is_strict = draw(2), is_missed = false;
+    for (std::uint64_t calls = draw(8); calls > 0; calls--) {
+        std::uint64_t key = draw(40), to = draw(4);
+        value had = at(changed, key), expected = draw(4) ? had : value(draw(4));
+        if (!is_missed) due.push_back(had);
+        switch (draw(4)) {
+        case 0: operations.push_back(op::get(key)); break;
+        case 1:
+            operations.push_back(op::take(key));
+            set(changed, key, std::nullopt);
+            break;
+        case 2:
+            operations.push_back(op::put(key, to));
+            set(changed, key, to);
+            break;
+        default:
+            operations.push_back(op::put_if(key, expected, to));
+            if (had == expected) set(changed, key, to);
+            else is_missed |= is_strict;
+        }
+    }
+    if (is_strict) {
+        auto ran = c.run_strict(operations);
+        CHECK(is_missed ? std::get<boostmap_cpp::missed>(ran).replies == due : std::get<0>(ran) == due);
+    } else {
+        CHECK(c.run(operations) == due);
+    }
+    if (!is_missed) model = changed;
+    return operations.size() + 1;
+}
+
 // A call on the whole map, now and then.
 template <class Calls> static void call_on_all(Calls &t, contents &model) {
     std::uint64_t key = draw(40);
@@ -71,6 +118,9 @@ template <class Calls> static void call_on_all(Calls &t, contents &model) {
         t.put_all({{key, 1}, {key + 1, 2}});
         set(model, key, 1);
         set(model, key + 1, 2);
+        break;
+    case 3:
+        if constexpr (!std::is_same_v<Calls, caller>) is_page(t.page(key), key, model);
         break;
     default: CHECK(t.get(key) == at(model, key));
     }
@@ -111,8 +161,16 @@ template <class Calls> static void call(Calls &t, contents &model) {
 static std::uint64_t transaction(caller &c, contents &model) {
     std::uint64_t calls = 1 + draw(10);
     contents changed = model;
-    switch (draw(8)) {
+    switch (draw(10)) {
     case 0: call(c, model); return 1;
+    case 8: return run(c, model);
+    case 9: {
+        std::uint64_t key = 0;
+        if (draw(4)) return run(c, model);
+        c.for_each_page([&](auto &pairs) { is_page(pairs, key++, model); });
+        CHECK(key == STRIPES);
+        return STRIPES;
+    }
     case 1:
         try {
             c.transact(0, [&](auto &t) {
@@ -154,7 +212,7 @@ static std::uint64_t transaction(caller &c, contents &model) {
 }
 
 static boostmap_verdict judged(const std::vector<boostmap_entry> &history) {
-    boostmap_cpp::judge judge(7, BOOSTMAP_HOLDER_BEGUN);
+    boostmap_cpp::judge judge(STRIPES, BOOSTMAP_HOLDER_BEGUN);
     judge.feed(history);
     return judge.verdict();
 }
@@ -162,7 +220,7 @@ static boostmap_verdict judged(const std::vector<boostmap_entry> &history) {
 static void beside_a_model(std::uint64_t calls) {
     boostmap_cpp::opening how;
     how.keep = BOOSTMAP_KEEP_ENTRIES;
-    auto callers = boostmap_cpp::open_striped(2, 7, how);
+    auto callers = boostmap_cpp::open_striped(2, STRIPES, how);
     boostmap_cpp::host host(callers);
     contents model;
     for (std::uint64_t made = 0; made < calls;) made += transaction(callers[draw(2)], model);
@@ -207,6 +265,7 @@ static int every_call(boostmap_cpp::caller_job &t, int stop) {
     next(), t.put_all({{6, 60}, {7, 70}});
     next(), t.count();
     next(), t.items();
+    next(), t.page(1);
     next(), t.clear();
     next();
     return made;
@@ -217,11 +276,28 @@ static void is_unchanged(std::vector<caller> &callers, const contents &before) {
     CHECK(are_equal(callers[1].transact(0, [](auto &t) { return t.items(); }), before));
 }
 
+// A run that is refused memory for its replies leaves nothing.
+static void refused_runs(std::vector<caller> &callers, const contents &before) {
+    namespace op = boostmap_cpp::operation;
+    const std::vector<boostmap_entry> operations = {op::take(1), op::put(9, 90), op::put_if(2, 20, 21)};
+    int of_memory = 0;
+    for (bool is_done = false; !is_done; of_memory++) {
+        is_unchanged(callers, before);
+        before_refusal = of_memory;
+        try {
+            CHECK((callers[0].run(operations) == std::vector<value>{10, std::nullopt, 20}));
+            is_done = true;
+        } catch (const std::bad_alloc &) {}
+        before_refusal = -1;
+    }
+    CHECK(of_memory > 2 && (callers[1].run({op::get(1), op::get(9), op::get(2)}) == std::vector<value>{std::nullopt, 90, 21}));
+}
+
 static void thrown_everywhere() {
-    auto callers = boostmap_cpp::open_striped(2, 7);
+    auto callers = boostmap_cpp::open_striped(2, STRIPES);
     const contents before = {{1, 10}, {2, 20}, {3, 30}, {4, 40}};
     for (auto &entry : before) callers[0].put(entry.first, entry.second);
-    int stop = 0, calls = 17, of_memory = 0;
+    int stop = 0, calls = 18, of_memory = 0;
     for (; stop < calls; stop++) {
         try {
             callers[0].transact([&](auto &t) { return every_call(t, stop); });
@@ -242,6 +318,7 @@ static void thrown_everywhere() {
         return t.roll_back(), every_call(t, calls);
     }) == calls);
     std::printf("model_cpp: thrown at %d places, and at %d allocations\n", stop, of_memory - 1);
+    refused_runs(callers, before);
 }
 
 int main(int argc, char **argv) {

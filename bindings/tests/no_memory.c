@@ -110,6 +110,9 @@ static void striped_operations(boostmap_caller *c, uint64_t t) {
     AGAIN(boostmap_striped_put_if_equal(c, KEYS * t + 1, t, t + 1, &w));
     CHECK(status == BOOSTMAP_DONE && w == t);
     CHECK(boostmap_striped_back(c, 1) == BOOSTMAP_DONE);
+    /* Of 16 stripes this one has the first key of each even transaction, or, in an odd one, only its own. */
+    AGAIN(boostmap_striped_read_stripe(c, KEYS * t, pairs, KEYS * TRANSACTIONS, &w));
+    CHECK(status == BOOSTMAP_DONE && w == (t % 2 ? 1 : t / 2 + 1));
     AGAIN(boostmap_striped_count(c, &w));
     CHECK(status == BOOSTMAP_DONE && w == keys);
     AGAIN(boostmap_striped_read(c, pairs, KEYS * TRANSACTIONS, &w));
@@ -156,6 +159,29 @@ static void striped_round_trip(void) {
     }
     CHECK(boostmap_striped_free(&first) == BOOSTMAP_DONE);
     CHECK(boostmap_striped_free(&next) == BOOSTMAP_DONE);
+}
+
+/* Runs that each put KEYS new keys, on a map that keeps its entries. One that is refused memory leaves no key, and is
+ * counted neither as a commit nor as an abort. */
+static void runs(void) {
+    boostmap_caller c = BOOSTMAP_INIT;
+    boostmap_entry operations[KEYS];
+    boostmap_reply replies[KEYS];
+    boostmap_counts counts;
+    boostmap_status status;
+    uint64_t w, done;
+    AGAIN(boostmap_striped_open(&c, 1, 16, 0, BOOSTMAP_KEEP_ENTRIES, 0, &w));
+    CHECK(status == BOOSTMAP_DONE && w == 1);
+    for (uint64_t t = 0; t < TRANSACTIONS; t++) {
+        for (uint64_t k = 0; k < KEYS; k++)
+            operations[k] = (boostmap_entry){.operation = BOOSTMAP_PUT, .key = KEYS * t + k, .value = t};
+        AGAIN(boostmap_striped_run(&c, operations, KEYS, 1, replies, KEYS, &done, &w));
+        CHECK(status == BOOSTMAP_DONE && done == KEYS);
+        for (uint64_t k = 0; k < KEYS; k++) CHECK(!replies[k].has);
+    }
+    CHECK(boostmap_striped_counts(&c, &counts) == BOOSTMAP_DONE);
+    CHECK(counts.commits == TRANSACTIONS && counts.aborts == 0 && counts.busy == 0);
+    CHECK(boostmap_striped_free(&c) == BOOSTMAP_DONE);
 }
 
 /* How often each of these calls was refused: they take memory only now and then. */
@@ -324,6 +350,7 @@ int main(void) {
     refuse_each("a map", 1, round_trip);
     refuse_each("a map that trims itself", 1, trims_itself);
     refuse_each("a striped map", 0, striped_round_trip);
+    refuse_each("runs", 0, runs);
     refuse_each("first calls", 1, first_calls);
     CHECK(gets > 0 && put_ifs > 0 && helps > 0 && striped_gets > 0);
     refuse_each("a judge by locks", 0, judge_by_locks);

@@ -147,7 +147,7 @@ static void words(void) {
         named++;
         for (boostmap_status other = 0; other < status; other++) CHECK(strcmp(text, boostmap_text(other)));
     }
-    CHECK(named == 22);
+    CHECK(named == 23);
     CHECK(!strcmp(boostmap_text(BOOSTMAP_NO_MEMORY), "memory was refused"));
 }
 

@@ -1,5 +1,5 @@
 /* Each status of each call on a caller of a striped map, once: what the call returns, what it writes, and
- * what it leaves unchanged. Status 30 is in no_memory.c. */
+ * what it leaves unchanged. Status 30 is in no_memory.c, and those of two calls are in run.c and stripe.c. */
 #include "boostmap.h"
 #include "check.h"
 

@@ -7,7 +7,8 @@ import time
 import unittest
 
 import boostmap
-from boostmap import Busy, Counts, Entry, Host, Judge, Link, Map, NotFed, Refused, Verdict, judge_any_order, open_striped
+from boostmap import (
+    Busy, Counts, Entry, Host, Judge, Link, Map, Missed, NotFed, Refused, Verdict, judge_any_order, open_striped)
 
 
 class Thread(threading.Thread):
@@ -32,24 +33,30 @@ class Interrupt(Exception):
 
 
 def interrupted(job, seconds):
-    """Runs a job again and again, and raises Interrupt in it at many moments. Returns how often it was raised."""
+    """Runs a job again and again, and raises Interrupt in it at many moments: for so long, and on a loaded machine until
+    it was raised eleven times and the job has returned once, at most a minute. Returns how often it was raised."""
 
     def handle(*_):
         raise Interrupt
 
     def runs():  # its own function, since a loop's jump back may lie outside of its try
-        signal.setitimer(signal.ITIMER_REAL, 1e-5 + count % 97 * 1e-6)
+        nonlocal returned
+        signal.setitimer(signal.ITIMER_REAL, 1e-5 * 1.05 ** (rounds % 97))
+        ends = time.monotonic() + 0.02
         while time.monotonic() < ends:  # an interrupt in a destructor is lost
             job()
+            returned += 1
         signal.setitimer(signal.ITIMER_REAL, 0)
 
-    before, count, ends = signal.signal(signal.SIGALRM, handle), 0, time.monotonic() + seconds
+    before, starts = signal.signal(signal.SIGALRM, handle), time.monotonic()
+    count = rounds = returned = 0
     try:
-        while time.monotonic() < ends:
+        while time.monotonic() < starts + (seconds if count > 10 and returned else 60):
             try:
                 runs()
             except Interrupt:
                 count += 1
+            rounds += 1
     finally:
         signal.setitimer(signal.ITIMER_REAL, 0)
         signal.signal(signal.SIGALRM, before)
@@ -205,7 +212,7 @@ class Calls(unittest.TestCase):
                 except Busy:
                     pass
 
-        threads = [threading.Thread(target=transfers, args=(me,)) for me in range(4)]
+        threads = [Thread(target=transfers, args=(me,)) for me in range(4)]
         for thread in threads:
             thread.start()
         for thread in threads:
@@ -319,10 +326,11 @@ class Callers(unittest.TestCase):
 
         def handle(*_):
             done.append((len(m), caller.abort()))
+            signal.setitimer(signal.ITIMER_REAL, 1e-4)  # and not before: a slow handler would come in itself
 
         before = signal.signal(signal.SIGALRM, handle)
         try:
-            signal.setitimer(signal.ITIMER_REAL, 1e-4, 1e-4)
+            signal.setitimer(signal.ITIMER_REAL, 1e-4)
             while len(done) < 20:
                 len(m)
                 caller.abort()
@@ -365,9 +373,9 @@ class Callers(unittest.TestCase):
                     t.put(one, max(has - 1, 0))
                     t.put(other, t.get(other) + min(has, 1))
 
-                caller.transact(moves, tries=10**6)
+                caller.transact(moves)
 
-        threads = [threading.Thread(target=transfers, args=(caller,)) for caller in callers]
+        threads = [Thread(target=transfers, args=(caller,)) for caller in callers]
         for thread in threads:
             thread.start()
         for thread in threads:
@@ -390,7 +398,8 @@ def ended(callers, host):
 
 
 def call(t, model, draw):
-    """Makes a random call of a caller or a transaction, and checks its reply by the model, a dictionary."""
+    """Makes a random call of a caller or a transaction, and checks its reply by the model, a dictionary. The map has 7
+    stripes."""
     key, value = draw.randrange(40), draw.choice((0, 1, 2, 3, 2**64 - 1))
     had, delta = model.get(key), draw.randrange(-4, 5)
     expected = had if draw.random() < 0.5 else draw.choice((None, 1, 2))
@@ -420,6 +429,9 @@ def call(t, model, draw):
         reply, due = t.clear(), len(model)
         model.clear()
         after = None
+    elif kind == 8 and draw.random() < 0.2:
+        reply = t.page(key) if hasattr(t, "page") else list(t.pages())[key % 7]
+        due = {k: v for k, v in model.items() if k % 7 == key % 7}
     else:
         reply = t.get(key)
     if after is None:
@@ -433,10 +445,54 @@ class GivesUp(Exception):
     """What a job of these tests raises."""
 
 
+def drawn_run(model, draw):
+    """Draws operations, half the time such that the archive runs them, and whether they are strict. Returns these, the
+    replies that are due, whether a put_if misses, and the model afterwards."""
+    operations, due, changed, strict, missed = [], [], dict(model), draw.random() < 0.5, False
+    names = ["get", "put", "take", "put_if"] + ["add", "get_or_put"] * draw.randrange(2)
+    for _ in range(draw.randrange(8)):
+        name, key, value = draw.choice(names), draw.randrange(40), draw.randrange(4)
+        had = after = reply = changed.get(key)
+        expected = had if draw.random() < 0.75 else draw.choice((None, 1, 2))
+        if name == "put_if":
+            operations.append((name, key, expected, value))
+            after = value if had == expected else had
+        elif name in ("get", "take"):
+            operations.append((name, key))
+            after = had if name == "get" else None
+        elif name == "get_or_put":
+            operations.append((name, key, value))
+            reply = after = value if had is None else had
+        else:
+            value = value if name == "put" or not had or had < 2**63 else -value
+            operations.append((name, key, value))
+            after = value if name == "put" else (had or 0) + value
+        if not missed:
+            due.append(reply)
+        missed |= strict and name == "put_if" and had != expected
+        changed.pop(key, None)
+        if after is not None:
+            changed[key] = after
+    return operations, strict, due, missed, model if missed else changed
+
+
 class Operations(unittest.TestCase):
+    def run_drawn(self, caller, model, draw):
+        """Makes a random run, and returns how many operations it had, and the model after it."""
+        operations, strict, due, missed, model = drawn_run(model, draw)
+        if missed:
+            with self.assertRaises(Missed) as raised:
+                caller.run(operations, strict=True)
+            self.assertEqual(raised.exception.replies, due)
+        else:
+            self.assertEqual(caller.run(operations, strict), due)
+        return len(operations), model
+
     def transaction(self, caller, model, draw):
         """Makes a random transaction, and returns how many calls it had, and the model after it."""
-        calls, ending, changed = draw.randrange(1, 10), draw.randrange(6), dict(model)
+        calls, ending, changed = draw.randrange(1, 10), draw.randrange(7), dict(model)
+        if ending == 6:
+            return self.run_drawn(caller, model, draw)
         if ending == 0:
             self.assertTrue(call(caller, model, draw))
             return 1, model
@@ -497,13 +553,100 @@ class Operations(unittest.TestCase):
                 one.get(1)
             self.assertEqual(refused.exception.status, 20)
 
+    def test_a_strict_run(self):
+        for others in ([], [("add", 4, 1)]):  # by one call of the archive, and one by one
+            one, other = open_striped(callers=2)
+            replies = one.run(others + [("put_if", 1, None, 10), ("put", 2, 20)], strict=True)
+            self.assertEqual(replies, [None] * (len(others) + 2))
+            before = other.items()
+            for at in range(3):
+                operations = [("put", 1, 11), ("put", 2, 21), ("get", 2)]
+                operations[at] = ("put_if", 1, None, 12) if at == 0 else ("put_if", 3, 30, 31)
+                with self.assertRaises(Missed) as missed:
+                    one.run(operations + others, strict=True)
+                self.assertEqual(missed.exception.replies, [[10], [10, None], [10, 20, None]][at])
+                self.assertEqual(other.items(), before)
+            self.assertEqual(one.counts(), Counts(1, 3, 0))
+            self.assertEqual(one.run([("put_if", 1, None, 12)] + others, strict=False), [10] + [1] * len(others))
+            with one.transaction(), self.assertRaises(Refused) as refused:
+                one.run(others + [("get", 1)], strict=True)
+            self.assertEqual(refused.exception.status, 20)
+            one.close()
+            with self.assertRaises(Refused) as refused:
+                one.run(others)
+            self.assertEqual(refused.exception.status, 3)
+
+    def test_a_strict_run_waits(self):
+        callers, rounds = open_striped(callers=4, stripes=4), 500
+        callers[0].put_all({7: 0, 8: 0})
+
+        def adds(caller):
+            made = 0
+            while made < rounds:
+                found, same = caller.run([("get", 7), ("get", 8)])
+                self.assertEqual(found, same)
+                with contextlib.suppress(Missed):
+                    caller.run([("put", 8, found + 1), ("put_if", 7, found, found + 1)], strict=True)
+                    made += 1
+
+        threads = [Thread(target=adds, args=(caller,)) for caller in callers]
+        for thread in threads:
+            thread.start()
+        for thread in threads:
+            thread.join()
+        self.assertEqual(callers[0].items(), {7: 4 * rounds, 8: 4 * rounds})
+
+    def test_a_walk_by_pages(self):
+        """Beside threads that move units within a stripe, so that each page has the sum of its stripe."""
+        stripes, keys = 8, 160
+        walker, *movers = open_striped(callers=4, stripes=stripes)
+        walker.put_all({key: 100 for key in reversed(range(keys))})
+
+        def moves(caller):
+            draw = random.Random(caller.number)
+            for _ in range(500):
+                one = draw.randrange(keys)
+                other = (one + stripes * draw.randrange(20)) % keys
+
+                def moves_one(t):
+                    if t.get(one):
+                        t.add(one, -1)
+                        t.add(other, 1)
+
+                caller.transact(moves_one)
+
+        threads = [Thread(target=moves, args=(caller,)) for caller in movers]
+        for thread in threads:
+            thread.start()
+        for _ in range(20):
+            pages = list(walker.pages())
+            self.assertEqual([list(page) for page in pages], [list(range(key, keys, stripes)) for key in range(stripes)])
+            self.assertEqual([sum(page.values()) for page in pages], [100 * keys // stripes] * stripes)
+        for thread in threads:
+            thread.join()
+        with walker.transaction() as reads:
+            self.assertEqual(list(reads.page(3 + stripes)), list(range(3, keys, stripes)))
+            with movers[0].transaction() as t:
+                t.put(4, 1)
+            with self.assertRaises(Refused) as refused, movers[0].transaction() as t:
+                with self.assertRaises(Busy) as busy:
+                    t.page(3)
+                t.page(4)
+            self.assertEqual((busy.exception.holder, refused.exception.status), (walker.number, 19))
+            with self.assertRaises(Refused) as refused:
+                next(walker.pages())
+            self.assertEqual(refused.exception.status, 20)
+            for wrong, error in (("x", TypeError), (-1, OverflowError)):
+                with self.assertRaises(error):
+                    reads.page(wrong)
+
     def test_calls_at_once_wait(self):
         one, other = open_striped(callers=2)
         holds, replies = one.transaction().__enter__(), []
         holds.put(5, 50)
-        waits = threading.Thread(target=lambda: replies.extend([other.get(5), other.run([("add", 5, 1)])]))
+        waits = Thread(target=lambda: replies.extend([other.get(5), other.run([("add", 5, 1)])]))
         waits.start()
-        while not other.counts().busy:
+        while waits.is_alive() and not other.counts().busy:
             time.sleep(1e-3)
         holds.__exit__(None, None, None)
         waits.join()
@@ -525,17 +668,22 @@ class Operations(unittest.TestCase):
             self.assertEqual(one.counts(), Counts(0, 1, 0))
 
     def test_an_interrupt_ends_a_wait(self):
-        def handle(*_):
-            raise Interrupt
+        def handle(_, frame):
+            while frame and frame.f_code.co_name != "__del__":
+                frame = frame.f_back
+            if not frame:
+                raise Interrupt
+            signal.setitimer(signal.ITIMER_REAL, 1e-4)  # since in a destructor it would be lost
 
         one, other = open_striped(callers=2)
         before = signal.signal(signal.SIGALRM, handle)
         try:
             with one.transaction() as holds:
                 holds.put(5, 50)
-                for waits in (lambda: other.get(5), lambda: other.run([("get", 5)]), lambda: other.transact(lambda t: t.get(5))):
-                    signal.setitimer(signal.ITIMER_REAL, 0.02)
+                for waits in (lambda: other.get(5), lambda: other.run([("get", 5)]), lambda: other.run([("add", 5, 1)]),
+                              lambda: list(other.pages()), lambda: other.transact(lambda t: t.get(5))):
                     with self.assertRaises(Interrupt):
+                        signal.setitimer(signal.ITIMER_REAL, 0.02)
                         waits()
         finally:
             signal.setitimer(signal.ITIMER_REAL, 0)
@@ -543,8 +691,13 @@ class Operations(unittest.TestCase):
         self.assertEqual(other.get(5), 50)
 
     def test_an_interrupt_leaves_all_or_nothing(self):
+        def moves_by_a_strict_run(caller):
+            one, two = caller.run([("get", 1), ("get", 2)])
+            caller.run([("put_if", 1, one, one - 1), ("put_if", 2, two, two + 1)], strict=True)
+
         jobs = [
             lambda caller: caller.run([("add", 1, -1), ("add", 2, 1)]),
+            moves_by_a_strict_run,
             lambda caller: caller.transact(lambda t: (t.add(1, -1), t.add(2, 1))),
             lambda caller: caller.transact(lambda t: (t.update(1, lambda v: v - 1), t.update(2, lambda v: v + 1))),
         ]
@@ -559,7 +712,7 @@ class Operations(unittest.TestCase):
                         one.abort()  # by ctypes an interrupt may come between a call and its bookkeeping
                     job(one)
 
-                self.assertGreater(interrupted(moves, 0.25), 10)
+                self.assertGreater(interrupted(moves, 0.1 if keep else 0.25), 10)
                 if not boostmap._boostmap:
                     one.abort()
                 items = other.transact(lambda t: t.items(), tries=0)
@@ -869,7 +1022,8 @@ class Judges(unittest.TestCase):
         sys.setswitchinterval(1000)
         try:
             other.start()
-            for _ in range(100):  # other programs may keep the thread from its turn
+            ends = time.monotonic() + 60
+            while time.monotonic() < ends:  # other programs may keep the thread from its turn
                 with Judge() as judge:
                     before = ticks[0]
                     judge.feed_all(entries)

@@ -1,4 +1,4 @@
-// The C++ header: moved maps, transactions that abort in their destructor, `transact`, exceptions.
+// The C++ header: moved maps, transactions that abort in their destructor, `transact`, exceptions, runs and walks.
 #include "boostmap.hpp"
 #include "check.h"
 #include <fstream>
@@ -167,6 +167,83 @@ static void of_jobs() {
         });
     }) == BOOSTMAP_BUSY);
     CHECK(runs == 1 && !callers[1].transact([](auto &t) { return t.get(1); }));
+}
+
+using replies = std::vector<boostmap_cpp::value>;
+namespace op = boostmap_cpp::operation;
+
+// Whole transactions by one call. A strict one that misses leaves nothing.
+static void of_runs() {
+    auto callers = boostmap_cpp::open_striped(2, 16);
+    auto &one = callers[0], &two = callers[1];
+    CHECK((one.run({op::put(1, 10), op::get(1), op::put_if(1, 9, 11), op::put_if(2, std::nullopt, 20), op::take(1)}) ==
+           replies{std::nullopt, 10, 10, std::nullopt, 10}));
+    CHECK((std::get<replies>(one.run_strict({op::put(1, 12), op::put_if(2, 20, 21)})) == replies{std::nullopt, 20}));
+    auto stopped = one.run_strict({op::put(1, 13), op::put_if(2, 20, 22), op::get(1)});
+    CHECK((std::get<boostmap_cpp::missed>(stopped).replies == replies{12, 21}));
+    CHECK(two.run({}).empty() && std::get<replies>(two.run_strict({})).empty());
+    CHECK((two.run({op::get(1), op::get(2), op::get(3)}) == replies{12, 21, std::nullopt}));
+    CHECK(one.counts().commits == 2 && one.counts().aborts == 1 && two.counts().commits == 3);
+    auto open = one.begin();
+    CHECK(thrown([&] { one.run({op::get(1)}); }) == BOOSTMAP_ALREADY_OPEN);
+    CHECK(thrown([&] { two.run_strict({op::put(1, 1), entry::saved(0)}); }) == BOOSTMAP_NO_ENTRY);
+    CHECK(open.get(1) == 12u);
+}
+
+// Four threads add up by strict runs, which wait while they are busy, and begin again if they miss.
+static void of_threads_that_run() {
+    enum { THREADS = 4, ROUNDS = 2000 };
+    auto callers = boostmap_cpp::open_striped(THREADS, 4);
+    callers[0].put(7, 0);
+    std::vector<std::thread> threads;
+    for (auto &caller : callers)
+        threads.emplace_back([&caller] {
+            for (int made = 0; made < ROUNDS;) {
+                auto sums = caller.run({op::get(7), op::get(8)});
+                CHECK(sums[0].value() == sums[1].value_or(0));
+                auto ran = caller.run_strict({op::put(8, *sums[0] + 1), op::put_if(7, sums[0], *sums[0] + 1)});
+                made += std::holds_alternative<replies>(ran);
+            }
+        });
+    for (auto &thread : threads) thread.join();
+    CHECK((callers[0].run({op::get(7), op::get(8)}) == replies{THREADS * ROUNDS, THREADS * ROUNDS}));
+}
+
+// A walk beside threads that move units within a stripe: each page has the sum of its stripe.
+static void of_pages() {
+    enum { THREADS = 3, ROUNDS = 3000, STRIPES = 8, KEYS = 20 * STRIPES, EACH = 100 };
+    auto callers = boostmap_cpp::open_striped(THREADS + 1, STRIPES);
+    for (std::uint64_t key = 0; key < KEYS; key++) callers[0].put(key, EACH);
+    std::vector<std::thread> threads;
+    for (std::uint64_t i = 1; i <= THREADS; i++)
+        threads.emplace_back([&caller = callers[i]] {
+            for (std::uint64_t j = 0; j < ROUNDS; j++) {
+                std::uint64_t from = j * (2 * caller.number() + 1) % KEYS, to = (from + STRIPES) % KEYS;
+                caller.transact([&](auto &t) {
+                    if (*t.get(from)) t.add(from, -1), t.add(to, 1);
+                });
+            }
+        });
+    for (int walk = 0; walk < 20; walk++) {
+        std::uint64_t page = 0;
+        callers[0].for_each_page([&](const std::vector<boostmap_pair> &pairs) {
+            std::uint64_t sum = 0, next = page++;
+            for (auto &pair : pairs) {
+                CHECK(pair.key == next);
+                next += STRIPES;
+                sum += pair.value;
+            }
+            CHECK(pairs.size() == KEYS / STRIPES && sum == EACH * pairs.size());
+        });
+        CHECK(page == STRIPES);
+    }
+    for (auto &thread : threads) thread.join();
+    auto reads = callers[0].begin(), writes = callers[1].begin();
+    CHECK(reads.page(3 + STRIPES).size() == KEYS / STRIPES);
+    writes.put(4, 1);
+    CHECK(thrown([&] { writes.get(3); }) == BOOSTMAP_BUSY);
+    CHECK(thrown([&] { writes.page(4); }) == BOOSTMAP_NOT_OPEN);
+    CHECK(thrown([&] { callers[0].for_each_page([](auto &) {}); }) == BOOSTMAP_ALREADY_OPEN);
 }
 
 // Four threads add up, each with its own caller; one that is busy tries again.
@@ -369,7 +446,10 @@ int main() {
     of_histories();
     of_callers();
     of_jobs();
+    of_runs();
     of_threads();
+    of_threads_that_run();
+    of_pages();
     of_hosts();
     of_judges();
     of_any_order();

@@ -5,6 +5,7 @@ use crate::sys::{self, Handle};
 use crate::{answer, Error, Operation, Result};
 use std::collections::hash_map::RandomState;
 use std::hash::{BuildHasher, Hasher};
+use std::ops::Range;
 use std::thread;
 use std::time::Duration;
 
@@ -109,6 +110,16 @@ pub struct Counts {
     pub aborts: u64,
     /// By a call that was `Busy`, which aborts too.
     pub busy: u64,
+}
+
+/// What a strict run came to, with the replies of the operations that were done.
+#[derive(Clone, Debug, PartialEq, Eq)]
+pub enum Ran {
+    /// It has committed.
+    Committed(Vec<Option<u64>>),
+    /// A `PutIf` found another value than it expects: the last reply is its own. Everything has been
+    /// taken back.
+    Missed(Vec<Option<u64>>),
 }
 
 /// A caller of a striped map, for one thread. Its drop aborts an open transaction. Each of its
@@ -334,7 +345,7 @@ impl Caller {
         self.transact(|t| t.count())
     }
 
-    /// The pairs of the map, by rising keys. Takes every stripe: no call reads only a part of a map.
+    /// The pairs of the map, by rising keys. Takes every stripe.
     ///
     /// # Errors
     ///
@@ -361,6 +372,83 @@ impl Caller {
         self.transact(|t| t.clear())
     }
 
+    /// Runs operations in one transaction, by one call of the archive, and returns their replies. It waits
+    /// and tries again while it is busy.
+    ///
+    /// # Errors
+    ///
+    /// Those of [`Caller::get`].
+    pub fn run(&mut self, operations: &[Operation]) -> Result<Vec<Option<u64>>> {
+        self.ran(operations, false).map(|(replies, _)| replies)
+    }
+
+    /// As [`Caller::run`], but a `PutIf` that finds another value than it expects ends it, and takes
+    /// everything back.
+    ///
+    /// ```
+    /// use boostmap::{Operation, Ran};
+    ///
+    /// let mut caller = boostmap::open_striped(1, 64)?.remove(0);
+    /// let moves = [
+    ///     Operation::PutIf { key: 1, expected: Some(10), value: 5 },
+    ///     Operation::Put { key: 2, value: 5 },
+    /// ];
+    /// assert_eq!(caller.run_strict(&moves)?, Ran::Missed(vec![None]));
+    /// caller.put(1, 10)?;
+    /// assert_eq!(caller.run_strict(&moves)?, Ran::Committed(vec![Some(10), None]));
+    /// # Ok::<(), boostmap::Error>(())
+    /// ```
+    ///
+    /// # Errors
+    ///
+    /// Those of [`Caller::get`].
+    pub fn run_strict(&mut self, operations: &[Operation]) -> Result<Ran> {
+        let (replies, commits) = self.ran(operations, true)?;
+        Ok(if commits { Ran::Committed(replies) } else { Ran::Missed(replies) })
+    }
+
+    // The replies of a run, and whether it committed.
+    fn ran(&mut self, operations: &[Operation], is_strict: bool) -> Result<(Vec<Option<u64>>, bool)> {
+        let asked: Vec<_> = operations.iter().map(|operation| operation.to_c(sys::Entry::default())).collect();
+        let (mut found, mut waits) = (vec![sys::Reply::default(); asked.len()], Waits::new());
+        let mut replies = Vec::with_capacity(asked.len());
+        loop {
+            let (mut done, mut word) = (0, 0);
+            // SAFETY: see `call`. Each array has as many places as its length says.
+            let status = unsafe {
+                sys::boostmap_striped_run(
+                    &mut self.handle,
+                    asked.as_ptr(),
+                    asked.len(),
+                    is_strict.into(),
+                    found.as_mut_ptr(),
+                    found.len(),
+                    &mut done,
+                    &mut word,
+                )
+            };
+            match status {
+                sys::BUSY => waits.wait(),
+                sys::DONE | sys::MISSED => {
+                    replies.extend(found[..done as usize].iter().map(|reply| (reply.has != 0).then_some(reply.value)));
+                    return Ok((replies, status == sys::DONE));
+                }
+                _ => return Err(Error::from_status(status, word)),
+            }
+        }
+    }
+
+    /// Walks over the map: the pairs of each stripe, by rising keys. Each stripe is read in a transaction
+    /// of its own, which waits and tries again while it is busy. So the pairs are no snapshot.
+    ///
+    /// # Errors
+    ///
+    /// Each page may have those of [`Caller::get`] instead. The walk then goes on with the next stripe.
+    pub fn pages(&mut self) -> Pages<'_> {
+        let stripes = self.options().map_or(0, |how| how.stripes);
+        Pages { caller: self, keys: 0..stripes }
+    }
+
     // Each job is one call of the archive. SAFETY of them all: the handle is live from `open_striped`
     // to `drop`, and both pointers are unique borrows.
     fn call(&mut self, job: impl FnOnce(*mut Handle, *mut u64) -> u32) -> Result<Option<u64>> {
@@ -372,6 +460,22 @@ impl Drop for Caller {
     fn drop(&mut self) {
         // SAFETY: dropped once, and the call accepts an empty handle.
         unsafe { sys::boostmap_striped_free(&mut self.handle) };
+    }
+}
+
+/// A walk over a map, by [`Caller::pages`]. Its items are the pairs of one stripe after the other.
+pub struct Pages<'a> {
+    caller: &'a mut Caller,
+    // Of each stripe that is not read yet, a key.
+    keys: Range<u64>,
+}
+
+impl Iterator for Pages<'_> {
+    type Item = Result<Vec<(u64, u64)>>;
+
+    fn next(&mut self) -> Option<Self::Item> {
+        let key = self.keys.next()?;
+        Some(self.caller.transact(|t| t.page(key)))
     }
 }
 
@@ -498,8 +602,32 @@ impl CallerTransaction<'_> {
         self.call(|at, word| unsafe { sys::boostmap_striped_count(at, word) }).map(Option::unwrap_or_default)
     }
 
-    /// The pairs of the map, by rising keys, with the transaction's own changes. Takes every stripe: no
-    /// call reads only a part of a map.
+    /// The pairs of the key's stripe, by rising keys, with the transaction's own changes. Takes only this
+    /// stripe. The keys below the number of stripes are in different ones.
+    ///
+    /// # Errors
+    ///
+    /// Those of `get`.
+    pub fn page(&mut self, key: u64) -> Result<Vec<(u64, u64)>> {
+        let mut pairs = vec![sys::Pair { key: 0, value: 0 }; 16];
+        loop {
+            let (start, places) = (pairs.as_mut_ptr(), pairs.len());
+            // SAFETY: the array has as many places as its length says.
+            let count = self.call(|at, word| unsafe {
+                match sys::boostmap_striped_read_stripe(at, key, start, places, word) {
+                    sys::SHORT => sys::DONE, // with the number of places that it needs
+                    status => status,
+                }
+            })?;
+            let count = count.unwrap_or_default() as usize;
+            pairs.resize(count, sys::Pair { key: 0, value: 0 });
+            if count <= places {
+                return Ok(pairs.iter().map(|pair| (pair.key, pair.value)).collect());
+            }
+        }
+    }
+
+    /// The pairs of the map, by rising keys, with the transaction's own changes. Takes every stripe.
     ///
     /// # Errors
     ///

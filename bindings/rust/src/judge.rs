@@ -124,7 +124,7 @@ impl Operation {
         })
     }
 
-    fn to_c(self, of: sys::Entry) -> sys::Entry {
+    pub(crate) fn to_c(self, of: sys::Entry) -> sys::Entry {
         match self {
             Operation::Put { key, value } => sys::Entry { operation: 1, key, value, ..of },
             Operation::PutIf { key, expected, value } => sys::Entry {

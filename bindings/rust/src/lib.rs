@@ -29,7 +29,7 @@ mod host;
 mod judge;
 
 pub use any_order::{judge_any_order, Finding, Link, LinkKind, Reason};
-pub use caller::{open_striped, Caller, CallerTransaction, Counts, Keep, Opening};
+pub use caller::{open_striped, Caller, CallerTransaction, Counts, Keep, Opening, Pages, Ran};
 pub use host::Host;
 pub use judge::{Entry, Holder, Judge, NotFed, Operation, Rule, Verdict};
 
@@ -95,6 +95,13 @@ mod sys {
 
     #[repr(C)]
     #[derive(Clone, Copy, Default)]
+    pub struct Reply {
+        pub value: u64,
+        pub has: u64,
+    }
+
+    #[repr(C)]
+    #[derive(Clone, Copy, Default)]
     pub struct Counts {
         pub commits: u64,
         pub aborts: u64,
@@ -149,6 +156,7 @@ mod sys {
     pub const NO_HOST: u32 = 10;
     pub const NOT_KEPT: u32 = 11;
     pub const MISSING: u32 = 12;
+    pub const MISSED: u32 = 13;
     pub const NO_SUCH_CALLER: u32 = 18;
     pub const NOT_OPEN: u32 = 19;
     pub const ALREADY_OPEN: u32 = 20;
@@ -226,6 +234,23 @@ mod sys {
 
         pub fn boostmap_striped_count(caller: *mut Handle, word: *mut u64) -> u32;
         pub fn boostmap_striped_read(caller: *mut Handle, pairs: *mut Pair, places: usize, word: *mut u64) -> u32;
+        pub fn boostmap_striped_read_stripe(
+            caller: *mut Handle,
+            key: u64,
+            pairs: *mut Pair,
+            places: usize,
+            word: *mut u64,
+        ) -> u32;
+        pub fn boostmap_striped_run(
+            caller: *mut Handle,
+            operations: *const Entry,
+            count: usize,
+            strict: u32,
+            replies: *mut Reply,
+            places: usize,
+            done: *mut u64,
+            word: *mut u64,
+        ) -> u32;
 
         pub fn boostmap_striped_host(first: *mut Handle, host: *mut Handle) -> u32;
         pub fn boostmap_host_history(host: *mut Handle, entries: *mut Entry, places: usize, word: *mut u64) -> u32;

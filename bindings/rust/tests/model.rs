@@ -1,7 +1,7 @@
 //! The striped map beside a model, panics and errors at every call, and judged runs of threads.
 use boostmap::{
-    open_striped, Caller, CallerTransaction, Counts, Entry, Error, Holder, Host, Judge, Keep, Opening, Operation, Rule,
-    Verdict,
+    open_striped, Caller, CallerTransaction, Counts, Entry, Error, Holder, Host, Judge, Keep, Opening, Operation, Ran,
+    Rule, Verdict,
 };
 use std::collections::BTreeMap;
 use std::panic::{catch_unwind, resume_unwind, AssertUnwindSafe};
@@ -83,8 +83,13 @@ fn call(t: &mut CallerTransaction<'_>, model: &mut Contents, draw: &mut Draw) ->
     Ok(())
 }
 
+/// The pairs of the model in one of 7 stripes.
+fn page(model: &Contents, stripe: u64) -> Vec<(u64, u64)> {
+    items(model).into_iter().filter(|(key, _)| key % 7 == stripe).collect()
+}
+
 fn call_on_all(t: &mut CallerTransaction<'_>, model: &mut Contents, draw: &mut Draw) -> Result<(), Error> {
-    match draw.below(4) {
+    match draw.below(5) {
         0 => {
             assert_eq!(t.clear()?, model.len() as u64);
             model.clear();
@@ -94,9 +99,57 @@ fn call_on_all(t: &mut CallerTransaction<'_>, model: &mut Contents, draw: &mut D
             model.extend([(3, 30), (4, 40)]);
         }
         2 => assert_eq!(t.count()?, model.len() as u64),
+        3 => {
+            let key = draw.below(40);
+            assert_eq!(t.page(key)?, page(model, key % 7));
+        }
         _ => assert_eq!(t.items()?, items(model)),
     }
     Ok(())
+}
+
+/// A run of drawn operations. One that is strict ends at the first `PutIf` that misses, and then changes
+/// nothing. Returns how many operations it had.
+fn run(caller: &mut Caller, model: &mut Contents, draw: &mut Draw) -> Result<u64, Error> {
+    let (is_strict, mut is_missed, mut changed) = (draw.below(2) > 0, false, model.clone());
+    let (mut operations, mut due) = (Vec::new(), Vec::new());
+    for _ in 0..draw.below(8) {
+        let (key, value) = (draw.below(40), draw.below(4));
+        let had = changed.get(&key).copied();
+        let expected = if draw.below(4) > 0 { had } else { Some(draw.below(4)) };
+        if !is_missed {
+            due.push(had);
+        }
+        operations.push(match draw.below(4) {
+            0 => Operation::Get { key },
+            1 => {
+                set(&mut changed, key, None);
+                Operation::Take { key }
+            }
+            2 => {
+                set(&mut changed, key, Some(value));
+                Operation::Put { key, value }
+            }
+            _ => {
+                if had == expected {
+                    set(&mut changed, key, Some(value));
+                } else {
+                    is_missed |= is_strict;
+                }
+                Operation::PutIf { key, expected, value }
+            }
+        });
+    }
+    if is_strict {
+        let due = if is_missed { Ran::Missed(due) } else { Ran::Committed(due) };
+        assert_eq!(caller.run_strict(&operations), Ok(due));
+    } else {
+        assert_eq!(caller.run(&operations), Ok(due));
+    }
+    if !is_missed {
+        *model = changed;
+    }
+    Ok(operations.len() as u64)
 }
 
 /// A random transaction that commits, or ends in another way; returns how many calls it had.
@@ -140,7 +193,10 @@ fn calls_beside_a_model() -> Result<(), Error> {
         assert_eq!(caller.put(key, value), Ok(had));
         assert_eq!(caller.add(key, 1), Ok(Some(value)));
         set(&mut model, key, Some(value + 1));
-        made += 2;
+        made += 2 + run(caller, &mut model, &mut draw)?;
+        if draw.below(100) == 0 {
+            assert!(caller.pages().map(Result::unwrap).eq((0..7).map(|stripe| page(&model, stripe))));
+        }
     }
     assert_eq!(callers[0].items()?, items(&model));
     let commits = callers[0].counts().commits + callers[1].counts().commits;
@@ -182,13 +238,15 @@ fn every_call(t: &mut CallerTransaction<'_>, mut next: impl FnMut() -> Result<()
     next()?;
     t.count()?;
     next()?;
+    t.page(1)?;
+    next()?;
     t.clear()?;
     next()
 }
 
 #[test]
 fn panics_and_errors_leave_nothing() -> Result<(), Error> {
-    const CALLS: u64 = 11;
+    const CALLS: u64 = 12;
     let before = [(1, 10), (2, 20), (3, 30), (4, 40)];
     let mut callers = open_striped(2, 7)?;
     callers[0].put_all(&before)?;
@@ -277,7 +335,10 @@ fn visit(caller: &mut Caller) -> Result<(), Error> {
                 Ok::<_, Error>(())
             })
         }));
-        assert!(panics || moved.is_ok());
+        match moved {
+            Ok(ended) => ended?,
+            Err(_) => assert!(panics),
+        }
         if round % 20 == 0 {
             assert_eq!(caller.items()?.iter().map(|(_, value)| value).sum::<u64>(), 1000);
         }

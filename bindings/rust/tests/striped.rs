@@ -1,4 +1,6 @@
-use boostmap::{open_striped, Caller, Counts, Entry, Error, Holder, Judge, Keep, NotFed, Opening, Operation, Rule, Verdict};
+use boostmap::{
+    open_striped, Caller, Counts, Entry, Error, Holder, Judge, Keep, NotFed, Opening, Operation, Ran, Rule, Verdict,
+};
 use std::mem;
 use std::sync::mpsc;
 use std::thread;
@@ -153,6 +155,103 @@ fn threads_keep_the_sum() -> Result<(), Error> {
     let sum: Result<u64, Error> =
         callers[0].transact(|t| (0..KEYS).try_fold(0, |sum, key| Ok(sum + t.get(key)?.unwrap_or(0))));
     assert_eq!(sum, Ok(100 * KEYS));
+    Ok(())
+}
+
+#[test]
+fn a_whole_transaction_in_one_call() -> Result<(), Error> {
+    let (mut one, mut other) = two()?;
+    let put_if = |key, expected, value| Operation::PutIf { key, expected, value };
+    let operations = [
+        Operation::Put { key: 1, value: 10 },
+        Operation::Get { key: 1 },
+        put_if(1, Some(9), 11),
+        put_if(2, None, 20),
+        Operation::Take { key: 1 },
+    ];
+    assert_eq!(one.run(&operations)?, [None, Some(10), Some(10), None, Some(10)]);
+    assert_eq!(one.run_strict(&[])?, Ran::Committed(vec![]));
+    assert_eq!(one.run_strict(&operations)?, Ran::Missed(vec![None, Some(10), Some(10)]));
+    let committed = one.run_strict(&[Operation::Put { key: 1, value: 12 }, put_if(2, Some(20), 21)])?;
+    assert_eq!(committed, Ran::Committed(vec![None, Some(20)]));
+    assert_eq!((other.items()?, other.run(&[])?), (vec![(1, 12), (2, 21)], vec![]));
+    assert_eq!(one.counts(), Counts { commits: 3, aborts: 1, busy: 0 });
+    mem::forget(one.begin()?);
+    assert_eq!(one.run(&operations), Err(Error::AlreadyOpen));
+    assert_eq!(one.run_strict(&operations), Err(Error::AlreadyOpen));
+    Ok(())
+}
+
+/// Threads add up by strict runs, which wait while they are busy, and begin again if they miss.
+#[test]
+fn threads_that_run_keep_the_sum() -> Result<(), Error> {
+    const THREADS: u64 = 4;
+    const ROUNDS: u64 = 2000;
+    let mut callers = open_striped(THREADS, 4)?;
+    callers[0].put_all(&[(7, 0), (8, 0)])?;
+    let both = [Operation::Get { key: 7 }, Operation::Get { key: 8 }];
+    thread::scope(|scope| {
+        for caller in &mut callers {
+            scope.spawn(|| {
+                let mut made = 0;
+                while made < ROUNDS {
+                    let found = caller.run(&both).unwrap();
+                    assert_eq!(found[0], found[1]);
+                    let value = found[0].unwrap() + 1;
+                    let adds =
+                        [Operation::Put { key: 8, value }, Operation::PutIf { key: 7, expected: found[0], value }];
+                    made += u64::from(matches!(caller.run_strict(&adds).unwrap(), Ran::Committed(_)));
+                }
+            });
+        }
+    });
+    assert_eq!(callers[0].run(&both)?, [Some(THREADS * ROUNDS); 2]);
+    Ok(())
+}
+
+/// A walk beside threads that move units within a stripe: each page has the sum of its stripe.
+#[test]
+fn pages_are_whole() -> Result<(), Error> {
+    const STRIPES: u64 = 8;
+    const KEYS: u64 = 20 * STRIPES;
+    let mut callers = open_striped(4, STRIPES)?;
+    callers[0].put_all(&(0..KEYS).map(|key| (key, 100)).collect::<Vec<_>>())?;
+    let (walker, movers) = callers.split_first_mut().unwrap();
+    thread::scope(|scope| {
+        for caller in movers {
+            scope.spawn(move || {
+                let me = caller.number();
+                for i in 0..3000 {
+                    let from = i * (2 * me + 1) % KEYS;
+                    let moved = caller.transact(|t| {
+                        if t.get(from)? > Some(0) {
+                            t.add(from, -1)?;
+                            t.add((from + STRIPES) % KEYS, 1)?;
+                        }
+                        Ok::<_, Error>(())
+                    });
+                    moved.unwrap();
+                }
+            });
+        }
+        for _ in 0..20 {
+            let pages: Vec<_> = walker.pages().collect::<Result<_, _>>().unwrap();
+            assert_eq!(pages.len() as u64, STRIPES);
+            for (stripe, page) in (0..).zip(&pages) {
+                assert!(page.iter().map(|&(key, _)| key).eq((stripe..KEYS).step_by(STRIPES as usize)));
+                assert_eq!(page.iter().map(|&(_, value)| value).sum::<u64>(), 100 * KEYS / STRIPES);
+            }
+        }
+    });
+    let (one, others) = callers.split_first_mut().unwrap();
+    let (mut reads, mut writes) = (one.begin()?, others[0].begin()?);
+    assert_eq!(reads.page(3 + STRIPES)?.len() as u64, KEYS / STRIPES);
+    assert_eq!(writes.put(4, 1).map(drop), Ok(()));
+    assert!(matches!(writes.get(3), Err(Error::Busy(_))));
+    assert_eq!(writes.page(4), Err(Error::NotOpen));
+    mem::forget(reads);
+    assert!(one.pages().all(|page| page == Err(Error::AlreadyOpen)));
+    assert_eq!(one.pages().count() as u64, STRIPES);
     Ok(())
 }
 
