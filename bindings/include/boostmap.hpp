@@ -683,17 +683,17 @@ private:
     boostmap_judge handle_ = BOOSTMAP_INIT;
 };
 
-// A transaction of a cycle. It must come before the next one, and the last before the first: the next
-// one read the value that this one left at the key (BOOSTMAP_LINK_READ), or replaced the value that this
-// one read there (BOOSTMAP_LINK_REPLACED).
-struct link {
-    std::uint64_t transaction, kind, key;
-    boostmap_cpp::value value;
-};
-
 // What `judge_any_order` found: a kind from BOOSTMAP_SERIALIZABLE to BOOSTMAP_UNDECIDED, and the members
 // that the kind has, as a boostmap_finding.
 struct finding {
+    // A transaction of a cycle. It must come before the next one, and the last before the first: the next
+    // one read the value that this one left at the key (BOOSTMAP_LINK_READ), or replaced the value that this
+    // one read there (BOOSTMAP_LINK_REPLACED).
+    struct link {
+        std::uint64_t transaction, kind, key;
+        boostmap_cpp::value value;
+    };
+
     std::uint64_t kind = BOOSTMAP_SERIALIZABLE, number = 0, key = 0;
     boostmap_cpp::value value;
     std::vector<std::uint64_t> order; // the transactions of a serial order
@@ -747,8 +747,8 @@ private:
 inline finding judge_any_order(const std::vector<boostmap_entry> &entries) {
     static const boostmap_entry none = {};
     boostmap_finding found = {};
-    std::vector<boostmap_link> links(1); // so that data() is not null
-    for (const auto &entry : entries) links.resize(links.size() + (entry.kind == BOOSTMAP_COMMITTED));
+    auto commits = std::count_if(entries.begin(), entries.end(), [](auto &e) { return e.kind == BOOSTMAP_COMMITTED; });
+    std::vector<boostmap_link> links(static_cast<std::size_t>(commits) + 1); // one more, so that data() is not null
     for (boostmap_status status = BOOSTMAP_SHORT; status == BOOSTMAP_SHORT;) {
         status = boostmap_judge_any_order(entries.empty() ? &none : entries.data(), entries.size(), links.data(),
                                           links.size(), &found);
