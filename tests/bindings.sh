@@ -143,7 +143,7 @@ in_cpp() {
   try 'compile values.cpp' c++ -std=c++17 "${strict[@]}" "${use[@]}" bindings/tests/values.cpp -o "$work/values" -lboostmap -pthread
   try 'values in C++' within "$work/values"
   if has valgrind 'values in C++ under it'; then
-    try 'values in C++ under valgrind' within valgrind -q --error-exitcode=9 --leak-check=full --fair-sched=yes "$work/values"
+    try 'values in C++ under valgrind' within valgrind -q --error-exitcode=9 --leak-check=full --fair-sched=yes "$work/values" 2000
   fi
   try 'compile model.cpp' c++ -std=c++17 "${strict[@]}" "${use[@]}" bindings/tests/model.cpp -o "$work/model_cpp" -lboostmap
   try 'model in C++' within "$work/model_cpp"

@@ -1,6 +1,8 @@
 // The C++ header: moved maps, transactions that abort in their destructor, `transact`, exceptions, runs and walks.
+// Usage: values [COUNT]: so many callers that are made and freed
 #include "boostmap.hpp"
 #include "check.h"
+#include <cstdlib>
 #include <fstream>
 #include <set>
 #include <thread>
@@ -399,8 +401,9 @@ static long resident() {
     return resident;
 }
 
-// Callers that others make, which live as long as they like; a hundred thousand leave no memory behind.
-static void of_others() {
+// Callers that others make, which live as long as they like. So many leave no memory behind.
+static void of_others(long count) {
+    enum { FIRST = 1000 };
     boostmap_cpp::opening how;
     how.keep = BOOSTMAP_KEEP_ENTRIES;
     auto kept = boostmap_cpp::open_striped(1, 8, how);
@@ -417,15 +420,15 @@ static void of_others() {
     CHECK(other.get(1) == 10u && third.get(1) == 10u);
     std::set<std::uint64_t> numbers = {1, 2, other.number(), third.number()};
     long before = 0;
-    for (int i = 0; i < 110000; i++) {
-        if (i == 10000) before = resident();
+    for (long i = 0; i < FIRST + count; i++) {
+        if (i == FIRST) before = resident();
         auto next = third.another();
         CHECK(!next.put(100, 10) && next.take(100) == 10u);
-        if (i < 10000) numbers.insert(next.number());
+        if (i < FIRST) numbers.insert(next.number());
         if (i % 2) third = std::move(next); // which makes the next two
     }
-    CHECK(before > 0 && resident() - before < 6144); // 24 MB; under valgrind 20 MB of freed blocks are kept
-    CHECK(numbers.size() == 10004);
+    CHECK(before > 0 && resident() - before < 4096); // 16 MB; a hundred thousand callers take 90
+    CHECK(numbers.size() == FIRST + 4);
     // Threads, each of whose visitors makes the next one.
     std::vector<std::thread> threads;
     for (int i = 0; i < 4; i++)
@@ -440,7 +443,7 @@ static void of_others() {
     CHECK(other.get(7) == 2000u);
 }
 
-int main() {
+int main(int argc, char **argv) {
     of_the_head();
     of_one_owner();
     of_histories();
@@ -453,5 +456,5 @@ int main() {
     of_hosts();
     of_judges();
     of_any_order();
-    of_others();
+    of_others(argc > 1 ? std::atol(argv[1]) : 100000);
 }
