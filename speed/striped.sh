@@ -102,6 +102,7 @@ for keys in 1000 100000; do
     row="$keys shared $threads"
     # The row has three words.
     # shellcheck disable=SC2086
-    echo "nanoseconds of processor time of a transaction, $keys keys and $threads threads: $(median calls $row 6) by its calls, $(median run $row 6) as a run"
+    echo "$keys keys, $threads threads, a transaction that commits takes $(median calls $row 6) ns by its calls," \
+      "$(median run $row 6) ns as a run"
   done
 done
