@@ -84,6 +84,7 @@ in_c() {
   c_test read c99
   c_test owned c99
   c_test judge c99
+  c_test any_order c99
   c_test recorded c99
   c_test threads c11 -D_GNU_SOURCE -pthread
   c_test striped c99
@@ -95,6 +96,7 @@ in_c() {
   try 'history with 16' within "$work/history" 16
   c_test striped_recorded c11 -pthread
   try 'striped_recorded with 16' within "$work/striped_recorded" 16
+  c_test another c11 -pthread -Wl,--wrap=malloc -Wl,--wrap=realloc -Wl,--wrap=free
   c_test door c11 -pthread
   c_test no_memory c11 -Wl,--wrap=malloc -Wl,--wrap=realloc -Wl,--wrap=free
   c_test whole c99
@@ -117,6 +119,8 @@ in_c_again() {
     for name in statuses read owned no_memory threads striped run stripe whole; do
       try "$name under valgrind" "${checked[@]}" "$work/$name"
     done
+    try 'any_order under valgrind' "${checked[@]}" "$work/any_order"
+    try 'another with 10000 under valgrind' "${checked[@]}" --fair-sched=yes "$work/another" 10000
     try 'model of 40000 calls under valgrind' "${checked[@]}" "$work/model" 40000
     for name in 4 16; do
       try "striped_threads with $name under valgrind" "${checked[@]}" --fair-sched=yes "$work/striped_threads" "$name" 1000
@@ -139,7 +143,7 @@ in_cpp() {
   try 'compile values.cpp' c++ -std=c++17 "${strict[@]}" "${use[@]}" bindings/tests/values.cpp -o "$work/values" -lboostmap -pthread
   try 'values in C++' within "$work/values"
   if has valgrind 'values in C++ under it'; then
-    try 'values in C++ under valgrind' within valgrind -q --error-exitcode=9 --leak-check=full --fair-sched=yes "$work/values"
+    try 'values in C++ under valgrind' within valgrind -q --error-exitcode=9 --leak-check=full --fair-sched=yes "$work/values" 2000
   fi
   try 'compile model.cpp' c++ -std=c++17 "${strict[@]}" "${use[@]}" bindings/tests/model.cpp -o "$work/model_cpp" -lboostmap
   try 'model in C++' within "$work/model_cpp"

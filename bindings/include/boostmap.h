@@ -28,7 +28,7 @@
  *     There are two kinds of maps. Use the striped map, with one caller or with many, unless you
  *     want a history.
  *
- *     A striped map is for threads: each of its 1 to 4096 callers has its own handle, a
+ *     A striped map is for threads: each of its callers has its own handle, a
  *     `boostmap_caller`, and callers run in parallel without a lock. It grows by itself, hashes its
  *     keys and, unless asked, keeps no history, so it may run forever. If a caller finds a stripe held, the call
  *     returns BOOSTMAP_BUSY, and the transaction has been aborted, with all its changes taken back.
@@ -161,7 +161,7 @@ enum {
     BOOSTMAP_NO_MEMORY = 30,       /* memory was refused; never from commit and abort */
     BOOSTMAP_STAMPS_USED_UP = 32,  /* 2^64 - 2 nodes were made */
     BOOSTMAP_LIMIT = 38            /* a limit is out of range; from boostmap_judge_new: no stripes, or
-                                      no such rule */
+                                      no such rule; from boostmap_striped_another: no further caller */
 };
 
 /* A status in words. */
@@ -344,10 +344,16 @@ enum {
 boostmap_status boostmap_striped_option(boostmap_caller *caller, uint64_t option, uint64_t *word);
 
 /* Makes `next` the handle of the next caller that waits; *word: its number, counted down to 1. Both
- * handles are in this call. A caller that is freed does not wait again: if threads come and go, keep the
- * handles of those that went for those that come.
+ * handles are in this call. A caller that is freed does not wait again.
  * 0; 4: `next` is in use; 3: `first` is empty; 18: nobody waits; 30 */
 boostmap_status boostmap_striped_join(boostmap_caller *first, boostmap_caller *next, uint64_t *word);
+
+/* Makes `next` the handle of another caller of the map, for threads that come and go. Any caller may make
+ * it, at any time, also in a transaction, which continues. *word: its number, which no caller of the map has
+ * or had; there are 2^62 of them. Both handles are in this call.
+ * 0; 3: `caller` is empty; 4: `next` is in use; 30; 38: the map keeps its entries, so that only callers of
+ * the opening have a place for theirs, or all numbers were given out */
+boostmap_status boostmap_striped_another(boostmap_caller *caller, boostmap_caller *next, uint64_t *word);
 
 /* Frees the caller, and the callers that still wait to be joined through its handle; an open
  * transaction is aborted. If the map keeps its entries, the map's host gets those of these callers.
@@ -362,7 +368,7 @@ typedef struct boostmap_counts {
     uint64_t busy;
 } boostmap_counts;
 
-/* Writes the counts of the caller, since it was joined.    0; 3, which writes nothing */
+/* Writes the counts of the caller, since it was joined or made.    0; 3, which writes nothing */
 boostmap_status boostmap_striped_counts(boostmap_caller *caller, boostmap_counts *counts);
 
 /* Begins a transaction. If the map keeps its entries, boostmap_striped_begin and boostmap_striped_back
@@ -519,6 +525,52 @@ boostmap_status boostmap_judge_verdict(boostmap_judge *judge, boostmap_verdict *
 
 /* Frees the judge.    0; 3 */
 boostmap_status boostmap_judge_free(boostmap_judge *judge);
+
+/* Why a transaction comes before the next one. */
+enum {
+    BOOSTMAP_LINK_ORDER = 0,   /* they are neighbours in a serial order */
+    BOOSTMAP_LINK_READ = 1,    /* the next one read the value that it left */
+    BOOSTMAP_LINK_REPLACED = 2 /* the next one replaced the value that it read */
+};
+
+/* A transaction of a serial order, or of a cycle, in which each must come before the next one, and the last
+ * before the first. */
+typedef struct boostmap_link {
+    uint64_t transaction; /* its number */
+    uint64_t kind;        /* in an order BOOSTMAP_LINK_ORDER, and the rest is 0; in a cycle .._READ or .._REPLACED */
+    uint64_t key;         /* the key of that value */
+    uint64_t value;
+    uint64_t has;         /* 0: the key had no value, and `value` is 0; else 1 */
+} boostmap_link;
+
+enum {
+    BOOSTMAP_SERIALIZABLE = 0, /* there is a serial order; the links are one, that of the commits if it is serial */
+    BOOSTMAP_MISSHAPEN = 1,    /* not serializable: the entry with index `number` is the first of the wrong shape */
+    BOOSTMAP_TORN = 2,         /* .. the replies of transaction `number` contradict one another */
+    BOOSTMAP_UNWRITTEN = 3,    /* .. transaction `number` read what no committed transaction left */
+    BOOSTMAP_IMPOSSIBLE = 4,   /* .. transaction `number` read what no serial order gives */
+    BOOSTMAP_CYCLE = 5,        /* .. each of the transactions in the links must come before the next one */
+    BOOSTMAP_UNDECIDED = 6     /* not known: several transactions may have left this value at this key */
+};
+
+/* What the judge found by any order. */
+typedef struct boostmap_finding {
+    uint64_t kind;   /* BOOSTMAP_SERIALIZABLE to BOOSTMAP_UNDECIDED */
+    uint64_t number; /* of MISSHAPEN, TORN, UNWRITTEN and IMPOSSIBLE; else 0 */
+    uint64_t key;    /* of UNWRITTEN, IMPOSSIBLE and UNDECIDED: the key and the value; else 0 */
+    uint64_t value;
+    uint64_t has;    /* 0: no value; else 1 */
+    uint64_t count;  /* of SERIALIZABLE and CYCLE: the number of links; else 0 */
+} boostmap_finding;
+
+/* Judges an array of entries, oldest first, by any order of their transactions, as `judge check
+ * --serializable` does: is there an order in which each committed transaction has its replies when it runs
+ * alone after those before it, from an empty map? docs/VERDICTS.md has the rules ("Serializable"). The links
+ * are written to the front of an array of `places` elements; an order needs one for each COMMITTED entry.
+ * 0; 7: too few places: the finding is written, with the number that it needs, and the links are unchanged;
+ * 8: the numbers of an entry are no entry of a caller below 64; 30. After 8 and 30 nothing is written */
+boostmap_status boostmap_judge_any_order(const boostmap_entry *entries, size_t count, boostmap_link *links,
+                                         size_t places, boostmap_finding *finding);
 
 /* Writes the history of a map with one owner, oldest entry first, from the entry with index `first` on:
  * as many entries as there are and as the array of `places` elements has room for. *word: the number of

@@ -298,6 +298,15 @@ public:
         return all;
     }
 
+    // Makes another caller of the map, with a number that no caller of the map has or had, also in a
+    // transaction, which continues. A map that keeps its entries has only the callers of its opening:
+    // throws `error` with BOOSTMAP_LIMIT.
+    [[nodiscard]] caller another() {
+        caller next;
+        detail::check(boostmap_striped_another(&handle_, &next.handle_, &next.number_));
+        return next;
+    }
+
     // Begins a transaction, which aborts if it is destroyed before it is committed.
     [[nodiscard]] caller_transaction begin();
 
@@ -673,6 +682,89 @@ public:
 private:
     boostmap_judge handle_ = BOOSTMAP_INIT;
 };
+
+// What `judge_any_order` found: a kind from BOOSTMAP_SERIALIZABLE to BOOSTMAP_UNDECIDED, and the members
+// that the kind has, as a boostmap_finding.
+struct finding {
+    // A transaction of a cycle. It must come before the next one, and the last before the first: the next
+    // one read the value that this one left at the key (BOOSTMAP_LINK_READ), or replaced the value that this
+    // one read there (BOOSTMAP_LINK_REPLACED).
+    struct link {
+        std::uint64_t transaction, kind, key;
+        boostmap_cpp::value value;
+    };
+
+    std::uint64_t kind = BOOSTMAP_SERIALIZABLE, number = 0, key = 0;
+    boostmap_cpp::value value;
+    std::vector<std::uint64_t> order; // the transactions of a serial order
+    std::vector<link> cycle;
+
+    bool is_serializable() const { return kind == BOOSTMAP_SERIALIZABLE; }
+
+    // The line of `judge check --serializable`, without the number of open transactions.
+    std::string text() const {
+        const std::string of = "transaction " + std::to_string(number);
+        const std::string read = of + " read " + words(value) + " at key " + std::to_string(key);
+        switch (kind) {
+        case BOOSTMAP_SERIALIZABLE: return "serializable " + std::to_string(order.size()) + " commits";
+        case BOOSTMAP_MISSHAPEN: return "not serializable: entry " + std::to_string(number) + " has the wrong shape";
+        case BOOSTMAP_TORN: return "not serializable: the replies of " + of + " contradict one another";
+        case BOOSTMAP_UNWRITTEN: return "not serializable: " + read + ", which no committed transaction left";
+        case BOOSTMAP_IMPOSSIBLE: return "not serializable: " + read + ", which no serial order gives";
+        case BOOSTMAP_CYCLE: return "not serializable: " + cycle_text();
+        default: return "undecided key " + std::to_string(key) + " value " + words(value);
+        }
+    }
+
+private:
+    static std::string words(boostmap_cpp::value of) { return of ? std::to_string(*of) : "none"; }
+
+    // Whether two transactions each replaced what the other read, the same value of the same key.
+    bool is_lost_update() const {
+        return cycle.size() == 2 && cycle[0].kind == BOOSTMAP_LINK_REPLACED && cycle[1].kind == BOOSTMAP_LINK_REPLACED &&
+               cycle[0].key == cycle[1].key && cycle[0].value == cycle[1].value;
+    }
+
+    std::string cycle_text() const {
+        static const char *const classes[] = {"G1c", "G-single", "G2-item"};
+        std::size_t replaced = 0;
+        std::string links;
+        for (std::size_t i = 0; i < cycle.size(); i++) {
+            const link &from = cycle[i], &to = cycle[(i + 1) % cycle.size()];
+            bool is_read = from.kind == BOOSTMAP_LINK_READ;
+            replaced += !is_read;
+            links += "; transaction " + std::to_string(from.transaction) + (is_read ? " left " : " read ") + words(from.value) +
+                     " at key " + std::to_string(from.key) + ", which transaction " + std::to_string(to.transaction) +
+                     (is_read ? " read" : " replaced");
+        }
+        return std::string(is_lost_update() ? "lost update" : classes[std::min<std::size_t>(replaced, 2)]) + ", cycle of " +
+               std::to_string(cycle.size()) + links;
+    }
+};
+
+// Judges entries by any order of their transactions, as `judge check --serializable` does: is there an
+// order in which each committed transaction has its replies when it runs alone after those before it?
+inline finding judge_any_order(const std::vector<boostmap_entry> &entries) {
+    static const boostmap_entry none = {};
+    boostmap_finding found = {};
+    auto commits = std::count_if(entries.begin(), entries.end(), [](auto &e) { return e.kind == BOOSTMAP_COMMITTED; });
+    std::vector<boostmap_link> links(static_cast<std::size_t>(commits) + 1); // one more, so that data() is not null
+    for (boostmap_status status = BOOSTMAP_SHORT; status == BOOSTMAP_SHORT;) {
+        status = boostmap_judge_any_order(entries.empty() ? &none : entries.data(), entries.size(), links.data(),
+                                          links.size(), &found);
+        if (status == BOOSTMAP_SHORT) links.resize(found.count);
+        else detail::check(status);
+    }
+    finding result;
+    result.kind = found.kind, result.number = found.number, result.key = found.key;
+    if (found.has) result.value = found.value;
+    for (std::size_t i = 0; i < found.count; i++) {
+        const auto &each = links[i];
+        if (found.kind == BOOSTMAP_SERIALIZABLE) result.order.push_back(each.transaction);
+        else result.cycle.push_back({each.transaction, each.kind, each.key, each.has ? value(each.value) : std::nullopt});
+    }
+    return result;
+}
 
 // The entries of a history, as boostmap.h has them.
 namespace entry {

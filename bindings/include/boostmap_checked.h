@@ -149,6 +149,12 @@ BOOSTMAP_CHECKED_WORD(striped_joined_to, (boostmap_caller_door *door, boostmap_c
 BOOSTMAP_CHECKED(striped_join, (boostmap_caller_door *door, boostmap_caller_door *next, uint64_t *word),
                  boostmap_checked_striped_joined_to(next, &door->caller, word))
 
+/* The same for a caller that another one makes. */
+BOOSTMAP_CHECKED_WORD(striped_another_of, (boostmap_caller_door *door, boostmap_caller *caller, uint64_t *word),
+                      boostmap_striped_another(caller, &door->caller, word))
+BOOSTMAP_CHECKED(striped_another, (boostmap_caller_door *door, boostmap_caller_door *next, uint64_t *word),
+                 boostmap_checked_striped_another_of(next, &door->caller, word))
+
 /* A judge behind its own door. */
 typedef struct boostmap_judge_door {
     boostmap_judge judge;
@@ -168,6 +174,14 @@ BOOSTMAP_CHECKED_WORD(history,
                       entries ? boostmap_history(&door->map, first, entries, places, word) : (boostmap_status)BOOSTMAP_NULL)
 BOOSTMAP_CHECKED(judge_verdict, (boostmap_judge_door *door, boostmap_verdict *verdict),
                  verdict ? boostmap_judge_verdict(&door->judge, verdict) : (boostmap_status)BOOSTMAP_NULL)
+
+/* This call has no handle, and no door. */
+static inline boostmap_status boostmap_checked_judge_any_order(const boostmap_entry *entries, size_t count,
+                                                               boostmap_link *links, size_t places,
+                                                               boostmap_finding *finding) {
+    return entries && links && finding ? boostmap_judge_any_order(entries, count, links, places, finding)
+                                       : (boostmap_status)BOOSTMAP_NULL;
+}
 
 /* A host behind its own door. */
 typedef struct boostmap_host_door {

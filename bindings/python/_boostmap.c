@@ -278,17 +278,23 @@ static PyObject *caller_open(PyObject *self, PyObject *args) {
     return answer(status, caller->number);
 }
 
-static PyObject *caller_join(PyObject *self, PyObject *next) {
-    Caller *first = (Caller *)self, *other = (Caller *)next;
+/* Makes an empty caller, `next`, one of this caller's map, by a call on both. */
+static PyObject *give_caller(PyObject *self, PyObject *next,
+                             boostmap_status call(boostmap_caller *, boostmap_caller *, uint64_t *)) {
+    Caller *caller = (Caller *)self, *other = (Caller *)next;
     boostmap_status status;
     if (!PyObject_TypeCheck(next, Py_TYPE(self))) {
-        PyErr_SetString(PyExc_TypeError, "a caller is joined by a caller");
+        PyErr_SetString(PyExc_TypeError, "a caller is given to a caller");
         return NULL;
     }
-    enter(first);
-    status = boostmap_striped_join(first->handle, other->handle, &other->number);
+    enter(caller);
+    status = call(caller->handle, other->handle, &other->number);
     return answer(status, other->number);
 }
+
+static PyObject *caller_join(PyObject *self, PyObject *next) { return give_caller(self, next, boostmap_striped_join); }
+
+static PyObject *caller_another(PyObject *self, PyObject *next) { return give_caller(self, next, boostmap_striped_another); }
 
 /* Gives the map's host the handle at this address, and returns the status. */
 static PyObject *caller_host(PyObject *self, PyObject *address) {
@@ -415,6 +421,7 @@ static PyObject *caller_transact(PyObject *self, PyObject *args, PyObject *names
 static PyMethodDef caller_methods[] = {
     {"_open", caller_open, METH_VARARGS, NULL},
     {"_join", caller_join, METH_O, NULL},
+    {"_another", caller_another, METH_O, NULL},
     {"_host", caller_host, METH_O, NULL},
     {"_counts", caller_counts, METH_NOARGS, NULL},
     {"_options", caller_options, METH_NOARGS, NULL},

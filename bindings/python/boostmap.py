@@ -33,6 +33,7 @@ except ImportError:
 
 __all__ = [
     "open_striped", "Caller", "CallerTransaction", "Counts", "Options", "Host", "Map", "Transaction", "Judge", "Entry", "Verdict",
+    "judge_any_order", "Finding", "Link",
     "Error", "Busy", "Refused", "Missed", "NotFed",
 ]
 
@@ -60,6 +61,14 @@ class _Reply(ctypes.Structure):
 
 class _Verdict(ctypes.Structure):
     _fields_ = [(name, _U64) for name in ("is_legal", "commits", "running", "entry", "rule")]
+
+
+class _Link(ctypes.Structure):
+    _fields_ = [(name, _U64) for name in ("transaction", "kind", "key", "value", "has")]
+
+
+class _Finding(ctypes.Structure):
+    _fields_ = [(name, _U64) for name in ("kind", "number", "key", "value", "has", "count")]
 
 
 _HANDLE = ctypes.POINTER(_Handle)
@@ -115,6 +124,7 @@ def _load():
     library.boostmap_striped_run.argtypes = [_HANDLE, ctypes.POINTER(_Entry), ctypes.c_size_t, ctypes.c_uint32,
                                              ctypes.POINTER(_Reply), ctypes.c_size_t, _WORD, _WORD]
     library.boostmap_striped_join.argtypes = [_HANDLE, _HANDLE, _WORD]
+    library.boostmap_striped_another.argtypes = [_HANDLE, _HANDLE, _WORD]
     library.boostmap_striped_host.argtypes = [_HANDLE, ctypes.c_void_p]
     library.boostmap_striped_counts.argtypes = [_HANDLE, _WORD]
     library.boostmap_host_history.argtypes = [_HANDLE, ctypes.POINTER(_Entry), ctypes.c_size_t, _WORD]
@@ -123,8 +133,11 @@ def _load():
     library.boostmap_judge_feed.argtypes = [_HANDLE, ctypes.POINTER(_Entry)]
     library.boostmap_judge_feed_all.argtypes = [_HANDLE, ctypes.POINTER(_Entry), ctypes.c_size_t, _WORD]
     library.boostmap_judge_verdict.argtypes = [_HANDLE, ctypes.POINTER(_Verdict)]
-    for name in ("read", "history", "striped_read", "striped_read_stripe", "striped_run", "striped_join", "striped_host",
-                 "striped_counts", "host_history", "judge_new", "judge_feed", "judge_feed_all", "judge_verdict"):
+    library.boostmap_judge_any_order.argtypes = [
+        ctypes.POINTER(_Entry), ctypes.c_size_t, ctypes.POINTER(_Link), ctypes.c_size_t, ctypes.POINTER(_Finding)]
+    for name in ("read", "history", "striped_read", "striped_read_stripe", "striped_run", "striped_join", "striped_another",
+                 "striped_host", "striped_counts", "host_history", "judge_new", "judge_feed", "judge_feed_all", "judge_verdict",
+                 "judge_any_order"):
         getattr(library, "boostmap_" + name).restype = ctypes.c_uint32
     return library
 
@@ -548,6 +561,12 @@ class _CtypesCaller(_AtOnce, _Owned):
             status = _library.boostmap_striped_join(self._handle, other._handle, word)
         other.number = _value(status, word)
 
+    def _another(self, other):
+        word = _U64(0)
+        with self._lock:
+            status = _library.boostmap_striped_another(self._handle, other._handle, word)
+        other.number = _value(status, word)
+
     def _host(self, address):
         with self._lock:
             return _library.boostmap_striped_host(self._handle, address)
@@ -714,6 +733,13 @@ class Caller(_boostmap.Caller if _boostmap else _CtypesCaller):
         """Takes every key out, and returns how many there were. Takes every stripe."""
         return self.transact(lambda t: t.clear())
 
+    def another(self):
+        """Makes another caller of the map, with a number that no caller of the map has or had, also in a transaction,
+        which continues. A map that keeps its entries has only the callers of its opening: refused (38)."""
+        other = Caller()
+        self._another(other)
+        return other
+
     def counts(self):
         """How the caller's transactions ended, as Counts."""
         return Counts(*self._counts())
@@ -869,3 +895,79 @@ class Judge(_Owned):
         if verdict.is_legal:
             return Verdict(True, verdict.commits, verdict.running, None, None)
         return Verdict(False, None, None, verdict.entry, ("replies", "locks", "shape")[verdict.rule - 1])
+
+
+_FINDINGS = ("serializable", "misshapen", "torn", "unwritten", "impossible", "cycle", "undecided")
+
+
+def _words(value):
+    return "none" if value is None else str(value)
+
+
+class Link(collections.namedtuple("Link", "transaction kind key value")):
+    """A transaction of a cycle. It must come before the next one, and the last before the first: the next one "read" the
+    value that this one left at the key, or "replaced" the value that this one read there."""
+
+    __slots__ = ()
+
+    @classmethod
+    def _from_c(cls, link):
+        return cls(link.transaction, (None, "read", "replaced")[link.kind], link.key, link.value if link.has else None)
+
+    def _words(self, to):
+        did = "left" if self.kind == "read" else "read"
+        return (f"transaction {self.transaction} {did} {_words(self.value)} at key {self.key}, which transaction "
+                f"{to.transaction} {self.kind}")
+
+
+class Finding(collections.namedtuple("Finding", "kind number key value order cycle")):
+    """What `judge_any_order` found. By its kind it has some members, and the others are None: "serializable" the order, a
+    list of transactions; "misshapen" the number of an entry, from 0; "torn" that of a transaction; "unwritten" and
+    "impossible" that of a transaction, a key and a value or None; "cycle" the cycle, a list of Link; "undecided" a key and a
+    value or None. As a text it is the line of `judge check --serializable`, without the number of open transactions."""
+
+    __slots__ = ()
+
+    @property
+    def is_serializable(self):
+        """True or False, or None if that is undecided."""
+        return None if self.kind == "undecided" else self.kind == "serializable"
+
+    def _cycle_words(self):
+        links, replaced = self.cycle, [link[2:] for link in self.cycle if link.kind == "replaced"]
+        is_lost_update = len(links) == len(replaced) == 2 and replaced[0] == replaced[1]
+        name = "lost update" if is_lost_update else ("G1c", "G-single", "G2-item")[min(len(replaced), 2)]
+        return "; ".join([f"{name}, cycle of {len(links)}", *map(Link._words, links, links[1:] + links[:1])])
+
+    def __str__(self):
+        read = f"transaction {self.number} read {_words(self.value)} at key {self.key}"
+        if self.kind == "serializable":
+            return f"serializable {len(self.order)} commits"
+        if self.kind == "undecided":
+            return f"undecided key {self.key} value {_words(self.value)}"
+        return "not serializable: " + (self._cycle_words() if self.kind == "cycle" else {
+            "misshapen": f"entry {self.number} has the wrong shape",
+            "torn": f"the replies of transaction {self.number} contradict one another",
+            "unwritten": f"{read}, which no committed transaction left",
+            "impossible": f"{read}, which no serial order gives",
+        }[self.kind])
+
+
+def judge_any_order(entries):
+    """Judges a list of Entry by any order of their transactions, as `judge check --serializable` does, and returns the
+    Finding: is there an order in which each committed transaction has its replies when it runs alone after those before
+    it?"""
+    entries, found, status = [entry._to_c() for entry in entries], _Finding(), _SHORT
+    array, places = (_Entry * len(entries))(*entries), sum(entry.kind == _KINDS["committed"] for entry in entries)
+    while status == _SHORT:
+        links = (_Link * places)()
+        status = _library.boostmap_judge_any_order(array, len(entries), links, places, found)
+        places = found.count
+    _check(status)
+    kind, links = _FINDINGS[found.kind], links[:found.count]
+    has_key = kind in ("unwritten", "impossible", "undecided")
+    return Finding(
+        kind, found.number if kind in ("misshapen", "torn", "unwritten", "impossible") else None,
+        key=found.key if has_key else None, value=found.value if has_key and found.has else None,
+        order=[link.transaction for link in links] if kind == "serializable" else None,
+        cycle=[Link._from_c(link) for link in links] if kind == "cycle" else None)

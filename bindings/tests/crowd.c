@@ -68,11 +68,13 @@ static boostmap_recorded
     callers[MOST_VISITS + 2]; /* the first, the auditor, and one for each visit */
 static pthread_mutex_t joining = PTHREAD_MUTEX_INITIALIZER;
 
+/* Joins the map: each second caller as one of the opening, the others as one that the first caller makes. */
 static void joins(boostmap_recorded *r) {
     boostmap_status status;
     uint64_t w;
     CHECK(!pthread_mutex_lock(&joining));
-    while ((status = boostmap_recorded_join(&callers[0], r, &w)) == BOOSTMAP_NO_MEMORY)
+    while ((status = (r - callers) % 2 ? boostmap_recorded_join(&callers[0], r, &w)
+                                       : boostmap_recorded_another(&callers[0], r, &w)) == BOOSTMAP_NO_MEMORY)
         refused_calls++;
     CHECK(!pthread_mutex_unlock(&joining));
     CHECK(status == BOOSTMAP_DONE);

@@ -58,6 +58,16 @@ static void at_a_caller(void) {
     CHECK(boostmap_checked_striped_join(&caller, 0, &w) == BOOSTMAP_NULL);
     CHECK(boostmap_checked_striped_join(&caller, &caller, &w) == BOOSTMAP_IN_CALL);
     CHECK(boostmap_checked_striped_join(&caller, &next, &w) == BOOSTMAP_DONE && w == 1);
+    boostmap_caller_door other = BOOSTMAP_DOOR_INIT;
+    CHECK(boostmap_checked_striped_another(0, &other, &w) == BOOSTMAP_NULL);
+    CHECK(boostmap_checked_striped_another(&caller, 0, &w) == BOOSTMAP_NULL);
+    CHECK(boostmap_checked_striped_another(&caller, &caller, &w) == BOOSTMAP_IN_CALL);
+    atomic_store(&other.is_in_call, 1);
+    CHECK(boostmap_checked_striped_another(&caller, &other, &w) == BOOSTMAP_IN_CALL);
+    atomic_store(&other.is_in_call, 0);
+    CHECK(boostmap_checked_striped_another(&caller, &next, 0) == BOOSTMAP_FULL);
+    CHECK(boostmap_checked_striped_another(&caller, &other, 0) == BOOSTMAP_DONE);
+    CHECK(boostmap_checked_striped_free(&other) == BOOSTMAP_DONE);
     CHECK(boostmap_checked_striped_begin(&caller) == BOOSTMAP_DONE);
     CHECK(boostmap_checked_striped_put(&caller, 1, 10, 0) == BOOSTMAP_ABSENT);
     CHECK(boostmap_checked_striped_begin(&next) == BOOSTMAP_DONE);
@@ -101,6 +111,13 @@ static void at_a_judge(void) {
     CHECK(boostmap_checked_judge_verdict(&judge, 0) == BOOSTMAP_NULL);
     CHECK(boostmap_checked_judge_verdict(&judge, &verdict) == BOOSTMAP_DONE && verdict.commits == 1);
     CHECK(boostmap_checked_judge_free(&judge) == BOOSTMAP_DONE);
+    boostmap_link link;
+    boostmap_finding found;
+    CHECK(boostmap_checked_judge_any_order(0, 2, &link, 1, &found) == BOOSTMAP_NULL);
+    CHECK(boostmap_checked_judge_any_order(entries, 2, 0, 1, &found) == BOOSTMAP_NULL);
+    CHECK(boostmap_checked_judge_any_order(entries, 2, &link, 1, 0) == BOOSTMAP_NULL);
+    CHECK(boostmap_checked_judge_any_order(entries, 2, &link, 1, &found) == BOOSTMAP_DONE);
+    CHECK(found.kind == BOOSTMAP_SERIALIZABLE && found.count == 1 && link.transaction == 1);
 }
 
 int main(void) {

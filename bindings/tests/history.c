@@ -1,6 +1,6 @@
 /* Threads run transactions on a striped map that keeps its entries, and are busy at times. Each frees its caller, and
- * the host hands out the whole history, which the judge must find legal; with one reply forged it must not. The statuses
- * of the host's calls come before. Usage: history [THREADS] */
+ * the host hands out the whole history, which the judges must find legal and serializable; with one reply forged they must
+ * not. The statuses of the host's calls come before. Usage: history [THREADS] */
 #include "boostmap.h"
 #include "check.h"
 #include <pthread.h>
@@ -76,6 +76,32 @@ static boostmap_verdict judged(const boostmap_entry *entries, uint64_t count, ui
     return verdict;
 }
 
+/* The history of a map is serializable, in the order of its commits. If it goes on with a transaction that reads what
+ * nobody put, it is not. */
+static void is_serializable(const boostmap_entry *entries, uint64_t count) {
+    boostmap_entry *longer = malloc((count + 4) * sizeof *longer);
+    boostmap_link *links = calloc(count, sizeof *links);
+    uint64_t begun[MOST + 1] = {0}, commits = 0, transactions = 0;
+    boostmap_finding found;
+    CHECK(longer && links);
+    CHECK(boostmap_judge_any_order(entries, count, links, count, &found) == BOOSTMAP_DONE);
+    for (uint64_t i = 0; i < count; i++) {
+        if (entries[i].kind == BOOSTMAP_BEGAN) begun[entries[i].caller] = ++transactions;
+        if (entries[i].kind == BOOSTMAP_COMMITTED) CHECK(links[commits++].transaction == begun[entries[i].caller]);
+    }
+    CHECK(found.kind == BOOSTMAP_SERIALIZABLE && found.count == commits && commits > 0);
+    memcpy(longer, entries, count * sizeof *longer);
+    longer[count] = (boostmap_entry){.kind = BOOSTMAP_BEGAN, .number = transactions + 1};
+    longer[count + 1] = (boostmap_entry){.kind = BOOSTMAP_ASKED, .operation = BOOSTMAP_GET, .key = 1};
+    longer[count + 2] = (boostmap_entry){.kind = BOOSTMAP_DID, .value = UINT64_MAX, .has = 1};
+    longer[count + 3] = (boostmap_entry){.kind = BOOSTMAP_COMMITTED, .number = commits + 1};
+    CHECK(boostmap_judge_any_order(longer, count + 4, links, 0, &found) == BOOSTMAP_DONE);
+    CHECK(found.kind == BOOSTMAP_UNWRITTEN && found.number == transactions + 1);
+    CHECK(found.key == 1 && found.has == 1 && found.value == UINT64_MAX && found.count == 0);
+    free(longer);
+    free(links);
+}
+
 /* Threads run, and their history is judged. */
 static void threads_are_judged(uint64_t count) {
     boostmap_host host = BOOSTMAP_INIT;
@@ -99,6 +125,7 @@ static void threads_are_judged(uint64_t count) {
     verdict = judged(entries, word, BOOSTMAP_HOLDER_BEGUN);
     CHECK(verdict.is_legal == 1 && verdict.running == 0 && verdict.commits == committed && committed > 0);
     CHECK(judged(entries, word, BOOSTMAP_BY_COMMITS).is_legal == 1);
+    is_serializable(entries, word);
     while (forged < word && entries[forged].kind != BOOSTMAP_DID) forged++;
     CHECK(forged < word);
     entries[forged].has = 1;

@@ -4,6 +4,7 @@
  * Linked with -Wl,--wrap=malloc -Wl,--wrap=realloc -Wl,--wrap=free. */
 #include "boostmap.h"
 #include "check.h"
+#include <string.h>
 
 /* The number of allocations before the one that is refused, or -1; and the number of live blocks. */
 static long before_refusal = -1;
@@ -116,6 +117,28 @@ static void striped_operations(boostmap_caller *c, uint64_t t) {
     CHECK(status == BOOSTMAP_DONE && w == keys);
     AGAIN(boostmap_striped_read(c, pairs, KEYS * TRANSACTIONS, &w));
     CHECK(status == BOOSTMAP_DONE && w == keys);
+}
+
+/* Callers that are made by others, each by the one before it, which is in a transaction. */
+static void others(void) {
+    enum { OTHERS = 8 };
+    static boostmap_caller c[OTHERS];
+    boostmap_status status;
+    uint64_t w;
+    AGAIN(boostmap_striped_open(&c[0], 1, 16, 0, BOOSTMAP_KEEP_COMMITS, 0, &w));
+    for (uint64_t i = 0; i < OTHERS; i++) {
+        CHECK(boostmap_striped_begin(&c[i]) == BOOSTMAP_DONE);
+        AGAIN(boostmap_striped_put(&c[i], i, i, &w));
+        CHECK(status == BOOSTMAP_ABSENT);
+        w = 0;
+        while (i + 1 < OTHERS && boostmap_striped_another(&c[i], &c[i + 1], &w) == BOOSTMAP_NO_MEMORY && ++refusals)
+            CHECK(c[i + 1].tag == 0 && c[i + 1].held == 0 && w == 0);
+        CHECK((w != 0) == (i + 1 < OTHERS));
+    }
+    for (uint64_t i = 0; i < OTHERS; i++) {
+        CHECK(boostmap_striped_commit(&c[i], &w) == BOOSTMAP_DONE && w == i + 1);
+        CHECK(boostmap_striped_free(&c[i]) == BOOSTMAP_DONE);
+    }
 }
 
 /* A round on a striped map, with two callers. */
@@ -234,6 +257,50 @@ static void judge_all(uint32_t rule) {
     CHECK(boostmap_judge_free(&judge) == BOOSTMAP_DONE);
 }
 
+/* Judges a history by any order: refused, it leaves links and finding unchanged. */
+static void judge_these(const boostmap_entry *entries, size_t count, boostmap_finding due) {
+    boostmap_link links[8], before[8];
+    boostmap_finding found = {.kind = 77};
+    boostmap_status status;
+    memset(before, 0x55, sizeof before);
+    memcpy(links, before, sizeof before);
+    while ((status = boostmap_judge_any_order(entries, count, links, 8, &found)) == BOOSTMAP_NO_MEMORY && ++refusals)
+        CHECK(found.kind == 77 && !memcmp(links, before, sizeof before));
+    CHECK(status == BOOSTMAP_DONE && found.kind == due.kind && found.number == due.number && found.key == due.key);
+    CHECK(found.has == 0 && found.count == due.count);
+}
+
+/* An operation, and its reply. */
+#define OF(c, op, k, v, ...) {.kind = BOOSTMAP_ASKED, .caller = c, .operation = op, .key = k, .value = v}, \
+                             {.kind = BOOSTMAP_DID, .caller = c, __VA_ARGS__}
+#define BEGINS(c, n) {.kind = BOOSTMAP_BEGAN, .caller = c, .number = n}
+#define COMMITS(c, n) {.kind = BOOSTMAP_COMMITTED, .caller = c, .number = n}
+#define LENGTH(array) (sizeof(array) / sizeof *(array))
+
+/* A reader before the writer that commits first; a write skew; a read of two states; and a value that was put three times
+ * and taken once. any_order.c has them too. */
+static void judge_by_any_order(void) {
+    static const boostmap_entry before_it[] = {
+        BEGINS(0, 1), BEGINS(1, 2), OF(0, BOOSTMAP_GET, 1, 0, .has = 0), OF(1, BOOSTMAP_PUT, 1, 5, .has = 0), COMMITS(1, 1),
+        COMMITS(0, 2)};
+    static const boostmap_entry skew[] = {
+        BEGINS(0, 1), BEGINS(1, 2), OF(0, BOOSTMAP_GET, 1, 0, .has = 0), OF(1, BOOSTMAP_GET, 2, 0, .has = 0),
+        OF(0, BOOSTMAP_PUT, 2, 5, .has = 0), OF(1, BOOSTMAP_PUT, 1, 6, .has = 0), COMMITS(0, 1), COMMITS(1, 2)};
+    static const boostmap_entry two_states[] = {
+        BEGINS(0, 1), OF(0, BOOSTMAP_PUT, 1, 5, .has = 0), OF(0, BOOSTMAP_PUT, 2, 6, .has = 0), COMMITS(0, 1),
+        BEGINS(0, 2), OF(0, BOOSTMAP_TAKE, 1, 0, .has = 1, .value = 5), OF(0, BOOSTMAP_PUT, 2, 7, .has = 1, .value = 6),
+        COMMITS(0, 2), BEGINS(0, 3), OF(0, BOOSTMAP_GET, 1, 0, .has = 0), OF(0, BOOSTMAP_GET, 2, 0, .has = 1, .value = 6),
+        COMMITS(0, 3)};
+    static const boostmap_entry thrice[] = {
+        BEGINS(0, 1), OF(0, BOOSTMAP_PUT, 1, 5, .has = 0), COMMITS(0, 1), BEGINS(0, 2), OF(0, BOOSTMAP_PUT, 1, 5, .has = 0),
+        COMMITS(0, 2), BEGINS(0, 3), OF(0, BOOSTMAP_PUT, 1, 5, .has = 0), COMMITS(0, 3), BEGINS(0, 4),
+        OF(0, BOOSTMAP_TAKE, 1, 0, .has = 1, .value = 5), COMMITS(0, 4)};
+    judge_these(before_it, LENGTH(before_it), (boostmap_finding){.kind = BOOSTMAP_SERIALIZABLE, .count = 2});
+    judge_these(skew, LENGTH(skew), (boostmap_finding){.kind = BOOSTMAP_CYCLE, .count = 2});
+    judge_these(two_states, LENGTH(two_states), (boostmap_finding){.kind = BOOSTMAP_IMPOSSIBLE, .number = 3, .key = 1});
+    judge_these(thrice, LENGTH(thrice), (boostmap_finding){.kind = BOOSTMAP_UNDECIDED, .key = 1});
+}
+
 static void judge_by_locks(void) { judge_all(BOOSTMAP_HOLDER_NOW); }
 static void judge_by_commits(void) { judge_all(BOOSTMAP_BY_COMMITS); }
 
@@ -288,5 +355,7 @@ int main(void) {
     CHECK(gets > 0 && put_ifs > 0 && helps > 0 && striped_gets > 0);
     refuse_each("a judge by locks", 0, judge_by_locks);
     refuse_each("a judge by commits", 0, judge_by_commits);
+    refuse_each("a judge by any order", 0, judge_by_any_order);
+    refuse_each("other callers", 0, others);
     return 0;
 }

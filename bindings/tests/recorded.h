@@ -92,6 +92,12 @@ static inline boostmap_status boostmap_recorded_join(boostmap_recorded *first,
     return boostmap_striped_join(&first->caller, &next->caller, word);
 }
 
+static inline boostmap_status boostmap_recorded_another(boostmap_recorded *r,
+                                                        boostmap_recorded *next, uint64_t *word) {
+    next->is_recorded = r->is_recorded;
+    return boostmap_striped_another(&r->caller, &next->caller, word);
+}
+
 /* Frees the caller and its entries. To free only the caller, call boostmap_striped_free on r->caller. */
 static inline boostmap_status boostmap_recorded_free(boostmap_recorded *r) {
     free(r->entries);

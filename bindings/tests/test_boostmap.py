@@ -7,7 +7,8 @@ import time
 import unittest
 
 import boostmap
-from boostmap import Busy, Counts, Entry, Host, Judge, Map, Missed, NotFed, Refused, Verdict, open_striped
+from boostmap import (
+    Busy, Counts, Entry, Host, Judge, Link, Map, Missed, NotFed, Refused, Verdict, judge_any_order, open_striped)
 
 
 class Thread(threading.Thread):
@@ -777,6 +778,104 @@ class Operations(unittest.TestCase):
         self.assertEqual(refused.exception.status, 11)
 
 
+def resident():
+    """The pages of memory that the process has."""
+    with open("/proc/self/statm", encoding="ascii") as file:
+        return int(file.read().split()[1])
+
+
+class Others(unittest.TestCase):
+    """Callers that other callers make."""
+
+    def test_a_transaction_continues_and_the_map_lives(self):
+        one, two = open_striped(callers=2, stripes=16, keep="commits")
+        with one.transaction() as t:
+            t.put(5, 50)
+            three = one.another()
+            four = three.another()
+            with self.assertRaises(Busy) as busy:
+                four.transact(lambda u: u.get(5 + 16), tries=0)
+            self.assertEqual((busy.exception.holder, four.counts(), t.get(5)), (1, Counts(0, 0, 1), 50))
+        self.assertEqual((t.commit_number, one.counts()), (1, Counts(1, 0, 0)))
+        self.assertEqual(four.options(), one.options())
+        with three.transaction() as t:
+            t.put(6, 60)
+            with self.assertRaises(Busy) as busy, four.transaction() as u:
+                u.get(6)
+            self.assertEqual(busy.exception.holder, three.number)
+            t.roll_back()
+        self.assertEqual(len({one.number, two.number, three.number, four.number}), 4)
+        for caller in (one, two, three):
+            caller.close()
+        self.assertEqual(four.another().items(), {5: 50})
+
+    def test_what_is_refused(self):
+        closed, = open_striped()
+        closed.close()
+        kept, = open_striped(keep="entries")
+        for status, caller in [(3, closed), (38, kept)]:
+            with self.assertRaises(Refused) as refused:
+                caller.another()
+            self.assertEqual(refused.exception.status, status)
+        with self.assertRaises(TypeError):
+            kept.another(1)
+
+    def test_numbers_differ_and_no_memory_stays(self):
+        callers, numbers, before = open_striped(callers=2, stripes=16), [[], []], resident()
+
+        def makes(i):
+            caller = callers[i]
+            for _ in range(50_000):
+                other = caller.another()
+                numbers[i].append(other.number)
+                other.put(i, 1)
+                caller = other  # the one before it is freed
+
+        threads = [Thread(target=makes, args=(i,)) for i in range(2)]
+        for thread in threads:
+            thread.start()
+        for thread in threads:
+            thread.join()
+        self.assertEqual(len({1, 2, *numbers[0], *numbers[1]}), 100_002)
+        # The numbers take 8 MB, and that many callers, if they stayed, more than 40 MB.
+        self.assertLess(resident() - before, 6144)
+
+    def test_threads_that_come_and_go(self):
+        first, = open_striped(stripes=5)
+        first.put_all({key: 100 for key in range(10)})
+        audits, gone = [], []
+
+        def visits(caller):
+            draw = random.Random(caller.number)
+            for _ in range(30):
+                one, another = draw.randrange(10), draw.randrange(10)
+
+                def moves(t):
+                    has = t.get(one)
+                    if has:
+                        t.put(one, has - 1)
+                        t.add(another, 1)
+
+                caller.transact(moves)
+            audits.append(sum(caller.items().values()))
+            if draw.random() < 0.5:
+                left = caller.transaction().__enter__()  # open until the caller is closed
+                with contextlib.suppress(Busy):
+                    left.put(1, 10**6)
+            gone.append(caller.number)
+            caller.close()
+
+        threads = []
+        for _ in range(40):
+            if len(threads) >= 4:
+                threads.pop(0).join()
+            threads.append(Thread(target=visits, args=(first.another(),)))
+            threads[-1].start()
+        for thread in threads:
+            thread.join()
+        self.assertEqual((audits, sum(first.items().values()), len(set(gone))), ([1000] * 40, 1000, 40))
+
+
 class Judges(unittest.TestCase):
     def test_verdicts(self):
         entries = [
@@ -819,6 +918,95 @@ class Judges(unittest.TestCase):
             self.assertEqual((not_fed.exception.status, not_fed.exception.fed), (8, 1))
             self.assertEqual(by_locks.verdict(), Verdict(False, None, None, 4, "locks"))
             self.assertEqual(by_commits.verdict(), Verdict(True, 2, 1, None, None))
+
+    def test_any_order(self):
+        """The small histories of docs/VERDICTS.md, with their lines there. A cycle may be told from any of its links on."""
+        both, ends = [Entry("began", 0, number=1), Entry("began", 1, number=2)], [
+            Entry("committed", 0, number=1), Entry("committed", 1, number=2)]
+
+        def got(caller, key, reply=None):
+            return [Entry("asked", caller, "get", key=key), Entry("did", caller, value=reply)]
+
+        def put(caller, key, value, reply=None):
+            return [Entry("asked", caller, "put", key=key, value=value), Entry("did", caller, value=reply)]
+
+        def took(caller, key, reply):
+            return [Entry("asked", caller, "take", key=key), Entry("did", caller, value=reply)]
+
+        def alone(number, *parts):
+            return sum(parts, [Entry("began", 0, number=number)]) + [Entry("committed", 0, number=number)]
+
+        left = [Entry("leave", 0), Entry("aborted", 0)]
+        rows = [
+            ([], "serializable 0 commits", []),
+            (both + got(0, 1) + got(1, 1) + ends, "serializable 2 commits", [1, 2]),
+            (both[:1] + got(0, 1, 7) + left, "serializable 0 commits", []),
+            (alone(1, got(0, 1, 7)), "not serializable: transaction 1 read 7 at key 1, which no committed transaction left",
+             ("unwritten", 1, 1, 7)),
+            (both + got(0, 1) + put(1, 1, 5) + [Entry("committed", 1, number=1), Entry("committed", 0, number=2)],
+             "serializable 2 commits", [1, 2]),
+            (both + put(0, 1, 5) + got(1, 1, 5) + ends, "serializable 2 commits", [1, 2]),
+            ([Entry("began", 0, number=2)], "not serializable: entry 0 has the wrong shape", ("misshapen", 0, None, None)),
+            ([Entry("began", 0, number=1), Entry("asked", 0, "put", key=1, value=5)], "serializable 0 commits", []),
+            (both + got(0, 1) + got(1, 2) + put(0, 2, 5) + put(1, 1, 6) + ends,
+             "not serializable: G2-item, cycle of 2; transaction 1 read none at key 1, which transaction 2 replaced; "
+             "transaction 2 read none at key 2, which transaction 1 replaced",
+             [Link(1, "replaced", 1, None), Link(2, "replaced", 2, None)]),
+            (both + put(0, 1, 5) + put(1, 1, 6) + ends,
+             "not serializable: lost update, cycle of 2; transaction 1 read none at key 1, which transaction 2 replaced; "
+             "transaction 2 read none at key 1, which transaction 1 replaced",
+             [Link(1, "replaced", 1, None), Link(2, "replaced", 1, None)]),
+            (both + got(0, 1) + put(1, 1, 5) + put(1, 2, 6) + [Entry("committed", 1, number=1)] + got(0, 2, 6) + [
+                Entry("committed", 0, number=2)],
+             "not serializable: G-single, cycle of 2; transaction 1 read none at key 1, which transaction 2 replaced; "
+             "transaction 2 left 6 at key 2, which transaction 1 read",
+             [Link(1, "replaced", 1, None), Link(2, "read", 2, 6)]),
+            (both + put(0, 1, 5) + put(1, 2, 6) + got(0, 2, 6) + got(1, 1, 5) + ends,
+             "not serializable: G1c, cycle of 2; transaction 1 left 5 at key 1, which transaction 2 read; "
+             "transaction 2 left 6 at key 2, which transaction 1 read",
+             [Link(1, "read", 1, 5), Link(2, "read", 2, 6)]),
+            (alone(1, got(0, 1), got(0, 1, 5)), "not serializable: the replies of transaction 1 contradict one another",
+             ("torn", 1, None, None)),
+            (alone(1, put(0, 1, 5), put(0, 2, 6)) + alone(2, took(0, 1, 5), put(0, 2, 7, 6)) + alone(3, got(0, 1), got(0, 2, 6)),
+             "not serializable: transaction 3 read none at key 1, which no serial order gives", ("impossible", 3, 1, None)),
+            (sum((alone(i, put(0, 1, 5)) for i in (1, 2, 3)), []) + alone(4, took(0, 1, 5)), "undecided key 1 value none",
+             ("undecided", None, 1, None)),
+        ]
+        for entries, line, due in rows:
+            found = judge_any_order(entries)
+            if found.cycle:
+                at = found.cycle.index(min(found.cycle))
+                found = found._replace(cycle=found.cycle[at:] + found.cycle[:at])
+            self.assertEqual(str(found), line)
+            is_due = {"s": True, "n": False, "u": None}[line[0]]
+            self.assertIs(found.is_serializable, is_due)
+            if isinstance(due, tuple):
+                self.assertEqual(found, (*due, None, None))
+            else:
+                self.assertEqual(found, ("serializable" if is_due else "cycle", None, None, None, *(
+                    (due, None) if is_due else (None, due))))
+        with self.assertRaises(Refused) as refused:
+            judge_any_order([Entry("began", 0, number=1), Entry("began", 64, number=2)])
+        self.assertEqual(refused.exception.status, 8)
+
+    def test_the_history_of_a_map_is_serializable(self):
+        callers = open_striped(callers=2, stripes=16, keep="entries")
+        host = Host(callers)
+        for i in range(19):
+            callers[i % 2].add(1, i)
+            with contextlib.suppress(GivesUp), callers[0].transaction() as t:
+                t.put(2, i)
+                if i % 3:
+                    raise GivesUp
+        entries = ended(callers, host)
+        order = [entry.number for entry in entries if entry.kind == "began"]
+        aborts = {i for i, entry in enumerate(e for e in entries if e.kind in ("aborted", "committed")) if entry.kind == "aborted"}
+        self.assertEqual(judge_any_order(entries).order, [number for i, number in enumerate(order) if i not in aborts])
+        self.assertEqual((len(order), len(aborts)), (38, 12))
+        last = max(i for i, entry in enumerate(entries) if entry.kind == "did")
+        entries[last] = entries[last]._replace(value=10**6)
+        found = judge_any_order(entries)
+        self.assertEqual(found[:4], ("unwritten", 38, 2, 10**6))
 
     def test_other_threads_run_during_a_call(self):
         """With such a switch interval another thread runs only while a call has released the interpreter's lock."""

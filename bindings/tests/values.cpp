@@ -1,6 +1,10 @@
 // The C++ header: moved maps, transactions that abort in their destructor, `transact`, exceptions, runs and walks.
+// Usage: values [COUNT]: so many callers that are made and freed
 #include "boostmap.hpp"
 #include "check.h"
+#include <cstdlib>
+#include <fstream>
+#include <set>
 #include <thread>
 
 namespace entry = boostmap_cpp::entry;
@@ -316,7 +320,130 @@ static void of_judges() {
     CHECK(by_commits.verdict().is_legal && by_commits.verdict().commits == 2);
 }
 
-int main() {
+// The text of a finding, and a cycle from its first link on, or the order.
+struct expected {
+    std::vector<boostmap_entry> entries;
+    const char *text;
+    std::vector<std::uint64_t> order;
+};
+
+static std::vector<boostmap_entry> all(std::initializer_list<std::vector<boostmap_entry>> parts) {
+    std::vector<boostmap_entry> entries;
+    for (const auto &part : parts) entries.insert(entries.end(), part.begin(), part.end());
+    return entries;
+}
+static std::vector<boostmap_entry> get(std::uint64_t caller, std::uint64_t key, boostmap_cpp::value reply = std::nullopt) {
+    return {entry::asked(caller, BOOSTMAP_GET, key), entry::did(caller, reply)};
+}
+static std::vector<boostmap_entry> put(std::uint64_t caller, std::uint64_t key, std::uint64_t to,
+                                       boostmap_cpp::value reply = std::nullopt) {
+    return {entry::asked(caller, BOOSTMAP_PUT, key, to), entry::did(caller, reply)};
+}
+static std::vector<boostmap_entry> take(std::uint64_t caller, std::uint64_t key, boostmap_cpp::value reply) {
+    return {entry::asked(caller, BOOSTMAP_TAKE, key), entry::did(caller, reply)};
+}
+
+// Histories of docs/VERDICTS.md, with their lines there.
+static void of_any_order() {
+    using boostmap_cpp::judge_any_order;
+    using entry::began, entry::committed;
+    const std::vector<boostmap_entry> both = {began(0, 1), began(1, 2)}, ends = {committed(0, 1), committed(1, 2)};
+    const expected rows[] = {
+        {{}, "serializable 0 commits", {}},
+        {all({both, get(0, 1), get(1, 1), ends}), "serializable 2 commits", {1, 2}},
+        {all({both, get(0, 1), put(1, 1, 5), {committed(1, 1), committed(0, 2)}}), "serializable 2 commits", {1, 2}},
+        {{began(0, 2)}, "not serializable: entry 0 has the wrong shape", {}},
+        {all({{began(0, 1)}, get(0, 1), get(0, 1, 5), {committed(0, 1)}}),
+         "not serializable: the replies of transaction 1 contradict one another", {}},
+        {all({{began(0, 1)}, get(0, 1, 7), {committed(0, 1)}}),
+         "not serializable: transaction 1 read 7 at key 1, which no committed transaction left", {}},
+        {all({{began(0, 1)}, put(0, 1, 5), put(0, 2, 6), {committed(0, 1), began(0, 2)}, take(0, 1, 5), put(0, 2, 7, 6),
+              {committed(0, 2), began(0, 3)}, get(0, 1), get(0, 2, 6), {committed(0, 3)}}),
+         "not serializable: transaction 3 read none at key 1, which no serial order gives", {}},
+        {all({{began(0, 1)}, put(0, 1, 5), {committed(0, 1), began(0, 2)}, put(0, 1, 5), {committed(0, 2), began(0, 3)},
+              put(0, 1, 5), {committed(0, 3), began(0, 4)}, take(0, 1, 5), {committed(0, 4)}}),
+         "undecided key 1 value none", {}},
+        {all({both, get(0, 1), get(1, 2), put(0, 2, 5), put(1, 1, 6), ends}),
+         "not serializable: G2-item, cycle of 2; transaction 1 read none at key 1, which transaction 2 replaced; "
+         "transaction 2 read none at key 2, which transaction 1 replaced", {}},
+        {all({both, put(0, 1, 5), put(1, 1, 6), ends}),
+         "not serializable: lost update, cycle of 2; transaction 1 read none at key 1, which transaction 2 replaced; "
+         "transaction 2 read none at key 1, which transaction 1 replaced", {}},
+        {all({both, get(0, 1), put(1, 1, 5), put(1, 2, 6), {committed(1, 1)}, get(0, 2, 6), {committed(0, 2)}}),
+         "not serializable: G-single, cycle of 2; transaction 1 read none at key 1, which transaction 2 replaced; "
+         "transaction 2 left 6 at key 2, which transaction 1 read", {}},
+        {all({both, put(0, 1, 5), put(1, 2, 6), get(0, 2, 6), get(1, 1, 5), ends}),
+         "not serializable: G1c, cycle of 2; transaction 1 left 5 at key 1, which transaction 2 read; "
+         "transaction 2 left 6 at key 2, which transaction 1 read", {}},
+    };
+    for (const auto &row : rows) {
+        auto found = judge_any_order(row.entries);
+        auto by_number = [](const auto &a, const auto &b) { return a.transaction < b.transaction; };
+        auto least = std::min_element(found.cycle.begin(), found.cycle.end(), by_number);
+        std::rotate(found.cycle.begin(), least, found.cycle.end());
+        CHECK(found.text() == row.text && found.order == row.order);
+        CHECK(found.is_serializable() == (found.text()[0] == 's'));
+    }
+    auto skew = judge_any_order(rows[8].entries);
+    CHECK(skew.cycle.size() == 2 && skew.cycle[0].kind == BOOSTMAP_LINK_REPLACED && !skew.cycle[0].value);
+    CHECK(skew.cycle[0].key == skew.cycle[0].transaction);
+    auto impossible = judge_any_order(rows[6].entries), unwritten = judge_any_order(rows[5].entries);
+    CHECK(impossible.kind == BOOSTMAP_IMPOSSIBLE && impossible.number == 3 && impossible.key == 1 && !impossible.value);
+    CHECK(unwritten.kind == BOOSTMAP_UNWRITTEN && unwritten.number == 1 && unwritten.value == 7u);
+    CHECK(thrown([] { judge_any_order({entry::of(11, 0)}); }) == BOOSTMAP_NO_ENTRY);
+    CHECK(thrown([] { judge_any_order({began(0, 1), began(64, 2)}); }) == BOOSTMAP_NO_ENTRY);
+}
+
+// The pages of memory that the process has.
+static long resident() {
+    long all = 0, resident = 0;
+    std::ifstream("/proc/self/statm") >> all >> resident;
+    return resident;
+}
+
+// Callers that others make, which live as long as they like. So many leave no memory behind.
+static void of_others(long count) {
+    enum { FIRST = 1000 };
+    boostmap_cpp::opening how;
+    how.keep = BOOSTMAP_KEEP_ENTRIES;
+    auto kept = boostmap_cpp::open_striped(1, 8, how);
+    CHECK(thrown([&] { static_cast<void>(kept[0].another()); }) == BOOSTMAP_LIMIT);
+    auto callers = boostmap_cpp::open_striped(2, 8);
+    auto open = callers[0].begin();
+    open.put(1, 10);
+    auto other = callers[0].another();
+    auto third = other.another();
+    CHECK(thrown([&] { other.transact(0, [](auto &t) { t.get(1); }); }) == BOOSTMAP_BUSY && other.counts().busy == 1);
+    CHECK(open.get(1) == 10u);
+    open.commit();
+    callers.clear();
+    CHECK(other.get(1) == 10u && third.get(1) == 10u);
+    std::set<std::uint64_t> numbers = {1, 2, other.number(), third.number()};
+    long before = 0;
+    for (long i = 0; i < FIRST + count; i++) {
+        if (i == FIRST) before = resident();
+        auto next = third.another();
+        CHECK(!next.put(100, 10) && next.take(100) == 10u);
+        if (i < FIRST) numbers.insert(next.number());
+        if (i % 2) third = std::move(next); // which makes the next two
+    }
+    CHECK(before > 0 && resident() - before < 4096); // 16 MB; a hundred thousand callers take 90
+    CHECK(numbers.size() == FIRST + 4);
+    // Threads, each of whose visitors makes the next one.
+    std::vector<std::thread> threads;
+    for (int i = 0; i < 4; i++)
+        threads.emplace_back([mine = other.another()]() mutable {
+            for (int round = 0; round < 500; round++) {
+                auto visitor = mine.another();
+                visitor.transact([](auto &t) { t.put(7, t.get(7).value_or(0) + 1); });
+                mine = std::move(visitor);
+            }
+        });
+    for (auto &thread : threads) thread.join();
+    CHECK(other.get(7) == 2000u);
+}
+
+int main(int argc, char **argv) {
     of_the_head();
     of_one_owner();
     of_histories();
@@ -328,4 +455,6 @@ int main() {
     of_pages();
     of_hosts();
     of_judges();
+    of_any_order();
+    of_others(argc > 1 ? std::atol(argv[1]) : 100000);
 }

@@ -160,6 +160,29 @@ impl Caller {
         Ok(Opening { callers, stripes, keys, keep, seed })
     }
 
+    /// Makes another caller of the map, with a number that no caller of the map has or had.
+    ///
+    /// ```
+    /// let mut caller = boostmap::open_striped(1, 64)?.remove(0);
+    /// let mut other = caller.another()?;
+    /// let thread = std::thread::spawn(move || other.put(7, 70));
+    /// thread.join().unwrap()?;
+    /// assert_eq!(caller.get(7)?, Some(70));
+    /// # Ok::<(), boostmap::Error>(())
+    /// ```
+    ///
+    /// # Errors
+    ///
+    /// `Limit` if the map keeps its entries, since then it has only the callers of its opening, and `NoMemory`.
+    pub fn another(&mut self) -> Result<Caller> {
+        let mut next = Caller::empty();
+        let at_next: *mut Handle = &mut next.handle;
+        // SAFETY: both handles are uniquely borrowed, and differ.
+        let number = self.call(|at, word| unsafe { sys::boostmap_striped_another(at, at_next, word) })?;
+        next.number = number.unwrap_or_default();
+        Ok(next)
+    }
+
     fn empty() -> Caller {
         Caller { handle: Handle::EMPTY, number: 0 }
     }

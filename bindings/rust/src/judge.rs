@@ -71,7 +71,7 @@ pub enum Entry {
 }
 
 impl Entry {
-    fn to_c(self) -> sys::Entry {
+    pub(crate) fn to_c(self) -> sys::Entry {
         let of = |kind, caller| sys::Entry { kind, caller, ..sys::Entry::default() };
         match self {
             Entry::Began(caller, number) => sys::Entry { number, ..of(1, caller) },

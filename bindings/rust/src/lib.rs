@@ -1,5 +1,5 @@
 //! Transactional maps from `u64` to `u64`, over the proved static library `boostmap_c`: a map for threads
-//! ([`open_striped`]), a map with one owner ([`Map`]), and a judge of histories ([`Judge`]).
+//! ([`open_striped`]), a map with one owner ([`Map`]), and judges of histories ([`Judge`], [`judge_any_order`]).
 //!
 //! ```
 //! let mut callers = boostmap::open_striped(4, 64)?; // one for each of four threads
@@ -23,10 +23,12 @@
 use std::error;
 use std::fmt;
 
+mod any_order;
 mod caller;
 mod host;
 mod judge;
 
+pub use any_order::{judge_any_order, Finding, Link, LinkKind, Reason};
 pub use caller::{open_striped, Caller, CallerTransaction, Counts, Keep, Opening, Pages, Ran};
 pub use host::Host;
 pub use judge::{Entry, Holder, Judge, NotFed, Operation, Rule, Verdict};
@@ -116,6 +118,36 @@ mod sys {
         pub rule: u64,
     }
 
+    #[repr(C)]
+    #[derive(Clone, Copy, Default)]
+    pub struct Link {
+        pub transaction: u64,
+        pub kind: u64,
+        pub key: u64,
+        pub value: u64,
+        pub has: u64,
+    }
+
+    #[repr(C)]
+    #[derive(Clone, Copy, Default)]
+    pub struct Finding {
+        pub kind: u64,
+        pub number: u64,
+        pub key: u64,
+        pub value: u64,
+        pub has: u64,
+        pub count: u64,
+    }
+
+    pub const LINK_READ: u64 = 1;
+
+    pub const SERIALIZABLE: u64 = 0;
+    pub const MISSHAPEN: u64 = 1;
+    pub const TORN: u64 = 2;
+    pub const UNWRITTEN: u64 = 3;
+    pub const IMPOSSIBLE: u64 = 4;
+    pub const CYCLE: u64 = 5;
+
     pub const DONE: u32 = 0;
     pub const ABSENT: u32 = 1;
     pub const BUSY: u32 = 2;
@@ -181,6 +213,7 @@ mod sys {
         pub fn boostmap_striped_option(caller: *mut Handle, option: u64, word: *mut u64) -> u32;
         pub fn boostmap_striped_counts(caller: *mut Handle, counts: *mut Counts) -> u32;
         pub fn boostmap_striped_join(first: *mut Handle, next: *mut Handle, word: *mut u64) -> u32;
+        pub fn boostmap_striped_another(caller: *mut Handle, next: *mut Handle, word: *mut u64) -> u32;
         pub fn boostmap_striped_free(caller: *mut Handle) -> u32;
         pub fn boostmap_striped_begin(caller: *mut Handle) -> u32;
         pub fn boostmap_striped_commit(caller: *mut Handle, word: *mut u64) -> u32;
@@ -228,6 +261,13 @@ mod sys {
         pub fn boostmap_judge_feed_all(judge: *mut Handle, entries: *const Entry, count: usize, word: *mut u64) -> u32;
         pub fn boostmap_judge_verdict(judge: *mut Handle, verdict: *mut Verdict) -> u32;
         pub fn boostmap_judge_free(judge: *mut Handle) -> u32;
+        pub fn boostmap_judge_any_order(
+            entries: *const Entry,
+            count: usize,
+            links: *mut Link,
+            places: usize,
+            finding: *mut Finding,
+        ) -> u32;
     }
 }
 
