@@ -384,9 +384,9 @@ fn all_of<R: Abort>(
     let mut number = 0;
     if let Ok(pairs) = found {
         for &pair in wanted {
-            if pair.0 % stripes == stripe {
+            if pair.0.checked_rem(stripes) == Some(stripe) {
                 assert!(rt; pairs.get(number) == Some(&pair));
-                number += 1;
+                number = number.saturating_add(1);
             }
         }
         assert!(rt; pairs.len() == number);
