@@ -7,7 +7,7 @@ use Rattle.txn_trace.specs.Legal.{IsLegal}
 use Rattle.striped_map.specs.declared.host.Host.{Host}
 use Rattle.striped_map.specs.declared.no_history.NoHistory.{NoHistory}
 use Rattle.striped_map.specs.declared.no_history.NoHistory.TheVariants.{NotKept, Missing, NoMemory}
-use Rattle.striped_map.specs.Hosts.{IsNoHistory, numbers, seen_by, taken}
+use Rattle.striped_map.specs.Hosts.{HasTaken, IsNoHistory, numbers, seen_by, taken}
 use Rattle.striped_map.specs.Seats.{known, stripes_of}
 use Rattle.striped_map.specs.Steps.{Extends, HasAll, HasNoOther}
 use Rattle.boostmap_c.specs.declared.c_entry.CEntry.{CEntry}
@@ -57,11 +57,15 @@ abbrev pub word_of_no_history : ℕ → NoHistory → ℕ
 word_of_no_history before (Missing c) = c
 word_of_no_history before _ = before
 
--- Either C gets the history, or the status gives the reason why not.
+-- Every caller of the map was merged into the host.
+abbrev pub HasMergedAll : Host → Type 0
+HasMergedAll host = (c : ℕ) → 0 < c → c < numbers host → HasTaken host c
+
+-- Either every caller was merged, and C gets the history, or the status gives the reason why not.
 abbrev pub HandsOut :
     Host → List Entry → ℕ → List CEntry → List CEntry → ℕ → ℕ → Type 0
 HandsOut host entries status before after was word =
-    LaysEntries entries status before after word
+    (HasMergedAll host × LaysEntries entries status before after word)
     ⊎ ((why : NoHistory) × IsNoHistory host why × (status ≡ status_of_no_history why)
     × (word ≡ word_of_no_history was why) × (after ≡ before))
 

@@ -1,7 +1,7 @@
 //! What the handle of a striped map's host owns: the host, and the shelf on which the map's callers
 //! are put when they end. The host merges each caller that it takes from the shelf. When it has
 //! merged all, it hands out the map's history.
-ghost use Rattle.std.specs.Prelude.{◌≡◌, ◌++◌, IfOk, IfErr};
+ghost use Rattle.std.specs.Prelude.{◌≡◌, ◌++◌, IfOk, IfErr, OnOk};
 ghost use Rattle.boostmap_c.specs.Shelved.{host_of};
 
 use crate::shelf::Shelf;
@@ -21,7 +21,7 @@ pub struct Keeper {
 impl Keeper {
     ghost use Rattle.striped_map.specs.Hosts.{IsNoHistory, seen_by};
     ghost use Rattle.striped_map.specs.declared.host.Host.{Host as HostOf};
-    ghost use Rattle.boostmap_c.specs.Keepers.{Collects, Gathers};
+    ghost use Rattle.boostmap_c.specs.Keepers.{Collects, Gathers, HasMergedAll};
 
     /// Takes the caller from a place, if one lies there, and merges it into the host.
     #[tactic(auto, using(crate::proofs::Collecting::collects_one, crate::proofs::Collecting::collects_none))]
@@ -53,6 +53,7 @@ impl Keeper {
         ensures history { (between : HostOf) × Collects self.old.host between
             × Gathers between self.new.host
             × IfOk result (λ all. all.items ≡ seen_by self.new.host)
+            × OnOk result (HasMergedAll self.new.host)
             × IfErr result (IsNoHistory self.new.host) }
     {
         self.collect();

@@ -11,8 +11,7 @@ reads-preserved c =
     let inv = c.reads.invariant in
     let es = c.args.entries.now in
     let long : vec_len c.push_reserved.new.self ≡ c.reads.i + 1 = search rules in
-    let room : length es ≤ vec_capacity c.push_reserved.new.self = search rules in
-    (
+    let room : length es ≤ vec_capacity c.push_reserved.new.self = search rules in (
       ap (map Some) c.push_reserved.ensures.items ∙ read_more judged_entry es c.reads.i _ c.reads.history.items _ c.reads-test.true inv.0 c.in-Some.ensures.value,
       long,
       room,

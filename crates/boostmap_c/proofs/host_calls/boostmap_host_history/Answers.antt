@@ -10,7 +10,7 @@ returns-in-Ok c = let h = c.in-Ok.ensures.history in
       h.0,
       h.1,
       h.2,
-      inl (subst (λ (xs : List Entry). LaysEntries xs c.lay_entries.result c.args.entries.now c.lay_entries.new.entries c.lay_entries.new.word) (c.deref.ensures.value ∙ h.3) c.lay_entries.ensures),
+      inl (h.4, subst (λ (xs : List Entry). LaysEntries xs c.lay_entries.result c.args.entries.now c.lay_entries.new.entries c.lay_entries.new.word) (c.deref.ensures.value ∙ h.3) c.lay_entries.ensures),
     )
 
 pub returns-in-Err : goal.returns-in-Err
@@ -20,5 +20,5 @@ returns-in-Err c = let h = c.in-Err.ensures.history in
       h.0,
       h.1,
       h.2,
-      inr (c.in-Err.why, h.4, c.tell_no_history.ensures.status, c.tell_no_history.ensures.word, refl),
+      inr (c.in-Err.why, h.5, c.tell_no_history.ensures.status, c.tell_no_history.ensures.word, refl),
     )
