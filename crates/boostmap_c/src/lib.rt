@@ -3,13 +3,13 @@
 //! `striped_map`'s `Caller` and `Host`, and the checkers of `history_check` and `serial_check`, each
 //! behind a handle that C keeps, with its exports. `order_check` judges an array.
 //!
-//! C cannot name a type that holds a `Vec`. So a handle is two words, zeros at first: a tag, and a
-//! pointer whose type is erased. A ghost field says what it owns. In a caller's handle this is a
-//! member: the caller, those that wait for a handle, and the shared map.
+//! C cannot name a type that holds a `Vec`. So a handle is two words: a tag, and a pointer whose
+//! type is erased. A ghost field says what it owns. In a caller's handle this is a member: the
+//! caller, those that wait for a handle, and the shared map.
 //!
 //! A call borrows the object through the pointer and makes the library's call; a judge is taken out
 //! and put back instead. Each call returns a status (`status.rt`) and writes at most one word. Some
-//! also write pairs, entries, replies, or a struct (`CVerdict`, `Counts`).
+//! also write an array or a struct.
 //!
 //! No export has a `requires`. What C must do is in the header. Calls on different handles of one
 //! striped map may run at once; none takes a lock or waits.

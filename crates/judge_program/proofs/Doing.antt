@@ -1,5 +1,5 @@
--- How each command ends: its engine ran on the source, its engine failed, or the source was not
--- opened.
+-- Shows how each command ends, because its engine ran on the source, its engine failed, or the source
+-- was not opened.
 use Rattle.std.proofs.Common.{◌≡◌, ◌⊎◌, inl, inr, ℕ, Bool, true, false, List, Option, Some, None, Ok, Err, refl, sym, subst, ◌∙◌, codes}
 use Rattle.std.specs.Result.{IsErrAnd}
 use Rattle.std.specs.Io.KnownBytes.{Keeps}

@@ -1,5 +1,5 @@
--- Examples of command lines, each with the call that its words ask for: the rows of the usage, and
--- lines that ask for no call.
+-- Shows for the rows of the usage, and for lines that ask for no call, what their words ask for,
+-- because the definition computes it.
 use Rattle.std.proofs.Common.{true, false, inl, List, [], ◌∷◌, Some, None, codes, refl}
 use Rattle.clap.specs.declared.error.kind.ErrorKind.TheVariants.{ArgumentConflict, DisplayHelp, DisplayVersion, MissingRequiredArgument, MissingSubcommand, UnknownArgument}
 use Rattle.clap.specs.Words.{Text}

@@ -1,4 +1,5 @@
--- What excludes sources, and what follows from those that are left.
+-- Shows which sources of a value are left, because each change of its key is one of them or is
+-- excluded.
 use Rattle.std.proofs.Common.{◌≡◌, ◌≢◌, ◌==◌, ℕ, ◌+◌, ◌<◌, ◌≤◌, length, take, get_or, not, Bool, false, List, [], ◌∷◌, ◌++◌, Option, Some, None, true, refl, ap, sym, ◌∙◌, subst, arith}
 use Rattle.std.specs.Prelude.{nat_eq}
 use Rattle.std.specs.Option.{option_eq}

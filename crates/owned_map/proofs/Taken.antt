@@ -1,4 +1,4 @@
--- No operation asks for a key that the limits refuse, so the map has no such key.
+-- Shows that the map has no key that the limits refuse, because no operation asks for one.
 use Rattle.std.proofs.Common.{◌≡◌, ℕ, zero, suc, Bool, true, false, cond, List, [], ◌∷◌, ◌++◌, map, Option, Some, None, refl, sym, ap, subst, ◌∙◌}
 use Rattle.std.specs.Prelude.{not, ◌&&◌, Result, Ok, Err}
 use Rattle.std.specs.List.{filter, fold}

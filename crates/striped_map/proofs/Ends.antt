@@ -1,4 +1,5 @@
--- The entries that a step of a hand adds.
+-- Shows which entries two steps of a hand add together, because a step that adds none leaves all that
+-- the next one starts from.
 use Rattle.std.proofs.Common.{◌≡◌, ◌≢◌, inl, inr, ℕ, zero, suc, ◌-◌, ◌<◌, List, [], ◌∷◌, get_or, Option, None, sym, refl, ap, subst, ◌∙◌, arith}
 use Rattle.txn_words.specs.declared.entry.Entry.{Entry}
 use Rattle.txn_words.specs.declared.entry.Entry.TheVariants.{Asked, Did, Leave, Busy, Aborted}
