@@ -821,21 +821,28 @@ class Judges(unittest.TestCase):
             self.assertEqual(by_commits.verdict(), Verdict(True, 2, 1, None, None))
 
     def test_other_threads_run_during_a_call(self):
-        """With such a switch interval another thread runs only while a call has released the interpreter's lock."""
-        ticks, is_over = [0], threading.Event()
+        """With such a switch interval another thread runs only while a call has released the interpreter's lock. On a loaded
+        machine the call must be long, or it is over before the other thread has its turn."""
+        ticks, is_over, saved = [0], threading.Event(), Entry("saved", 0)._to_c()
+
+        class Saved:
+            """An entry that is converted at once."""
+
+            def _to_c(self):
+                return saved
 
         def tick():
             while not is_over.is_set():
                 ticks[0] += 1
                 time.sleep(0)
 
-        entries = [Entry("began", 0, number=1)] + [Entry("saved", 0)] * 100_000
+        entries = [Entry("began", 0, number=1)] + [Saved()] * 1_000_000
         interval, other = sys.getswitchinterval(), threading.Thread(target=tick)
         sys.setswitchinterval(1000)
         try:
             other.start()
-            ends = time.monotonic() + 60
-            while time.monotonic() < ends:  # other programs may keep the thread from its turn
+            ends = time.monotonic() + 240
+            while time.monotonic() < ends:
                 with Judge() as judge:
                     before = ticks[0]
                     judge.feed_all(entries)
