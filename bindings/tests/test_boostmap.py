@@ -641,16 +641,22 @@ class Operations(unittest.TestCase):
 
     def test_calls_at_once_wait(self):
         one, other = open_striped(callers=2)
-        holds, replies = one.transaction().__enter__(), []
-        holds.put(5, 50)
-        waits = Thread(target=lambda: replies.extend([other.get(5), other.run([("add", 5, 1)])]))
-        waits.start()
-        while waits.is_alive() and not other.counts().busy:
-            time.sleep(1e-3)
-        holds.__exit__(None, None, None)
-        waits.join()
-        self.assertEqual((replies, one.get(5), one.counts()), ([50, [50]], 51, Counts(2, 0, 0)))
-        self.assertEqual(other.counts().commits, 2)
+        one.put(5, 50)
+        calls = [(lambda: other.get(5), 50), (lambda: other.run([("get", 5)]), [50]), (lambda: other.run([("add", 5, 0)]), [50]),
+                 (lambda: [page for page in other.pages() if page], [{5: 50}])]
+        for call_at_once, reply in calls:
+            holds, replies, busy = one.transaction().__enter__(), [], other.counts().busy
+            holds.take(5)
+            waits = Thread(target=lambda: replies.append(call_at_once()))
+            waits.start()
+            while waits.is_alive() and other.counts().busy == busy:
+                time.sleep(1e-3)
+            holds.put(5, 50)
+            holds.__exit__(None, None, None)
+            waits.join()
+            self.assertEqual(replies, [reply])
+            self.assertGreater(other.counts().busy, busy)
+        self.assertEqual((one.counts(), other.counts().commits), (Counts(5, 0, 0), 3 + 64))
 
     def test_an_exception_ends_the_transaction_at_once(self):
         for keep in (None, "entries"):
