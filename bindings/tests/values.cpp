@@ -2,13 +2,10 @@
 // Usage: values [COUNT]: so many callers that are made and freed
 #include "boostmap.hpp"
 #include "check.h"
-<<<<<<< HEAD
+#include <chrono>
 #include <cstdlib>
 #include <fstream>
 #include <set>
-=======
-#include <chrono>
->>>>>>> e23ded3c74b4d2b56e59330614398815da52e183
 #include <thread>
 
 namespace entry = boostmap_cpp::entry;
