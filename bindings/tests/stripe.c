@@ -3,7 +3,7 @@
 #include "boostmap.h"
 #include "check.h"
 
-enum { UNTOUCHED = 77, STRIPES = 7, CALLS = 3000, LOW = 5000, HIGH = 60, ROOM = LOW + HIGH };
+enum { UNTOUCHED = 77, STRIPES = 7, CALLS = 3000, ROUNDS = 6, LOW = 5000, ROOM = LOW + ROUNDS * CALLS };
 
 static boostmap_caller one = BOOSTMAP_INIT, other = BOOSTMAP_INIT;
 static uint64_t number; /* of `one` */
@@ -83,6 +83,15 @@ static uint64_t draw(uint64_t below) {
     return (seed >> 33) % below;
 }
 
+/* Draws a low key, the greatest ones, or any. */
+static uint64_t drawn_key(void) {
+    switch (draw(8)) {
+    case 0: return UINT64_MAX - draw(60);
+    case 1: return draw((uint64_t)1 << 31) << 33 | draw((uint64_t)1 << 31) << 2 | draw(4);
+    default: return draw(LOW);
+    }
+}
+
 static int by_key(const void *a, const void *b) {
     const boostmap_pair *x = a, *y = b;
     return x->key < y->key ? -1 : x->key > y->key;
@@ -105,14 +114,14 @@ static void is_whole(boostmap_caller *c) {
     for (uint64_t i = 0; i < count; i++) CHECK(is(whole[i], pages[i].key, pages[i].value));
 }
 
-/* Drawn puts and takes of low and high keys, by both callers. */
+/* Drawn puts and takes, by both callers. */
 static void all_stripes(void) {
     uint64_t w;
-    for (int round = 0; round < 6; round++) {
+    for (int round = 0; round < ROUNDS; round++) {
         boostmap_caller *c = round % 2 ? &other : &one;
         CHECK(boostmap_striped_begin(c) == BOOSTMAP_DONE);
         for (int i = 0; i < CALLS; i++) {
-            uint64_t key = draw(8) ? draw(LOW) : UINT64_MAX - draw(HIGH);
+            uint64_t key = drawn_key();
             CHECK((draw(3) ? boostmap_striped_put(c, key, draw(1000), &w) : boostmap_striped_take(c, key, &w)) <=
                   BOOSTMAP_ABSENT);
         }
@@ -122,6 +131,26 @@ static void all_stripes(void) {
         if (round) is_whole(c);
         CHECK(boostmap_striped_commit(c, &w) == BOOSTMAP_DONE);
     }
+}
+
+/* A map that keeps its entries keeps none for a read of a stripe. */
+static void adds_no_entry(void) {
+    boostmap_caller c = BOOSTMAP_INIT;
+    boostmap_host host = BOOSTMAP_INIT;
+    boostmap_pair pair;
+    boostmap_entry *entries;
+    uint64_t w;
+    CHECK(boostmap_striped_open(&c, 1, STRIPES, 0, BOOSTMAP_KEEP_ENTRIES, 0, &w) == BOOSTMAP_DONE);
+    CHECK(boostmap_striped_host(&c, &host) == BOOSTMAP_DONE);
+    CHECK(boostmap_caller_put(&c, 1, 10, &w) == BOOSTMAP_ABSENT);
+    CHECK(boostmap_striped_begin(&c) == BOOSTMAP_DONE);
+    CHECK(boostmap_striped_read_stripe(&c, 1, &pair, 0, &w) == BOOSTMAP_SHORT);
+    CHECK(boostmap_striped_read_stripe(&c, 1, &pair, 1, &w) == BOOSTMAP_DONE && is(pair, 1, 10));
+    CHECK(boostmap_striped_commit(&c, &w) == BOOSTMAP_DONE && boostmap_striped_free(&c) == BOOSTMAP_DONE);
+    CHECK(boostmap_host_entries(&host, &entries, &w) == BOOSTMAP_DONE);
+    CHECK(w == 6); /* the begins, the put and its reply, the commits */
+    free(entries);
+    CHECK(boostmap_host_free(&host) == BOOSTMAP_DONE);
 }
 
 /* The history that the map kept is legal, with a commit for each that the callers count. */
@@ -155,6 +184,7 @@ int main(void) {
     CHECK(boostmap_striped_counts(&other, &others) == BOOSTMAP_DONE);
     CHECK(boostmap_striped_free(&one) == BOOSTMAP_DONE && boostmap_striped_free(&other) == BOOSTMAP_DONE);
     is_judged(&host, counts.commits + others.commits);
+    adds_no_entry();
     CHECK(boostmap_host_free(&host) == BOOSTMAP_DONE);
     return 0;
 }
