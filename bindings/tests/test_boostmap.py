@@ -642,16 +642,22 @@ class Operations(unittest.TestCase):
 
     def test_calls_at_once_wait(self):
         one, other = open_striped(callers=2)
-        holds, replies = one.transaction().__enter__(), []
-        holds.put(5, 50)
-        waits = Thread(target=lambda: replies.extend([other.get(5), other.run([("add", 5, 1)])]))
-        waits.start()
-        while waits.is_alive() and not other.counts().busy:
-            time.sleep(1e-3)
-        holds.__exit__(None, None, None)
-        waits.join()
-        self.assertEqual((replies, one.get(5), one.counts()), ([50, [50]], 51, Counts(2, 0, 0)))
-        self.assertEqual(other.counts().commits, 2)
+        one.put(5, 50)
+        calls = [(lambda: other.get(5), 50), (lambda: other.run([("get", 5)]), [50]), (lambda: other.run([("add", 5, 0)]), [50]),
+                 (lambda: [page for page in other.pages() if page], [{5: 50}])]
+        for call_at_once, reply in calls:
+            holds, replies, busy = one.transaction().__enter__(), [], other.counts().busy
+            holds.take(5)
+            waits = Thread(target=lambda: replies.append(call_at_once()))
+            waits.start()
+            while waits.is_alive() and other.counts().busy == busy:
+                time.sleep(1e-3)
+            holds.put(5, 50)
+            holds.__exit__(None, None, None)
+            waits.join()
+            self.assertEqual(replies, [reply])
+            self.assertGreater(other.counts().busy, busy)
+        self.assertEqual((one.counts(), other.counts().commits), (Counts(5, 0, 0), 3 + 64))
 
     def test_an_exception_ends_the_transaction_at_once(self):
         for keep in (None, "entries"):
@@ -1009,21 +1015,28 @@ class Judges(unittest.TestCase):
         self.assertEqual(found[:4], ("unwritten", 38, 2, 10**6))
 
     def test_other_threads_run_during_a_call(self):
-        """With such a switch interval another thread runs only while a call has released the interpreter's lock."""
-        ticks, is_over = [0], threading.Event()
+        """With such a switch interval another thread runs only while a call has released the interpreter's lock. On a loaded
+        machine the call must be long, or it is over before the other thread has its turn."""
+        ticks, is_over, saved = [0], threading.Event(), Entry("saved", 0)._to_c()
+
+        class Saved:
+            """An entry that is converted at once."""
+
+            def _to_c(self):
+                return saved
 
         def tick():
             while not is_over.is_set():
                 ticks[0] += 1
                 time.sleep(0)
 
-        entries = [Entry("began", 0, number=1)] + [Entry("saved", 0)] * 100_000
+        entries = [Entry("began", 0, number=1)] + [Saved()] * 1_000_000
         interval, other = sys.getswitchinterval(), threading.Thread(target=tick)
         sys.setswitchinterval(1000)
         try:
             other.start()
-            ends = time.monotonic() + 60
-            while time.monotonic() < ends:  # other programs may keep the thread from its turn
+            ends = time.monotonic() + 240
+            while time.monotonic() < ends:
                 with Judge() as judge:
                     before = ticks[0]
                     judge.feed_all(entries)

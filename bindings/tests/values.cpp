@@ -2,6 +2,7 @@
 // Usage: values [COUNT]: so many callers that are made and freed
 #include "boostmap.hpp"
 #include "check.h"
+#include <chrono>
 #include <cstdlib>
 #include <fstream>
 #include <set>
@@ -190,6 +191,15 @@ static void of_runs() {
     CHECK(thrown([&] { one.run({op::get(1)}); }) == BOOSTMAP_ALREADY_OPEN);
     CHECK(thrown([&] { two.run_strict({op::put(1, 1), entry::saved(0)}); }) == BOOSTMAP_NO_ENTRY);
     CHECK(open.get(1) == 12u);
+    // The holder ends when the others have most likely found it.
+    std::thread waits([&two] {
+        CHECK((two.run({op::get(1)}) == replies{14}));
+        two.for_each_page([](auto &page) { CHECK(page.size() <= 1); });
+    });
+    open.put(1, 14);
+    std::this_thread::sleep_for(std::chrono::milliseconds(20));
+    open.commit();
+    waits.join();
 }
 
 // Four threads add up by strict runs, which wait while they are busy, and begin again if they miss.

@@ -4,6 +4,7 @@ use boostmap::{
 use std::mem;
 use std::sync::mpsc;
 use std::thread;
+use std::time::Duration;
 
 fn two() -> Result<(Caller, Caller), Error> {
     let mut all = Opening { callers: 2, stripes: 16, keep: Keep::Commits, ..Opening::default() }.open()?;
@@ -179,6 +180,30 @@ fn a_whole_transaction_in_one_call() -> Result<(), Error> {
     mem::forget(one.begin()?);
     assert_eq!(one.run(&operations), Err(Error::AlreadyOpen));
     assert_eq!(one.run_strict(&operations), Err(Error::AlreadyOpen));
+    Ok(())
+}
+
+/// The holder ends when the others have most likely found it.
+#[test]
+fn runs_and_walks_wait() -> Result<(), Error> {
+    let (mut one, mut other) = two()?;
+    for walks in [false, true] {
+        let mut holds = one.begin()?;
+        holds.put(5, 50)?;
+        let waiting = &mut other;
+        thread::scope(|scope| {
+            let waits = scope.spawn(move || {
+                if walks {
+                    return waiting.pages().find(|page| page != &Ok(vec![]));
+                }
+                Some(waiting.run(&[Operation::Get { key: 5 }]).map(|replies| vec![(5, replies[0].unwrap())]))
+            });
+            thread::sleep(Duration::from_millis(20));
+            holds.commit()?;
+            assert_eq!(waits.join().unwrap(), Some(Ok(vec![(5, 50)])));
+            Ok::<_, Error>(())
+        })?;
+    }
     Ok(())
 }
 
