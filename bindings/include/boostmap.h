@@ -459,7 +459,7 @@ boostmap_status boostmap_striped_run(boostmap_caller *caller, const struct boost
  *                      transaction aborts
  *     ABORTED          all changes are taken back
  *
- * docs/FORMATS.md has the rules in full ("The checker's rules"), and docs/JUDGE.md says how to record a
+ * docs/VERDICTS.md has the rules in full ("The checker's rules"), and docs/JUDGE.md says how to record a
  * history; boostmap_host_history and boostmap_history hand out those of this library's maps. It is proved
  * that the verdict is legal exactly if the history is. */
 
@@ -544,7 +544,7 @@ typedef struct boostmap_link {
 } boostmap_link;
 
 enum {
-    BOOSTMAP_SERIALIZABLE = 0, /* there is a serial order; the links are one, that of the commits if it is serial */
+    BOOSTMAP_SERIALIZABLE = 0, /* the links are a serial order: that of the commits, if it is one */
     BOOSTMAP_MISSHAPEN = 1,    /* not serializable: the entry with index `number` is the first of the wrong shape */
     BOOSTMAP_TORN = 2,         /* .. the replies of transaction `number` contradict one another */
     BOOSTMAP_UNWRITTEN = 3,    /* .. transaction `number` read what no committed transaction left */
@@ -565,8 +565,9 @@ typedef struct boostmap_finding {
 
 /* Judges an array of entries, oldest first, by any order of their transactions, as `judge check
  * --serializable` does: is there an order in which each committed transaction has its replies when it runs
- * alone after those before it, from an empty map? docs/VERDICTS.md has the rules ("Serializable"). The links
- * are written to the front of an array of `places` elements; an order needs one for each COMMITTED entry.
+ * alone after those before it, from an empty map? docs/VERDICTS.md has the rules ("Serializable"). The call
+ * needs no handle. The links are written to the front of an array of `places` elements; an order needs one
+ * for each COMMITTED entry.
  * 0; 7: too few places: the finding is written, with the number that it needs, and the links are unchanged;
  * 8: the numbers of an entry are no entry of a caller below 64; 30. After 8 and 30 nothing is written */
 boostmap_status boostmap_judge_any_order(const boostmap_entry *entries, size_t count, boostmap_link *links,

@@ -1,5 +1,5 @@
 /* The calls of boostmap.h behind a door: instead of undefined behaviour, a null handle, array, entry,
- * verdict or `done` returns BOOSTMAP_NULL, and a handle that is in another call BOOSTMAP_IN_CALL. So any
+ * verdict, finding or `done` returns BOOSTMAP_NULL, and a handle that is in another call BOOSTMAP_IN_CALL. So any
  * thread may call at any time: the door is a seq_cst exchange, which also orders the calls. `word` may
  * be null if the number is not needed. This header needs C11 or C++11 and is only tested. A door costs
  * about 20 ns a call.
