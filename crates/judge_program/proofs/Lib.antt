@@ -1,7 +1,7 @@
 pub mod Asking
 pub mod Calls
-pub mod Doing
+pub mod CommandEnds
 pub mod Running
 pub mod Sources
 pub mod Stripes
-pub mod Worked
+pub mod CommandLines

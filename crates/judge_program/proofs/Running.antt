@@ -10,7 +10,7 @@ use Rattle.judge_program.specs.declared.failure.Failure.{Failure}
 use Rattle.judge_program.specs.declared.failure.Failure.TheVariants.{Usage, Fault}
 use Rattle.judge_program.specs.Words.{Asked, Spells}
 use Rattle.judge_program.specs.Runs.{RunsCall, DoesNothing, Files, RunResult, Runs, memory_or}
-use Rattle.judge_program.proofs.Doing.{keeps_same}
+use Rattle.judge_program.proofs.CommandEnds.{keeps_same}
 
 -- The result of `memory_or` is either `NoMemory` or the other failure.
 pub memory_or_is : (kind : ErrorKind) (other : Failure) → (memory_or kind other ≡ Fault faults.NoMemory) ⊎ (memory_or kind other ≡ other)

@@ -29,4 +29,4 @@ pub mod AccessOutcomes
 pub mod Misshapen
 mod Latest
 mod Knowing
-mod Excluding
+mod SourcesLeft

@@ -5,6 +5,6 @@ pub mod Steps
 pub mod TrimmedMap
 pub mod Calls
 pub mod Levels
-pub mod Taken
+pub mod RefusedKeys
 pub mod FirstTransaction
 pub mod Savepoints

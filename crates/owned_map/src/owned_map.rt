@@ -187,7 +187,7 @@ impl OwnedMap {
     }
 
     /// Does an operation by calling the core's function for it.
-    #[tactic(auto, using(crate::proofs::Taken::operated))]
+    #[tactic(auto, using(crate::proofs::RefusedKeys::operated))]
     pub(crate) fn ask(&mut self, caller: u64, op: Op) -> Answer
         ensures { Operates self.old.core caller op result self.new.core }
     {
@@ -237,7 +237,7 @@ impl OwnedMap {
     /// # Cost
     ///
     /// The cost of `Transaction::back`.
-    #[tactic(auto, using(crate::proofs::Taken::returned))]
+    #[tactic(auto, using(crate::proofs::RefusedKeys::returned))]
     pub fn back(&mut self, caller: u64, level: u64) -> Result<(), Stop>
         ensures goes_on { GoesOn caller self.old.core self.new.core }
         ensures ok { OnOk result (IsBackAt caller level self.old.core self.new.core) }
@@ -301,7 +301,7 @@ impl OwnedMap {
     ///
     /// A seek and an act for each change, and a step for each savepoint and each stripe. Takes no
     /// memory.
-    #[tactic(auto, using(crate::proofs::Steps::taken_back_by, crate::proofs::Taken::aborted))]
+    #[tactic(auto, using(crate::proofs::Steps::taken_back_by, crate::proofs::RefusedKeys::aborted))]
     pub fn abort(&mut self, caller: u64) -> Result<(), Refusal>
         ensures back { IsTakenBack caller self.old.core self.new.core }
         ensures did { HasAborted caller self.old.core self.new.core }
@@ -327,7 +327,7 @@ impl OwnedMap {
     /// # Cost
     ///
     /// The cost of `Core::help`.
-    #[tactic(auto, using(crate::proofs::Taken::helped))]
+    #[tactic(auto, using(crate::proofs::RefusedKeys::helped))]
     pub fn help(&mut self, caller: u64, key: u64) -> Result<(), Refusal>
         ensures { Helps self.old.core caller key result self.new.core }
     {
@@ -376,7 +376,7 @@ impl OwnedMap {
     }
 
     /// Takes a step of the core.
-    #[tactic(auto, using(crate::proofs::Taken::moved))]
+    #[tactic(auto, using(crate::proofs::RefusedKeys::moved))]
     pub(crate) fn take_step(&mut self, step: Step) -> Answer
         ensures moves { Move self.old.core step result self.new.core }
         ensures event { Happens self.old.core step result self.new.core }

@@ -15,7 +15,7 @@ use Rattle.txn_trace.specs.Now.{now}
 use Rattle.striped_map.specs.declared.view.View.{View}
 use Rattle.striped_map.specs.Rule.{Holds, HasSeen, IsFree, IsKeptAt, IsKept, measure}
 use Rattle.striped_map.specs.Steps.{Sat, SeesIn, witness, blank, heard, met_up}
-use Rattle.striped_map.proofs.Giving.{given_among, given_same}
+use Rattle.striped_map.proofs.CallerNumbers.{given_among, given_same}
 use Rattle.striped_map.proofs.RuleFrames.{St, at_slots, board, prefix_on, stored_views, viewed}
 use Rattle.striped_map.proofs.AdditionLemmas.{grows_none}
 use Rattle.striped_map.proofs.RuleSteps.{extends, loads, nothing_at}

@@ -1,4 +1,4 @@
-use Rattle.judge_program.proofs.Doing.{check_done, check_failed, check_not_opened}
+use Rattle.judge_program.proofs.CommandEnds.{check_done, check_failed, check_not_opened}
 use Rattle.judge_program.proofs.program.check_file.Goals as goal
 
 pub returns-in_err-source : goal.returns-in_err-source

@@ -1,4 +1,4 @@
-use Rattle.judge_program.proofs.Doing.{order_done, order_failed, order_not_opened}
+use Rattle.judge_program.proofs.CommandEnds.{order_done, order_failed, order_not_opened}
 use Rattle.judge_program.proofs.program.check_order.Goals as goal
 
 pub returns-in_err-source : goal.returns-in_err-source

@@ -1,4 +1,4 @@
-use Rattle.judge_program.proofs.Doing.{why_done, why_failed, why_not_opened}
+use Rattle.judge_program.proofs.CommandEnds.{why_done, why_failed, why_not_opened}
 use Rattle.judge_program.proofs.program.explain_file.Goals as goal
 
 pub returns-in_err-source : goal.returns-in_err-source

@@ -1,4 +1,4 @@
-use Rattle.judge_program.proofs.Doing.{reason_done, reason_failed, reason_not_opened}
+use Rattle.judge_program.proofs.CommandEnds.{reason_done, reason_failed, reason_not_opened}
 use Rattle.judge_program.proofs.program.explain_order.Goals as goal
 
 pub returns-in_err-source : goal.returns-in_err-source

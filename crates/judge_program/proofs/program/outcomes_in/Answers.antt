@@ -1,4 +1,4 @@
-use Rattle.judge_program.proofs.Doing.{outcomes_done, outcomes_failed, scripts_not_opened, history_not_opened}
+use Rattle.judge_program.proofs.CommandEnds.{outcomes_done, outcomes_failed, scripts_not_opened, history_not_opened}
 use Rattle.judge_program.proofs.program.outcomes_in.Goals as goal
 
 pub returns-in_err-scripts : goal.returns-in_err-scripts

@@ -1,4 +1,4 @@
-use Rattle.judge_program.proofs.Doing.{watch_done, watch_failed, watch_not_opened}
+use Rattle.judge_program.proofs.CommandEnds.{watch_done, watch_failed, watch_not_opened}
 use Rattle.judge_program.proofs.program.watch_standard.Goals as goal
 
 pub returns-in_err-source : goal.returns-in_err-source

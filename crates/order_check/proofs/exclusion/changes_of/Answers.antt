@@ -1,7 +1,7 @@
 use Rattle.std.proofs.Common.{arith, ◌+◌, ◌<◌, length, sym, subst, ◌∙◌, take}
 use Rattle.order_check.specs.Exclusions.{AreChanges}
 use Rattle.order_check.proofs.Noting.{no_access}
-use Rattle.order_check.proofs.Excluding.{changes_more, changes_same}
+use Rattle.order_check.proofs.SourcesLeft.{changes_more, changes_same}
 use Rattle.order_check.proofs.exclusion.changes_of.Goals as goal
 use Rattle.order_check.proofs.exclusion.changes_of.Goals.{then-is_change+in_ok-push, else-is_change}
 

@@ -1,7 +1,7 @@
 use Rattle.std.proofs.Common.{arith, ◌<◌, length, sym, ◌∙◌, get_or}
 use Rattle.order_check.proofs.Noting.{no_access}
 use Rattle.order_check.proofs.Turning.{among_at}
-use Rattle.order_check.proofs.Excluding.{too_late, overwritten}
+use Rattle.order_check.proofs.SourcesLeft.{too_late, overwritten}
 use Rattle.order_check.proofs.exclusion.is_excluded.Goals as goal
 
 pub returns-then-is_late : goal.returns-then-is_late

@@ -1,5 +1,5 @@
 use Rattle.std.proofs.Common.{sym, ◌∙◌}
-use Rattle.order_check.proofs.Excluding.{reader_first, before_source}
+use Rattle.order_check.proofs.SourcesLeft.{reader_first, before_source}
 use Rattle.order_check.proofs.exclusion.learn_beside.Goals as goal
 
 pub returns-then-is_before : goal.returns-then-is_before

@@ -1,7 +1,7 @@
 use Rattle.std.proofs.Common.{arith, ◌<◌, length, get_or}
 use Rattle.order_check.proofs.Noting.{no_access}
 use Rattle.order_check.proofs.Turning.{among_at}
-use Rattle.order_check.proofs.Excluding.{source_first, none_between}
+use Rattle.order_check.proofs.SourcesLeft.{source_first, none_between}
 use Rattle.order_check.proofs.exclusion.learn_by.Goals as goal
 
 pub loop-change-init : goal.loop-change-init

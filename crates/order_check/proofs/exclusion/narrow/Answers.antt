@@ -1,6 +1,6 @@
 use Rattle.std.proofs.Common.{subst}
 use Rattle.order_check.specs.Exclusions.{HasOnly}
-use Rattle.order_check.proofs.Excluding.{none_left, one_left}
+use Rattle.order_check.proofs.SourcesLeft.{none_left, one_left}
 use Rattle.order_check.proofs.exclusion.narrow.Goals as goal
 
 pub returns-in-Nobody-clause-none : goal.returns-in-Nobody-clause-none

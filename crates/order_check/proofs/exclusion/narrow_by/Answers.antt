@@ -2,7 +2,7 @@ use Rattle.std.proofs.Common.{ap, sym, subst, ◌∙◌, not}
 use Rattle.std.proofs.lemmas.Bool.{false≢true}
 use Rattle.txn_trace.proofs.Now.{same_is}
 use Rattle.order_check.specs.Exclusions.{IsNarrowed}
-use Rattle.order_check.proofs.Excluding.{narrowed_same, narrowed_only, narrowed_several}
+use Rattle.order_check.proofs.SourcesLeft.{narrowed_same, narrowed_only, narrowed_several}
 use Rattle.order_check.proofs.exclusion.narrow_by.Goals as goal
 
 pub returns-then-ne : goal.returns-then-ne

@@ -2,7 +2,7 @@ use Rattle.std.proofs.Common.{arith, ◌<◌, ◌≤◌, length, sym, subst, tak
 use Rattle.std.proofs.lemmas.List.{take_more, take_all}
 use Rattle.order_check.specs.Exclusions.{IsNarrowed}
 use Rattle.order_check.proofs.Noting.{no_access}
-use Rattle.order_check.proofs.Excluding.{narrowed_begin, narrowed_end}
+use Rattle.order_check.proofs.SourcesLeft.{narrowed_begin, narrowed_end}
 use Rattle.order_check.proofs.exclusion.sources_left.Goals as goal
 
 pub loop-change-init : goal.loop-change-init

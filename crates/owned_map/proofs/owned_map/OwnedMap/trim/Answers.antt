@@ -8,7 +8,7 @@ use Rattle.txn_words.proofs.Order.{length-ordered}
 use Rattle.owned_map.specs.Trimmed.{IsTrimmed, LacksFor, filling}
 use Rattle.txn_words.specs.Sizes.{Sizes}
 use Rattle.owned_map.specs.Taken.{HasTakenKeys}
-use Rattle.owned_map.proofs.Taken.{none_there}
+use Rattle.owned_map.proofs.RefusedKeys.{none_there}
 use Rattle.owned_map.proofs.TrimmedMap.{at_rest, some_open, caused}
 use Rattle.owned_map.proofs.owned_map.OwnedMap.trim.Goals as goal
 
