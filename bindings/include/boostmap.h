@@ -459,6 +459,9 @@ boostmap_status boostmap_striped_run(boostmap_caller *caller, const struct boost
  *                      transaction aborts
  *     ABORTED          all changes are taken back
  *
+ * No entry is for a read or a count of the whole map: a program that records one itself writes an ASKED get
+ * and a DID for each key.
+ *
  * docs/VERDICTS.md has the rules in full ("The checker's rules"), and docs/JUDGE.md says how to record a
  * history; boostmap_host_history and boostmap_history hand out those of this library's maps. It is proved
  * that the verdict is legal exactly if the history is. */
