@@ -460,7 +460,7 @@ boostmap_status boostmap_striped_run(boostmap_caller *caller, const struct boost
  *     ABORTED          all changes are taken back
  *
  * No entry is for a read or a count of the whole map: a program that records one itself writes an ASKED get
- * and a DID for each key.
+ * and a DID for each key. Callers are judged below 64 only, so of a map with more callers no history is.
  *
  * docs/VERDICTS.md has the rules in full ("The checker's rules"), and docs/JUDGE.md says how to record a
  * history; boostmap_host_history and boostmap_history hand out those of this library's maps. It is proved

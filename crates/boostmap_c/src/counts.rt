@@ -1,5 +1,5 @@
 //! How many transactions of a caller ended, and how. A member counts the answers of its calls, so
-//! the counts are exact, modulo 2^64.
+//! the counts are exact, modulo 2^64, but for a run that memory was refused to, which is not counted.
 ghost use Rattle.std.specs.Prelude.{◌≡◌};
 ghost use Rattle.boostmap_c.specs.Counted.{TellsCounts};
 

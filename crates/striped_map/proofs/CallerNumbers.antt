@@ -1,5 +1,5 @@
 -- Shows that the word of callers counts the numbers that were given out, and that no two seats get
--- the same number, when a view changes, when a seat is made, and when a seat is merged.
+-- the same number, because a seat gets the number that the word had before the addition.
 use Rattle.std.proofs.Common.{◌≡◌, ◌≢◌, ℕ, ◌+◌, ◌^◌, ◌<◌, ◌≤◌, ◌⊎◌, List, [], ◌∷◌, ◌++◌, length, set, Some, slice_get, true, false, sym, ◌∙◌, ap, subst, ⊎_elim, arith}
 use mathlib.Core.Logic.{dite}
 use mathlib.Core.Option.{some, some-injective}
