@@ -3,8 +3,8 @@
 #   programs  bin/boostmap, bin/judge, and their manual pages
 #   c         lib/libboostmap.a, the proved archive with the toolchain's allocator; lib/libboostmap.so.N, the same as a
 #             shared library; the headers for C and C++; files for pkg-config and CMake; boostmap(3)
-#   python    share/boostmap/python: boostmap.py, which loads the shared library, and _boostmap, which makes its calls
-#             faster, if python3-config is there
+#   python    share/boostmap/python/boostmap: the package, which loads the shared library, with type hints, and the module
+#             _boostmap, which makes its calls faster, if python3-config is there
 #   rust      share/boostmap/rust: the crate, which links the archive
 # install.sh PREFIX uninstall removes what was installed there. build.py proves what is not proved yet. If a tool is
 # missing or a proof fails, the status is 125.
@@ -118,18 +118,19 @@ PC
 fi
 
 if wants python; then
-  put 644 "$root/bindings/python/boostmap.py" share/boostmap/python/boostmap.py
-  ln -sf -- ../../../lib/"$shared" "$prefix/share/boostmap/python/libboostmap.so"
-  echo share/boostmap/python/libboostmap.so >>"$prefix/$list"
+  package=share/boostmap/python/boostmap
+  for file in __init__.py __init__.pyi py.typed; do put 644 "$root/bindings/python/boostmap/$file" $package/$file; done
+  ln -sf -- ../../../../lib/"$shared" "$prefix/$package/libboostmap.so"
+  echo $package/libboostmap.so >>"$prefix/$list"
   if command -v python3-config >/dev/null; then
     module=_boostmap$(python3-config --extension-suffix)
     # The flags are several words.
     # shellcheck disable=SC2046,SC2016
-    if cc -shared -fPIC -O2 $(python3-config --includes) -I"$root/bindings/include" "$root/bindings/python/_boostmap.c" \
-      "$work/$shared" -Wl,-rpath,'$ORIGIN/../../../lib' -o "$work/module"; then
-      put 755 "$work/module" share/boostmap/python/"$module"
+    if cc -shared -fPIC -O2 $(python3-config --includes) -I"$root/bindings/include" \
+      "$root/bindings/python/boostmap/_boostmap.c" "$work/$shared" -Wl,-rpath,'$ORIGIN/../../../../lib' -o "$work/module"; then
+      put 755 "$work/module" $package/"$module"
     else
-      echo "install.sh: no module _boostmap: boostmap.py makes its calls by ctypes" >&2
+      echo "install.sh: no module _boostmap: the package makes its calls by ctypes" >&2
     fi
   fi
 fi

@@ -86,7 +86,7 @@ for threads in 1 2 4; do
   for keys in 1000 100000; do row striped stripes $keys 200000 $threads; done
 done
 
-if [ -n "${BENCH:-}" ]; then cp "$BENCH" "$work/proved"; else build_proved bench striped 1 1000 1000; fi
+if [ -n "${BENCH:-}" ]; then cp "$BENCH" "$work/proved"; else build_bench striped 1 1000 1000; fi
 if [ -n "${OWNED:-}" ]; then cp "$OWNED" "$work/owned"; else build_on_maps owned ": txn_trace boost_core anyhow" 1000 1000; fi
 printf '\n%-21s %8s %8s %8s %8s\n' 'a transaction' inside 'from C' 'a call' percent
 crossings owned

@@ -14,11 +14,10 @@ quietly() {
   fi
 }
 
-# Proves and builds a program of crates/, and runs it once with the arguments after its name. It is then `proved` in $work.
-build_proved() {
-  quietly ./build.py "$1"
-  cp "out/$1" "$work/proved"
-  quietly "$work/proved" "${@:2}"
+# Proves and builds the benchmark, and runs it once with these arguments. It is then `proved` in $work.
+build_bench() {
+  build_on_maps bench " may_wait=11: split_key txn_words txn_files key_locks key_words node_list list_steps map_ops boost_core thread_runs striped_map anyhow" "$@"
+  mv "$work/bench" "$work/proved"
 }
 
 # Takes the program, which is then `proved` in $work: the file that PROGRAM names, or else that of this repository, which is
@@ -106,10 +105,10 @@ write_run_file() {
     }' >"$work/run.json"
 }
 
-# Proves and builds the program of speed/NAME.rt.txt, as one more crate beside those of the repository, and runs it once: NAME, its
-# line of crates.txt after the name, and the arguments of that run. It is then `NAME` in $work.
+# Proves and builds the program of speed/NAME.rt.txt, or of the folder speed/NAME, as one more crate beside those of the repository,
+# and runs it once: NAME, its line of crates.txt after the name, and the arguments of that run. It is then `NAME` in $work.
 build_on_maps() {
-  local there=$work/maps
+  local there=$work/maps file
   if [ ! -e "$there" ]; then
     mkdir -p "$there/crates" "$there/out" out/proved
     cp build.py tools.sh crates.txt "$there/"
@@ -118,7 +117,13 @@ build_on_maps() {
   fi
   mkdir -p "$there/crates/$1"/{src,specs,proofs}
   touch "$there/crates/$1"/{specs,proofs}/Lib.antt
-  cp "speed/$1.rt.txt" "$there/crates/$1/src/main.rt"
+  if [ -d "speed/$1" ]; then
+    find "speed/$1" -name '*.txt' -printf '%P\n' | while read -r file; do
+      install -D "speed/$1/$file" "$there/crates/$1/${file%.txt}"
+    done
+  else
+    cp "speed/$1.rt.txt" "$there/crates/$1/src/main.rt"
+  fi
   echo "$1$2" >>"$there/crates.txt"
   quietly "$there/build.py" "$1"
   cp "$there/out/$1" "$work/"

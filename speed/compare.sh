@@ -5,7 +5,7 @@
 source "$(dirname "${BASH_SOURCE[0]}")/common.sh"
 keys=${1:-1000000}
 rounds=${2:-9}
-build_proved bench nodes 1000
+build_bench nodes 1000
 build_twin twin
 
 for _ in $(seq "$rounds"); do

@@ -6,7 +6,7 @@
 # Usage: speed/core.sh [ROUNDS]
 source "$(dirname "${BASH_SOURCE[0]}")/common.sh"
 rounds=${1:-9}
-build_proved bench core 1000
+build_bench core 1000
 build_twin core_twin
 
 write_step_files <speed/core_files.txt

@@ -1,4 +1,4 @@
-//! The core in plain Rust, which runs the steps of a step file. It is what the part `core` of crates/bench is compared with;
+//! The core in plain Rust, which runs the steps of a step file. It is what the part `core` of speed/bench is compared with;
 //! see docs/SPEED.md.
 //!
 //! Usage: core_twin FILE, which times the steps; core_twin FILE report, which writes what `boostmap replay FILE` writes.

@@ -4,7 +4,7 @@
 # Usage: speed/growth.sh [ROUNDS]
 source "$(dirname "${BASH_SOURCE[0]}")/common.sh"
 rounds=${1:-5}
-build_proved bench maps 1000
+build_bench maps 1000
 build_twin maps_twin
 
 for _ in $(seq "$rounds"); do

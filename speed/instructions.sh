@@ -3,7 +3,7 @@
 # prints how many a step takes in each, and the ratio. Other work on the machine does not change these numbers.
 # Usage: speed/instructions.sh
 source "$(dirname "${BASH_SOURCE[0]}")/common.sh"
-build_proved bench core 1000
+build_bench core 1000
 build_twin core_twin
 write_step_files <speed/core_files.txt
 

@@ -1,4 +1,4 @@
-//! The part `maps` of crates/bench in plain Rust: the same table at two largest sizes, a sorted map and a hash map, and the
+//! The part `maps` of speed/bench in plain Rust: the same table at two largest sizes, a sorted map and a hash map, and the
 //! same operations; see docs/SPEED.md.
 //!
 //! Usage: maps_twin KEYS

@@ -3,7 +3,7 @@
 # prints how many transactions a second each completes, including reading and writing the files, and the ratio of the program's time
 # to each twin's. The second twin, `kept`, also does what `run` promises besides the history: each worker takes a stripe by its
 # atomic word, keeps the entries that it saw and how its scripts ended, and its entries are compared with the history. Then it runs
-# only the library, without reading and writing: `run_scripts` (the part `shared` of crates/bench) and both twins.
+# only the library, without reading and writing: `run_scripts` (the part `shared` of speed/bench) and both twins.
 #
 # There are 1, 2 and 4 threads, at 1,000 and 100,000 keys; 10,000 scripts, each of four operations and a help; a tenth abort. With
 # one thread all print the same history, which is compared; with more, each history is judged. All run alternately, so that a
@@ -12,7 +12,7 @@
 source "$(dirname "${BASH_SOURCE[0]}")/common.sh"
 rounds=${1:-9}
 
-build_proved bench shared 1000
+build_bench shared 1000
 mv "$work/proved" "$work/shared"
 take_program
 build_whole

@@ -1,16 +1,16 @@
 #!/usr/bin/env bash
 # Tests that the memory of the striped map does not grow. For each number of threads a process runs transactions of four operations,
-# by default 100,000,000 operations in all. Its memory is read 20 times a second, from its page tables, since with threads the
+# by default 200,000,000 operations in all. Its memory is read 20 times a second, from its page tables, since with threads the
 # kernel's own peak is some hundred kB off; and only while all threads run, since a thread that ends takes some pages for good.
 # Prints the most memory in kB in the first tenth of the time and in all of it, and fails if the latter is more than a hundredth
 # higher.
 # Usage: speed/striped_memory.sh [OPERATIONS [KEYS [THREADS..]]]
 source "$(dirname "${BASH_SOURCE[0]}")/common.sh"
-operations=${1:-100000000}
+operations=${1:-200000000}
 keys=${2:-1000}
 threads=("${@:3}")
 [ ${#threads[@]} -gt 0 ] || threads=(1 4)
-build_proved bench striped 2 1000 1000
+build_bench striped 2 1000 1000
 
 for count in "${threads[@]}"; do
   "$work/proved" striped "$count" "$keys" $((operations / 4 / count)) 2>/dev/null &

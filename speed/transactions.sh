@@ -1,13 +1,13 @@
 #!/usr/bin/env bash
 # Times transactions of 1, 4, 8, 9 and 12 puts in the core and in its twin in plain Rust, alternately, and prints the median
 # nanoseconds of one transaction in both, and their ratio. An undo log has room for eight jobs inline; the ninth takes memory.
-# If BEFORE names an older program of crates/bench, it runs alternately with them, and its median and the ratio to it come last. The
+# If BEFORE names an older program of speed/bench, it runs alternately with them, and its median and the ratio to it come last. The
 # files have 300,000 steps of one caller; the table has 12 keys, which are put again and again. Both run each file twice, and the
 # second run counts. Both must answer the same.
 # Usage: speed/transactions.sh [ROUNDS]
 source "$(dirname "${BASH_SOURCE[0]}")/common.sh"
 rounds=${1:-9}
-build_proved bench core 1000
+build_bench core 1000
 build_twin core_twin
 programs=(proved plain)
 if [ -n "${BEFORE:-}" ]; then

@@ -1,5 +1,5 @@
-//! The program of crates/bench in plain Rust: the same representation (a slab with a free list, the same stamps, marks,
-//! change number and cursors) and the same phases of nodes and cursors. It is what crates/bench is compared with; see
+//! The program of speed/bench in plain Rust: the same representation (a slab with a free list, the same stamps, marks,
+//! change number and cursors) and the same phases of nodes and cursors. It is what speed/bench is compared with; see
 //! docs/SPEED.md.
 #![allow(dead_code)]
 

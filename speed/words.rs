@@ -1,4 +1,4 @@
-//! What the part `words` of crates/bench times, with a mutex a stripe in plain Rust: each thread locks a stripe that no other has,
+//! What the part `words` of speed/bench times, with a mutex a stripe in plain Rust: each thread locks a stripe that no other has,
 //! and unlocks it, over and over.
 
 use std::sync::Mutex;

@@ -5,7 +5,7 @@
 source "$(dirname "${BASH_SOURCE[0]}")/common.sh"
 takes=${1:-1000000}
 rounds=${2:-9}
-build_proved bench words 1000 1
+build_bench words 1000 1
 rustc -O -o "$work/plain" speed/words.rs
 
 # Runs a program with this number of threads.

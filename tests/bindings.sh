@@ -1,8 +1,8 @@
 #!/usr/bin/env bash
 # Installs the library for C, C++, Rust and Python in a temporary folder, and runs each language's tests and its example,
-# whose output must be bindings/examples/stdout. It needs rt and cc, and uses c++, cargo, python3, valgrind and a compiler
-# with ThreadSanitizer if they are there. Nothing is downloaded. If the archive is not built yet, build.py proves and builds
-# it first; the rest takes two minutes.
+# whose output must be bindings/examples/stdout. It needs rt and cc, and uses c++, clang, cargo, python3, valgrind and the
+# compiler's sanitizers if they are there. Nothing is downloaded. If the archive is not built yet, build.py proves and builds
+# it first; the rest takes three to four minutes of processor time.
 # The last line is 'bindings: N passed, M failed', and '; not run: ..' names the tests whose tools are missing. The status
 # is 1 if M is not 0.
 set -uo pipefail
@@ -34,6 +34,14 @@ has() {
   false
 }
 
+# Whether programs can be built with a sanitizer, and run; if not, the tests that need it are named as not run.
+sanitizes() {
+  echo 'int main(void) { return 0; }' >"$work/empty.c"
+  cc "-fsanitize=$1" "$work/empty.c" -o "$work/empty" 2>/dev/null && "$work/empty" 2>/dev/null && return
+  not_run "$2" "$3"
+  false
+}
+
 # Runs a command for 600 seconds at most.
 within() { timeout 600 "$@"; }
 
@@ -58,18 +66,31 @@ no_commit_in_a_job() {
   c++ -std=c++17 "${use[@]}" -fsyntax-only "$work/job.cpp" && ! c++ -std=c++17 "${use[@]}" -DCOMMITS -fsyntax-only "$work/job.cpp"
 }
 
-# Compiles the checked header in each version of C++.
-checked_in_cpp() {
+# Compiles a file with a compiler, as a language, in each of its versions, with more warnings.
+in_each() {
   local version
-  printf '%s\n' '#include <boostmap_checked.h>' 'boostmap_caller_door caller = BOOSTMAP_DOOR_INIT;' \
-    'boostmap_status f() { return boostmap_checked_striped_begin(&caller); }' >"$work/checked.cpp"
-  for version in 11 14 17 20; do
-    c++ "-std=c++$version" "${strict[@]}" "${use[@]}" -fsyntax-only "$work/checked.cpp" || return
+  for version in "${@:4}"; do
+    "$1" -x "$2" "-std=$version" "${strict[@]}" -Wconversion "${include[@]}" -fsyntax-only "$3" || return
   done
 }
 
-use=(-Ibindings/tests "-I$work/usr/include" "-L$work/usr/lib")
+# Compiles the headers in each version of C, or of C++, for which they are.
+headers_in_c() {
+  try "boostmap.h in C by $1" in_each "$1" c "$work/plain" c99 c11 c17 c2x
+  try "boostmap_checked.h in C by $1" in_each "$1" c "$work/checked" c11 c17 c2x
+}
+headers_in_cpp() {
+  try "boostmap.h in C++ by $1" in_each "$1" c++ "$work/plain" c++11 c++14 c++17 c++20 c++2b
+  try "boostmap_checked.h in C++ by $1" in_each "$1" c++ "$work/checked" c++11 c++14 c++17 c++20 c++2b
+  try "boostmap.hpp by $1" in_each "$1" c++ bindings/tests/values.cpp c++17 c++20 c++2b
+}
+printf '#include <boostmap.h>\nboostmap_caller caller = BOOSTMAP_INIT;\n' >"$work/plain"
+printf '#include <boostmap_checked.h>\nboostmap_caller_door caller = BOOSTMAP_DOOR_INIT;\n' >"$work/checked"
+
+include=(-Ibindings/tests "-I$work/usr/include")
+use=("${include[@]}" "-L$work/usr/lib")
 strict=(-O2 -Wall -Wextra -Wpedantic -Werror)
+sanitized=(-O1 -g "-fsanitize=address,undefined" -fno-sanitize-recover=all -pthread)
 
 # Compiles and runs a test in C: its name, its standard, and further arguments of the compiler.
 c_test() {
@@ -80,6 +101,9 @@ c_test() {
 }
 
 in_c() {
+  headers_in_c cc
+  if has clang 'the headers for C by it'; then headers_in_c clang; fi
+  c_test manual c11 -D_GNU_SOURCE -pthread
   c_test statuses c99
   c_test read c99
   c_test owned c99
@@ -126,20 +150,25 @@ in_c_again() {
       try "striped_threads with $name under valgrind" "${checked[@]}" --fair-sched=yes "$work/striped_threads" "$name" 1000
     done
   fi
-  echo 'int main(void) { return 0; }' >"$work/empty.c"
-  if cc -fsanitize=thread "$work/empty.c" -o "$work/empty" 2>/dev/null && "$work/empty" 2>/dev/null; then
+  if sanitizes address,undefined AddressSanitizer 'the calls in C with it'; then
+    for name in model whole manual; do
+      try "compile $name.c with AddressSanitizer" cc -std=c11 -D_GNU_SOURCE "${sanitized[@]}" "${use[@]}" \
+        "bindings/tests/$name.c" -o "$work/$name.asan" -lboostmap
+      try "$name with AddressSanitizer" within "$work/$name.asan"
+    done
+  fi
+  if sanitizes thread ThreadSanitizer 'the threads in C with it'; then
     for name in threads door striped_threads striped_recorded; do
       try "compile $name.c with ThreadSanitizer" cc -std=c11 -D_GNU_SOURCE -O1 -g -fsanitize=thread -pthread "${use[@]}" \
         "bindings/tests/$name.c" -o "$work/$name.tsan" -lboostmap
       try "$name with ThreadSanitizer" within "$work/$name.tsan"
     done
     try 'striped_threads with 16 and ThreadSanitizer' within "$work/striped_threads.tsan" 16
-  else
-    not_run ThreadSanitizer 'the threads in C with it'
   fi
 }
 
 in_cpp() {
+  local name
   try 'compile values.cpp' c++ -std=c++17 "${strict[@]}" "${use[@]}" bindings/tests/values.cpp -o "$work/values" -lboostmap -pthread
   try 'values in C++' within "$work/values"
   if has valgrind 'values in C++ under it'; then
@@ -147,12 +176,25 @@ in_cpp() {
   fi
   try 'compile model.cpp' c++ -std=c++17 "${strict[@]}" "${use[@]}" bindings/tests/model.cpp -o "$work/model_cpp" -lboostmap
   try 'model in C++' within "$work/model_cpp"
+  if sanitizes address,undefined AddressSanitizer 'the calls in C++ with it'; then
+    for name in model values; do
+      try "compile $name.cpp with AddressSanitizer" c++ -std=c++17 "${sanitized[@]}" "${use[@]}" \
+        "bindings/tests/$name.cpp" -o "$work/$name.asan" -lboostmap
+      try "$name in C++ with AddressSanitizer" within "$work/$name.asan" 2000
+    done
+  fi
   try 'no commit in a job' no_commit_in_a_job
-  try 'the checked header in C++' checked_in_cpp
+  headers_in_cpp c++
+  if has clang++ 'the headers for C++ by it'; then headers_in_cpp clang++; fi
   try 'compile transfer.cpp' c++ -std=c++17 "${strict[@]}" "${use[@]}" bindings/examples/transfer.cpp -o "$work/transfer" -lboostmap -pthread
   try 'example in C++' prints_the_example "$work/transfer"
   try 'compile judged.cpp' c++ -std=c++17 "${strict[@]}" "${use[@]}" bindings/examples/judged.cpp -o "$work/judged" -lboostmap -pthread
   try 'a run in C++ that is judged' prints_the_verdict "$work/judged"
+}
+
+# Fails unless cargo says without BOOSTMAP_LIB that this variable is not set.
+names_the_variable() {
+  ! env -u BOOSTMAP_LIB "CARGO_TARGET_DIR=$work/target" cargo build "$@" 2>"$work/said" && grep -q 'BOOSTMAP_LIB is not set' "$work/said"
 }
 
 in_rust() {
@@ -160,6 +202,13 @@ in_rust() {
   local crate=(--offline --quiet --manifest-path "$work/rust/Cargo.toml")
   cp -r bindings/rust "$work/rust"
   try 'tests in Rust' within "${run[@]}" test "${crate[@]}"
+  if has cargo-clippy 'the crate in Rust by it'; then
+    try 'clippy' within "${run[@]}" clippy "${crate[@]}" --all-targets -- -D warnings
+  fi
+  try 'pages of the crate in Rust' within env RUSTDOCFLAGS=-Dwarnings "${run[@]}" doc "${crate[@]}" --no-deps
+  try 'the crate in Rust without its library' names_the_variable "${crate[@]}"
+  try 'the crate in Rust beside its library' within env -u BOOSTMAP_LIB "CARGO_TARGET_DIR=$work/target" cargo run --offline --quiet \
+    --manifest-path "$work/usr/share/boostmap/rust/Cargo.toml" --example transfer
   try 'example in Rust' prints_the_example "${run[@]}" run "${crate[@]}" --example transfer
   try 'a run in Rust that is judged' prints_the_verdict "${run[@]}" run "${crate[@]}" --example judged
   # What README shows, which puts 20 at key 1.
@@ -175,7 +224,7 @@ in_python() {
   local run=(env "PYTHONPATH=$work/usr/share/boostmap/python" PYTHONDONTWRITEBYTECODE=1 python3)
   try 'tests in Python' within "${run[@]}" bindings/tests/test_boostmap.py
   try 'tests in Python by ctypes' within "${run[@]}" -c 'import sys, unittest
-sys.modules["_boostmap"] = None
+sys.modules["boostmap._boostmap"] = None
 sys.path.insert(0, "bindings/tests")
 unittest.main(module="test_boostmap")'
   try 'example in Python' prints_the_example "${run[@]}" bindings/examples/transfer.py

@@ -1,10 +1,13 @@
 #!/usr/bin/env python3
-"""bodies.py [CRATE..]: tries each wrong body of crates/NAME/must-fail/bodies.md, of all crates by default.
+"""bodies.py [--copies] [CRATE..]: tries each wrong body of crates/NAME/must-fail/bodies.md, of all crates by default.
 
 A wrong body passes if the prover refuses the function that it changes, with this body alone in this
-function. One check of a crate, in a copy, tries bodies of different functions: the contract of a function
-hides its body from all others. Bodies of one function are tried in further checks (rounds). Refused means
-that a goal stays open. If the prover could not tell, or if it has no proof to look at, the body fails.
+function. One check of a crate, in a copy, tries many bodies, since the contract of a function hides its body
+from all others. The first body of a function changes the function. For each further one the copy has the
+function once more, under another name, with the same proof. Bodies of a function that cannot stand twice,
+such as a method of a trait, are tried in further checks (rounds). Refused means that a goal stays open. If
+the prover could not tell, or if it has no proof to look at, the body fails. --copies tests that each of those
+copies is proved if the body is not put into it.
 
 A body may be refused only because a proof names a goal that the edit has renamed. That shows little of the
 contract. The script lists these bodies. It allows at most MOST_BY_NAME of them, and none that
@@ -116,23 +119,75 @@ def edited(crate, texts, edits):
     return texts
 
 
+class Copy:
+    """A body's function under another name, `refused`, and its proof: what the body changes is changed in it."""
+
+    def __init__(self, crate, body, number):
+        (self.file,) = {file for file, _, _ in body.edits}
+        (function,) = body.changed
+        owner, _, self.name = function.rpartition("::")
+        text = (crate / self.file).read_text(encoding="utf-8")
+        start, end, indent = place_of(text, self.name)
+        self.true = self.text = text[start:end].replace(f"fn {self.name}", f"fn {self.name}__{number}", 1)
+        for _, old, new in body.edits:
+            if self.text.count(old) != 1:
+                raise ValueError
+            self.text = self.text.replace(old, new)
+        impl = next((line for line in reversed(text[:start].splitlines()) if OWNER.match(line)), "") if indent else ""
+        is_whole = re.search(r"(\n|\{)\n$", text[:start])
+        if body.named or not is_whole or " for " in impl or "trait " in impl or "#[cycle" in self.text:
+            raise ValueError
+        self.refused = {f"{owner}::{self.name}__{number}".removeprefix("::")}
+        module = Path(self.file).relative_to("src").with_suffix("").parts
+        folder = Path("proofs", *module * (module not in (("lib",), ("main",))), *[owner] * bool(indent), self.name)
+        path, self.proofs = ".".join(folder.parts), {}
+        for proof in (crate / "proofs").rglob("*.antt"):
+            text = proof.read_text(encoding="utf-8")
+            if proof.parent == crate / folder:
+                copy = folder.with_name(f"{self.name}__{number}") / proof.name
+                self.proofs[copy] = text.replace(f".{path}.", f".{path}__{number}.")
+            elif re.search(rf"\.{path}\.(?!Met\b)", text):
+                # A lemma on this function's own values does not fit the copy.
+                raise ValueError
+
+    def put(self, texts):
+        """Puts the copy behind its function."""
+        _, end, _ = place_of(texts[self.file], self.name)
+        texts[self.file] = texts[self.file][:end] + self.text + texts[self.file][end:]
+
+
+def place_of(text, name):
+    """Where the only function of this name begins, with its attributes, and ends, and its indentation."""
+    (head,) = re.finditer(rf"(?m)^(?: *(?://|#\[).*\n)*( *)(?:pub(?:\([a-z]+\))? )?(?:unsafe )?(?:extern \"C\" )?fn {name}\b", text)
+    return head.start(), text.index(f"\n{head[1]}}}\n", head.end()) + len(head[1]) + 3, head[1]
+
+
 def rounds_of(crate, bodies):
-    """Divides the bodies into rounds: in a round each function is changed once, and all texts apply."""
+    """Divides the bodies into rounds: in a round each function is changed once, or copied, and all texts apply.
+    Gives each round's texts, and its bodies with the functions of each that must be refused."""
     rounds = []
     for body in bodies:
-        functions = body.changed | body.refused
+        functions, copy = body.changed | body.refused, None
         for taken in rounds:
             texts = edited(crate, taken["texts"], body.edits)
-            if texts is not None and not functions & taken["functions"] and not body.is_alone | taken["is_alone"]:
+            if body.is_alone or taken["is_alone"]:
+                continue
+            if texts is not None and not functions & taken["functions"]:
                 break
+            try:
+                copy = Copy(crate, body, len(taken["bodies"]))
+                break
+            except ValueError:
+                pass
         else:
             texts = edited(crate, {}, body.edits)
             if texts is None:
                 sys.exit(f"{crate.name}: {body.name}: an old text does not stand exactly once")
-            taken = {"bodies": [], "functions": set(), "is_alone": body.is_alone}
+            taken = {"bodies": {}, "functions": set(), "copies": [], "is_alone": body.is_alone}
             rounds.append(taken)
-        taken["texts"] = texts
-        taken["bodies"].append(body)
+        taken["texts"] = taken["texts"] if copy else texts
+        taken["copies"] += [copy] * bool(copy)
+        taken["bodies"][body] = (copy or body).refused
         taken["functions"] |= functions
     return rounds
 
@@ -196,35 +251,53 @@ def outcomes_in(output):
     return found
 
 
-def outcome_of(body, outcomes):
-    """The worst of the outcomes of the functions that a body must have refused. A function's outcome is the
-    best of its own and those of its closures."""
+def outcome_of(functions, outcomes):
+    """The worst of the outcomes of the functions that must be refused. A function's outcome is the best of its
+    own and those of its closures."""
     rank = lambda outcome: ("refused", "by name", "failed").index(outcome[0])
     own = lambda function: [outcome for path, outcome in outcomes.items()
                             if f"::{path}".endswith(f"::{function}") or f"fn::{function}::" in path]
-    best = [min(own(function), key=rank, default=("failed", f"no line about {function}")) for function in body.refused]
+    best = [min(own(function), key=rank, default=("failed", f"no line about {function}")) for function in functions]
     return max(best, key=rank)
 
 
 def try_round(command, crate, room, taken):
     """Checks the functions of a round. Gives the outcome of each body, and the processor seconds."""
-    for file, text in taken["texts"].items():
+    texts = dict(taken["texts"])
+    for copy in taken["copies"]:
+        copy.put(texts)
+        texts |= copy.proofs
+    for file, text in texts.items():
+        Path(room, file).parent.mkdir(parents=True, exist_ok=True)
         Path(room, file).write_text(text, encoding="utf-8")
-    functions = sorted({function for body in taken["bodies"] for function in body.refused})
+    functions = sorted(set().union(*taken["bodies"].values()))
     only = [word for function in functions for word in ("--only", function)]
     ran = subprocess.Popen([*command, *only], cwd=room, stdout=subprocess.PIPE, stderr=subprocess.STDOUT, text=True, errors="replace")
     output = ran.stdout.read()
     _, status, used = os.wait4(ran.pid, 0)
-    for file in taken["texts"]:
-        shutil.copy(crate / file, Path(room, file))
+    for file in texts:
+        if (crate / file).is_file():
+            shutil.copy(crate / file, Path(room, file))
+        else:
+            shutil.rmtree(Path(room, file).parent, ignore_errors=True)
     if not re.search(r"^only=", output, re.M):
         print(f"{crate.name}: no verdict, status {os.waitstatus_to_exitcode(status)}: {output.strip()[-1500:]}")
     outcomes = outcomes_in(output.splitlines())
-    return {body: outcome_of(body, outcomes) for body in taken["bodies"]}, used.ru_utime + used.ru_stime
+    return {body: outcome_of(refused, outcomes) for body, refused in taken["bodies"].items()}, used.ru_utime + used.ru_stime
 
 
-def try_crate(libraries, crate):
-    """Tries the bodies of a crate. Gives them with their outcomes, the number of rounds, and the processor seconds."""
+def without_bodies(crate, taken):
+    """A round with the copies of this one, but without the bodies in them."""
+    for copy in taken["copies"]:
+        copy.text = copy.true
+    texts = {copy.file: (crate / copy.file).read_text(encoding="utf-8") for copy in taken["copies"]}
+    bodies = {body: refused for body, refused in taken["bodies"].items() if refused is not body.refused}
+    return taken | {"texts": texts, "bodies": bodies}
+
+
+def try_crate(libraries, crate, only_copies=False):
+    """Tries the bodies of a crate, or only copies without them. Gives the bodies with their outcomes, the number of
+    rounds, and the processor seconds."""
     bodies, results, seconds, number = bodies_of(crate), {}, 0.0, 0
     with tempfile.TemporaryDirectory(prefix="bodies-") as room:
         for part in ("src", "specs", "proofs"):
@@ -233,6 +306,9 @@ def try_crate(libraries, crate):
         os.mkdir(f"{room}/proved")
         root = "src/main.rt" if (crate / "src/main.rt").is_file() else "src/lib.rt"
         rounds = rounds_of(crate, bodies)
+        if only_copies:
+            rounds = [without_bodies(crate, taken) for taken in rounds if taken["copies"]]
+            bodies = [body for taken in rounds for body in taken["bodies"]]
         while rounds:
             found, used = try_round([*libraries.command(crate.name), root], crate, room, rounds.pop(0))
             results |= found
@@ -244,25 +320,28 @@ def try_crate(libraries, crate):
     return bodies, results, number, seconds
 
 
-def main(names):
+def main(words):
+    only_copies, names = "--copies" in words, [word for word in words if word != "--copies"]
     libraries, promises = Libraries(), (ROOT / "docs/PROMISES.md").read_text(encoding="utf-8")
     crates = [page.parents[1] for page in sorted((ROOT / "crates").glob("*/must-fail/bodies.md"))]
     crates = [crate for crate in crates if not names or crate.name in names]
     size = lambda crate: sum(file.stat().st_size for part in ("src", "proofs") for file in crate.glob(f"{part}/**/*.*t"))
     passed, failed, by_name, seconds, begun = 0, 0, [], 0.0, time.time()
     with ThreadPoolExecutor(os.cpu_count()) as workers:
-        runs = {crate: workers.submit(try_crate, libraries, crate) for crate in sorted(crates, key=size, reverse=True)}
+        runs = {crate: workers.submit(try_crate, libraries, crate, only_copies) for crate in sorted(crates, key=size, reverse=True)}
         for crate in crates:
             bodies, results, rounds, used = runs[crate].result()
             seconds += used
             for body in bodies:
                 what, why = results[body]
+                if only_copies:
+                    what = "proved" if why.startswith("proved") else "failed"
                 passed, failed = passed + (what != "failed"), failed + (what == "failed")
                 if what == "by name":
                     by_name.append(body)
                     print(f"{crate.name}: {body.name}: refused only because a proof names what the edit changes: {why[:160]}")
                 elif what == "failed":
-                    print(f"{crate.name}: {body.name}: NOT REFUSED: {why}")
+                    print(f"{crate.name}: {body.name}: NOT {'PROVED' if only_copies else 'REFUSED'}: {why}")
             print(f"{crate.name}: {len(bodies)} bodies in {rounds} rounds, {used:.0f} processor seconds", flush=True)
     promised = [body.name for body in by_name if f"`{body.name}`" in promises]
     if promised:

@@ -1,5 +1,6 @@
 #!/usr/bin/env -S python3 -B
-"""Judges drawn histories by `judge check --serializable --show-order` and by plain_order_judge.py.
+"""Judges drawn histories by `judge check --serializable --show-order`, with and without `--real-time`, and
+by plain_order_judge.py.
 
     tests/forged_order.py PROGRAM COUNT SEED
 
@@ -8,10 +9,12 @@ committed map or a snapshot of it, go back to savepoints and abort; the first to
 each value may be put once or many times. Some are written down in another order, and in some an entry is
 forged (forged_serial.py). All orders are tried if there are at most seven commits. Each verdict must be
 right: an order must be a serial one, each edge of a cycle must hold in all orders, its class must be that
-of the edges, a value without a writer must have none, and an undecided value must come more than once. At
-most one history in a hundred may be undecided. One that is serializable in the order of its commits must
-be found so. Exit status and standard error must fit. The plain judge's two ways must agree too, with and
-without real time. The last line is 'forged: N passed, M failed', and the status is 1 if M is not 0.
+of the edges, a value without a writer must have none, and an undecided value must come more than once, and
+the transactions that are named must be those that write it. With real time the order must keep it, and an
+edge may say that a transaction had committed when another one began. At most one verdict in a hundred may be undecided, with and without real time. A history that is
+serializable in the order of its commits must be found so. Exit status and standard error must fit. The
+plain judge's two ways must agree too. A history counts as passed if both verdicts are right. The last line
+is 'forged: N passed, M failed', and the status is 1 if M is not 0.
 """
 import collections
 import json
@@ -27,10 +30,11 @@ from plain_judge import alone, committed, is_open, transactions
 
 MOST_TRIED = 7
 EDGE = r"transaction (\d+) (left|read) (\d+|none) at key (\d+), which transaction (\d+) (read|replaced)"
+TIME_EDGE = r"transaction (\d+) (committed) before(()) transaction (\d+) (began)"
 UNWRITTEN = r"transaction (\d+) read (\d+) at key (\d+), which no committed transaction left"
-IMPOSSIBLE = r"transaction (\d+) read (\d+|none) at key (\d+), which no serial order gives"
+IMPOSSIBLE = r"transaction (\d+) read (\d+|none) at key (\d+), which no serial order( in real time)? gives"
 TORN = r"the replies of transaction (\d+) contradict one another"
-CYCLE = r"(lost update|G1c|G-single|G2-item), cycle of (\d+); (.*)"
+CYCLE = r"((?:lost update|G1c|G-single|G2-item)(?:-realtime)?), cycle of (\d+); (.*)"
 
 
 class Unordered(Store):
@@ -87,11 +91,19 @@ def histories(draws):
 
 def class_of(edges):
     """The class of a cycle: a lost update has two transactions, which replaced one value that both
-    read. Else the number of edges that lead to a transaction that replaced something decides."""
+    read. Else the number of edges that lead to a transaction that replaced something decides. An edge of
+    real time is named too."""
     replaced = [edge[2:4] for edge in edges if edge[5] == "replaced"]
     if len(edges) == len(replaced) == 2 and replaced[0] == replaced[1]:
         return "lost update"
-    return ["G1c", "G-single", "G2-item"][min(len(replaced), 2)]
+    suffix = "-realtime" if any(edge[5] == "began" for edge in edges) else ""
+    return ["G1c", "G-single", "G2-item"][min(len(replaced), 2)] + suffix
+
+
+def edges_in(text):
+    """The edges of a cycle, or None if the text has something else."""
+    found = [re.fullmatch(EDGE, it) or re.fullmatch(TIME_EDGE, it) for it in text.split("; ")]
+    return [it.groups() for it in found] if all(found) else None
 
 
 class Truth:
@@ -100,7 +112,7 @@ class Truth:
     def __init__(self, entries):
         self.entries, self.at = entries, plain_order_judge.misshapen(entries)
         if self.at is not None:
-            self.kind = "wrong shape"
+            self.kind = self.kind_in_time = "wrong shape"
             return
         self.commits = committed(entries)
         self.numbers = [it[0][2] for it in self.commits]
@@ -108,7 +120,9 @@ class Truth:
         self.whole = [it or {} for it in self.footprints]
         self.accesses = plain_order_judge.Accesses(self.whole)
         self.kind = self.agreed(False)
-        self.agreed(True)
+        self.lowest = plain_order_judge.floors(entries)
+        self.kind_in_time = self.agreed(True)
+        assert self.kind_in_time != "serializable" or self.kind != "not serializable", entries
 
     def agreed(self, real_time):
         """What the ways of the plain judge say, which must be the same."""
@@ -124,12 +138,15 @@ class Truth:
             assert all(set(range(1, lowest[i - 1] + 1)) <= set(order[:n]) for n, i in enumerate(order))
         return found
 
-    def is_serial(self, order):
+    def is_serial(self, order, real_time=False):
         """Whether this is a serial order, by the numbers of the transactions."""
         pairs = {}
         if sorted(order) != sorted(self.numbers):
             return False
-        for number in order:
+        for place, number in enumerate(order):
+            lowest = self.lowest[self.numbers.index(number)] if real_time else 0
+            if not set(self.numbers[:lowest]) <= set(order[:place]):
+                return False
             pairs, is_right = alone(pairs, self.commits[self.numbers.index(number)])
             if not is_right:
                 return False
@@ -138,10 +155,12 @@ class Truth:
     def comes_once(self, key, value):
         return len(self.accesses.writing[key, value]) == (value is not None)
 
-    def is_edge(self, edge):
+    def is_edge(self, edge, real_time):
         """Whether this edge holds in all orders."""
         first, did, value, key, second, what = edge
         first, second = self.numbers.index(int(first)), self.numbers.index(int(second))
+        if did == "committed":
+            return real_time and first < self.lowest[second]
         value = int(key), None if value == "none" else int(value)
         it = self.accesses
         if did == "left":
@@ -150,53 +169,58 @@ class Truth:
             holds = what == "replaced" and first in it.needing[value] and second in it.replacing[value]
         return first != second and holds and self.comes_once(*value)
 
-    def is_cycle(self, name, count, text):
+    def is_cycle(self, name, count, text, real_time):
         """Whether these are so many edges that hold in all orders, in a circle of the class with this
         name."""
-        edges = re.findall(EDGE, text)
-        rest = "; ".join(re.sub(EDGE, "", text).split("; ")).strip("; ")
-        follows = zip(edges, edges[1:] + edges[:1])
+        edges = edges_in(text)
         return (
-            not rest
+            edges is not None
             and len(edges) == count > 0
             and name == class_of(edges)
-            and all(self.is_edge(it) for it in edges)
-            and all(one[4] == other[0] for one, other in follows)
+            and all(self.is_edge(it, real_time) for it in edges)
+            and all(one[4] == other[0] for one, other in zip(edges, edges[1:] + edges[:1]))
         )
 
-    def allows(self, line, order):
-        """Whether a verdict is right."""
+    def allows(self, line, order, real_time):
+        """Whether a verdict is right, with or without real time."""
+        words = " in real time" if real_time else ""
+        kind = self.kind_in_time if real_time else self.kind
         if self.at is not None:
-            return line == f"not serializable: entry {self.at} has the wrong shape"
-        if line.startswith("serializable "):
-            return self.kind == "serializable" and self.is_serial(order)
+            return line == f"not serializable{words}: entry {self.at} has the wrong shape"
+        if re.fullmatch(rf"serializable{words} \d+ commits \d+ open", line):
+            return kind == "serializable" and self.is_serial(order, real_time)
         if line.startswith("undecided "):
-            key, value = re.fullmatch(r"undecided key (\d+) value (\d+|none)", line).groups()
+            key, value, *_ = re.fullmatch(r"undecided key (\d+) value (\d+|none): transactions(( \d+)+)", line).groups()
             value = None if value == "none" else int(value)
+            writers = [self.numbers[i] for i in sorted(self.accesses.writing[int(key), value])]
+            is_named = line.endswith(": transactions " + " ".join(map(str, writers)))
             by_commits = plain_serial_judge.verdict(self.entries)
-            return not self.comes_once(int(key), value) and not by_commits.startswith("legal")
-        reason = line.removeprefix("not serializable: ")
-        if self.kind != "not serializable" or reason == line:
+            return is_named and not self.comes_once(int(key), value) and not by_commits.startswith("legal")
+        reason = line.removeprefix(f"not serializable{words}: ")
+        if kind != "not serializable" or reason == line:
             return False
         if re.fullmatch(TORN, reason):
             (number,) = re.fullmatch(TORN, reason).groups()
             return self.footprints[self.numbers.index(int(number))] is None
         if re.fullmatch(IMPOSSIBLE, reason):
-            number, value, key = re.fullmatch(IMPOSSIBLE, reason).groups()
+            number, value, key, in_time = re.fullmatch(IMPOSSIBLE, reason).groups()
             value = None if value == "none" else int(value)
-            return self.numbers.index(int(number)) in self.accesses.needing[int(key), value]
+            needing = self.accesses.needing[int(key), value]
+            return (in_time or "") == words and self.numbers.index(int(number)) in needing
         if re.fullmatch(UNWRITTEN, reason):
             number, value, key = map(int, re.fullmatch(UNWRITTEN, reason).groups())
             needing = self.accesses.needing[key, value]
             return self.numbers.index(number) in needing and not self.accesses.writing[key, value]
         cycle = re.fullmatch(CYCLE, reason)
-        return cycle is not None and self.is_cycle(cycle[1], int(cycle[2]), cycle[3])
+        return cycle is not None and self.is_cycle(cycle[1], int(cycle[2]), cycle[3], real_time)
 
 
-def judged(program, entries):
+def judged(program, entries, real_time):
     """The verdict, the order, standard error and the exit status."""
     text = json.dumps({"version": 3, "stripes": 1, "entries": entries}, separators=(",", ":"))
     words = [program, "check", "--serializable", "--show-order", "/dev/stdin"]
+    if real_time:
+        words.append("--real-time")
     found = subprocess.run(words, input=text, capture_output=True, text=True, check=False)
     line, *lines = found.stdout.split("\n")[:-1] or [""]
     order = [int(it.removeprefix("transaction ")) for it in lines]
@@ -208,17 +232,23 @@ def main():
     tally, failed, drawn = collections.Counter(), 0, histories(random.Random(seed))
     for entries in (next(drawn) for _ in range(count)):
         truth = Truth(entries)
-        line, order, error, status = judged(program, entries)
-        due = {"serializable": 0, "undecided": 5}.get(line.split(" ")[0], 1)
-        if error or status != due or not truth.allows(line, order):
-            failed += 1
-            print(f"forged: {truth.kind}, but {line} {order} {error} {status}: {entries}", file=sys.stderr)
+        is_right = True
+        for real_time, kind in ((False, truth.kind), (True, truth.kind_in_time)):
+            line, order, error, status = judged(program, entries, real_time)
+            due = {"serializable": 0, "undecided": 5}.get(line.split(" ")[0], 1)
+            if error or status != due or not truth.allows(line, order, real_time):
+                is_right = False
+                print(f"forged: {kind}, but {line} {order} {error} {status}: {entries}", file=sys.stderr)
+            tally["undecided in real time" if real_time else "undecided"] += status == 5
+        failed += not is_right
         by_commits = truth.kind == "serializable" and plain_serial_judge.verdict(entries)[:5] == "legal"
-        tally["serializable by commits" if by_commits else truth.kind] += 1
-        tally["undecided"] += status == 5
-    if tally["undecided"] * 100 > count:
-        failed += 1
-        print(f"forged: {tally['undecided']} of {count} are undecided", file=sys.stderr)
+        only_plain = truth.kind != truth.kind_in_time
+        kind = truth.kind + (" but not in real time" if only_plain else " by commits" if by_commits else "")
+        tally[kind] += 1
+    for kind in ("undecided", "undecided in real time"):
+        if tally[kind] * 100 > count:
+            failed += 1
+            print(f"forged: {tally[kind]} of {count} are {kind}", file=sys.stderr)
     told = ", ".join(f"{tally[kind]} {kind}" for kind in sorted(tally))
     print(f"forged: {told}")
     print(f"forged: {count - failed} passed, {failed} failed")

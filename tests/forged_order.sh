@@ -1,5 +1,5 @@
 #!/usr/bin/env bash
-# Judges drawn histories by `judge check --serializable` and by a plain judge
+# Judges drawn histories by `judge check --serializable`, with and without `--real-time`, and by a plain judge
 # (tests/forged_order.py): 100,000 of seed 1. It needs python3.
 # Usage: tests/forged_order.sh [HISTORIES [SEED [PROGRAM]]]
 set -euo pipefail

@@ -47,13 +47,28 @@ usage_errors() {
   wants 2 '' "$usage" why --commit-order --serializable --dot examples/checked.json
   wants 2 '' "$usage" why --serializable --dot --dot examples/checked.json
   wants 2 '' "$usage" check --serializable --dot examples/checked.json
+  wants 2 '' "$usage" check --real-time examples/checked.json
+  wants 2 '' "$usage" check --commit-order --real-time examples/checked.json
+  wants 2 '' "$usage" check --serializable --real-time --real-time examples/checked.json
+  wants 2 '' "$usage" why --real-time examples/checked.json
+  wants 2 '' "$usage" watch --real-time
   wants 2 '' "$usage" watch --dot
   wants 2 '' "$usage" watch --commit-order --stripes 8
   wants 2 '' "$usage" watch --serializable
-  local stripes
-  for stripes in 0 4097 -1 x '' 8x 18446744073709551616; do
-    wants 2 '' "$usage" watch "--stripes=$stripes"
+  local number
+  for number in 0 4097 -1 x '' 8x 18446744073709551616; do
+    wants 2 '' "$usage" watch "--stripes=$number"
   done
+  for number in -1 x '' 8x 18446744073709551616; do
+    wants 2 '' "$usage" check --serializable "--most-branches=$number" examples/checked.json
+    wants 2 '' "$usage" why --serializable "--most-branches=$number" examples/checked.json
+  done
+  wants 2 '' "$usage" check --serializable examples/checked.json --most-branches
+  wants 2 '' "$usage" check --serializable --most-branches 1 --most-branches 1 examples/checked.json
+  wants 2 '' "$usage" check --most-branches 1 examples/checked.json
+  wants 2 '' "$usage" check --commit-order --most-branches 1 examples/checked.json
+  wants 2 '' "$usage" why --most-branches 1 examples/checked.json
+  wants 2 '' "$usage" watch --most-branches 1
   wants 2 '' "$usage" check $'\xff'
 }
 
@@ -77,7 +92,10 @@ files() {
   wants 0 'serializable 4 commits 4 open' '' check --serializable samples/judge/example.json
   wants 3 '' 'refused 21' check examples/first_commit.json
   wants 3 '' 'refused 20' check --commit-order README.md
+  wants 0 'serializable in real time 2 commits 0 open' '' check --serializable --real-time examples/checked.json
+  wants 0 'serializable in real time 4 commits 4 open' '' check --real-time --serializable samples/judge/example.json
   wants 3 '' 'refused 20' check --serializable README.md
+  wants 3 '' 'refused 20' check --serializable --real-time README.md
   wants 4 '' 'read failed' check examples/missing.json
   wants 4 '' 'read failed' check --serializable examples/missing.json
   wants 4 '' 'read failed' check examples
@@ -517,15 +535,37 @@ entries of transaction 3 of caller 0 on key 1:
 ["asked",0,"get",2]
 ["did",0,6]
 ["committed",0,3]'
-  explains 5 'undecided key 1 value none' '' 'a value put three times and taken once' 3 --serializable <<<"$put_thrice"
+  explains 5 'undecided key 1 value none: transactions 4' '' 'a value put three times and taken once' 3 --serializable <<<"$put_thrice"
+}
+
+# A search that must go back: only the take brings back what the first put replaced, so that this put comes last.
+branches() {
+  local number
+  ran '0:"put",1,5:null' 0:c '1:"put",1,6:null' 1:c '2:"take",1:6' 2:c >"$work/lines"
+  explains 0 'serializable 3 commits 0 open' '' 'branches by default' 3 --serializable <"$work/lines"
+  for number in 1 10000 +00018446744073709551615; do
+    explains 0 'serializable 3 commits 0 open' '' "$number branches" 3 --serializable "--most-branches=$number" <"$work/lines"
+  done
+  explains 5 'undecided key 1 value none: transactions 3' '' 'no branches' 3 --most-branches 0 --serializable <"$work/lines"
+  run check --show-order --serializable --most-branches 1 "$work/history.json"
+  judge 'an order by a branch' 0 $'serializable 3 commits 0 open\ntransaction 2\ntransaction 3\ntransaction 1' ''
+  run check --serializable --most-branches 0 "$work/history.json"
+  judge 'no order without branches' 5 'undecided key 1 value none: transactions 3' ''
 }
 
 # classed CLASS STATEMENTS WHAT: runs `judge check --serializable` on the entries of standard input, which
-# have a cycle of this class with these statements.
+# have a cycle of this class with these statements. If the class is one of real time, runs it with
+# `--real-time`; without it the history is serializable.
 classed() {
+  local words=() in_time='' count
   printf '{"version":3,"stripes":8,"entries":[%s]}' "$(paste -sd ,)" >"$work/history.json"
-  run check --serializable "$work/history.json"
-  judge "class: $3" 1 "not serializable: $1, cycle of $2" ''
+  if [[ $1 = *-realtime ]]; then
+    words=(--real-time) in_time=' in real time' count=$(grep -o '"committed"' "$work/history.json" | wc -l)
+    run check --serializable "$work/history.json"
+    judge "without real time: $3" 0 "serializable $count commits 0 open" ''
+  fi
+  run check --serializable "${words[@]}" "$work/history.json"
+  judge "class: $3" 1 "not serializable$in_time: $1, cycle of $2" ''
 }
 
 # ran STEP..: the entries of callers that run a transaction each. A step is CALLER:OPERATION:REPLY, as in
@@ -569,6 +609,50 @@ classes() {
   ran '0:"put",1,5:null' '1:"put",2,6:null' '0:"get",2:6' '1:"get",1:5' 0:c 1:c | classed G1c '2; '\
 'transaction 1 left 5 at key 1, which transaction 2 read; '\
 'transaction 2 left 6 at key 2, which transaction 1 read' 'each reads from the other'
+  ran '0:"put",1,5:null' 0:c '1:"get",1:null' 1:c | classed G-single-realtime '2; '\
+'transaction 1 committed before transaction 2 began; '\
+'transaction 2 read none at key 1, which transaction 1 replaced' 'a read of an old state'
+  ran '0:"get",1:5' 0:c '1:"put",1,5:null' 1:c | classed G1c-realtime '2; '\
+'transaction 1 committed before transaction 2 began; '\
+'transaction 2 left 5 at key 1, which transaction 1 read' 'a read of what comes later'
+  ran '0:"get",1:null' '1:"put",1,5:null' 1:c '2:"get",2:null' '0:"put",2,6:null' 0:c 2:c | classed G2-item-realtime '3; '\
+'transaction 2 committed before transaction 3 began; '\
+'transaction 3 read none at key 2, which transaction 1 replaced; '\
+'transaction 1 read none at key 1, which transaction 2 replaced' 'an old state beside a new one'
+}
+
+# What real time decides, and what it leaves open.
+in_time() {
+  ran '0:"get",1:null' '1:"put",1,5:null' 1:c 0:c | explains 0 'serializable in real time 2 commits 0 open' '' \
+    'a reader that began before the writer committed' 3 --serializable --real-time
+  explains 1 'not serializable in real time: transaction 2 read none at key 1, which no serial order in real time gives
+entries of transaction 2 of caller 0 on key 1:
+  5 ["asked",0,"put",1,5]
+  6 ["did",0,null]' '' 'a value put three times and taken once, in real time' 3 --serializable --real-time <<<"$put_thrice"
+  explains 1 'not serializable in real time: entry 0 has the wrong shape
+the entry:
+  0 ["began",0,2]
+entries of caller 0:' '' 'a wrong shape, in real time' 3 --serializable --real-time <<<'["began",0,2]'
+  ran '0:"put",1,5:null' 0:c '7:"get",1:null' 7:c >"$work/lines"
+  explains 1 'not serializable in real time: G-single-realtime, cycle of 2; transaction 1 committed before transaction 2 began; '\
+'transaction 2 read none at key 1, which transaction 1 replaced
+transaction 1 of caller 0 committed before transaction 2 of caller 7 began:
+  3 ["committed",0,1]
+  4 ["began",7,2]
+transaction 2 of caller 7 read none at key 1, which transaction 1 of caller 0 replaced:
+  5 ["asked",7,"get",1]
+  6 ["did",7,null]
+  1 ["asked",0,"put",1,5]
+  2 ["did",0,null]' '' 'a read of an old state' 3 --serializable --real-time <"$work/lines"
+  explains 1 'digraph {
+  // not serializable in real time: G-single-realtime, cycle of 2; transaction 1 committed before transaction 2 began; '\
+'transaction 2 read none at key 1, which transaction 1 replaced
+  label="G-single-realtime";
+  1 [label="transaction 1 of caller 0"];
+  1 -> 2 [label="1 committed before\n2 began"];
+  2 [label="transaction 2 of caller 7"];
+  2 -> 1 [label="2 read none at key 1,\nwhich 1 replaced"];
+}' '' 'the graph of a read of an old state' 3 --serializable --real-time --dot <"$work/lines"
 }
 
 # The graph of a cycle, by hand, and that of other verdicts, which has no edges.
@@ -603,7 +687,7 @@ graphs() {
   // not serializable: transaction 1 read 7 at key 1, which no committed transaction left
 }' '' 'the graph of a value that nobody left' 3 --serializable --dot <"$work/lines"
   explains 5 'digraph {
-  // undecided key 1 value none
+  // undecided key 1 value none: transactions 4
 }' '' 'the graph of an undecided history' 3 --serializable --dot <<<"$put_thrice"
   wants 3 '$: no JSON, or nested more than 127 deep, at line 1 column 1' 'refused 20' why --serializable --dot README.md
   wants 4 '' 'read failed' why --serializable --dot examples/missing.json
@@ -915,6 +999,8 @@ shapes
 commits
 anomalies
 classes
+in_time
+branches
 graphs
 refusals
 script_outcomes

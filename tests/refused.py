@@ -34,8 +34,8 @@ striped_tests refused::refused_memory
 striped_tests refused::refused_memory_with_room
 thread_tests lock_tests::a_stripe_is_held_until_its_holder_releases
 core_tests traces::savepoints_without_memory
-serial_tests histories::have_both_verdicts
-serial_tests histories::fed_entry_by_entry
+core_tests histories::verdicts::have_both_verdicts
+core_tests histories::verdicts::fed_entry_by_entry
 """
 # Tests that pass whichever single allocation is refused, or eight in a row, or all from one on.
 WHOLE = """
@@ -46,16 +46,15 @@ table_tests undo_log_tests::side_value_returns
 table_tests undo_log_tests::a_settled_value_stays
 core_tests cores::refused::five_callers_undone
 core_tests cores::refused::segments
-transaction_tests owned::the_table_grows_by_itself
-transaction_tests owned::a_history_is_cut_off
-transaction_tests owned::a_savepoint_is_gone_back_to
+core_tests owned::the_table_grows_by_itself
+core_tests owned::a_history_is_cut_off
+core_tests owned::a_savepoint_is_gone_back_to
 core_tests histories::fed_entry_by_entry
 core_tests histories::fed_with_savepoints
 thread_tests map_tests::refused::refused_memory_between_callers
 thread_tests map_tests::refused::refused_memory_in_each_call
 thread_tests map_tests::side::side_value_returns
 thread_tests run_tests::refused_memory_for_crossing_scripts
-program_tests engines::refused::five_callers_undone_is_legal
 program_tests engines::refused::a_cursor_stands_beside_a_refusal
 """
 # Tests that pass whichever single allocation is refused. They are not run with more refused.

@@ -2,7 +2,9 @@
 # Judges recorded histories of real stores, and one history of each class of anomaly, by the built program
 # and by a plain judge (tests/plain_order_judge.py). It needs python3. tests/stores/postgres.py,
 # tests/stores/hermitage.py and samples/judge/sqlite.py have recorded the histories; the classes are
-# written by hand (tests/stores/anomaly.py). What is due is what the store publishes.
+# written by hand (tests/stores/anomaly.py). What is due is what the store publishes. The histories of
+# PostgreSQL are judged with real time too: their entries were noted when they happened, and the verdicts
+# are the same. Those of SQLite are not, since its transactions are written down when they have ended.
 # The last line is 'stores: N passed, M failed', and the status is 1 if M is not 0.
 # Usage: tests/stores.sh [PROGRAM]
 set -uo pipefail
@@ -36,9 +38,9 @@ for line in sys.stdin:
     print(history["test"], history["level"], commits, line, sep="\n", end="")'
 }
 
-# Judges the histories of standard input, one a line.
+# judge_lines [--real-time]: judges the histories of standard input, one a line.
 judge_lines() {
-  local test level commits wanted status
+  local test level commits wanted status words=${1:+ in real time}
   parts | while read -r test && read -r level && read -r commits && read -r line; do
     printf '%s\n' "$line" >"$work/history.json"
     wanted=$(due "$test" "$level")
@@ -47,17 +49,19 @@ judge_lines() {
       wanted="serializable $commits commits 0 open"
       status=0
     fi
-    run check --serializable "$work/history.json"
-    sed -i '1s/^\(not serializable\).*/\1/; 1q' "$work/out"
-    judge "$test at $level" "$status" "$wanted" ''
-    tests/plain_order_judge.py "$work/history.json" >"$work/out" 2>"$work/err"
+    run check --serializable "$@" "$work/history.json"
+    sed -i "1s/^\(not serializable\|serializable\)$words/\1/; 1s/^\(not serializable\).*/\1/; 1q" "$work/out"
+    judge "$test at $level$words" "$status" "$wanted" ''
+    tests/plain_order_judge.py "$@" "$work/history.json" >"$work/out" 2>"$work/err"
     echo $? >"$work/status"
-    judge "$test at $level by the plain judge" "$status" "$wanted" ''
+    judge "$test at $level$words by the plain judge" "$status" "$wanted" ''
   done
 }
 
 judge_lines <tests/stores/hermitage.jsonl
+judge_lines --real-time <tests/stores/hermitage.jsonl
 judge_lines <tests/stores/postgres.jsonl
+judge_lines --real-time <tests/stores/postgres.jsonl
 judge_lines <tests/stores/sqlite.jsonl
 tests/stores/anomaly.py >"$work/classes" 2>"$work/err"
 echo $? >"$work/status"

@@ -14,6 +14,7 @@
  *     boostmap_striped_begin(&mine);
  *     boostmap_striped_put(&mine, 7, 70, &word);                 BOOSTMAP_BUSY if the other has it
  *     boostmap_striped_commit(&mine, &word);
+ *     boostmap_caller_add(&mine, 7, -5, &word);                  one call: a transaction, which waits if busy
  *     boostmap_striped_free(&mine);
  *
  *     boostmap map = BOOSTMAP_INIT;                              a map with one owner
@@ -25,28 +26,54 @@
  *     boostmap_free(&map);
  *
  * DESCRIPTION
- *     There are two kinds of maps. Use the striped map, with one caller or with many, unless you
- *     want a history.
+ *     There are two kinds of maps. Use the striped map, with one caller or with many.
  *
  *     A striped map is for threads: each of its callers has its own handle, a
  *     `boostmap_caller`, and callers run in parallel without a lock. It grows by itself, hashes its
- *     keys and, unless asked, keeps no history, so it may run forever. If a caller finds a stripe held, the call
- *     returns BOOSTMAP_BUSY, and the transaction has been aborted, with all its changes taken back.
+ *     keys and, unless asked, keeps no history, so it may run forever.
  *
- *     A map with one owner, a `boostmap`, is for a program that wants to see each step of up to 64
- *     callers and to keep the history of their transactions: for tests, for simulations, for a log
- *     that is judged (boostmap_history). The program makes the calls of all callers, numbered from 0, in any order.
- *     Each caller may have one transaction open. If a caller finds a stripe held, the call returns
- *     BOOSTMAP_BUSY, and the transaction can only abort.
+ *     A map with one owner, a `boostmap`, is for tests and simulations: the program makes the calls of
+ *     up to 64 callers, numbered from 0, in any order, and the map keeps their history
+ *     (boostmap_history). Each caller may have one transaction open.
  *       Its memory grows with its history: 32 bytes an entry, 320 bytes for a transaction of four
  *     operations, also of gets. boostmap_trim cuts the history off, and after boostmap_trim_above the
  *     map does so by itself. The map also grows by itself, but it does not hash: a key belongs to the
  *     bucket that its low bits name. Consecutive and random keys are fast. Keys whose low bits are all
  *     alike, as multiples of 65536, form one long list: mix such keys before.
  *
- *     In both maps keys belong to stripes. An operation takes the stripe of its key, and its
- *     transaction keeps the stripe to the end, so committed transactions have the replies of running
- *     one after another, in the order of their commits. No call ever waits for a stripe.
+ *     In both maps a key belongs to the stripe key % stripes. An operation takes the stripe of its key,
+ *     and its transaction keeps the stripe to the end, so committed transactions have the replies of
+ *     running one after another, in the order of their commits.
+ *       Take several times as many stripes as keys are in open transactions at a time. If all your keys
+ *     are multiples of a number, take stripes that have no factor in common with it: of 64 stripes the
+ *     keys 64, 128, 192 .. use one, of 61 stripes all.
+ *
+ * AFTER BOOSTMAP_BUSY
+ *     Another caller held a stripe that the call needs; `word` is its number, for messages.
+ *       On a striped map the transaction has been aborted, with all its changes taken back. Wait as
+ *     boostmap_wait does, and begin again; boostmap_caller_transact and boostmap_caller_NAME do both.
+ *       On a map with one owner the transaction can only abort, and keeps its stripes until then: call
+ *     boostmap_abort, and begin again after the other caller has ended its transaction.
+ *
+ * WHAT IS NOT THERE, AND WHAT TO DO INSTEAD (on a striped map)
+ *     keys or values of bytes       number them in a map of your own, with its own lock. A value may
+ *                                   be a pointer: no call follows or frees it
+ *     shared locks, snapshots       a get also excludes other callers from the stripe. For a read of
+ *                                   the whole map that gets through, hold a pthread_rwlock_t that
+ *                                   prefers writers: for writing around this read, for reading around
+ *                                   all transactions
+ *     ranges of keys, keys alone    choose from boostmap_striped_items, or from a stripe's pairs
+ *     a size that stops nobody      count in the program
+ *     shrinking                     put the pairs into a new map, and free the old one
+ *     export to a file              write the pairs of boostmap_caller_items; import them by
+ *                                   boostmap_caller_put_all
+ *     busy calls of each stripe     boostmap_striped_counts has those of each caller
+ *     waiting for the holder, a     boostmap_wait, which draws its times. No caller is promised
+ *     queue, priorities, fairness   that it ever gets through
+ *     a deadline                    give boostmap_caller_transact a number of tries, or a job that
+ *                                   looks at the clock
+ *     a caller for each thread      keep one in a variable of the thread, made by
+ *     by itself                     boostmap_striped_another
  *
  * RETURN VALUE
  *     Every call returns a status. Most take a pointer `word`: with BOOSTMAP_DONE and BOOSTMAP_BUSY
@@ -68,14 +95,15 @@
  *     (BOOSTMAP_INIT). boostmap_new gives it a map; boostmap_free frees the map and makes the handle
  *     all zeros again. A handle may be moved by copying its bytes, if only the copy is used
  *     afterwards. Never read or write its fields. The same holds for a `boostmap_judge`, a
- *     `boostmap_host`, and a `boostmap_caller`, which takes 64 bytes and is aligned to 64. A striped map is freed with the
- *     last of its callers; a caller that is freed in a transaction aborts it.
+ *     `boostmap_host`, and a `boostmap_caller`, which takes 64 bytes and is aligned to 64. A striped
+ *     map is freed with the last of its callers; a caller that is freed in a transaction aborts it.
  *
  * THREADS
  *     Make one call at a time on one handle. Any thread may make the next call, if a mutex, a
  *     thread's start or join, or a seq_cst atomic orders it after the last one. Different handles
- *     may be in calls at the same time, also those of callers of one striped map. No call waits,
- *     takes a lock, starts a thread, or calls back.
+ *     may be in calls at the same time, also those of callers of one striped map. No call of the
+ *     archive waits, takes a lock, starts a thread, or calls back. The functions that this header
+ *     defines may wait (boostmap_wait), and call the functions that they are given.
  *
  * WHAT IS PROVED, AND WHAT IS ONLY TESTED
  *     The archive is proved: each call, made as the next section says, is free of undefined
@@ -95,13 +123,21 @@
  *        of a process with threads.
  *     7. malloc, realloc and free come from one allocator and align  the heap is corrupted
  *        to 16, as in any C library.
- *     8. There is enough stack for a call.                           the program crashes
+ *     8. There is enough stack for a call: 16 KB is, as tested.      the program crashes
  *
  *     Everything else returns a status: an empty handle (also after boostmap_free), a caller, a
  *     level or a limit out of range, calls out of order, and memory that is refused.
  *
+ * PLATFORMS
+ *     Built and tested on x86-64 Linux with glibc, by gcc; the headers also compile with clang. No
+ *     other platform was tried.
+ *
+ * LICENCE
+ *     None has been chosen yet. Ask the owners before you use the library or pass it on.
+ *
  * SEE ALSO
- *     boostmap_checked.h (null and overlapping calls become statuses), boostmap.hpp (C++), docs/C.md
+ *     boostmap_checked.h (null and overlapping calls become statuses), boostmap.hpp (C++), docs/C.md.
+ *     Pages of docs/ are in the repository, and are not installed.
  */
 #ifndef BOOSTMAP_H
 #define BOOSTMAP_H
@@ -136,8 +172,7 @@ typedef uint32_t boostmap_status;
 enum {
     BOOSTMAP_DONE = 0,   /* done; *word is the number that the comment of the call names */
     BOOSTMAP_ABSENT = 1, /* done, at a key without a value */
-    BOOSTMAP_BUSY = 2,   /* caller *word holds a stripe that the call needs: this transaction can
-                            only abort, or, on a striped map, has been aborted */
+    BOOSTMAP_BUSY = 2,   /* caller *word holds a stripe that the call needs: see above, AFTER BOOSTMAP_BUSY */
     BOOSTMAP_EMPTY = 3,  /* the handle is empty; nothing was done */
     BOOSTMAP_FULL = 4,   /* the handle is in use already; nothing was done */
     BOOSTMAP_NULL = 5,   /* only from boostmap_checked.h: a null pointer */
@@ -155,7 +190,7 @@ enum {
                                       boostmap_striped_join: no caller waits */
     BOOSTMAP_NOT_OPEN = 19,        /* the caller has no transaction */
     BOOSTMAP_ALREADY_OPEN = 20,    /* the caller has a transaction already */
-    BOOSTMAP_LEAVING = 22,         /* after BOOSTMAP_BUSY: the transaction can only abort */
+    BOOSTMAP_LEAVING = 22,         /* of a map with one owner: after BOOSTMAP_BUSY the transaction can only abort */
     BOOSTMAP_NO_SUCH_LEVEL = 25,   /* the level is above the number of savepoints */
     BOOSTMAP_NO_SUCH_HELPER = 28,  /* as 18, from boostmap_help */
     BOOSTMAP_NO_MEMORY = 30,       /* memory was refused; never from commit and abort */
@@ -217,7 +252,8 @@ typedef struct boostmap_pair {
 
 /* Writes the pairs of the map as it is now, with the changes of open transactions, to the front of an
  * array of `places` elements, in the order of the keys' reversed bits; *word: the number of pairs.
- * After 7 the array is unchanged, and *word is the number of places that it needs.    0; 3; 7; 30 */
+ * After 7 the array is unchanged, and *word is the number of places that it needs; boostmap_count says it
+ * at once, and such a read takes about as long as a full one.    0; 3; 7; 30 */
 boostmap_status boostmap_read(boostmap *map, boostmap_pair *pairs, size_t places, uint64_t *word);
 
 /* *word: the number of entries of the map's history. An operation has two entries, and the begin, the
@@ -274,11 +310,7 @@ boostmap_status boostmap_back(boostmap *map, uint64_t caller, uint64_t level, ui
 /* ---- the striped map ----------------------------------------------------------------------------
  *
  * One handle is one caller. Its calls need no lock: give each thread its own caller. A caller may move
- * to another thread between any two calls, also within a transaction.
- *
- * A key belongs to the stripe key % stripes, and a transaction excludes all others from its stripes. So
- * take several times as many stripes as keys are in open transactions at a time, and not a number that
- * divides all your keys. After BOOSTMAP_BUSY wait before you try again, as boostmap_wait does. */
+ * to another thread between any two calls, also within a transaction. */
 
 /* Aligns a handle to a line of the processor's cache. */
 #if defined __cplusplus
@@ -300,15 +332,16 @@ typedef struct boostmap_caller {
 
 /* What a map keeps of its history. One that keeps its commits counts them in a word that all its callers
  * write, and so does one that keeps its entries; its callers also keep theirs, with 72 bytes for each
- * begin, operation, savepoint, return and end, until its host is freed. */
+ * begin, operation, savepoint, return and end, until the map and its host are freed. */
 enum { BOOSTMAP_KEEP_NOTHING = 0, BOOSTMAP_KEEP_COMMITS = 1, BOOSTMAP_KEEP_ENTRIES = 2 };
 
 /* Opens a map with no keys, for 1 to 4096 callers and with 1 to 4096 stripes, with room for `keys`
  * keys, and makes `first` its first caller; *word: the caller's number, which is the number of
- * callers. The others wait until they are joined. The map grows by itself; memory that it has for keys is
- * kept for later keys until the map is freed. `seed` is that of the hash of keys within a stripe:
- * if strangers choose the keys, draw it at random below 2^32, or they can make every call slow. With
- * larger seeds, consecutive keys may be slow.
+ * callers. The others wait until they are joined. A stripe takes some 150 bytes, a caller 750. The map grows
+ * by itself, and never shrinks: memory that it has for keys is kept for later keys until the map is freed.
+ * `seed` is that of the hash of keys within a stripe: if strangers choose the keys, draw it at random below
+ * 2^32, or they can make every call slow. With larger seeds, consecutive keys may be slow. The seed does not
+ * change which keys share a stripe.
  * 0; 4; 38; 30 */
 boostmap_status boostmap_striped_open(boostmap_caller *first, uint64_t callers, uint64_t stripes, uint64_t keys,
                                       uint32_t keep, uint64_t seed, uint64_t *word);
@@ -350,9 +383,8 @@ boostmap_status boostmap_striped_join(boostmap_caller *first, boostmap_caller *n
 
 /* Makes `next` the handle of another caller of the map, for threads that come and go. Any caller may make
  * it, at any time, also in a transaction, which continues. *word: its number, which no caller of the map has
- * or had; there are 2^62 of them. Both handles are in this call.
- * 0; 3: `caller` is empty; 4: `next` is in use; 30; 38: the map keeps its entries, so that only callers of
- * the opening have a place for theirs, or all numbers were given out */
+ * or had; there are 2^62 of them, or 2^16 - 1 if the map keeps its entries. Both handles are in this call.
+ * 0; 3: `caller` is empty; 4: `next` is in use; 30; 38: all numbers were given out */
 boostmap_status boostmap_striped_another(boostmap_caller *caller, boostmap_caller *next, uint64_t *word);
 
 /* Frees the caller, and the callers that still wait to be joined through its handle; an open
@@ -399,21 +431,22 @@ boostmap_status boostmap_striped_save(boostmap_caller *caller, uint64_t *word);
 boostmap_status boostmap_striped_back(boostmap_caller *caller, uint64_t level);
 
 /* Takes every stripe; *word: the number of keys that the map has, with the transaction's own changes.
- * The stripes stay held to the transaction's end; after 30 it may hold some of them. While other callers
- * seldom rest, most of these calls are busy: if the whole map is often read, exclude them by a lock of
- * your own.
+ * The stripes stay held to the transaction's end; after 30 it may hold some of them. A stripe that another
+ * caller holds is tried a million times, for some 50 milliseconds, before the call is busy. Meanwhile the
+ * calls of others on the stripes that it has taken are busy.
  * 0; 2, after which the transaction has been aborted; 3; 19; 30 */
 boostmap_status boostmap_striped_count(boostmap_caller *caller, uint64_t *word);
 
 /* Takes every stripe as boostmap_striped_count does, and writes the pairs of the map, by rising keys,
  * to the front of an array of `places` elements; *word: the number of pairs. After 7 the array is
- * unchanged, and *word is the number of places that it needs; the call took about as long as a full one.
+ * unchanged, and *word is the number of places that it needs; the call took about as long as a full one, so
+ * call boostmap_striped_count before.
  * 0; 2, after which the transaction has been aborted; 3; 7; 19; 30 */
 boostmap_status boostmap_striped_read(boostmap_caller *caller, boostmap_pair *pairs, size_t places, uint64_t *word);
 
 /* Takes the stripe of the key, and writes the pairs of this stripe, by rising keys and with the transaction's own changes,
  * to the front of an array of `places` elements; *word: the number of pairs. The keys 0 to stripes - 1 are in different
- * stripes, so a walk over them reads each pair once; with a transaction for each it is no snapshot. After 7 the array is
+ * stripes, so a walk over them reads each pair once; by boostmap_caller_read_stripe it is no snapshot. After 7 the array is
  * unchanged, and *word is the number of places that it needs.
  * 0; 2, after which the transaction has been aborted; 3; 7; 19; 30, after which the transaction may hold the stripe */
 boostmap_status boostmap_striped_read_stripe(boostmap_caller *caller, uint64_t key, boostmap_pair *pairs, size_t places,
@@ -461,6 +494,10 @@ boostmap_status boostmap_striped_run(boostmap_caller *caller, const struct boost
  *
  * No entry is for a read or a count of the whole map: a program that records one itself writes an ASKED get
  * and a DID for each key. Callers are judged below 64 only, so of a map with more callers no history is.
+ *
+ * A program that records a striped map itself opens it with BOOSTMAP_KEEP_COMMITS, notes each transaction
+ * beside its caller, and feeds those that committed to a judge by the order of commits, by rising places. A
+ * judge by locks wants each COMMITTED noted before the commit gives its stripes back; its place comes after.
  *
  * docs/VERDICTS.md has the rules in full ("The checker's rules"), and docs/JUDGE.md says how to record a
  * history; boostmap_host_history and boostmap_history hand out those of this library's maps. It is proved
@@ -511,7 +548,7 @@ typedef struct boostmap_verdict {
 enum { BOOSTMAP_HOLDER_NOW = 0, BOOSTMAP_HOLDER_BEGUN = 1, BOOSTMAP_BY_COMMITS = 2 };
 
 /* Begins to judge the history of a map with `stripes` stripes, at least one, each of which takes 9
- * bytes; by the order of commits the number is ignored.    0; 4; 38; 30 */
+ * bytes; memory is the only other limit. By the order of commits the number is ignored.    0; 4; 38; 30 */
 boostmap_status boostmap_judge_new(boostmap_judge *judge, uint64_t stripes, uint32_t rule);
 
 /* Feeds the next entry. It has been fed only after 0; after 30 it may be fed again. Entries after the
@@ -531,16 +568,18 @@ boostmap_status boostmap_judge_free(boostmap_judge *judge);
 
 /* Why a transaction comes before the next one. */
 enum {
-    BOOSTMAP_LINK_ORDER = 0,   /* they are neighbours in a serial order */
-    BOOSTMAP_LINK_READ = 1,    /* the next one read the value that it left */
-    BOOSTMAP_LINK_REPLACED = 2 /* the next one replaced the value that it read */
+    BOOSTMAP_LINK_ORDER = 0,    /* they are neighbours in a serial order */
+    BOOSTMAP_LINK_READ = 1,     /* the next one read the value that it left */
+    BOOSTMAP_LINK_REPLACED = 2, /* the next one replaced the value that it read */
+    BOOSTMAP_LINK_BEGAN = 3     /* it had committed when the next one began; only where real time counts */
 };
 
 /* A transaction of a serial order, or of a cycle, in which each must come before the next one, and the last
- * before the first. */
+ * before the first; or one that leaves an undecided value. */
 typedef struct boostmap_link {
     uint64_t transaction; /* its number */
-    uint64_t kind;        /* in an order BOOSTMAP_LINK_ORDER, and the rest is 0; in a cycle .._READ or .._REPLACED */
+    uint64_t kind;        /* in a cycle BOOSTMAP_LINK_READ, .._REPLACED, or .._BEGAN with the rest 0; else .._ORDER,
+                             with the rest 0 */
     uint64_t key;         /* the key of that value */
     uint64_t value;
     uint64_t has;         /* 0: the key had no value, and `value` is 0; else 1 */
@@ -553,7 +592,7 @@ enum {
     BOOSTMAP_UNWRITTEN = 3,    /* .. transaction `number` read what no committed transaction left */
     BOOSTMAP_IMPOSSIBLE = 4,   /* .. transaction `number` read what no serial order gives */
     BOOSTMAP_CYCLE = 5,        /* .. each of the transactions in the links must come before the next one */
-    BOOSTMAP_UNDECIDED = 6     /* not known: several transactions may have left this value at this key */
+    BOOSTMAP_UNDECIDED = 6     /* not known: each of the transactions in the links leaves this value at this key */
 };
 
 /* What the judge found by any order. */
@@ -563,18 +602,19 @@ typedef struct boostmap_finding {
     uint64_t key;    /* of UNWRITTEN, IMPOSSIBLE and UNDECIDED: the key and the value; else 0 */
     uint64_t value;
     uint64_t has;    /* 0: no value; else 1 */
-    uint64_t count;  /* of SERIALIZABLE and CYCLE: the number of links; else 0 */
+    uint64_t count;  /* of SERIALIZABLE, CYCLE and UNDECIDED: the number of links; else 0 */
 } boostmap_finding;
 
 /* Judges an array of entries, oldest first, by any order of their transactions, as `judge check
  * --serializable` does: is there an order in which each committed transaction has its replies when it runs
- * alone after those before it, from an empty map? docs/VERDICTS.md has the rules ("Serializable"). The call
- * needs no handle. The links are written to the front of an array of `places` elements; an order needs one
+ * alone after those before it, from an empty map? If `real_time` is not 0, the order must also have each
+ * transaction after those that had committed when it began. docs/VERDICTS.md has the rules ("Serializable").
+ * The call needs no handle. The links are written to the front of an array of `places` elements; an order needs one
  * for each COMMITTED entry.
  * 0; 7: too few places: the finding is written, with the number that it needs, and the links are unchanged;
  * 8: the numbers of an entry are no entry of a caller below 64; 30. After 8 and 30 nothing is written */
-boostmap_status boostmap_judge_any_order(const boostmap_entry *entries, size_t count, boostmap_link *links,
-                                         size_t places, boostmap_finding *finding);
+boostmap_status boostmap_judge_any_order(const boostmap_entry *entries, size_t count, uint32_t real_time,
+                                         boostmap_link *links, size_t places, boostmap_finding *finding);
 
 /* Writes the history of a map with one owner, oldest entry first, from the entry with index `first` on:
  * as many entries as there are and as the array of `places` elements has room for. *word: the number of
@@ -681,8 +721,8 @@ static inline int boostmap_caller_ends(boostmap_caller *caller, boostmap_status 
 typedef boostmap_status boostmap_job(boostmap_caller *caller, void *with);
 
 /* Runs a job in a transaction, and returns its status. A busy transaction is tried again at most
- * `tries` times (UINT64_MAX: for ever); a busy call of another map is returned at once. *word: the
- * place of the commit, as boostmap_striped_commit has it.
+ * `tries` times (UINT64_MAX: for ever), of which 1,000 take some 0.4 seconds; a busy call of another
+ * map is returned at once. *word: the place of the commit, as boostmap_striped_commit has it.
  * What the job returns; 2; 3; 19, if the job went on after a busy call and returned 0 or 1; 20 */
 static inline boostmap_status boostmap_caller_transact(boostmap_caller *caller, uint64_t tries,
                                                        boostmap_job *job, void *with,
@@ -813,6 +853,10 @@ BOOSTMAP_AT_ONCE(update,
                  boostmap_striped_update(caller, key, change, with, word))
 BOOSTMAP_AT_ONCE(count, (boostmap_caller *caller, uint64_t *word),
                  boostmap_striped_count(caller, word))
+BOOSTMAP_AT_ONCE(read_stripe,
+                 (boostmap_caller *caller, uint64_t key, boostmap_pair *pairs, size_t places,
+                  uint64_t *word),
+                 boostmap_striped_read_stripe(caller, key, pairs, places, word))
 BOOSTMAP_AT_ONCE(items, (boostmap_caller *caller, boostmap_pair **pairs, uint64_t *word),
                  boostmap_striped_items(caller, pairs, word))
 BOOSTMAP_AT_ONCE(put_all, (boostmap_caller *caller, const boostmap_pair *pairs, size_t count),

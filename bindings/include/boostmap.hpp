@@ -15,7 +15,10 @@
 // nothing is committed. It may run again after it was busy, so it should change nothing but the map.
 //
 // Threads: as boostmap.h says, one call at a time on one map, one caller or one judge. A call that
-// fails throws `error`, or `busy`.
+// fails throws `error`, or `busy`. The header needs exceptions.
+//
+// `transact` does not tell the place of the commit: for that, `begin` and `commit` by hand. What else is
+// not there, and what to do instead, stands in boostmap.h.
 #ifndef BOOSTMAP_HPP
 #define BOOSTMAP_HPP
 
@@ -89,6 +92,8 @@ class map_calls;
 class map_job;
 class transaction;
 
+// A map with one owner, for tests and simulations. Its memory grows with its history (`trim_above`), and
+// its keys should differ in their low bits, as boostmap.h says.
 class map {
 public:
     map(std::uint64_t callers, std::uint64_t stripes, std::uint64_t buckets) {
@@ -145,8 +150,8 @@ public:
     // Begins a transaction, which aborts if it is destroyed before it is committed.
     [[nodiscard]] transaction begin(std::uint64_t caller);
 
-    // Runs a job, which is given a `map_job`, in a transaction: commits, or aborts if the job throws or
-    // rolls back. Returns the job's result.
+    // Runs a job, which is given a `map_job`, in a transaction of this caller: commits, or aborts if the
+    // job throws or rolls back. Returns the job's result. A busy call is thrown, and not tried again.
     template <class Job> auto transact(std::uint64_t caller, Job &&job);
 
 private:
@@ -299,7 +304,7 @@ public:
     }
 
     // Makes another caller of the map, with a number that no caller of the map has or had, also in a
-    // transaction, which continues. A map that keeps its entries has only the callers of its opening:
+    // transaction, which continues. A map that keeps its entries has at most 65,535 callers in all: then
     // throws `error` with BOOSTMAP_LIMIT.
     [[nodiscard]] caller another() {
         caller next;
@@ -688,7 +693,7 @@ private:
 struct finding {
     // A transaction of a cycle. It must come before the next one, and the last before the first: the next
     // one read the value that this one left at the key (BOOSTMAP_LINK_READ), or replaced the value that this
-    // one read there (BOOSTMAP_LINK_REPLACED).
+    // one read there (BOOSTMAP_LINK_REPLACED), or began when this one had committed (BOOSTMAP_LINK_BEGAN).
     struct link {
         std::uint64_t transaction, kind, key;
         boostmap_cpp::value value;
@@ -696,28 +701,37 @@ struct finding {
 
     std::uint64_t kind = BOOSTMAP_SERIALIZABLE, number = 0, key = 0;
     boostmap_cpp::value value;
-    std::vector<std::uint64_t> order; // the transactions of a serial order
+    std::vector<std::uint64_t> order;   // the transactions of a serial order
+    std::vector<std::uint64_t> writers; // the transactions that leave an undecided value
     std::vector<link> cycle;
 
     bool is_serializable() const { return kind == BOOSTMAP_SERIALIZABLE; }
 
-    // The line of `judge check --serializable`, without the number of open transactions.
+    // The line of `judge check --serializable`, without the number of open transactions and without the words
+    // `in real time`.
     std::string text() const {
         const std::string of = "transaction " + std::to_string(number);
         const std::string read = of + " read " + words(value) + " at key " + std::to_string(key);
+        const std::string no = "not serializable: ";
         switch (kind) {
         case BOOSTMAP_SERIALIZABLE: return "serializable " + std::to_string(order.size()) + " commits";
-        case BOOSTMAP_MISSHAPEN: return "not serializable: entry " + std::to_string(number) + " has the wrong shape";
-        case BOOSTMAP_TORN: return "not serializable: the replies of " + of + " contradict one another";
-        case BOOSTMAP_UNWRITTEN: return "not serializable: " + read + ", which no committed transaction left";
-        case BOOSTMAP_IMPOSSIBLE: return "not serializable: " + read + ", which no serial order gives";
-        case BOOSTMAP_CYCLE: return "not serializable: " + cycle_text();
-        default: return "undecided key " + std::to_string(key) + " value " + words(value);
+        case BOOSTMAP_MISSHAPEN: return no + "entry " + std::to_string(number) + " has the wrong shape";
+        case BOOSTMAP_TORN: return no + "the replies of " + of + " contradict one another";
+        case BOOSTMAP_UNWRITTEN: return no + read + ", which no committed transaction left";
+        case BOOSTMAP_IMPOSSIBLE: return no + read + ", which no serial order gives";
+        case BOOSTMAP_CYCLE: return no + cycle_text();
+        default: return undecided_text();
         }
     }
 
 private:
     static std::string words(boostmap_cpp::value of) { return of ? std::to_string(*of) : "none"; }
+
+    std::string undecided_text() const {
+        std::string text = "undecided key " + std::to_string(key) + " value " + words(value) + ": transactions";
+        for (auto writer : writers) text += " " + std::to_string(writer);
+        return text;
+    }
 
     // Whether two transactions each replaced what the other read, the same value of the same key.
     bool is_lost_update() const {
@@ -727,31 +741,39 @@ private:
 
     std::string cycle_text() const {
         static const char *const classes[] = {"G1c", "G-single", "G2-item"};
-        std::size_t replaced = 0;
+        std::size_t replaced = 0, began = 0;
         std::string links;
         for (std::size_t i = 0; i < cycle.size(); i++) {
             const link &from = cycle[i], &to = cycle[(i + 1) % cycle.size()];
             bool is_read = from.kind == BOOSTMAP_LINK_READ;
+            if (from.kind == BOOSTMAP_LINK_BEGAN) {
+                began++;
+                links += "; transaction " + std::to_string(from.transaction) + " committed before transaction " +
+                         std::to_string(to.transaction) + " began";
+                continue;
+            }
             replaced += !is_read;
             links += "; transaction " + std::to_string(from.transaction) + (is_read ? " left " : " read ") + words(from.value) +
                      " at key " + std::to_string(from.key) + ", which transaction " + std::to_string(to.transaction) +
                      (is_read ? " read" : " replaced");
         }
-        return std::string(is_lost_update() ? "lost update" : classes[std::min<std::size_t>(replaced, 2)]) + ", cycle of " +
+        return std::string(is_lost_update() ? "lost update" : classes[std::min<std::size_t>(replaced, 2)]) +
+               (began ? "-realtime" : "") + ", cycle of " +
                std::to_string(cycle.size()) + links;
     }
 };
 
 // Judges entries by any order of their transactions, as `judge check --serializable` does: is there an
-// order in which each committed transaction has its replies when it runs alone after those before it?
-inline finding judge_any_order(const std::vector<boostmap_entry> &entries) {
+// order in which each committed transaction has its replies when it runs alone after those before it? With
+// `real_time` it must also come after those that had committed when it began.
+inline finding judge_any_order(const std::vector<boostmap_entry> &entries, bool real_time = false) {
     static const boostmap_entry none = {};
     boostmap_finding found = {};
     auto commits = std::count_if(entries.begin(), entries.end(), [](auto &e) { return e.kind == BOOSTMAP_COMMITTED; });
     std::vector<boostmap_link> links(static_cast<std::size_t>(commits) + 1); // one more, so that data() is not null
     for (boostmap_status status = BOOSTMAP_SHORT; status == BOOSTMAP_SHORT;) {
-        status = boostmap_judge_any_order(entries.empty() ? &none : entries.data(), entries.size(), links.data(),
-                                          links.size(), &found);
+        status = boostmap_judge_any_order(entries.empty() ? &none : entries.data(), entries.size(), real_time,
+                                          links.data(), links.size(), &found);
         if (status == BOOSTMAP_SHORT) links.resize(found.count);
         else detail::check(status);
     }
@@ -761,6 +783,7 @@ inline finding judge_any_order(const std::vector<boostmap_entry> &entries) {
     for (std::size_t i = 0; i < found.count; i++) {
         const auto &each = links[i];
         if (found.kind == BOOSTMAP_SERIALIZABLE) result.order.push_back(each.transaction);
+        else if (found.kind == BOOSTMAP_UNDECIDED) result.writers.push_back(each.transaction);
         else result.cycle.push_back({each.transaction, each.kind, each.key, each.has ? value(each.value) : std::nullopt});
     }
     return result;

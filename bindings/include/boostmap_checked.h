@@ -2,7 +2,8 @@
  * verdict, finding or `done` returns BOOSTMAP_NULL, and a handle that is in another call BOOSTMAP_IN_CALL. So any
  * thread may call at any time: the door is a seq_cst exchange, which also orders the calls. `word` may
  * be null if the number is not needed. This header needs C11 or C++11 and is only tested. A door costs
- * about 20 ns a call.
+ * about 20 ns a call. Whole transactions (boostmap_caller_NAME) and what boostmap.h makes of several
+ * calls have no door.
  *
  *     boostmap_door map = BOOSTMAP_DOOR_INIT;
  *     boostmap_checked_new(&map, 2, 64, 1024);
@@ -177,9 +178,9 @@ BOOSTMAP_CHECKED(judge_verdict, (boostmap_judge_door *door, boostmap_verdict *ve
 
 /* This call has no handle, and no door. */
 static inline boostmap_status boostmap_checked_judge_any_order(const boostmap_entry *entries, size_t count,
-                                                               boostmap_link *links, size_t places,
-                                                               boostmap_finding *finding) {
-    return entries && links && finding ? boostmap_judge_any_order(entries, count, links, places, finding)
+                                                               uint32_t real_time, boostmap_link *links,
+                                                               size_t places, boostmap_finding *finding) {
+    return entries && links && finding ? boostmap_judge_any_order(entries, count, real_time, links, places, finding)
                                        : (boostmap_status)BOOSTMAP_NULL;
 }
 

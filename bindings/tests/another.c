@@ -88,20 +88,35 @@ static void statuses(void) {
     ANSWERS(boostmap_striped_another(&third, &next, &w), BOOSTMAP_EMPTY, UNTOUCHED);
 }
 
-/* A map that keeps its entries has only the callers of its opening. */
+/* A map that keeps its entries gives out 65,535 numbers to callers, and keeps the entries of each that is freed. */
 static void keeping_entries(void) {
-    boostmap_caller first = BOOSTMAP_INIT, next = BOOSTMAP_INIT;
-    uint64_t w;
+    boostmap_caller first = BOOSTMAP_INIT, next = BOOSTMAP_INIT, last = BOOSTMAP_INIT;
+    boostmap_host host = BOOSTMAP_INIT;
+    boostmap_entry *entries;
+    uint64_t w, number = 2;
     IS(boostmap_striped_open(&first, 2, STRIPES, 0, BOOSTMAP_KEEP_ENTRIES, 0, &w), BOOSTMAP_DONE);
-    for (int open = 0; open < 2; open++) {
-        ANSWERS(boostmap_striped_another(&first, &next, &w), BOOSTMAP_LIMIT, UNTOUCHED);
-        CHECK(is_empty(&next));
-        if (!open) IS(boostmap_striped_begin(&first), BOOSTMAP_DONE);
+    IS(boostmap_striped_host(&first, &host), BOOSTMAP_DONE);
+    CHECK(makes(&first, &last) == ++number);
+    IS(boostmap_striped_begin(&first), BOOSTMAP_DONE);
+    while (boostmap_striped_another(&first, &next, &w) == BOOSTMAP_DONE) {
+        CHECK(w == ++number);
+        if (number == 1000) IS(boostmap_striped_begin(&next), BOOSTMAP_DONE); /* aborted by the free */
+        IS(boostmap_striped_free(&next), BOOSTMAP_DONE);
     }
+    CHECK(number == 65535 && is_empty(&next));
+    ANSWERS(boostmap_striped_another(&first, &next, &w), BOOSTMAP_LIMIT, UNTOUCHED);
     IS(boostmap_striped_abort(&first), BOOSTMAP_DONE);
     ANSWERS(boostmap_striped_join(&first, &next, &w), BOOSTMAP_DONE, 1);
-    IS(boostmap_striped_free(&next), BOOSTMAP_DONE);
     IS(boostmap_striped_free(&first), BOOSTMAP_DONE);
+    IS(boostmap_striped_free(&next), BOOSTMAP_DONE);
+    IS(boostmap_host_entries(&host, &entries, &w), BOOSTMAP_MISSING);
+    CHECK(w == 3);
+    IS(boostmap_striped_free(&last), BOOSTMAP_DONE);
+    IS(boostmap_host_entries(&host, &entries, &w), BOOSTMAP_DONE);
+    CHECK(w == 6 && entries[0].kind == BOOSTMAP_BEGAN && entries[0].caller == 2 && entries[5].caller == 2);
+    for (int i = 1; i < 4; i++) CHECK(entries[i].caller == 1000 && (i > 1) == (entries[i].kind != BOOSTMAP_BEGAN));
+    free(entries);
+    IS(boostmap_host_free(&host), BOOSTMAP_DONE);
 }
 
 /* A caller makes one in a transaction, which continues, and so does that one. Each is named by its number, and the map is

@@ -44,7 +44,8 @@ static int are_from(const boostmap_link *links, uint64_t count, uint64_t start, 
 
 /* Judges entries: the finding and its links must be these, a cycle from any of its links on. With exactly the places
  * that are needed and with more, the rest of the array stays as it is; with one too few all of it. */
-static void finds(const boostmap_entry *entries, size_t count, boostmap_finding due, const boostmap_link *links) {
+static void finds_if(uint32_t real_time, const boostmap_entry *entries, size_t count, boostmap_finding due,
+                     const boostmap_link *links) {
     boostmap_link array[MOST + 1], before[MOST + 1];
     boostmap_finding found;
     uint64_t start = 0;
@@ -52,7 +53,7 @@ static void finds(const boostmap_entry *entries, size_t count, boostmap_finding 
     for (size_t places = due.count; places <= MOST; places += MOST - due.count) {
         memcpy(array, before, sizeof before);
         memset(&found, 0x55, sizeof found);
-        CHECK(boostmap_judge_any_order(entries, count, array, places, &found) == BOOSTMAP_DONE);
+        CHECK(boostmap_judge_any_order(entries, count, real_time, array, places, &found) == BOOSTMAP_DONE);
         CHECK(is_equal(found, due));
         if (due.kind == BOOSTMAP_CYCLE)
             while (start < due.count && !are_from(array, due.count, start, links)) start++;
@@ -62,8 +63,12 @@ static void finds(const boostmap_entry *entries, size_t count, boostmap_finding 
     if (due.count == 0) return;
     memcpy(array, before, sizeof before);
     memset(&found, 0x55, sizeof found);
-    CHECK(boostmap_judge_any_order(entries, count, array, due.count - 1, &found) == BOOSTMAP_SHORT);
+    CHECK(boostmap_judge_any_order(entries, count, real_time, array, due.count - 1, &found) == BOOSTMAP_SHORT);
     CHECK(is_equal(found, due) && !memcmp(array, before, sizeof before));
+}
+
+static void finds(const boostmap_entry *entries, size_t count, boostmap_finding due, const boostmap_link *links) {
+    finds_if(0, entries, count, due, links);
 }
 
 #define ENTRIES(...) (boostmap_entry[]){__VA_ARGS__}, sizeof((boostmap_entry[]){__VA_ARGS__}) / sizeof(boostmap_entry)
@@ -133,9 +138,9 @@ static void not_serializable(void) {
           TAKES(0, 1, SOME(5)), PUTS(0, 2, 7, SOME(6)), committed(0, 2), began(0, 3), GETS(0, 1, NONE), GETS(0, 2, SOME(6)),
           committed(0, 3));
     /* Three put 5 where there was nothing, and only one takes it away. */
-    FINDS(BOOSTMAP_UNDECIDED, 0, 1, NONE, began(0, 1), PUTS(0, 1, 5, NONE), committed(0, 1), began(0, 2), PUTS(0, 1, 5, NONE),
-          committed(0, 2), began(0, 3), PUTS(0, 1, 5, NONE), committed(0, 3), began(0, 4), TAKES(0, 1, SOME(5)),
-          committed(0, 4));
+    finds(ENTRIES(began(0, 1), PUTS(0, 1, 5, NONE), committed(0, 1), began(0, 2), PUTS(0, 1, 5, NONE), committed(0, 2),
+                  began(0, 3), PUTS(0, 1, 5, NONE), committed(0, 3), began(0, 4), TAKES(0, 1, SOME(5)), committed(0, 4)),
+          (boostmap_finding){.kind = BOOSTMAP_UNDECIDED, .key = 1, .count = 1}, &(boostmap_link){.transaction = 4});
 }
 
 static void cycles(void) {
@@ -159,6 +164,21 @@ static void cycles(void) {
                      committed(2, 3)), CYCLE(replaced(1, 1, NONE), replaced(3, 3, NONE), replaced(2, 2, NONE)));
 }
 
+/* 2 began after 1 had committed, and read the state before it. Any number but 0 asks for real time. */
+static void in_real_time(void) {
+    const boostmap_entry entries[] = {began(0, 1), PUTS(0, 1, 5, NONE), committed(0, 1), began(7, 2), GETS(7, 1, NONE),
+                                      committed(7, 2)};
+    const boostmap_link links[] = {{.transaction = 1, .kind = BOOSTMAP_LINK_BEGAN}, replaced(2, 1, NONE)};
+    const boostmap_finding cycle = {.kind = BOOSTMAP_CYCLE, .count = 2};
+    is_ordered(entries, sizeof entries / sizeof *entries, ORDER(2, 1));
+    finds_if(1, entries, sizeof entries / sizeof *entries, cycle, links);
+    finds_if(UINT32_MAX, entries, sizeof entries / sizeof *entries, cycle, links);
+    /* One that began before the commit may read that state. */
+    boostmap_entry early[] = {began(7, 1), began(0, 2), PUTS(0, 1, 5, NONE), committed(0, 1), GETS(7, 1, NONE), committed(7, 2)};
+    finds_if(1, early, sizeof early / sizeof *early, (boostmap_finding){.kind = BOOSTMAP_SERIALIZABLE, .count = 2},
+             (boostmap_link[]){{.transaction = 1}, {.transaction = 2}});
+}
+
 /* Numbers that are no entry, wherever they stand: nothing is written, also if an entry before is of the wrong shape. */
 static void no_entries(void) {
     const boostmap_entry rows[] = {of_kind(0, 0), of_kind(11, 0), asked(0, 0, 1, 1), asked(0, 5, 1, 1), began(64, 1),
@@ -174,7 +194,7 @@ static void no_entries(void) {
                 entries[place] = rows[i];
                 memcpy(links, before, sizeof before);
                 found = untouched;
-                CHECK(boostmap_judge_any_order(entries, 3, links, 4, &found) == BOOSTMAP_NO_ENTRY);
+                CHECK(boostmap_judge_any_order(entries, 3, 0, links, 4, &found) == BOOSTMAP_NO_ENTRY);
                 CHECK(!memcmp(&found, &untouched, sizeof found) && !memcmp(links, before, sizeof before));
             }
 }
@@ -200,7 +220,7 @@ static void a_long_history(void) {
             order[place] = r * CALLERS + c + 1;
         }
     }
-    CHECK(boostmap_judge_any_order(entries, 4 * COUNT, links, COUNT, &found) == BOOSTMAP_DONE);
+    CHECK(boostmap_judge_any_order(entries, 4 * COUNT, 0, links, COUNT, &found) == BOOSTMAP_DONE);
     CHECK(is_equal(found, (boostmap_finding){.kind = BOOSTMAP_SERIALIZABLE, .count = COUNT}));
     for (size_t i = 0; i < COUNT; i++)
         CHECK(links[i].transaction == order[i] && links[i].kind == BOOSTMAP_LINK_ORDER && links[i].key == 0 &&
@@ -214,6 +234,7 @@ int main(void) {
     serializable();
     not_serializable();
     cycles();
+    in_real_time();
     no_entries();
     a_long_history();
     return 0;

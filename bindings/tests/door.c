@@ -113,10 +113,10 @@ static void at_a_judge(void) {
     CHECK(boostmap_checked_judge_free(&judge) == BOOSTMAP_DONE);
     boostmap_link link;
     boostmap_finding found;
-    CHECK(boostmap_checked_judge_any_order(0, 2, &link, 1, &found) == BOOSTMAP_NULL);
-    CHECK(boostmap_checked_judge_any_order(entries, 2, 0, 1, &found) == BOOSTMAP_NULL);
-    CHECK(boostmap_checked_judge_any_order(entries, 2, &link, 1, 0) == BOOSTMAP_NULL);
-    CHECK(boostmap_checked_judge_any_order(entries, 2, &link, 1, &found) == BOOSTMAP_DONE);
+    CHECK(boostmap_checked_judge_any_order(0, 2, 0, &link, 1, &found) == BOOSTMAP_NULL);
+    CHECK(boostmap_checked_judge_any_order(entries, 2, 0, 0, 1, &found) == BOOSTMAP_NULL);
+    CHECK(boostmap_checked_judge_any_order(entries, 2, 0, &link, 1, 0) == BOOSTMAP_NULL);
+    CHECK(boostmap_checked_judge_any_order(entries, 2, 0, &link, 1, &found) == BOOSTMAP_DONE);
     CHECK(found.kind == BOOSTMAP_SERIALIZABLE && found.count == 1 && link.transaction == 1);
 }
 

@@ -1,5 +1,5 @@
-/* Threads run transactions on a striped map that keeps its entries, and are busy at times. Each frees its caller, and
- * the host hands out the whole history, which the judges must find legal and serializable; with one reply forged they must
+/* Threads run transactions on a striped map that keeps its entries, and are busy at times. Each makes another caller
+ * halfway, frees its own, and goes on with that one. It frees it at the end, and the host hands out the whole history, which the judges must find legal and serializable; with one reply forged they must
  * not. The statuses of the host's calls come before. Usage: history [THREADS] */
 #include "boostmap.h"
 #include "check.h"
@@ -56,10 +56,23 @@ static int run_of(boostmap_caller *caller, uint64_t *seed) {
     return status == BOOSTMAP_DONE;
 }
 
+/* Frees the caller, in a transaction or not, and puts another one in its place. */
+static void passes_on(boostmap_caller *caller, size_t is_open) {
+    boostmap_caller next = BOOSTMAP_INIT;
+    uint64_t number;
+    CHECK(boostmap_striped_another(caller, &next, &number) == BOOSTMAP_DONE && number > 0);
+    if (is_open) CHECK(boostmap_striped_begin(caller) == BOOSTMAP_DONE);
+    CHECK(boostmap_striped_free(caller) == BOOSTMAP_DONE);
+    *caller = next; /* moved */
+}
+
 static void *run(void *caller) {
     size_t me = (size_t)((boostmap_caller *)caller - callers);
     uint64_t seed = me + 1;
-    for (int i = 0; i < ROUNDS; i++) commits[me] += (uint64_t)(i % 4 ? round_of : run_of)(caller, &seed);
+    for (int i = 0; i < ROUNDS; i++) {
+        if (i == ROUNDS / 2) passes_on(caller, me % 2);
+        commits[me] += (uint64_t)(i % 4 ? round_of : run_of)(caller, &seed);
+    }
     if (seed % 2) CHECK(boostmap_striped_begin(caller) == BOOSTMAP_DONE); /* aborted by the free */
     CHECK(boostmap_striped_free(caller) == BOOSTMAP_DONE);
     return NULL;
@@ -81,10 +94,10 @@ static boostmap_verdict judged(const boostmap_entry *entries, uint64_t count, ui
 static void is_serializable(const boostmap_entry *entries, uint64_t count) {
     boostmap_entry *longer = malloc((count + 4) * sizeof *longer);
     boostmap_link *links = calloc(count, sizeof *links);
-    uint64_t begun[MOST + 1] = {0}, commits = 0, transactions = 0;
+    uint64_t begun[2 * MOST + 1] = {0}, commits = 0, transactions = 0;
     boostmap_finding found;
     CHECK(longer && links);
-    CHECK(boostmap_judge_any_order(entries, count, links, count, &found) == BOOSTMAP_DONE);
+    CHECK(boostmap_judge_any_order(entries, count, 0, links, count, &found) == BOOSTMAP_DONE);
     for (uint64_t i = 0; i < count; i++) {
         if (entries[i].kind == BOOSTMAP_BEGAN) begun[entries[i].caller] = ++transactions;
         if (entries[i].kind == BOOSTMAP_COMMITTED) CHECK(links[commits++].transaction == begun[entries[i].caller]);
@@ -95,7 +108,7 @@ static void is_serializable(const boostmap_entry *entries, uint64_t count) {
     longer[count + 1] = (boostmap_entry){.kind = BOOSTMAP_ASKED, .operation = BOOSTMAP_GET, .key = 1};
     longer[count + 2] = (boostmap_entry){.kind = BOOSTMAP_DID, .value = UINT64_MAX, .has = 1};
     longer[count + 3] = (boostmap_entry){.kind = BOOSTMAP_COMMITTED, .number = commits + 1};
-    CHECK(boostmap_judge_any_order(longer, count + 4, links, 0, &found) == BOOSTMAP_DONE);
+    CHECK(boostmap_judge_any_order(longer, count + 4, 0, links, 0, &found) == BOOSTMAP_DONE);
     CHECK(found.kind == BOOSTMAP_UNWRITTEN && found.number == transactions + 1);
     CHECK(found.key == 1 && found.has == 1 && found.value == UINT64_MAX && found.count == 0);
     free(longer);

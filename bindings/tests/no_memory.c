@@ -264,7 +264,7 @@ static void judge_these(const boostmap_entry *entries, size_t count, boostmap_fi
     boostmap_status status;
     memset(before, 0x55, sizeof before);
     memcpy(links, before, sizeof before);
-    while ((status = boostmap_judge_any_order(entries, count, links, 8, &found)) == BOOSTMAP_NO_MEMORY && ++refusals)
+    while ((status = boostmap_judge_any_order(entries, count, 0, links, 8, &found)) == BOOSTMAP_NO_MEMORY && ++refusals)
         CHECK(found.kind == 77 && !memcmp(links, before, sizeof before));
     CHECK(status == BOOSTMAP_DONE && found.kind == due.kind && found.number == due.number && found.key == due.key);
     CHECK(found.has == 0 && found.count == due.count);
@@ -298,7 +298,7 @@ static void judge_by_any_order(void) {
     judge_these(before_it, LENGTH(before_it), (boostmap_finding){.kind = BOOSTMAP_SERIALIZABLE, .count = 2});
     judge_these(skew, LENGTH(skew), (boostmap_finding){.kind = BOOSTMAP_CYCLE, .count = 2});
     judge_these(two_states, LENGTH(two_states), (boostmap_finding){.kind = BOOSTMAP_IMPOSSIBLE, .number = 3, .key = 1});
-    judge_these(thrice, LENGTH(thrice), (boostmap_finding){.kind = BOOSTMAP_UNDECIDED, .key = 1});
+    judge_these(thrice, LENGTH(thrice), (boostmap_finding){.kind = BOOSTMAP_UNDECIDED, .key = 1, .count = 1});
 }
 
 static void judge_by_locks(void) { judge_all(BOOSTMAP_HOLDER_NOW); }

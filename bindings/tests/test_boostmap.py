@@ -1,4 +1,7 @@
+import ast
 import contextlib
+import inspect
+import os
 import random
 import signal
 import sys
@@ -8,7 +11,8 @@ import unittest
 
 import boostmap
 from boostmap import (
-    Busy, Counts, Entry, Host, Judge, Link, Map, Missed, NotFed, Refused, Verdict, judge_any_order, open_striped)
+    Busy, Caller, CallerTransaction, Counts, Entry, Error, Host, Judge, Link, Map, Missed, NotFed, Refused, Transaction,
+    Verdict, judge_any_order, open_striped)
 
 
 class Thread(threading.Thread):
@@ -75,7 +79,7 @@ class Calls(unittest.TestCase):
                 self.assertEqual(t.put_if(1, 10, 2**64 - 1), 10)
                 self.assertEqual(t.get(1), 2**64 - 1)
             self.assertEqual((t.number, t.commit_number, len(m)), (1, 1, 1))
-            self.assertEqual(m.items(), {1: 2**64 - 1})
+            self.assertEqual(m.copy(), {1: 2**64 - 1})
             m.help(1)
 
     def test_an_exception_aborts(self):
@@ -91,16 +95,38 @@ class Calls(unittest.TestCase):
             self.assertEqual((len(m), bool(m), bool(t)), (0, True, True))
             m.transaction().__enter__()
             self.assertEqual((m.abort(), m.abort()), (True, False))
+            m.transaction().__enter__().put(2, 20)  # which nobody has, so that the next one takes it back
+            self.assertEqual((m.transact(lambda t: t.get(2)), len(m)), (None, 0))
 
-    def test_an_interrupt_leaves_no_transaction_that_cannot_be_aborted(self):
+    def test_a_job_returns_and_fails(self):
+        with Map(callers=2, stripes=16) as m:
+            self.assertEqual(m.transact(lambda t: (t.put(1, 10), t.get(1)), caller=1), (None, 10))
+            with self.assertRaises(KeyError):
+                m.transact(lambda t: (t.put(1, 11), t[2]))
+            with m.transaction(1) as holds:
+                holds.put(1, 12)
+                with self.assertRaises(Busy) as busy:
+                    m.transact(lambda t: (t.put(2, 20), t.get(1)))
+                with self.assertRaises(Refused) as refused, contextlib.suppress(Busy):
+                    m.transact(lambda t: t.get(3), caller=1)
+            self.assertEqual((busy.exception.holder, refused.exception.status, m.copy()), (1, 20, {1: 12}))
+
+    def test_an_interrupt_leaves_no_transaction(self):
         with Map() as m:
             def moves():
-                m.abort()  # an interrupt may come between a call and its bookkeeping
                 with m.transaction() as t:
                     t.put(1, 1)
 
             self.assertGreater(interrupted(moves, 0.5), 10)
             moves()
+
+    def test_a_map_grows_by_itself(self):
+        """If it did not, 50,000 keys would be long lists, and take minutes."""
+        with Map() as m:
+            with m.transaction() as t:
+                for key in range(50_000):
+                    t[key] = key
+            self.assertEqual(len(m), 50_000)
 
     def test_the_history_of_a_map_is_legal(self):
         with Map(callers=2, stripes=16) as m:
@@ -127,7 +153,7 @@ class Calls(unittest.TestCase):
                     judge.feed_all(m.history())
                     self.assertEqual(judge.verdict(), verdict)
                 m.trim()
-            self.assertEqual((m.entries(), m.items()), (4, {1: 10}))
+            self.assertEqual((m.entries(), m.copy()), (4, {1: 10}))
             m.trim_above(1)
             for _ in range(100):
                 with m.transaction() as t:
@@ -238,7 +264,7 @@ class Callers(unittest.TestCase):
                 t.put(2, 20)
                 raise KeyError
         self.assertEqual(other.transact(lambda t: (t.get(1), t.get(2))), (2**64 - 1, None))
-        self.assertEqual(other.transact(lambda t: (t.items(), len(t))), ({1: 2**64 - 1}, 1))
+        self.assertEqual(other.transact(lambda t: (t.copy(), len(t))), ({1: 2**64 - 1}, 1))
         plain, = open_striped()
         with plain.transaction() as t:
             t.put(1, 10)
@@ -270,6 +296,43 @@ class Callers(unittest.TestCase):
             t.roll_back()
         self.assertIsNone(other.transact(lambda t: t.get(1)))
 
+    def test_an_aborted_transaction_stays_over(self):
+        for owner in (open_striped()[0], Map()):
+            first = owner.transaction().__enter__()
+            owner.abort()
+            with owner.transaction() as second:
+                second.put(1, 10)
+                with self.assertRaises(Refused) as refused:
+                    first.put(1, 11)
+                self.assertEqual(refused.exception.status, 19)
+                first.__exit__(GivesUp, GivesUp(), None)
+                del first
+            self.assertEqual(owner.copy(), {1: 10})
+
+    def test_threads_may_share_and_close(self):
+        """Each call succeeds or raises an Error."""
+        for stripes in range(1, 13):
+            callers = open_striped(callers=3, stripes=stripes)
+            m, judge = Map(), Judge()
+
+            def uses(seed):
+                draw = random.Random(seed)
+                for _ in range(200):
+                    caller, key = draw.choice(callers), draw.randrange(20)
+                    use = draw.choice((
+                        lambda: caller.add(key, 1), lambda: caller.transact(lambda t: (t.put(key, 1), t.page(7), len(t)), tries=3),
+                        lambda: caller.run([("put", key, 1), ("get", 1)]), caller.copy, caller.counts, caller.abort,
+                        lambda: m.add(key, 1), m.copy, m.abort, lambda: judge.feed(Entry("began", 0, number=1)), judge.verdict))
+                    with contextlib.suppress(Error):
+                        use()
+                draw.choice([*callers, m, judge]).close()
+
+            threads = [Thread(target=uses, args=(seed,)) for seed in range(8)]
+            for thread in threads:
+                thread.start()
+            for thread in threads:
+                thread.join()
+
     def test_a_transaction_is_true_and_takes_no_stripe_by_that(self):
         one, other = open_striped(callers=2, stripes=16)
         with one.transaction() as t, other.transaction() as u:
@@ -294,49 +357,60 @@ class Callers(unittest.TestCase):
         self.assertEqual(len(runs), 1)
         self.assertIsNone(other.transact(lambda t: t.get(1)))
 
-    def test_numbers_of_other_types_are_refused(self):
-        caller, = open_striped()
-        for wrong, error in ((1.5, TypeError), ("1", TypeError), (None, TypeError), (-1, OverflowError),
-                             (2**64, OverflowError)):
-            with self.assertRaises(error):
-                caller.transact(lambda t: t.put(1, wrong))
-            with self.assertRaises(error):
-                caller.transact(lambda t: t.get(wrong))
-        self.assertEqual(caller.transact(len), 0)
-
     def test_an_interrupt_leaves_no_stripe_held(self):
         one, other = open_striped(callers=2, stripes=16)
 
         def moves():
-            if not boostmap._boostmap:
-                one.abort()  # by ctypes an interrupt may come between a call and its bookkeeping
             with one.transaction() as t:
                 t.put(1, t.get(2) or 0)
                 t.put(3, 3)
 
         self.assertGreater(interrupted(moves, 1), 10)
         if not boostmap._boostmap:
-            one.abort()
-        other.transact(lambda t: (len(t), t.items()), tries=0)
+            moves()  # which ends what an interrupt in a destructor has left
+        other.transact(lambda t: (len(t), t.copy()), tries=0)
         moves()
 
     def test_a_signal_handler_may_use_the_map(self):
-        caller, = open_striped()
-        m, done = Map(), []
+        """It does not hang: a call of the handler that comes within a transaction is refused."""
+        one, other = open_striped(callers=2)
+        m, judge, done = Map(), Judge(), []
 
         def handle(*_):
-            done.append((len(m), caller.abort()))
-            signal.setitimer(signal.ITIMER_REAL, 1e-4)  # and not before: a slow handler would come in itself
+            for use in (lambda: m.get(1), lambda: m.put(2, 2), lambda: one.get(1), lambda: one.put(2, 2), one.copy):
+                with contextlib.suppress(Refused):
+                    use()
+            done.append((len(m), m.copy(), one.counts(), other.counts(), one.options(), judge.verdict()))
+            if len(done) < 50:
+                signal.setitimer(signal.ITIMER_REAL, 1e-4)  # and not before: a slow handler would come in itself
 
         before = signal.signal(signal.SIGALRM, handle)
         try:
             signal.setitimer(signal.ITIMER_REAL, 1e-4)
-            while len(done) < 20:
-                len(m)
-                caller.abort()
+            while len(done) < 50:
+                one.add(1, 1)
+                m.add(1, 1)
+                one.transact(lambda t: (t.add(1, 1), t.copy()))
+                self.assertTrue(len(m) and m.copy() and judge.verdict().is_legal)
+                other.abort()
         finally:
             signal.setitimer(signal.ITIMER_REAL, 0)
             signal.signal(signal.SIGALRM, before)
+        self.assertTrue(one[1] and m[1])
+
+    def test_a_commit_has_a_place(self):
+        one, other = open_striped(callers=2, stripes=16, keep="commits")
+        self.assertIsNone(one.commit_number)
+        one.put(1, 10)
+        t = one.transact(lambda t: t)
+        self.assertEqual((t.commit_number, one.commit_number, other.commit_number), (2, 2, None))
+        other.run([("put", 1, 10)])
+        with contextlib.suppress(GivesUp), one.transaction() as t:
+            raise GivesUp
+        with one.transaction() as t:
+            t.roll_back()
+        self.assertEqual((other.commit_number, one.commit_number, t.commit_number), (3, 2, None))
+        self.assertEqual((other.add(1, 1), other.commit_number), (10, 4))
 
     def test_busy_ends_the_transaction(self):
         one, other = open_striped(callers=2, stripes=16)
@@ -397,13 +471,32 @@ def ended(callers, host):
     return host.history()
 
 
+def manner(t, model, draw):
+    """Makes a random call on a caller or a transaction and on its model, a dictionary; tells whether they do the same."""
+    key, value = draw.randrange(40), draw.choice((0, 1, 2**64 - 1))
+    makes = draw.choice((
+        lambda d: d[key], lambda d: d.__setitem__(key, value), lambda d: d.__delitem__(key), lambda d: key in d,
+        lambda d: d.get(key), lambda d: d.get(key, value), lambda d: d.pop(key), lambda d: d.pop(key, None),
+        lambda d: d.setdefault(key, value), lambda d: d.update({key: value, key + 1: 1}), lambda d: d.update([(key, 2)])))
+
+    def outcome(d):
+        try:
+            return makes(d)
+        except KeyError as absent:
+            return absent.args
+
+    return outcome(t) == outcome(model)
+
+
 def call(t, model, draw):
     """Makes a random call of a caller or a transaction, and checks its reply by the model, a dictionary. The map has 7
     stripes."""
     key, value = draw.randrange(40), draw.choice((0, 1, 2, 3, 2**64 - 1))
     had, delta = model.get(key), draw.randrange(-4, 5)
     expected = had if draw.random() < 0.5 else draw.choice((None, 1, 2))
-    kind, due, after = draw.randrange(9), had, had
+    kind, due, after = draw.randrange(12), had, had
+    if kind > 8:
+        return manner(t, model, draw)
     if kind == 0:
         reply, after = t.put(key, value), value
     elif kind == 1:
@@ -424,7 +517,7 @@ def call(t, model, draw):
     elif kind == 5:
         reply, after = t.add(key, delta), (had or 0) + delta
     elif kind == 6 and draw.random() < 0.05:
-        reply, due = (t.items(), t.count()), (model, len(model))
+        reply, due = (t.copy(), t.count(), list(t), list(t.items())), (model, len(model), sorted(model), sorted(model.items()))
     elif kind == 7 and draw.random() < 0.01:
         reply, due = t.clear(), len(model)
         model.clear()
@@ -522,8 +615,8 @@ class Operations(unittest.TestCase):
             while made < (50_000 if boostmap._boostmap else 5_000):
                 calls, model = self.transaction(draw.choice(callers), model, draw)
                 made += calls
-            self.assertEqual(callers[0].items(), model)
-            self.assertEqual(list(callers[0].items()), sorted(model))
+            self.assertEqual(callers[0].copy(), model)
+            self.assertEqual(list(callers[0].items()), sorted(model.items()))
             commits = sum(caller.counts().commits for caller in callers)
             self.assertGreater(min(caller.counts().aborts for caller in callers), 10)
             if keep:
@@ -540,7 +633,7 @@ class Operations(unittest.TestCase):
             replies = one.run([("put", 1, 10), ("get", 1), ["add", 1, -4], ("put_if", 1, 6, 7), ("get_or_put", 2, 20),
                                ("take", 1), ("put_if", 3, None, 30), ("get", 3)])
             self.assertEqual(replies, [None, 10, 10, 6, 20, 7, None, 30])
-            self.assertEqual((other.items(), one.run([])), ({2: 20, 3: 30}, []))
+            self.assertEqual((other.copy(), one.run([])), ({2: 20, 3: 30}, []))
             rows = [(OverflowError, [("put", 4, 1), ("add", 2, -21)]), (OverflowError, [("add", 2, -21), ("put", 4, 1)]),
                     (ValueError, [("put", 4, 1), ("clear",)]),
                     (ValueError, [()]), (TypeError, [("put", 4, 1), ("get", "x")]), (TypeError, [("get",)]), (TypeError, [5]),
@@ -548,7 +641,7 @@ class Operations(unittest.TestCase):
             for error, operations in rows:
                 with self.assertRaises(error):
                     one.run(operations)
-            self.assertEqual(other.items(), {2: 20, 3: 30})
+            self.assertEqual(other.copy(), {2: 20, 3: 30})
             with one.transaction(), self.assertRaises(Refused) as refused:
                 one.get(1)
             self.assertEqual(refused.exception.status, 20)
@@ -558,14 +651,14 @@ class Operations(unittest.TestCase):
             one, other = open_striped(callers=2)
             replies = one.run(others + [("put_if", 1, None, 10), ("put", 2, 20)], strict=True)
             self.assertEqual(replies, [None] * (len(others) + 2))
-            before = other.items()
+            before = other.copy()
             for at in range(3):
                 operations = [("put", 1, 11), ("put", 2, 21), ("get", 2)]
                 operations[at] = ("put_if", 1, None, 12) if at == 0 else ("put_if", 3, 30, 31)
                 with self.assertRaises(Missed) as missed:
                     one.run(operations + others, strict=True)
                 self.assertEqual(missed.exception.replies, [[10], [10, None], [10, 20, None]][at])
-                self.assertEqual(other.items(), before)
+                self.assertEqual(other.copy(), before)
             self.assertEqual(one.counts(), Counts(1, 3, 0))
             self.assertEqual(one.run([("put_if", 1, None, 12)] + others, strict=False), [10] + [1] * len(others))
             with one.transaction(), self.assertRaises(Refused) as refused:
@@ -594,7 +687,7 @@ class Operations(unittest.TestCase):
             thread.start()
         for thread in threads:
             thread.join()
-        self.assertEqual(callers[0].items(), {7: 4 * rounds, 8: 4 * rounds})
+        self.assertEqual(callers[0].copy(), {7: 4 * rounds, 8: 4 * rounds})
 
     def test_a_walk_by_pages(self):
         """Beside threads that move units within a stripe, so that each page has the sum of its stripe."""
@@ -713,15 +806,10 @@ class Operations(unittest.TestCase):
                 host = Host(callers)
                 one.put_all({1: 2**40, 2: 0})
 
-                def moves():
-                    if not boostmap._boostmap:
-                        one.abort()  # by ctypes an interrupt may come between a call and its bookkeeping
-                    job(one)
-
-                self.assertGreater(interrupted(moves, 0.1 if keep else 0.25), 10)
+                self.assertGreater(interrupted(lambda: job(one), 0.1 if keep else 0.25), 10)
                 if not boostmap._boostmap:
-                    one.abort()
-                items = other.transact(lambda t: t.items(), tries=0)
+                    one.abort()  # what an interrupt in a destructor has left
+                items = other.transact(lambda t: t.copy(), tries=0)
                 self.assertEqual(sum(items.values()), 2**40)
                 self.assertGreater(items[2], 0)
                 if keep and boostmap._boostmap:
@@ -746,7 +834,7 @@ class Operations(unittest.TestCase):
                         t.add(another, 1)
 
                 caller.transact(moves)
-            audits.append(sum(caller.items().values()))
+            audits.append(sum(caller.values()))
             if draw.random() < 0.5:
                 left = caller.transaction().__enter__()  # open until the caller is closed
                 with contextlib.suppress(Busy):
@@ -762,7 +850,7 @@ class Operations(unittest.TestCase):
             threads[-1].start()
         for thread in threads:
             thread.join()
-        self.assertEqual((audits, sum(callers[0].items().values())), ([1000] * 39, 1000))
+        self.assertEqual((audits, sum(callers[0].values())), ([1000] * 39, 1000))
         commits = sum(commits) + callers[0].counts().commits
         with self.assertRaises(Refused) as missing:
             host.history()
@@ -790,6 +878,263 @@ def resident():
         return int(file.read().split()[1])
 
 
+class Manners(unittest.TestCase):
+    """The manners of a dictionary."""
+
+    def on_one_key(self, t):
+        """Calls on an empty map, which leave three pairs."""
+        t[1] = 10
+        self.assertEqual((t[1], 1 in t, 2 in t, 2 not in t), (10, True, False, True))
+        for fails in (lambda: t[2], lambda: t.pop(2), lambda: t.__delitem__(2)):
+            with self.assertRaises(KeyError) as absent:
+                fails()
+            self.assertEqual(absent.exception.args, (2,))
+        self.assertEqual((t.get(1), t.get(2), t.get(2, 7), t.get(1, 7), t.get(2, "no")), (10, None, 7, 10, "no"))
+        self.assertEqual((t.setdefault(1, 11), t.setdefault(2, 20), t.pop(2), t.pop(2, 7)), (10, 20, 20, 7))
+        self.assertIsNone(t.pop(2, None))
+        del t[1]
+        t.update({3: 30, 4: 40})
+        t.update([(5, 50), (3, 31)])
+        self.assertEqual(t.update(5, lambda value: value + 1), 50)
+        t[4] += 2
+        self.assertTrue(t)
+        self.assertNotEqual(t, {3: 31, 4: 42, 5: 51})
+        self.assertEqual(len({t, t}), 1)
+
+    def on_all_keys(self, t):
+        due = {3: 31, 4: 42, 5: 51}
+        self.assertEqual((len(t), t.count(), t.copy(), dict(t), {**t}), (3, 3, due, due, due))
+        self.assertEqual((set(t), set(t.keys()), sorted(t.values())), ({3, 4, 5}, {3, 4, 5}, [31, 42, 51]))
+        self.assertEqual(t.items(), due.items())
+        self.assertEqual(sum(value for _, value in t.items()), 124)
+        self.assertEqual(t.clear(), 3)
+        self.assertEqual((len(t), list(t), bool(t)), (0, [], True))
+
+    def test_of_a_caller(self):
+        caller, other = open_striped(callers=2)
+        self.on_one_key(caller)
+        self.assertEqual(list(other), [3, 4, 5])
+        self.on_all_keys(caller)
+
+    def test_of_a_transaction(self):
+        caller, other = open_striped(callers=2)
+        caller.transact(lambda t: (self.on_one_key(t), self.on_all_keys(t)))
+        self.assertEqual((caller.counts(), other.copy()), (Counts(1, 0, 0), {}))
+
+    def test_of_a_map(self):
+        with Map() as m:
+            self.on_one_key(m)
+            self.on_all_keys(m)
+            with m.transaction() as t:
+                self.on_one_key(t)
+                with self.assertRaises(TypeError):
+                    iter(t)
+            self.on_all_keys(m)
+
+    def test_a_caller_in_a_transaction_is_refused(self):
+        caller, = open_striped()
+        m = Map()
+        for owner in (caller, m):
+            with owner.transaction():
+                for fails in (lambda: owner[1], lambda: 1 in owner, lambda: owner.pop(1, None), lambda: owner.update({1: 1})):
+                    with self.assertRaises(Refused) as refused:
+                        fails()
+                    self.assertEqual(refused.exception.status, 20)
+            self.assertEqual(len(owner), 0)
+
+
+WRONG = [(1.5, TypeError), ("1", TypeError), (None, TypeError), ([], TypeError), (-1, OverflowError), (2**64, OverflowError)]
+
+
+class Misuse(unittest.TestCase):
+    """What is no number of 64 bits raises TypeError or OverflowError, alike by the module in C and by ctypes."""
+
+    def raises(self, error, fails, *args, **names):
+        with self.assertRaises(error, msg=(fails, args, names)) as raised:
+            fails(*args, **names)
+        self.assertIs(type(raised.exception), error)
+
+    def on_one_key(self, t):
+        for wrong, error in WRONG:
+            for name in ("get", "take", "pop", "__getitem__", "__delitem__", "__contains__"):
+                self.raises(error, getattr(t, name), wrong)
+            for name in ("put", "get_or_put", "setdefault", "__setitem__"):
+                self.raises(error, getattr(t, name), wrong, 1)
+                self.raises(error, getattr(t, name), 1, wrong)
+            self.raises(error, t.put_if, wrong, 1, 1)
+            self.raises(error, t.put_if, 1, 1, wrong)
+            self.raises(error, t.add, wrong, 1)
+            self.raises(error, t.update, wrong, lambda _: 1)
+            self.raises(error, t.update, {1: wrong})
+            if wrong is not None:
+                self.raises(error, t.put_if, 1, wrong, 1)
+                self.raises(error, t.update, 1, lambda _: wrong)
+        for wrong, error in [(1.5, TypeError), (None, TypeError), (-2**63 - 1, OverflowError), (2**63, OverflowError)]:
+            self.raises(error, t.add, 1, wrong)
+        self.raises(OverflowError, t.add, 1, -1)
+        rows = [("get", 0), ("get", 3), ("take", 0), ("take", 2), ("pop", 0), ("pop", 3), ("put", 1), ("put", 3), ("put_if", 2),
+                ("put_if", 4), ("add", 1), ("add", 3), ("get_or_put", 1), ("setdefault", 1), ("update", 0), ("update", 3),
+                ("put_all", 0), ("transact" if hasattr(t, "transact") else "back", 3)]
+        for name, count in rows:
+            self.raises(TypeError, getattr(t, name), *[1] * count)
+        for names in ({"key": 1}, {"nothing": 1}):
+            self.raises(TypeError, t.get, **names)
+
+    def test_of_callers(self):
+        caller, = open_striped()
+        self.on_one_key(caller)
+        self.assertEqual((caller.abort(), caller.copy(), caller.count()), (False, {}, 0))
+        for wrong, error in WRONG:
+            if wrong is not None:
+                self.raises(error, caller.transact, len, wrong)
+                self.raises(error, caller.transact, len, tries=wrong)
+            for operation in [("get", wrong), ("put", 1, wrong), ("put", wrong, 1), ("put_if", 1, 1, wrong), ("add", wrong, 1)]:
+                self.raises(error, caller.run, [("put", 1, 1), operation])
+                self.raises(error, caller.run, [("add", 1, 1), operation], strict=True)
+        counts = caller.counts()
+        for operations in [5, [5], [("get",)], [("get", 1, 2)], [("put", 1)], [("add", 1, 1.5)]]:
+            self.raises(TypeError, caller.run, operations)
+        for operations in [[()], [("clear",)], [(5, 5)], ["get"], [("", 1)]]:
+            self.raises(ValueError, caller.run, operations)
+        self.raises(TypeError, caller.transact)
+        self.raises(TypeError, caller.transact, 5)
+        self.assertEqual(caller.counts(), counts._replace(aborts=counts.aborts + 1))
+        self.raises(TypeError, Caller, 1)
+
+    def test_of_transactions(self):
+        caller, = open_striped()
+        with caller.transaction() as t:
+            self.on_one_key(t)
+            for wrong, error in WRONG:
+                self.raises(error, t.back, wrong)
+                self.raises(error, t.page, wrong)
+            self.raises(TypeError, t.save, 1)
+            self.raises(TypeError, t.roll_back, 1)
+            self.assertEqual(t.copy(), {})
+        self.raises(TypeError, t.get, "1")  # also after its end
+        self.raises(Refused, t.get, 1)
+        for wrong in (None, 5, Map()):
+            self.raises(TypeError, CallerTransaction, wrong)
+
+    def test_of_maps(self):
+        with Map() as m:
+            self.on_one_key(m)
+            with m.transaction() as t:
+                self.on_one_key(t)
+            for wrong, error in WRONG:
+                for fails in (Map, m.trim_above, m.help, m.transaction, lambda n: Map(1, 2, n), m.abort):
+                    self.raises(error, fails, wrong)
+            self.assertEqual((m.copy(), m.abort()), ({}, False))
+        for wrong in (None, 5, open_striped()[0]):
+            self.raises(TypeError, Transaction, wrong)
+
+    def test_of_openings(self):
+        for wrong, error in WRONG:
+            for name in ("callers", "stripes", "keys", "seed"):
+                if (name, wrong) != ("seed", None):
+                    self.raises(error, open_striped, **{name: wrong})
+            self.raises(error, Judge, wrong)
+        for keep in (1, "", "Commits"):
+            self.raises(ValueError, open_striped, keep=keep)
+        for wrong in (5, [5], [None], Map().items):
+            self.raises(TypeError, Host, wrong)
+
+    def test_of_judges(self):
+        caller, = open_striped()
+        with Judge() as judge:
+            for wrong, error in WRONG:
+                if wrong is None:
+                    continue
+                for entry in (Entry("began", wrong), Entry("asked", 0, "put", key=wrong, value=1), Entry("did", 0, value=wrong),
+                              Entry("asked", 0, "put_if", key=1, value=1, expected=wrong), Entry("leave", 0, number=wrong)):
+                    for feeds in (judge.feed, lambda e: judge.feed_all([e]), lambda e: judge_any_order([e])):
+                        self.raises(error, feeds, entry)
+            for wrong in (5, None, (1, 2), ("began", 0, None, None, None, None, 1), caller):
+                for feeds in (judge.feed, lambda e: judge.feed_all([e]), lambda e: judge_any_order([e])):
+                    self.raises(TypeError, feeds, wrong)
+            self.raises(TypeError, judge.feed_all, 5)
+            self.raises(TypeError, judge_any_order, 5)
+            for entry in (Entry("begins", 0), Entry(None, 0), Entry("asked", 0), Entry("asked", 0, "putt"), Entry("did", 64)):
+                self.raises(Refused, judge.feed, entry)
+                self.raises(NotFed, judge.feed_all, [entry])
+                self.raises(Refused, judge_any_order, [entry])
+            self.assertEqual(judge.verdict(), Verdict(True, 0, 0, None, None))
+
+
+MANNERS = {"__bool__", "__contains__", "__delitem__", "__enter__", "__exit__", "__getitem__", "__iter__", "__len__", "__setitem__"}
+
+
+class Hints(unittest.TestCase):
+    """The file of type hints names what the module has."""
+
+    def setUp(self):
+        with open(os.path.join(os.path.dirname(boostmap.__file__), "__init__.pyi"), encoding="ascii") as file:
+            self.body = ast.parse(file.read()).body
+        self.classes = {node.name: node for node in self.body if isinstance(node, ast.ClassDef)}
+
+    def members(self, name):
+        """The definitions of a class and of its bases, by name: a list of overloads, or none for a member."""
+        found = {}
+        for base in self.classes[name].bases:
+            found.update(self.members(base.id) if base.id in self.classes else {})
+        for node in self.classes[name].body:
+            if isinstance(node, ast.AnnAssign):
+                found[node.target.id] = []
+            elif isinstance(node, ast.FunctionDef):
+                is_property = any(getattr(mark, "id", "") == "property" for mark in node.decorator_list)
+                is_overload = any(getattr(mark, "id", "") == "overload" for mark in node.decorator_list)
+                found[node.name] = (found.get(node.name, []) if is_overload else []) + [node] * (not is_property)
+        return found
+
+    def parameters(self, overloads):
+        """The names of the parameters, and those that some overload does without."""
+        names = [[arg.arg for arg in node.args.posonlyargs + node.args.args if arg.arg != "self"] for node in overloads]
+        needed = min(len(these) - len(node.args.defaults) for these, node in zip(names, overloads))
+        longest = max(names, key=len)
+        return longest, longest[needed:]
+
+    def same_parameters(self, overloads, call, name):
+        names, optional = self.parameters(overloads)
+        has = [p for p in inspect.signature(call).parameters.values() if p.name != "self" and p.kind != p.VAR_POSITIONAL]
+        self.assertEqual(names, [p.name for p in has], name)
+        self.assertEqual(optional, [p.name for p in has if p.default is not p.empty], name)
+        marked = overloads[-1].args.posonlyargs != []
+        self.assertTrue(all((p.kind == p.POSITIONAL_ONLY) == marked for p in has), name)
+
+    def test_the_names_are_those_of_the_module(self):
+        names = {node.name for node in self.body if isinstance(node, (ast.ClassDef, ast.FunctionDef)) and node.name[0] != "_"}
+        listed = next(node.value for node in self.body if isinstance(node, ast.Assign) and node.targets[0].id == "__all__")
+        self.assertEqual(ast.literal_eval(listed), boostmap.__all__)
+        self.assertEqual(names, set(boostmap.__all__))
+        for node in self.body:
+            if isinstance(node, ast.FunctionDef):
+                self.same_parameters([node], getattr(boostmap, node.name), node.name)
+
+    def test_the_members_are_those_of_the_classes(self):
+        for name in boostmap.__all__:
+            kind = getattr(boostmap, name)
+            if not isinstance(kind, type):
+                continue
+            members = self.members(name)
+            if issubclass(kind, tuple):
+                fields = tuple(member for member, calls in members.items() if not calls and member != "is_serializable")
+                self.assertEqual(fields, kind._fields, name)
+                continue
+            if issubclass(kind, Exception):
+                self.assertEqual([b.id for b in self.classes[name].bases], [kind.__bases__[0].__name__])
+                continue
+            own = {member for member in dir(kind) if member[0] != "_" or member in MANNERS}
+            own -= {"__iter__"} if kind is Transaction else set()  # it refuses to be walked over
+            self.assertEqual(own, {member for member in members if member != "__init__"}, name)
+            for member, overloads in members.items():
+                if overloads and member[0] != "_":
+                    self.same_parameters(overloads, getattr(kind, member), (name, member))
+                    self.assertTrue(getattr(kind, member).__doc__, (name, member))
+
+    def test_the_module_says_that_it_has_hints(self):
+        self.assertTrue(os.path.exists(os.path.join(os.path.dirname(boostmap.__file__), "py.typed")))
+
+
 class Others(unittest.TestCase):
     """Callers that other callers make."""
 
@@ -813,12 +1158,14 @@ class Others(unittest.TestCase):
         self.assertEqual(len({one.number, two.number, three.number, four.number}), 4)
         for caller in (one, two, three):
             caller.close()
-        self.assertEqual(four.another().items(), {5: 50})
+        self.assertEqual(four.another().copy(), {5: 50})
 
     def test_what_is_refused(self):
         closed, = open_striped()
         closed.close()
         kept, = open_striped(keep="entries")
+        for number in range(2, 65_536):
+            self.assertEqual(kept.another().number, number)
         for status, caller in [(3, closed), (38, kept)]:
             with self.assertRaises(Refused) as refused:
                 caller.another()
@@ -863,7 +1210,7 @@ class Others(unittest.TestCase):
                         t.add(another, 1)
 
                 caller.transact(moves)
-            audits.append(sum(caller.items().values()))
+            audits.append(sum(caller.values()))
             if draw.random() < 0.5:
                 left = caller.transaction().__enter__()  # open until the caller is closed
                 with contextlib.suppress(Busy):
@@ -879,7 +1226,7 @@ class Others(unittest.TestCase):
             threads[-1].start()
         for thread in threads:
             thread.join()
-        self.assertEqual((audits, sum(first.items().values()), len(set(gone))), ([1000] * 40, 1000, 40))
+        self.assertEqual((audits, sum(first.values()), len(set(gone))), ([1000] * 40, 1000, 40))
 
 
 class Judges(unittest.TestCase):
@@ -975,7 +1322,7 @@ class Judges(unittest.TestCase):
              ("torn", 1, None, None)),
             (alone(1, put(0, 1, 5), put(0, 2, 6)) + alone(2, took(0, 1, 5), put(0, 2, 7, 6)) + alone(3, got(0, 1), got(0, 2, 6)),
              "not serializable: transaction 3 read none at key 1, which no serial order gives", ("impossible", 3, 1, None)),
-            (sum((alone(i, put(0, 1, 5)) for i in (1, 2, 3)), []) + alone(4, took(0, 1, 5)), "undecided key 1 value none",
+            (sum((alone(i, put(0, 1, 5)) for i in (1, 2, 3)), []) + alone(4, took(0, 1, 5)), "undecided key 1 value none: transactions 4",
              ("undecided", None, 1, None)),
         ]
         for entries, line, due in rows:
@@ -987,13 +1334,26 @@ class Judges(unittest.TestCase):
             is_due = {"s": True, "n": False, "u": None}[line[0]]
             self.assertIs(found.is_serializable, is_due)
             if isinstance(due, tuple):
-                self.assertEqual(found, (*due, None, None))
+                self.assertEqual(found, (*due, None, None, [4] if is_due is None else None))
             else:
                 self.assertEqual(found, ("serializable" if is_due else "cycle", None, None, None, *(
-                    (due, None) if is_due else (None, due))))
+                    (due, None) if is_due else (None, due)), None))
         with self.assertRaises(Refused) as refused:
             judge_any_order([Entry("began", 0, number=1), Entry("began", 64, number=2)])
         self.assertEqual(refused.exception.status, 8)
+
+    def test_real_time(self):
+        """2 began after 1 had committed, and read the state before it."""
+        entries = [
+            Entry("began", 0, number=1), Entry("asked", 0, "put", key=1, value=5), Entry("did", 0),
+            Entry("committed", 0, number=1), Entry("began", 7, number=2), Entry("asked", 7, "get", key=1), Entry("did", 7),
+            Entry("committed", 7, number=2)]
+        self.assertEqual(judge_any_order(entries).order, [2, 1])
+        found = judge_any_order(entries, real_time=True)
+        self.assertIs(found.is_serializable, False)
+        self.assertEqual(sorted(found.cycle), [Link(1, "began", 0, None), Link(2, "replaced", 1, None)])
+        self.assertTrue(str(found).startswith("not serializable: G-single-realtime, cycle of 2; transaction "))
+        self.assertIn("; transaction 1 committed before transaction 2 began", str(found))
 
     def test_the_history_of_a_map_is_serializable(self):
         callers = open_striped(callers=2, stripes=16, keep="entries")
@@ -1017,32 +1377,33 @@ class Judges(unittest.TestCase):
     def test_other_threads_run_during_a_call(self):
         """With such a switch interval another thread runs only while a call has released the interpreter's lock. On a loaded
         machine the call must be long, or it is over before the other thread has its turn."""
-        ticks, is_over, saved = [0], threading.Event(), Entry("saved", 0)._to_c()
-
-        class Saved:
-            """An entry that is converted at once."""
-
-            def _to_c(self):
-                return saved
+        ticks, is_over = [0], threading.Event()
 
         def tick():
             while not is_over.is_set():
                 ticks[0] += 1
                 time.sleep(0)
 
-        entries = [Entry("began", 0, number=1)] + [Saved()] * 1_000_000
+        def feeds():
+            with Judge() as judge:
+                judge.feed_all(entries)
+
+        def passes(call):
+            ends = time.monotonic() + 240
+            while time.monotonic() < ends:
+                before = ticks[0]
+                call()
+                if ticks[0] > before:
+                    return True
+            return False
+
+        entries = [Entry("began", 0, number=1)] + [Entry("saved", 0)] * 500_000
         interval, other = sys.getswitchinterval(), threading.Thread(target=tick)
         sys.setswitchinterval(1000)
         try:
             other.start()
-            ends = time.monotonic() + 240
-            while time.monotonic() < ends:
-                with Judge() as judge:
-                    before = ticks[0]
-                    judge.feed_all(entries)
-                    if ticks[0] > before:
-                        return
-            self.fail("the lock is not released")
+            self.assertTrue(passes(feeds))
+            self.assertTrue(passes(lambda: judge_any_order(entries)))
         finally:
             is_over.set()
             sys.setswitchinterval(interval)

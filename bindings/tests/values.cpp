@@ -372,7 +372,7 @@ static void of_any_order() {
          "not serializable: transaction 3 read none at key 1, which no serial order gives", {}},
         {all({{began(0, 1)}, put(0, 1, 5), {committed(0, 1), began(0, 2)}, put(0, 1, 5), {committed(0, 2), began(0, 3)},
               put(0, 1, 5), {committed(0, 3), began(0, 4)}, take(0, 1, 5), {committed(0, 4)}}),
-         "undecided key 1 value none", {}},
+         "undecided key 1 value none: transactions 4", {}},
         {all({both, get(0, 1), get(1, 2), put(0, 2, 5), put(1, 1, 6), ends}),
          "not serializable: G2-item, cycle of 2; transaction 1 read none at key 1, which transaction 2 replaced; "
          "transaction 2 read none at key 2, which transaction 1 replaced", {}},
@@ -400,6 +400,12 @@ static void of_any_order() {
     auto impossible = judge_any_order(rows[6].entries), unwritten = judge_any_order(rows[5].entries);
     CHECK(impossible.kind == BOOSTMAP_IMPOSSIBLE && impossible.number == 3 && impossible.key == 1 && !impossible.value);
     CHECK(unwritten.kind == BOOSTMAP_UNWRITTEN && unwritten.number == 1 && unwritten.value == 7u);
+    // 2 began after 1 had committed, and read the state before it.
+    const auto old = all({{began(0, 1)}, put(0, 1, 5), {committed(0, 1), began(7, 2)}, get(7, 1), {committed(7, 2)}});
+    auto strict = judge_any_order(old, true);
+    CHECK(judge_any_order(old).order == std::vector<std::uint64_t>({2, 1}) && strict.cycle.size() == 2);
+    CHECK(strict.text().rfind("not serializable: G-single-realtime, cycle of 2; transaction ", 0) == 0);
+    CHECK(strict.text().find("; transaction 1 committed before transaction 2 began") != std::string::npos);
     CHECK(thrown([] { judge_any_order({entry::of(11, 0)}); }) == BOOSTMAP_NO_ENTRY);
     CHECK(thrown([] { judge_any_order({began(0, 1), began(64, 2)}); }) == BOOSTMAP_NO_ENTRY);
 }
@@ -417,6 +423,7 @@ static void of_others(long count) {
     boostmap_cpp::opening how;
     how.keep = BOOSTMAP_KEEP_ENTRIES;
     auto kept = boostmap_cpp::open_striped(1, 8, how);
+    for (std::uint64_t number = 2; number < 65536; number++) CHECK(kept[0].another().number() == number);
     CHECK(thrown([&] { static_cast<void>(kept[0].another()); }) == BOOSTMAP_LIMIT);
     auto callers = boostmap_cpp::open_striped(2, 8);
     auto open = callers[0].begin();

@@ -88,6 +88,9 @@ static void on_all_pairs(void) {
     CHECK(boostmap_caller_add(&one, 3, INT64_MIN, &word) == BOOSTMAP_DONE && word == UINT64_MAX);
     CHECK(boostmap_caller_add(&one, 3, -1, &word) == BOOSTMAP_DONE && word == INT64_MAX);
     CHECK(boostmap_caller_add(&one, 5, 0, &word) == BOOSTMAP_ABSENT && word == 0);
+    boostmap_pair page[2];
+    CHECK(boostmap_caller_read_stripe(&other, 9, page, 0, &word) == BOOSTMAP_SHORT && word == 1);
+    CHECK(boostmap_caller_read_stripe(&other, 9 + 16, page, 2, &word) == BOOSTMAP_DONE && word == 1 && page[0].value == 91);
     CHECK(boostmap_caller_clear(&other, &word) == BOOSTMAP_DONE && word == 3);
     CHECK(boostmap_caller_items(&one, &pairs, &word) == BOOSTMAP_DONE && word == 0);
     free(pairs);

@@ -5,13 +5,14 @@
     tests/stores/postgres.py --judge PROGRAM     by this program instead
     tests/stores/postgres.py --level serializable --seed 3 --write >history.json
     tests/stores/postgres.py --counter           with a counter that each transaction raises
+    tests/stores/postgres.py --real-time         judged with real time
 
 Twelve connections run transactions of two to five gets and puts on 20 keys. They are recorded as
 docs/JUDGE.md says: each entry when its caller sees it happen. At READ COMMITTED and at REPEATABLE READ
-the history must not be serializable, at SERIALIZABLE it must be. The last line is 'postgres: N passed,
-M failed', and the status is 1 if M is not 0. With --counter no two transactions overlap that both
-commit, so at REPEATABLE READ the history must be serializable too: the counter hides the write skew. With
---takes a history may be undecided, which counts as failed.
+the history must not be serializable, at SERIALIZABLE it must be, with --real-time too. The last line is
+'postgres: N passed, M failed', and the status is 1 if M is not 0. With --counter no two transactions
+overlap that both commit, so at REPEATABLE READ the history must be serializable too: the counter hides the
+write skew. With --takes a history may be undecided, which counts as failed.
 """
 import argparse
 import collections
@@ -165,11 +166,11 @@ def run(server, level, words):
     return recorder.history()
 
 
-def verdict(program, history):
+def verdict(program, history, real_time):
     """The first line of `judge check` on a history, or of the plain judge if there is no program."""
     if program is None:
-        return plain_order_judge.judged(history["entries"])[0]
-    check = [program, "check", "--serializable", "/dev/stdin"]
+        return plain_order_judge.judged(history["entries"], real_time)[0]
+    check = [program, "check", "--serializable", *["--real-time"] * real_time, "/dev/stdin"]
     found = subprocess.run(check, input=json.dumps(history), capture_output=True, text=True, check=False)
     return (found.stdout + found.stderr).split("\n", 1)[0]
 
@@ -196,7 +197,7 @@ def judge_level(server, level, words):
     tally, passed = collections.Counter(), 0
     for words.seed in range(1, words.seeds + 1):
         history = run(server, level, words)
-        line = verdict(words.judge, history)
+        line = verdict(words.judge, history, words.real_time)
         passed += is_due(level, line, words.counter)
         tally.update(it[0] for it in history["entries"] if it[0] in ("committed", "aborted"))
         tally[kind(line)] += 1
@@ -215,6 +216,7 @@ def main():
     parser.add_argument("--transactions", type=int, default=396)
     parser.add_argument("--takes", type=int, default=0, help="how many of 100 operations are takes")
     parser.add_argument("--judge", metavar="PROGRAM", help="the program judge")
+    parser.add_argument("--real-time", action="store_true", help="judge with real time")
     parser.add_argument("--counter", action="store_true", help="each transaction raises a counter")
     parser.add_argument("--more", action="store_true", help="the plain judges judge in other ways too")
     parser.add_argument("--write", action="store_true", help="write one history, and judge nothing")

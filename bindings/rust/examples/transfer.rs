@@ -15,7 +15,7 @@ fn transfer(accounts: &mut Caller, from: u64, to: u64, sum: i64) -> Result<bool,
 fn main() -> Result<(), Error> {
     let yes_or_no = |moved| if moved { "yes" } else { "no" };
     let mut accounts = open_striped(1, 64)?.remove(0);
-    accounts.put_all(&[(1, 100), (2, 50)])?;
+    accounts.put_all([(1, 100), (2, 50)])?;
     println!("moved 30: {}", yes_or_no(transfer(&mut accounts, 1, 2, 30)?));
     println!("moved 100: {}", yes_or_no(transfer(&mut accounts, 2, 1, 100)?));
     let (one, two) = (accounts.get(1)?, accounts.get(2)?);

@@ -3,8 +3,10 @@
 //! caller owns it from `open_striped` to its drop.
 use crate::sys::{self, Handle};
 use crate::{answer, Error, Operation, Result};
+use std::borrow::Borrow;
 use std::collections::hash_map::RandomState;
 use std::hash::{BuildHasher, Hasher};
+use std::iter::FusedIterator;
 use std::ops::Range;
 use std::thread;
 use std::time::Duration;
@@ -53,9 +55,12 @@ pub enum Keep {
 pub struct Opening {
     /// The number of callers, 1 to 4096.
     pub callers: u64,
-    /// The number of stripes, 1 to 4096.
+    /// The number of stripes, 1 to 4096. A key belongs to the stripe `key % stripes`, which a transaction takes and
+    /// holds to its end: take several times as many as keys are in open transactions at a time. If all your keys are
+    /// multiples of a number, take a number of stripes that shares no factor with it.
     pub stripes: u64,
-    /// The number of keys for which the map has room from the start.
+    /// The number of keys for which the map has room from the start. Memory that it has for keys is kept until the
+    /// map is freed.
     pub keys: u64,
     /// What the map keeps of its history.
     pub keep: Keep,
@@ -124,9 +129,11 @@ pub enum Ran {
 
 /// A caller of a striped map, for one thread. Its drop aborts an open transaction. Each of its
 /// operations is a transaction of its own, which waits and tries again while it is busy.
+#[derive(Debug)]
 pub struct Caller {
     pub(crate) handle: Handle,
     number: u64,
+    commit_number: Option<u64>,
 }
 
 // SAFETY: `sends_member` of the archive proves `Send` of what the handle owns, and `&mut self` puts
@@ -137,6 +144,20 @@ impl Caller {
     /// Its number, by which `Busy` names it.
     pub fn number(&self) -> u64 {
         self.number
+    }
+
+    /// The place of its last commit in the order of commits, if the map keeps its commits.
+    ///
+    /// ```
+    /// let how = boostmap::Opening { keep: boostmap::Keep::Commits, ..boostmap::Opening::default() };
+    /// let mut caller = how.open()?.remove(0);
+    /// caller.put(1, 10)?;
+    /// caller.add(1, 1)?;
+    /// assert_eq!(caller.commit_number(), Some(2));
+    /// # Ok::<(), boostmap::Error>(())
+    /// ```
+    pub fn commit_number(&self) -> Option<u64> {
+        self.commit_number
     }
 
     /// How its transactions ended.
@@ -173,7 +194,7 @@ impl Caller {
     ///
     /// # Errors
     ///
-    /// `Limit` if the map keeps its entries, since then it has only the callers of its opening, and `NoMemory`.
+    /// `Limit` if the map keeps its entries, and has had 65,535 callers, and `NoMemory`.
     pub fn another(&mut self) -> Result<Caller> {
         let mut next = Caller::empty();
         let at_next: *mut Handle = &mut next.handle;
@@ -184,7 +205,7 @@ impl Caller {
     }
 
     fn empty() -> Caller {
-        Caller { handle: Handle::EMPTY, number: 0 }
+        Caller { handle: Handle::EMPTY, number: 0, commit_number: None }
     }
 
     /// Begins a transaction, which aborts if it is dropped before it is committed.
@@ -280,6 +301,15 @@ impl Caller {
         self.transact(|t| t.get(key))
     }
 
+    /// Whether a key has a value.
+    ///
+    /// # Errors
+    ///
+    /// Those of [`Caller::get`].
+    pub fn contains_key(&mut self, key: u64) -> Result<bool> {
+        self.transact(|t| t.contains_key(key))
+    }
+
     /// Takes a key out, and returns the value that it had.
     ///
     /// # Errors
@@ -345,7 +375,8 @@ impl Caller {
         self.transact(|t| t.count())
     }
 
-    /// The pairs of the map, by rising keys. Takes every stripe.
+    /// The pairs of the map, by rising keys. Takes every stripe; the calls of others on those that it has taken
+    /// are busy meanwhile.
     ///
     /// # Errors
     ///
@@ -356,11 +387,22 @@ impl Caller {
 
     /// Puts pairs, in their order, in one transaction.
     ///
+    /// ```
+    /// let mut caller = boostmap::open_striped(1, 64)?.remove(0);
+    /// caller.put_all([(1, 10), (2, 20)])?;
+    /// caller.put_all((3..5).map(|key| (key, 10 * key)))?;
+    /// let all: std::collections::BTreeMap<u64, u64> = caller.items()?.into_iter().collect();
+    /// caller.put_all(all)?;
+    /// assert_eq!(caller.count()?, 4);
+    /// # Ok::<(), boostmap::Error>(())
+    /// ```
+    ///
     /// # Errors
     ///
     /// Those of [`Caller::get`].
-    pub fn put_all(&mut self, pairs: &[(u64, u64)]) -> Result<()> {
-        self.transact(|t| t.put_all(pairs))
+    pub fn put_all(&mut self, pairs: impl IntoIterator<Item = impl Borrow<(u64, u64)>>) -> Result<()> {
+        let pairs: Vec<(u64, u64)> = pairs.into_iter().map(|pair| *pair.borrow()).collect();
+        self.transact(|t| t.put_all(&pairs))
     }
 
     /// Takes every key out, and returns how many there were. Takes every stripe.
@@ -431,6 +473,9 @@ impl Caller {
                 sys::BUSY => waits.wait(),
                 sys::DONE | sys::MISSED => {
                     replies.extend(found[..done as usize].iter().map(|reply| (reply.has != 0).then_some(reply.value)));
+                    if status == sys::DONE {
+                        self.commit_number = Some(word).filter(|&place| place != 0);
+                    }
                     return Ok((replies, status == sys::DONE));
                 }
                 _ => return Err(Error::from_status(status, word)),
@@ -464,6 +509,7 @@ impl Drop for Caller {
 }
 
 /// A walk over a map, by [`Caller::pages`]. Its items are the pairs of one stripe after the other.
+#[derive(Debug)]
 pub struct Pages<'a> {
     caller: &'a mut Caller,
     // Of each stripe that is not read yet, a key.
@@ -477,10 +523,20 @@ impl Iterator for Pages<'_> {
         let key = self.keys.next()?;
         Some(self.caller.transact(|t| t.page(key)))
     }
+
+    fn size_hint(&self) -> (usize, Option<usize>) {
+        let left = (self.keys.end - self.keys.start) as usize;
+        (left, Some(left))
+    }
 }
+
+impl ExactSizeIterator for Pages<'_> {}
+
+impl FusedIterator for Pages<'_> {}
 
 /// An open transaction of a caller, which aborts if it is dropped before it is committed. It is over
 /// once a call returns `Busy`: every further call returns `NotOpen`.
+#[derive(Debug)]
 pub struct CallerTransaction<'a> {
     caller: &'a mut Caller,
     is_open: bool,
@@ -495,6 +551,15 @@ impl CallerTransaction<'_> {
     /// `Busy`, `NotOpen` and `NoMemory`, after which the transaction may hold the key's stripe.
     pub fn get(&mut self, key: u64) -> Result<Option<u64>> {
         self.operate(Operation::Get { key })
+    }
+
+    /// Whether a key has a value.
+    ///
+    /// # Errors
+    ///
+    /// Those of `get`.
+    pub fn contains_key(&mut self, key: u64) -> Result<bool> {
+        self.get(key).map(|value| value.is_some())
     }
 
     /// Takes a key out, and returns the value that it had.
@@ -646,8 +711,11 @@ impl CallerTransaction<'_> {
     /// # Errors
     ///
     /// Those of `get`, with some of them put.
-    pub fn put_all(&mut self, pairs: &[(u64, u64)]) -> Result<()> {
-        pairs.iter().try_for_each(|&(key, value)| self.put(key, value).map(drop))
+    pub fn put_all(&mut self, pairs: impl IntoIterator<Item = impl Borrow<(u64, u64)>>) -> Result<()> {
+        pairs.into_iter().try_for_each(|pair| {
+            let &(key, value) = pair.borrow();
+            self.put(key, value).map(drop)
+        })
     }
 
     /// Takes every key out, and returns how many there were. Takes every stripe.
@@ -659,6 +727,15 @@ impl CallerTransaction<'_> {
         let items = self.items()?;
         items.iter().try_for_each(|&(key, _)| self.take(key).map(drop))?;
         Ok(items.len() as u64)
+    }
+
+    /// Makes another caller of the map, as [`Caller::another`]; the transaction continues.
+    ///
+    /// # Errors
+    ///
+    /// Those of [`Caller::another`].
+    pub fn another(&mut self) -> Result<Caller> {
+        self.caller.another()
     }
 
     /// Lets the end of `transact` take everything back, although it returns the job's value. A `commit`
@@ -678,7 +755,8 @@ impl CallerTransaction<'_> {
         }
         let place = self.call(|at, word| unsafe { sys::boostmap_striped_commit(at, word) })?;
         self.is_open = false;
-        Ok(place.filter(|&place| place != 0))
+        self.caller.commit_number = place.filter(|&place| place != 0);
+        Ok(self.caller.commit_number)
     }
 
     fn call(&mut self, job: impl FnOnce(*mut Handle, *mut u64) -> u32) -> Result<Option<u64>> {

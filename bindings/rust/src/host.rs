@@ -18,6 +18,7 @@ use crate::{answer, Caller, Entry, Error, Result};
 /// assert_eq!(judge.verdict(), Verdict::Legal { commits: 2, running: 0 });
 /// # Ok::<(), boostmap::Error>(())
 /// ```
+#[derive(Debug)]
 pub struct Host(Handle);
 
 // SAFETY: `sends_keeper` of the archive proves `Send` of what the handle owns, and `&mut self` puts the

@@ -45,7 +45,8 @@ pub enum Operation {
     Get { key: u64 },
 }
 
-/// An entry of a history, of this map or of your own store. Its first field is its caller, below 64.
+/// An entry of a history, of this map or of your own store. Its first field is its caller, below 64. No entry is
+/// for a read of the whole map: a program that records one itself writes an `Asked` get and a `Did` for each key.
 #[derive(Clone, Copy, Debug, PartialEq, Eq)]
 pub enum Entry {
     /// A transaction began, with its number, counted from 1 over all callers.
@@ -186,6 +187,7 @@ pub enum Verdict {
 /// assert_eq!(judge.verdict(), Verdict::Legal { commits: 1, running: 0 });
 /// # Ok::<(), boostmap::Error>(())
 /// ```
+#[derive(Debug)]
 pub struct Judge(Handle);
 
 // SAFETY: `sends_referee` of the archive proves `Send` of what the handle owns, and `&mut self` puts the
@@ -193,7 +195,7 @@ pub struct Judge(Handle);
 unsafe impl Send for Judge {}
 
 impl Judge {
-    /// Begins to judge the history of a map with `stripes` stripes, by locks.
+    /// Begins to judge the history of a map with `stripes` stripes, each of which takes 9 bytes, by locks.
     ///
     /// # Errors
     ///

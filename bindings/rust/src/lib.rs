@@ -36,7 +36,7 @@ pub use judge::{Entry, Holder, Judge, NotFed, Operation, Rule, Verdict};
 /// A map, a caller and a judge can move to another thread, and cannot be shared by threads:
 ///
 /// ```
-/// fn moves<T: Send>() {}
+/// fn moves<T: Send + std::fmt::Debug>() {}
 /// moves::<boostmap::Map>();
 /// moves::<boostmap::Caller>();
 /// moves::<boostmap::Host>();
@@ -63,6 +63,7 @@ mod sys {
     /// A handle of a map, a caller, a host or a judge. Every call reads it, so it has a line of the processor's
     /// cache to itself, in which no other thread writes.
     #[repr(C, align(64))]
+    #[derive(Debug)]
     pub struct Handle {
         pub tag: u64,
         pub held: *mut c_void,
@@ -140,6 +141,7 @@ mod sys {
     }
 
     pub const LINK_READ: u64 = 1;
+    pub const LINK_REPLACED: u64 = 2;
 
     pub const SERIALIZABLE: u64 = 0;
     pub const MISSHAPEN: u64 = 1;
@@ -264,6 +266,7 @@ mod sys {
         pub fn boostmap_judge_any_order(
             entries: *const Entry,
             count: usize,
+            real_time: u32,
             links: *mut Link,
             places: usize,
             finding: *mut Finding,
@@ -356,7 +359,9 @@ impl error::Error for Error {}
 pub type Result<T, E = Error> = std::result::Result<T, E>;
 
 /// A transactional map with one owner, for up to 64 callers whose transactions may be open at the same
-/// time.
+/// time. Its memory grows with its history, unless it is trimmed. It does not hash: keys whose low bits are all
+/// alike, as multiples of 65536, form one long list.
+#[derive(Debug)]
 pub struct Map(sys::Handle);
 
 // SAFETY: `sends_map` of the archive proves `Send` of what a handle owns, and `&mut self` puts the
@@ -578,6 +583,7 @@ impl Drop for Map {
 }
 
 /// An open transaction, which aborts if it is dropped before it is committed.
+#[derive(Debug)]
 pub struct Transaction<'a> {
     map: &'a mut Map,
     caller: u64,
@@ -598,6 +604,15 @@ impl Transaction<'_> {
     /// Those of [`Map::get`].
     pub fn get(&mut self, key: u64) -> Result<Option<u64>> {
         self.map.get(self.caller, key)
+    }
+
+    /// Whether a key has a value.
+    ///
+    /// # Errors
+    ///
+    /// Those of [`Map::get`].
+    pub fn contains_key(&mut self, key: u64) -> Result<bool> {
+        self.get(key).map(|value| value.is_some())
     }
 
     /// Takes a key out, and returns the value that it had.

@@ -9,12 +9,12 @@ fn a_transaction_continues_and_the_map_lives() -> Result<(), Error> {
     let mut callers = how.open()?;
     let mut open = callers[0].begin()?;
     open.put(5, 50)?;
-    mem::forget(open); // it is still open
-    let mut third = callers[0].another()?;
+    let mut third = open.another()?;
     let mut fourth = third.another()?;
     assert_eq!(fourth.transact_within(0, |t| t.get(5)), Err(Error::Busy(1)));
     assert_eq!(fourth.counts(), Counts { commits: 0, aborts: 0, busy: 1 });
-    assert!(callers[0].abort());
+    assert_eq!(open.get(5), Ok(Some(50)));
+    drop(open);
     let mut holds = third.begin()?;
     holds.put(6, 60)?;
     let busy = fourth.transact_within(0, |t| t.get(6));
@@ -29,8 +29,11 @@ fn a_transaction_continues_and_the_map_lives() -> Result<(), Error> {
 }
 
 #[test]
-fn a_map_that_keeps_its_entries_has_no_others() -> Result<(), Error> {
+fn a_map_that_keeps_its_entries_has_65535_callers() -> Result<(), Error> {
     let mut callers = Opening { callers: 1, keep: Keep::Entries, ..Opening::default() }.open()?;
+    for number in 2..=65_535 {
+        assert_eq!(callers[0].another()?.number(), number);
+    }
     assert!(matches!(callers[0].another(), Err(Error::Limit)));
     assert_eq!(callers[0].put(1, 10)?, None);
     Ok(())

@@ -27,7 +27,7 @@ fn both(parts: &[Entries], first: u64) -> Entries {
 
 /// The finding, with a cycle from the least number on.
 fn found(entries: &[Entry]) -> Result<Finding, Error> {
-    let mut finding = judge_any_order(entries)?;
+    let mut finding = judge_any_order(entries, false)?;
     if let Finding::NotSerializable(Reason::Cycle(links)) = &mut finding {
         let least = (0..links.len()).min_by_key(|&at| links[at].transaction).unwrap();
         links.rotate_left(least);
@@ -105,9 +105,26 @@ fn findings_have_their_members() -> Result<(), Error> {
     assert_eq!(impossible.to_string(), line);
     let puts: Entries = (1..=3).flat_map(|number| alone(number, &[put(0, 1, 5, None)])).collect();
     let undecided = found(&[puts, alone(4, &[take(0, 1, Some(5))])].concat())?;
-    assert_eq!(undecided, Finding::Undecided { key: 1, value: None });
-    assert_eq!(undecided.to_string(), "undecided key 1 value none");
-    assert_eq!(judge_any_order(&[Entry::Began(0, 1), Entry::Began(64, 2)]), Err(Error::NoEntry));
+    assert_eq!(undecided, Finding::Undecided { key: 1, value: None, writers: vec![4] });
+    assert_eq!(undecided.to_string(), "undecided key 1 value none: transactions 4");
+    assert_eq!(judge_any_order(&[Entry::Began(0, 1), Entry::Began(64, 2)], false), Err(Error::NoEntry));
+    Ok(())
+}
+
+/// 2 began after 1 had committed, and read the state before it.
+#[test]
+fn an_old_state_is_not_strictly_serializable() -> Result<(), Error> {
+    let second = [vec![Entry::Began(7, 2)], get(7, 1, None), vec![Entry::Committed(7, 2)]].concat();
+    let entries = [alone(1, &[put(0, 1, 5, None)]), second].concat();
+    assert_eq!(judge_any_order(&entries, false)?, Finding::Serializable(vec![2, 1]));
+    let finding = judge_any_order(&entries, true)?;
+    let Finding::NotSerializable(Reason::Cycle(links)) = &finding else { panic!("{finding:?}") };
+    let began = Link { transaction: 1, kind: LinkKind::Began, key: 0, value: None };
+    let replaced = Link { transaction: 2, kind: LinkKind::Replaced, key: 1, value: None };
+    assert!(*links == [began, replaced] || *links == [replaced, began]);
+    let line = finding.to_string();
+    assert!(line.starts_with("not serializable: G-single-realtime, cycle of 2; transaction "), "{line}");
+    assert!(line.contains("; transaction 1 committed before transaction 2 began"), "{line}");
     Ok(())
 }
 
@@ -121,12 +138,12 @@ fn the_history_of_a_map_is_serializable() -> Result<(), Error> {
     }
     drop(callers);
     let mut entries = host.history()?;
-    assert_eq!(judge_any_order(&entries)?, Finding::Serializable((0..20).map(|i| 2 * i + 1).collect()));
+    assert_eq!(judge_any_order(&entries, false)?, Finding::Serializable((0..20).map(|i| 2 * i + 1).collect()));
     entries.extend([Entry::Began(0, 41), Entry::Asked(0, Operation::Get { key: 1 }), Entry::Did(0, Some(19))]);
-    assert!(matches!(judge_any_order(&entries)?, Finding::Serializable(order) if order.len() == 20));
+    assert!(matches!(judge_any_order(&entries, false)?, Finding::Serializable(order) if order.len() == 20));
     entries.push(Entry::Committed(0, 21));
     // 19 was there between the last two puts.
     let order = (0..19).map(|i| 2 * i + 1).chain([41, 39]).collect();
-    assert_eq!(judge_any_order(&entries)?, Finding::Serializable(order));
+    assert_eq!(judge_any_order(&entries, false)?, Finding::Serializable(order));
     Ok(())
 }

@@ -12,7 +12,7 @@ fn a_transaction_commits_or_leaves_nothing() -> Result<(), Error> {
         t.back(level)?;
         assert_eq!(t.put_if(1, None, 11)?, Some(10));
         assert_eq!(t.put_if(1, Some(10), 12)?, Some(10));
-        assert_eq!(t.number(), 1);
+        assert_eq!((t.contains_key(1)?, t.contains_key(2)?, t.number()), (true, false, 1));
         Ok::<_, Error>(())
     })?;
     let failed = map.transact(0, |t| t.put(2, 20).and(Err::<(), _>(Error::Limit)));

@@ -78,7 +78,7 @@ fn call(t: &mut CallerTransaction<'_>, model: &mut Contents, draw: &mut Draw) ->
             set(model, key, flip(had));
         }
         6 if draw.below(30) == 0 => call_on_all(t, model, draw)?,
-        _ => assert_eq!(t.get(key)?, had),
+        _ => assert_eq!((t.get(key)?, t.contains_key(key)?), (had, had.is_some())),
     }
     Ok(())
 }
@@ -95,7 +95,7 @@ fn call_on_all(t: &mut CallerTransaction<'_>, model: &mut Contents, draw: &mut D
             model.clear();
         }
         1 => {
-            t.put_all(&[(3, 30), (4, 40)])?;
+            t.put_all([(3, 30), (4, 40)])?;
             model.extend([(3, 30), (4, 40)]);
         }
         2 => assert_eq!(t.count()?, model.len() as u64),
@@ -191,10 +191,11 @@ fn calls_beside_a_model() -> Result<(), Error> {
         let (key, value) = (draw.below(40), draw.below(10));
         let had = model.insert(key, value);
         assert_eq!(caller.put(key, value), Ok(had));
-        assert_eq!(caller.add(key, 1), Ok(Some(value)));
+        assert_eq!((caller.add(key, 1), caller.contains_key(key)), (Ok(Some(value)), Ok(true)));
         set(&mut model, key, Some(value + 1));
-        made += 2 + run(caller, &mut model, &mut draw)?;
+        made += 3 + run(caller, &mut model, &mut draw)?;
         if draw.below(100) == 0 {
+            assert_eq!(caller.pages().len(), 7);
             assert!(caller.pages().map(Result::unwrap).eq((0..7).map(|stripe| page(&model, stripe))));
         }
     }
@@ -232,7 +233,7 @@ fn every_call(t: &mut CallerTransaction<'_>, mut next: impl FnMut() -> Result<()
     inner?;
     let level = t.save()?;
     next()?;
-    t.put_all(&[(5, 50), (6, 60)])?;
+    t.put_all([(5, 50), (6, 60)])?;
     next()?;
     t.back(level)?;
     next()?;
@@ -249,7 +250,7 @@ fn panics_and_errors_leave_nothing() -> Result<(), Error> {
     const CALLS: u64 = 12;
     let before = [(1, 10), (2, 20), (3, 30), (4, 40)];
     let mut callers = open_striped(2, 7)?;
-    callers[0].put_all(&before)?;
+    callers[0].put_all(before)?;
     for (stop, panics) in (0..CALLS).flat_map(|stop| [(stop, true), (stop, false)]) {
         let ended = catch_unwind(AssertUnwindSafe(|| {
             callers[0].transact(|t| {

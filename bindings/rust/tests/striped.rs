@@ -45,7 +45,7 @@ fn a_transaction_commits_or_leaves_nothing() -> Result<(), Error> {
 
 #[test]
 fn a_map_tells_how_it_was_opened() -> Result<(), Error> {
-    let how = Opening { callers: 3, stripes: 16, keys: 100, keep: Keep::Commits, seed: 7, ..Opening::default() };
+    let how = Opening { callers: 3, stripes: 16, keys: 100, keep: Keep::Commits, seed: 7 };
     assert!(how.open()?.iter_mut().all(|caller| caller.options() == Ok(how)));
     assert_eq!(open_striped(2, 8)?[1].options()?.stripes, 8);
     Ok(())
@@ -177,6 +177,7 @@ fn a_whole_transaction_in_one_call() -> Result<(), Error> {
     assert_eq!(committed, Ran::Committed(vec![None, Some(20)]));
     assert_eq!((other.items()?, other.run(&[])?), (vec![(1, 12), (2, 21)], vec![]));
     assert_eq!(one.counts(), Counts { commits: 3, aborts: 1, busy: 0 });
+    assert_eq!((one.commit_number(), other.commit_number()), (Some(3), Some(5)));
     mem::forget(one.begin()?);
     assert_eq!(one.run(&operations), Err(Error::AlreadyOpen));
     assert_eq!(one.run_strict(&operations), Err(Error::AlreadyOpen));
@@ -213,7 +214,7 @@ fn threads_that_run_keep_the_sum() -> Result<(), Error> {
     const THREADS: u64 = 4;
     const ROUNDS: u64 = 2000;
     let mut callers = open_striped(THREADS, 4)?;
-    callers[0].put_all(&[(7, 0), (8, 0)])?;
+    callers[0].put_all([(7, 0), (8, 0)])?;
     let both = [Operation::Get { key: 7 }, Operation::Get { key: 8 }];
     thread::scope(|scope| {
         for caller in &mut callers {
@@ -240,7 +241,7 @@ fn pages_are_whole() -> Result<(), Error> {
     const STRIPES: u64 = 8;
     const KEYS: u64 = 20 * STRIPES;
     let mut callers = open_striped(4, STRIPES)?;
-    callers[0].put_all(&(0..KEYS).map(|key| (key, 100)).collect::<Vec<_>>())?;
+    callers[0].put_all((0..KEYS).map(|key| (key, 100)))?;
     let (walker, movers) = callers.split_first_mut().unwrap();
     thread::scope(|scope| {
         for caller in movers {

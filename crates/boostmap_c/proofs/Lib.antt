@@ -4,9 +4,6 @@ pub mod MapWords
 pub mod RefereeWords
 pub mod MemberWords
 pub mod KeeperWords
-pub mod Shelving
-pub mod Opened
-pub mod Collecting
 pub mod Referees
 pub mod Feeding
 pub mod Back

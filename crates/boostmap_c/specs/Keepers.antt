@@ -1,5 +1,5 @@
 -- What a host's handle does: it merges the callers that have ended, and hands out the history.
-use Rattle.std.specs.Prelude.{◌≡◌, ◌⊎◌, ◌<◌, ◌≤◌, ℕ, zero, suc, List, [], ◌++◌, length, Option, Some, None}
+use Rattle.std.specs.Prelude.{◌≡◌, ◌⊎◌, ◌<◌, ◌≤◌, ℕ, zero, suc, List, [], length, Option, Some, None}
 use Rattle.txn_words.specs.declared.entry.Entry.{Entry}
 use Rattle.txn_words.specs.declared.holder.Holder.TheVariants.{Begun}
 use Rattle.txn_words.specs.declared.refusal.Refusal.TheVariants.{NoMemory as OutOfMemory}
@@ -7,7 +7,7 @@ use Rattle.txn_trace.specs.Legal.{IsLegal}
 use Rattle.striped_map.specs.declared.host.Host.{Host}
 use Rattle.striped_map.specs.declared.no_history.NoHistory.{NoHistory}
 use Rattle.striped_map.specs.declared.no_history.NoHistory.TheVariants.{NotKept, Missing, NoMemory}
-use Rattle.striped_map.specs.Hosts.{HasTaken, IsNoHistory, numbers, seen_by, taken}
+use Rattle.striped_map.specs.Hosts.{Collects, HasTaken, IsNoHistory, numbers, seen_by}
 use Rattle.striped_map.specs.Seats.{known, stripes_of}
 use Rattle.striped_map.specs.Steps.{Extends, HasAll, HasNoOther}
 use Rattle.boostmap_c.specs.declared.c_entry.CEntry.{CEntry}
@@ -17,21 +17,13 @@ use Rattle.boostmap_c.specs.declared.member.Member.{Member}
 use Rattle.boostmap_c.specs.Histories.{Shows}
 use Rattle.boostmap_c.specs.Replies.{done, empty_handle, full, missing, no_host, not_kept, refused, short}
 
--- From `a` to `b`, the host has merged some more callers, each in no transaction. It has seen no
--- more of the history.
-pub record Collects (a b : Host) : Type 0 where
-  pub map_is : b.map ≡ a.map
-  pub numbers_are : numbers b ≡ numbers a
-  pub seen_is : seen_by b ≡ seen_by a
-  pub more : List (ℕ × List Entry)
-  pub taken_are : taken b ≡ more ++ taken a
-
--- From `a` to `b`, the host has looked at the history, as `Host::history` promises. The history is
--- legal, goes on from what each merged caller had seen, and has no further entry of any of them
--- (`HasAll`). Only callers to which numbers were given have entries (`HasNoOther`).
+-- From `a` to `b`, the host has merged callers that had ended (`Collects`) and looked at the history,
+-- as `Host::history` promises. The history is legal, goes on from what each merged caller had seen,
+-- and has no further entry of any of them (`HasAll`). Only callers to which numbers were given have
+-- entries (`HasNoOther`).
 pub record Gathers (a b : Host) : Type 0 where
   pub map_is : b.map ≡ a.map
-  pub taken_are : taken b ≡ taken a
+  pub collects : Collects a b
   pub given : numbers a ≤ numbers b
   pub goes : Extends (stripes_of b.map.value) 0 [] (seen_by a) [] (seen_by b)
   pub legal : IsLegal Begun (stripes_of b.map.value) (seen_by b)
@@ -72,26 +64,21 @@ HandsOut host entries status before after was word =
 -- The host merges the callers that have ended, and C gets the history that the host has then seen.
 abbrev pub TellsAll : Option Keeper → ℕ → List CEntry → List CEntry → ℕ → ℕ → Option Keeper → Type 0
 TellsAll (Some old) status before after was word (Some new) =
-    (new.shelf ≡ old.shelf) × (between : Host) × Collects old.host between
-    × Gathers between new.host × HandsOut new.host (seen_by new.host) status before after was word
+    Gathers old.host new.host × HandsOut new.host (seen_by new.host) status before after was word
 TellsAll None status before after was word None =
     (status ≡ empty_handle) × (after ≡ before) × (word ≡ was)
 TellsAll old status before after was word new = ⊥
 
--- The host leaves the group for a keeper, which has the same shelf. If there is no host or memory is
--- refused, nothing changes.
-abbrev pub LeavesGroup : Option Host → Group → ℕ → Option Host → Option Keeper → Type 0
-LeavesGroup (Some h) group status None (Some made) =
-    (status ≡ done) × (made.host ≡ h) × (made.shelf.value ≡ group.shelf.value)
-LeavesGroup (Some h) group status (Some left) None = (status ≡ refused OutOfMemory) × (left ≡ h)
-LeavesGroup None group status None None = status ≡ no_host
-LeavesGroup host group status left made = ⊥
+-- The host leaves the group for a keeper. If there is no host or memory is refused, nothing changes.
+abbrev pub LeavesGroup : Option Host → ℕ → Option Host → Option Keeper → Type 0
+LeavesGroup (Some h) status None (Some made) = (status ≡ done) × (made.host ≡ h)
+LeavesGroup (Some h) status (Some left) None = (status ≡ refused OutOfMemory) × (left ≡ h)
+LeavesGroup None status None None = status ≡ no_host
+LeavesGroup host status left made = ⊥
 
 -- The rest of the group is unchanged.
 pub record KeepsRest (old new : Group) : Type 0 where
   pub waiting_are : new.waiting ≡ old.waiting
-  pub shelf_is : new.shelf ≡ old.shelf
-  pub place_is : new.place ≡ old.place
   pub opening_is : new.opening ≡ old.opening
 
 -- The host of a map leaves the handle of its first caller, and gets a handle of its own, which must
@@ -99,7 +86,7 @@ pub record KeepsRest (old new : Group) : Type 0 where
 abbrev pub GivesHost : Option Member → Option Keeper → ℕ → Option Member → Option Keeper → Type 0
 GivesHost (Some old) None status (Some new) made =
     (new.caller ≡ old.caller) × (new.counts ≡ old.counts) × KeepsRest old.group new.group
-    × LeavesGroup old.group.host old.group status new.group.host made
+    × LeavesGroup old.group.host status new.group.host made
 GivesHost None None status None made = (status ≡ empty_handle) × (made ≡ None)
 GivesHost first (Some host) status new made =
     (status ≡ full) × (new ≡ first) × (made ≡ Some host)

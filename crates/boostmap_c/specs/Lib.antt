@@ -13,8 +13,6 @@ pub mod Striped
 pub mod Counting
 pub mod Counted
 pub mod Members
-pub mod Shelves
-pub mod Shelved
 pub mod Keepers
 pub mod Options
 pub mod StripedContents

@@ -2,7 +2,7 @@
 -- The effect of a striped map's call on a handle, in terms of the member that the handle owns
 -- before and after. Only `Opens`, `Joins` and `MakesAnother` give a member to an empty handle. For
 -- every other call on an empty handle the status says that the handle is empty.
-use Rattle.std.specs.Prelude.{◌≡◌, ◌⊎◌, ℕ, ◌&&◌, nat_eq, nat_le, is_some, Bool, true, [], ◌∷◌, ◌++◌, length, Option, Some, None, Result, if◌then◌else◌}
+use Rattle.std.specs.Prelude.{◌≡◌, ℕ, ◌&&◌, nat_eq, nat_le, is_some, Bool, true, [], ◌∷◌, ◌++◌, length, Option, Some, None, Result, if◌then◌else◌}
 use Rattle.txn_words.specs.declared.refusal.Refusal.{Refusal}
 use Rattle.txn_words.specs.declared.refusal.Refusal.TheVariants.{NoMemory, NoSuchCaller, Limit}
 use Rattle.striped_map.specs.declared.caller.Caller.{Caller}
@@ -111,11 +111,9 @@ Opens None callers stripes keys keep seed status before after new =
 Opens (Some old) callers stripes keys keep seed status before after new =
     (status ≡ full) × (after ≡ before) × (new ≡ Some old)
 
--- The group has the same host, shelf, place and opening. Its waiting callers may differ.
+-- The group has the same host and opening. Its waiting callers may differ.
 pub record IsAlike (old new : Group) : Type 0 where
   pub host_is : new.host ≡ old.host
-  pub shelf_is : new.shelf ≡ old.shelf
-  pub place_is : new.place ≡ old.place
   pub opening_is : new.opening ≡ old.opening
 
 -- The caller of the member, the callers that wait and all else of the group are unchanged.
@@ -128,7 +126,6 @@ IsSame old new = (new.caller ≡ old.caller) × (new.counts ≡ old.counts)
 pub record IsJoined (old made : Group) : Type 0 where
   pub none : made.waiting.items ≡ []
   pub hostless : made.host ≡ None
-  pub shelf_is : made.shelf.value ≡ old.shelf.value
   pub opening_is : made.opening ≡ old.opening
 
 -- The last waiting caller gets its own member, in which no caller waits. The word is the number of
@@ -139,7 +136,7 @@ JoinsOf old status before after new (Some made) =
     (new.caller ≡ old.caller) × (new.counts ≡ old.counts) × (made.counts ≡ none_ended)
     × IsAlike old.group new.group × IsJoined old.group made.group
     × (old.group.waiting.items ≡ new.group.waiting.items ++ made.caller ∷ [])
-    × (made.group.place ≡ length new.group.waiting.items) × (status ≡ done) × (after ≡ length old.group.waiting.items)
+    × (status ≡ done) × (after ≡ length old.group.waiting.items)
 JoinsOf old status before after new None =
     IsSame old new × (after ≡ before)
     × (status ≡ refused (if nat_le 1 (length old.group.waiting.items) then NoMemory else NoSuchCaller))
@@ -156,11 +153,10 @@ Joins first (Some next) status before after new made =
 Joins (Some old) None status before after None made = ⊥
 
 -- Why the member's caller made no other caller.
--- - `Limit`: the map keeps its entries, or has given out all its numbers.
+-- - `Limit`: the map has given out all its numbers.
 -- - `NoMemory`: memory was refused.
 abbrev pub IsNotMade : Member → Member → Refusal → Type 0
-IsNotMade old new Limit = (old.group.opening.keep ≡ KeepEntries)
-    ⊎ (numbers_seen new.caller ≡ most (keeps old.caller))
+IsNotMade old new Limit = numbers_seen new.caller ≡ most (keeps old.caller)
 IsNotMade old new refusal = refusal ≡ NoMemory
 
 -- Either the caller of the old member has made another caller, which has its own member, in which no

@@ -1,5 +1,5 @@
 //! Judges an array of entries by any order of their transactions.
-ghost use Rattle.std.specs.Prelude.{◌≡◌, ◌<◌, Some, IfOk, IfErr, OnOk, map};
+ghost use Rattle.std.specs.Prelude.{◌≡◌, ◌==◌, ◌<◌, not, Some, IfOk, IfErr, OnOk, map};
 ghost use Rattle.std.specs.List.{All};
 ghost use Rattle.txn_words.specs.Kinds.{caller_of};
 ghost use Rattle.boostmap_c.specs.Entries.{IsUnreadable, judged_entry};
@@ -8,7 +8,7 @@ ghost use Rattle.boostmap_c.specs.AnyOrders.{JudgesAny, LaysLinks, finding, find
 use crate::c_entry::CEntry;
 use crate::status::{DONE, NO_ENTRY, SHORT, refused};
 use crate::striped_run::CReply;
-use order_check::{Edge, Kind, Reason, Verdict, check};
+use order_check::{Edge, Kind, Options, Reason, Verdict, check};
 use std::alloc::Global;
 use txn_trace::{Entry, Refusal};
 
@@ -71,6 +71,7 @@ fn link_of(edge: Edge) -> CLink
     let kind = match edge.kind {
         Kind::Read => 1,
         Kind::Replaced => 2,
+        Kind::Began => 3,
     };
     CLink {
         transaction: edge.from,
@@ -113,7 +114,9 @@ fn finding_of(verdict: &Verdict) -> CFinding
         Verdict::NotSerializable(Reason::Cycle(edges)) => {
             finding(5, 0, 0, None, edges.len() as u64)
         }
-        Verdict::Undecided(key, value) => finding(6, 0, *key, *value, 0),
+        Verdict::Undecided(key, value, writers) => {
+            finding(6, 0, *key, *value, writers.len() as u64)
+        }
     }
 }
 
@@ -153,6 +156,7 @@ fn lay_links(verdict: &Verdict, links: &mut [CLink]) -> u32
     match verdict {
         Verdict::Serializable(order) => lay_order(order, links),
         Verdict::NotSerializable(Reason::Cycle(edges)) => lay_cycle(edges, links),
+        Verdict::Undecided(_, _, writers) => lay_order(writers, links),
         _ => DONE,
     }
 }
@@ -177,14 +181,15 @@ fn read_history(alloc: Global, entries: &[CEntry]) -> Result<Vec<Entry>, u32>
 }
 
 /// Judges whether the history of these entries is serializable, by any order of its transactions. If
-/// it is, writes a serial order to the front of the array. If each order is excluded by a cycle,
-/// writes the cycle.
+/// `real_time` is not 0, a transaction must also come after all that had committed when it began. If
+/// there is a serial order, writes it to the front of the array. If each order is excluded by a cycle,
+/// writes the cycle. If it is undecided, writes the transactions that write the value.
 ///
 /// # Errors
 ///
 /// The status is one of these:
 ///
-/// - 7 if the array has too few places for the order or the cycle. The finding is written, and has
+/// - 7 if the array has too few places for the transactions. The finding is written, and has
 ///   the number of places that are needed. The array is unchanged.
 /// - 8 if the numbers of an entry stand for no entry of a caller below 64. Nothing is written.
 /// - 30 (`NoMemory`) if memory is refused. Nothing is written.
@@ -196,16 +201,18 @@ fn read_history(alloc: Global, entries: &[CEntry]) -> Result<Vec<Entry>, u32>
 pub extern "C" fn boostmap_judge_any_order(
     alloc: Global,
     entries: &[CEntry],
+    real_time: u32,
     links: &mut [CLink],
     finding: &mut CFinding,
 ) -> u32
-    ensures { JudgesAny entries.now result links.old links.new finding.old finding.new }
+    ensures { JudgesAny (not (real_time == 0)) entries.now result links.old links.new finding.old finding.new }
 {
     let history = match read_history(alloc, entries) {
         Ok(history) => history,
         Err(status) => return status,
     };
-    let Ok(verdict) = check(alloc, &history) else {
+    let options = Options::new(real_time != 0);
+    let Ok(verdict) = check(alloc, options, &history) else {
         return refused(Refusal::NoMemory);
     };
     *finding = finding_of(&verdict);

@@ -1,8 +1,7 @@
 //! The calls on the host of a striped map. If the map keeps its entries, the host hands out its
-//! history: `boostmap_striped_free` puts a caller that ends on the shelf, and the host merges it.
+//! history: the host merges the callers that `boostmap_striped_free` has dropped.
 ghost use Rattle.std.specs.Prelude.{◌≡◌, Some, None, IfOk, IfErr};
 ghost use Rattle.boostmap_c.specs.Keepers.{Frees, GivesHost, KeepsRest, LeavesGroup, TellsAll};
-ghost use Rattle.boostmap_c.specs.Shelved.{host_of};
 
 use crate::c_entry::CEntry;
 use crate::history::lay_entries;
@@ -10,49 +9,24 @@ use crate::host_handle::{HostHandle, put_in, take_out};
 use crate::keeper::Keeper;
 use crate::member::Group;
 use crate::member_handle::CallerHandle;
-use crate::shelf::Shelf;
 use crate::status::{DONE, EMPTY, FULL, NO_HOST, refused};
 use crate::stops::tell_no_history;
 use std::alloc::Global;
-use std::sync::Arc;
-use striped_map::Host;
 use txn_trace::Refusal;
-
-/// A keeper with this host and this shelf.
-fn keeper_of(
-    alloc: Global,
-    shelf: &Arc<Shelf, Global>,
-    host: Host,
-) -> Result<Box<Keeper, Global>, Host>
-    requires { host.map.value ≡ (host_of shelf.now.value).map.value }
-    ensures host { IfOk result (λ made. made.value.host ≡ host) }
-    ensures shelf { IfOk result (λ made. made.value.shelf.value ≡ shelf.now.value) }
-    ensures err { IfErr result (λ same. same ≡ host) }
-{
-    let Ok(shelf) = Arc::try_clone(shelf) else {
-        return Err(host);
-    };
-    match Box::new(alloc, Keeper { host, shelf }) {
-        Ok(keeper) => Ok(keeper),
-        Err(failed) => Err(failed.value.into_host()),
-    }
-}
 
 /// Moves the host out of the group, into a keeper. On an error, returns the status.
 fn keep_host(alloc: Global, group: &mut Group) -> Result<Box<Keeper, Global>, u32>
     ensures rest { KeepsRest group.old group.new }
-    ensures ok { IfOk result (λ made.
-        LeavesGroup group.old.host group.old 0 group.new.host (Some made.value)) }
-    ensures err { IfErr result (λ status.
-        LeavesGroup group.old.host group.old status group.new.host None) }
+    ensures ok { IfOk result (λ made. LeavesGroup group.old.host 0 group.new.host (Some made.value)) }
+    ensures err { IfErr result (λ status. LeavesGroup group.old.host status group.new.host None) }
 {
     let Some(host) = group.host.take() else {
         return Err(NO_HOST);
     };
-    match keeper_of(alloc, &group.shelf, host) {
+    match Box::new(alloc, Keeper { host }) {
         Ok(keeper) => Ok(keeper),
-        Err(host) => {
-            group.host = Some(host);
+        Err(failed) => {
+            group.host = Some(failed.value.into_host());
             Err(refused(Refusal::NoMemory))
         }
     }
@@ -128,7 +102,7 @@ pub extern "C" fn boostmap_host_history(
         return EMPTY;
     }
     let keeper = host.held.get_mut();
-    let answer = keeper.history();
+    let answer = keeper.host.history();
     match answer {
         Ok(all) => lay_entries(&all, entries, word),
         Err(why) => tell_no_history(why, word),

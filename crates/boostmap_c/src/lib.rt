@@ -49,7 +49,6 @@ mod owned_pointer;
 mod read;
 mod referee;
 mod referee_pointer;
-mod shelf;
 mod status;
 mod stops;
 mod striped;

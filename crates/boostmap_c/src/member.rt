@@ -6,18 +6,12 @@
 //! A join takes a caller from the list of those that wait, and makes a member of it. If there is no
 //! memory for the member, the caller goes back to the list. This takes no memory, since the list
 //! has kept the room for the caller.
-ghost use Rattle.std.specs.Prelude.{◌≡◌, ◌≤◌, Some, IfOk, IfErr, OnOk, OnErr, length, vec_len};
-ghost use Rattle.std.specs.List.{All};
-ghost use Rattle.striped_map.specs.declared.host.Host.{Host as HostOf};
-ghost use Rattle.boostmap_c.specs.Shelves.{IsOver};
-ghost use Rattle.boostmap_c.specs.Shelved.{host_of};
+ghost use Rattle.std.specs.Prelude.{◌≡◌, ◌≤◌, IfOk, IfErr, OnOk, OnErr, length, vec_len};
 
 use crate::c_entry::CEntry;
 use crate::counts::Counts;
-use crate::shelf::Shelf;
 use crate::striped_run::read_operations;
 use std::alloc::Global;
-use std::sync::Arc;
 use striped_map::{Caller, Host, Opening, RunEnd, Stop};
 use txn_trace::{Op, Reply};
 
@@ -28,15 +22,8 @@ pub struct Group {
     pub(crate) waiting: Vec<Caller>,
     /// The map's host, until C gets a handle of it. Only the first member has it.
     pub(crate) host: Option<Host>,
-    /// If the map keeps its entries, the shelf has a place for each caller, else it has none.
-    pub(crate) shelf: Arc<Shelf, Global>,
-    /// The place of the member's caller on the shelf.
-    pub(crate) place: usize,
     /// How the map was opened.
     pub(crate) opening: Opening,
-    ghost rest: { All (IsOver (host_of shelf.value)) waiting.items },
-    ghost hosts: { (h : HostOf) → host ≡ Some h
-        → h.map.value ≡ (host_of shelf.value).map.value },
 }
 
 /// A caller of a striped map, the counts of its transactions, and its group. It keeps the room for
@@ -58,7 +45,6 @@ pub struct Member {
     pub(crate) replies: Vec<Reply>,
     pub(crate) group: Group,
     behind: [u64; 16],
-    ghost of: { caller.map.value ≡ (host_of group.shelf.value).map.value },
 }
 
 impl Member {
@@ -68,7 +54,6 @@ impl Member {
 
     /// A member with this caller and this group.
     pub(crate) fn new(alloc: Global, caller: Caller, group: Group) -> Member
-        requires { caller.map.value ≡ (host_of group.shelf.value).map.value }
         ensures caller { result.caller ≡ caller }
         ensures group { result.group ≡ group }
         ensures counts { result.counts ≡ none_ended }
@@ -106,9 +91,9 @@ impl Member {
         Ok(answer)
     }
 
-    /// The caller and the group, without the room beside them.
-    pub(crate) fn apart(self) -> (Caller, Group)
-        ensures { result ≡ (self.caller, self.group) }
+    /// The caller, without the group and the room.
+    pub(crate) fn into_caller(self) -> Caller
+        ensures { result ≡ self.caller }
     {
         let Member {
             before: _,
@@ -116,17 +101,9 @@ impl Member {
             counts: _,
             ops: _,
             replies: _,
-            group,
+            group: _,
             behind: _,
         } = self;
-        (caller, group)
-    }
-
-    /// The caller, without the group.
-    pub(crate) fn into_caller(self) -> Caller
-        ensures { result ≡ self.caller }
-    {
-        let (caller, _group) = self.apart();
         caller
     }
 }

@@ -5,20 +5,15 @@
 ghost use Rattle.std.specs.Prelude.{◌≡◌, ◌≤◌, ◌++◌, [], ◌∷◌, IfOk, IfErr, OnOk, OnErr, Some, true, false, length, nat_le, if◌then◌else◌};
 ghost use Rattle.txn_words.specs.declared.refusal.Refusal.TheVariants.{NoMemory, NoSuchCaller, Limit};
 ghost use Rattle.boostmap_c.specs.Striped.{Aborts};
-ghost use Rattle.std.specs.List.{All};
 ghost use Rattle.striped_map.specs.Hosts.{IsOpened};
-ghost use Rattle.boostmap_c.specs.Shelves.{IsOver};
-ghost use Rattle.boostmap_c.specs.Shelved.{host_of};
 ghost use Rattle.boostmap_c.specs.Counting.{none_ended};
 ghost use Rattle.striped_map.specs.Callers.{IsAnother, IsMaker};
 ghost use Rattle.boostmap_c.specs.Members.{IsAlike, IsFirstMember, IsJoined, IsNotMade, Joins, LeavesMap, MakesAnother, Opens, are_numbers, are_striped_limits, keep_at};
 
 use crate::member::{Group, Member};
 use crate::member_handle::{CallerHandle, put_in, take_out};
-use crate::shelf::Shelf;
 use crate::status::{DONE, EMPTY, FULL, refused};
 use std::alloc::{AllocError, Global};
-use std::sync::Arc;
 use striped_map::{Caller, Host, Keep, MOST, Opening, Stop};
 use txn_trace::Refusal;
 
@@ -41,37 +36,6 @@ fn are_limits(callers: u64, stripes: u64) -> bool
     (1 <= callers && callers <= MOST as u64) && (1 <= stripes && stripes <= MOST as u64)
 }
 
-/// The group of the first member.
-fn first_group(
-    alloc: Global,
-    opening: Opening,
-    host: Host,
-    waiting: Vec<Caller>,
-) -> Result<Group, AllocError>
-    requires { All (IsOver host) waiting.items }
-    ensures waiting { IfOk result (λ group. group.waiting ≡ waiting) }
-    ensures host { IfOk result (λ group. group.host ≡ Some host) }
-    ensures shelf { IfOk result (λ group. host_of group.shelf.value ≡ host) }
-    ensures opening { IfOk result (λ group. group.opening ≡ opening) }
-{
-    let places = match opening.keep {
-        Keep::Entries => opening.callers,
-        _ => 0,
-    };
-    let shelf = Shelf::new(alloc, places, &host)?;
-    let Ok(shelf) = Arc::new(alloc, shelf) else {
-        return Err(AllocError);
-    };
-    let place = waiting.len();
-    Ok(Group {
-        waiting,
-        host: Some(host),
-        shelf,
-        place,
-        opening,
-    })
-}
-
 /// The first member of a map that was opened so.
 fn made_member(
     alloc: Global,
@@ -90,7 +54,11 @@ fn made_member(
     let Some(caller) = waiting.pop() else {
         unreachable!()
     };
-    let group = first_group(alloc, opening, host, waiting)?;
+    let group = Group {
+        waiting,
+        host: Some(host),
+        opening,
+    };
     match Box::new(alloc, Member::new(alloc, caller, group)) {
         Ok(member) => Ok(member),
         Err(_) => Err(AllocError),
@@ -133,29 +101,16 @@ fn first_member(
     }
 }
 
-/// A member with this caller, of the group's map, and with this place on the shelf. On an error,
-/// returns the caller.
-fn joined(
-    alloc: Global,
-    group: &Group,
-    place: usize,
-    caller: Caller,
-) -> Result<Box<Member, Global>, Caller>
-    requires { IsOver (host_of group.now.shelf.value) caller }
+/// A member with this caller, of the group's map. On an error, returns the caller.
+fn joined(alloc: Global, group: &Group, caller: Caller) -> Result<Box<Member, Global>, Caller>
     ensures caller { IfOk result (λ made. made.value.caller ≡ caller) }
-    ensures place { IfOk result (λ made. made.value.group.place ≡ place) }
     ensures counts { IfOk result (λ made. made.value.counts ≡ none_ended) }
     ensures group { IfOk result (λ made. IsJoined group.now made.value.group) }
     ensures err { IfErr result (λ same. same ≡ caller) }
 {
-    let Ok(shelf) = Arc::try_clone(&group.shelf) else {
-        return Err(caller);
-    };
     let own = Group {
         waiting: Vec::new(alloc),
         host: None,
-        shelf,
-        place,
         opening: group.opening,
     };
     match Box::new(alloc, Member::new(alloc, caller, own)) {
@@ -168,8 +123,6 @@ fn joined(
 fn next_member(alloc: Global, group: &mut Group) -> Result<Box<Member, Global>, Refusal>
     ensures alike { IsAlike group.old group.new }
     ensures joined { IfOk result (λ member. IsJoined group.old member.value.group) }
-    ensures place { IfOk result (λ member. member.value.group.place
-        ≡ length group.new.waiting.items) }
     ensures counts { IfOk result (λ member. member.value.counts ≡ none_ended) }
     ensures ok { IfOk result (λ member. group.old.waiting.items
         ≡ group.new.waiting.items ++ member.value.caller ∷ []) }
@@ -180,7 +133,7 @@ fn next_member(alloc: Global, group: &mut Group) -> Result<Box<Member, Global>, 
     let Some(caller) = group.waiting.pop() else {
         return Err(Refusal::NoSuchCaller);
     };
-    match joined(alloc, group, group.waiting.len(), caller) {
+    match joined(alloc, group, caller) {
         Ok(member) => Ok(member),
         Err(caller) => {
             group.waiting.push_reserved(caller);
@@ -189,7 +142,7 @@ fn next_member(alloc: Global, group: &mut Group) -> Result<Box<Member, Global>, 
     }
 }
 
-/// A member with a caller that the member's caller makes. It has no place on the shelf.
+/// A member with a caller that the member's caller makes.
 fn another_member(alloc: Global, member: &mut Member) -> Result<Box<Member, Global>, Refusal>
     ensures maker { IsMaker member.old.caller member.new.caller }
     ensures counts { member.new.counts ≡ member.old.counts }
@@ -200,11 +153,8 @@ fn another_member(alloc: Global, member: &mut Member) -> Result<Box<Member, Glob
         IsAnother member.old.caller member.new.caller made.value.caller) }
     ensures err { IfErr result (IsNotMade member.old member.new) }
 {
-    if let Keep::Entries = member.group.opening.keep {
-        return Err(Refusal::Limit);
-    }
     let caller = member.caller.another(alloc)?;
-    match joined(alloc, &member.group, member.group.opening.callers, caller) {
+    match joined(alloc, &member.group, caller) {
         Ok(made) => Ok(made),
         Err(_) => Err(Refusal::NoMemory),
     }
@@ -328,12 +278,13 @@ pub extern "C" fn boostmap_striped_join(
 /// # Errors
 ///
 /// On an error the second handle is unchanged. The status is 4 if it has a caller already, 3 if the
-/// first handle has no caller, 38 (`Limit`) if the map keeps its entries, or if it has given out all
-/// its numbers, 2^62, and 30 (`NoMemory`) if memory is refused.
+/// first handle has no caller, 38 (`Limit`) if the map has given out all its numbers, 2^62, or 2^16
+/// if it keeps its entries, and 30 (`NoMemory`) if memory is refused.
 ///
 /// # Cost
 ///
-/// The cost of `striped_map::Caller::another`. Takes constant memory, which the free gives back.
+/// The cost of `striped_map::Caller::another`. Takes constant memory, which the free gives back. If
+/// the map keeps its entries, the entries of the caller stay until the map and its host are freed.
 #[unsafe(no_mangle)]
 pub extern "C" fn boostmap_striped_another(
     alloc: Global,
@@ -369,33 +320,21 @@ fn end(member: &mut Member) -> Result<(), Stop>
     member.caller.abort()
 }
 
-/// Puts the member's caller on the shelf, and those that wait. If the map does not keep its
-/// entries, the shelf has no places, and they are dropped.
+/// Drops a member whose caller is in no transaction, and the callers that wait in the member.
 fn leave(member: Box<Member, Global>)
     requires { member.value.caller.is_open ≡ false }
 {
-    let (caller, group) = Box::into_inner(member).apart();
-    let Group {
-        mut waiting,
-        host: _,
-        shelf,
-        place,
-        opening: _,
-    } = group;
-    shelf.put(place, caller);
-    while let Some(caller) = waiting.pop() {
-        shelf.put(waiting.len(), caller);
-    }
+    drop(member);
 }
 
 /// Frees the caller. An open transaction is aborted, and its stripes are given back. If the map
-/// keeps its entries, the caller is put on the shelf, from which the map's host takes it. The handle
-/// is then all zeros. If the caller is the first of its map, the callers that still wait for a
-/// handle are freed too. The map is freed with its last caller.
+/// keeps its entries, the map's host takes the caller's entries. The handle is then all zeros. If
+/// the caller is the first of its map, the callers that still wait for a handle are freed too. The
+/// map is freed with its last caller.
 ///
 /// The contract says that the abort was made. It cannot say that the freed caller does nothing
-/// after it, since a freed value has no last state, nor that it lies on the shelf, which other
-/// threads use too. `bindings/tests/striped.c` (`freeing`) and `history.c` test this.
+/// after it, since a freed value has no last state, nor that the host gets its entries, since other
+/// threads use the map too. `bindings/tests/striped.c` (`freeing`) and `history.c` test this.
 ///
 /// # Errors
 ///

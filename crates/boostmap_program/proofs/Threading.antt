@@ -13,8 +13,7 @@ use Rattle.piece_files.specs.Files.{contents}
 use Rattle.txn_files.specs.HistoryText.{text_of_history}
 use Rattle.txn_files.specs.ScriptFile.{scripts_of, script_file, work_from, are_scripts, is_short}
 use Rattle.txn_files.specs.StepFile.{sizes_at}
-use Rattle.thread_runs.specs.Accounts.{Outcome}
-use Rattle.thread_runs.specs.Runs.{HasRunScripts}
+use Rattle.thread_runs.specs.Runs.{HasRunScripts, Outcome}
 use Rattle.boostmap_engine.specs.Report.{line}
 use Rattle.boostmap_engine.specs.declared.fault.Fault.{Fault}
 use Rattle.boostmap_engine.specs.declared.fault.Fault.TheVariants as faults

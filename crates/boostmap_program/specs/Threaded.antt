@@ -9,8 +9,7 @@ use Rattle.txn_words.specs.declared.refusal.Refusal.TheVariants as refusals
 use Rattle.txn_words.specs.Work.{Work}
 use Rattle.txn_files.specs.HistoryText.{text_of_history}
 use Rattle.txn_files.specs.ScriptFile.{scripts_of}
-use Rattle.thread_runs.specs.Accounts.{Outcome}
-use Rattle.thread_runs.specs.Runs.{HasRunScripts}
+use Rattle.thread_runs.specs.Runs.{HasRunScripts, Outcome}
 use Rattle.boostmap_engine.specs.declared.fault.Fault.{Fault}
 use Rattle.boostmap_engine.specs.declared.fault.Fault.TheVariants as faults
 use Rattle.boostmap_engine.specs.Mixture.{IsNoScriptFile}

@@ -1,14 +1,19 @@
 //! Histories that `history_check` judges, as a whole and entry by entry. The verdicts on the worked
 //! histories were found by hand. The module `generated` draws more histories from a thousand seeds.
-//! All verdicts are compared with those of the slow program in `plain`.
+//! All verdicts are compared with those of the slow program in `plain`. The modules `verdicts` and
+//! `orders` test the other judges.
 mod generated;
+mod orders;
 mod plain;
+mod verdicts;
 
-use generated::Draws;
+use Wanted::{Illegal, Legal};
+use generated::{Draws, Way};
 use history_check::{Checker, Rule, Verdict, check};
 use std::alloc::{AllocError, Global};
 use std::process::Abort;
 use std::test::Fail;
+use txn_files::read_history;
 use txn_words::{Entry, Holder, Op};
 
 /// The verdict that `check` returns.
@@ -91,7 +96,7 @@ fn feed_new(
 
 /// The verdict of the plain program. Checks that `check` gives the same verdict, and that a checker
 /// that is fed entry by entry agrees after each entry.
-fn judge_once(
+fn judge(
     rt: &impl Abort,
     alloc: Global,
     entries: &[Entry],
@@ -106,399 +111,162 @@ fn judge_once(
     Ok(expected)
 }
 
-/// The verdict of `judge_once`. If memory is refused, tries once more.
-fn judge(
-    rt: &impl Abort,
-    alloc: Global,
-    entries: &[Entry],
-    stripes: u64,
-    holder: Holder,
-) -> Result<Verdict, AllocError> {
-    match judge_once(rt, alloc, entries, stripes, holder) {
-        Ok(verdict) => Ok(verdict),
-        Err(_) => judge_once(rt, alloc, entries, stripes, holder),
+/// A verdict: the numbers of commits and of open transactions of a legal history, or the first bad
+/// entry of another history and the rule that it breaks.
+#[derive(Clone, Copy)]
+enum Wanted {
+    Legal(u64, u64),
+    Illegal(u64, Rule),
+}
+
+impl Wanted {
+    fn verdict(self) -> Verdict {
+        match self {
+            Wanted::Legal(commits, running) => Verdict::Legal { commits, running },
+            Wanted::Illegal(entry, rule) => Verdict::Illegal { entry, rule },
+        }
+    }
+}
+
+/// The entries of a history file whose entries have this text. The text has no fault, so an error
+/// says that memory was refused.
+pub(crate) fn entries_of(alloc: Global, text: &str) -> Result<Vec<Entry>, AllocError> {
+    let file = format!(in alloc; "{{\"version\":3,\"stripes\":8,\"entries\":[{text}]}}")?;
+    match read_history(alloc, file.as_bytes()) {
+        Ok((_, entries, _)) => Ok(entries),
+        Err(_) => Err(AllocError),
     }
 }
 
 /// A transaction that commits, a transaction whose change is taken back by an abort, and a reader.
-const REPLIES: [Entry; 14] = [
-    Entry::Began(0, 1),
-    Entry::Asked(0, Op::Put(1, 10)),
-    Entry::Did(0, None),
-    Entry::Committed(0, 1),
-    Entry::Began(1, 2),
-    Entry::Asked(1, Op::Put(1, 99)),
-    Entry::Did(1, Some(10)),
-    Entry::Leave(1, None),
-    Entry::Undone(1),
-    Entry::Aborted(1),
-    Entry::Began(0, 3),
-    Entry::Asked(0, Op::Get(1)),
-    Entry::Did(0, Some(10)),
-    Entry::Committed(0, 2),
-];
+const REPLIES: &str = r#"["began",0,1],["asked",0,"put",1,10],["did",0,null],["committed",0,1],
+    ["began",1,2],["asked",1,"put",1,99],["did",1,10],["leave",1,null],["undone",1],["aborted",1],
+    ["began",0,3],["asked",0,"get",1],["did",0,10],["committed",0,2]"#;
+
+/// An entry that replaces the entry at one place of a history, if any.
+type Change = Option<(usize, Entry)>;
 
 /// The reply that the reader of `REPLIES` would have if the change had not been taken back.
-const STALE_REPLY: Entry = Entry::Did(0, Some(99));
+const STALE_REPLY: Change = Some((12, Entry::Did(0, Some(99))));
+
+/// Wrong replies to the second operation of `PUT_IF` and of `ONE_SPLIT_KEY`.
+const NO_REPLY: Change = Some((4, Entry::Did(0, None)));
+
+const OTHER_REPLY: Change = Some((4, Entry::Did(0, Some(11))));
 
 /// An abort that does not take back its transaction's change.
-const NOT_UNDONE: [Entry; 9] = [
-    Entry::Began(0, 1),
-    Entry::Asked(0, Op::Put(1, 10)),
-    Entry::Did(0, None),
-    Entry::Committed(0, 1),
-    Entry::Began(1, 2),
-    Entry::Asked(1, Op::Put(1, 99)),
-    Entry::Did(1, Some(10)),
-    Entry::Leave(1, None),
-    Entry::Aborted(1),
-];
+const NOT_UNDONE: &str = r#"["began",0,1],["asked",0,"put",1,10],["did",0,null],["committed",0,1],
+    ["began",1,2],["asked",1,"put",1,99],["did",1,10],["leave",1,null],["aborted",1]"#;
 
 /// Two callers ask for keys 1 and 9. The keys have the same stripe if there are 8 stripes, and
 /// different stripes if there are 16.
-const ONE_STRIPE: [Entry; 4] = [
-    Entry::Began(0, 1),
-    Entry::Asked(0, Op::Get(1)),
-    Entry::Began(1, 2),
-    Entry::Asked(1, Op::Get(9)),
-];
+const ONE_STRIPE: &str = r#"["began",0,1],["asked",0,"get",1],["began",1,2],["asked",1,"get",9]"#;
 
 /// A caller asks for a key of a stripe that another caller holds. The holder has changed a key of
 /// this stripe, and its transaction has not ended.
-const ON_A_CHANGE: [Entry; 5] = [
-    Entry::Began(0, 1),
-    Entry::Asked(0, Op::Put(1, 10)),
-    Entry::Did(0, None),
-    Entry::Began(1, 2),
-    Entry::Asked(1, Op::Get(9)),
-];
+const ON_A_CHANGE: &str = r#"["began",0,1],["asked",0,"put",1,10],["did",0,null],["began",1,2],
+    ["asked",1,"get",9]"#;
 
 /// A Busy entry that names a caller that has never begun.
-const BUSY_BY_NOBODY: [Entry; 2] = [Entry::Began(0, 1), Entry::Busy(0, Op::Get(9), 1)];
+const BUSY_BY_NOBODY: &str = r#"["began",0,1],["busy",0,"get",9,1]"#;
 
 /// A Busy entry that names a caller whose transaction has ended.
-const HOLDER_HAS_BEGUN: [Entry; 6] = [
-    Entry::Began(0, 1),
-    Entry::Asked(0, Op::Put(1, 10)),
-    Entry::Did(0, None),
-    Entry::Committed(0, 1),
-    Entry::Began(1, 2),
-    Entry::Busy(1, Op::Get(9), 0),
-];
+const HOLDER_HAS_BEGUN: &str = r#"["began",0,1],["asked",0,"put",1,10],["did",0,null],
+    ["committed",0,1],["began",1,2],["busy",1,"get",9,0]"#;
 
 /// A Busy entry that names a caller without any entry.
-const BUSY_AT_FIRST: [Entry; 2] = [Entry::Began(1, 1), Entry::Busy(1, Op::Get(9), 0)];
+const BUSY_AT_FIRST: &str = r#"["began",1,1],["busy",1,"get",9,0]"#;
 
 /// A get whose reply is a value that was never put.
-const INVENTED: [Entry; 4] = [
-    Entry::Began(0, 1),
-    Entry::Asked(0, Op::Get(5)),
-    Entry::Did(0, Some(7)),
-    Entry::Leave(0, None),
-];
+const INVENTED: &str = r#"["began",0,1],["asked",0,"get",5],["did",0,7],["leave",0,null]"#;
 
 /// A transaction in which the first of two `PutIf`s is a change, and the second is not.
-const PUT_IF: [Entry; 8] = [
-    Entry::Began(0, 1),
-    Entry::Asked(0, Op::PutIf(1, None, 5)),
-    Entry::Did(0, None),
-    Entry::Asked(0, Op::PutIf(1, Some(4), 6)),
-    Entry::Did(0, Some(5)),
-    Entry::Leave(0, None),
-    Entry::Undone(0),
-    Entry::Aborted(0),
-];
+const PUT_IF: &str = r#"["began",0,1],["asked",0,"put_if",1,null,5],["did",0,null],
+    ["asked",0,"put_if",1,4,6],["did",0,5],["leave",0,null],["undone",0],["aborted",0]"#;
 
 /// The transaction of `PUT_IF`, but it takes two changes back, although it made only one.
-const PUT_IF_UNDONE_TWICE: [Entry; 9] = [
-    Entry::Began(0, 1),
-    Entry::Asked(0, Op::PutIf(1, None, 5)),
-    Entry::Did(0, None),
-    Entry::Asked(0, Op::PutIf(1, Some(4), 6)),
-    Entry::Did(0, Some(5)),
-    Entry::Leave(0, None),
-    Entry::Undone(0),
-    Entry::Undone(0),
-    Entry::Aborted(0),
-];
+const PUT_IF_UNDONE_TWICE: &str = r#"["began",0,1],["asked",0,"put_if",1,null,5],["did",0,null],
+    ["asked",0,"put_if",1,4,6],["did",0,5],["leave",0,null],["undone",0],["undone",0],
+    ["aborted",0]"#;
 
 /// Keys 1 and 2^63 + 1, which differ only in their top bit.
-const ONE_SPLIT_KEY: [Entry; 10] = [
-    Entry::Began(0, 1),
-    Entry::Asked(0, Op::Put(0x8000_0000_0000_0001, 11)),
-    Entry::Did(0, None),
-    Entry::Asked(0, Op::Put(1, 10)),
-    Entry::Did(0, None),
-    Entry::Asked(0, Op::PutIf(1, Some(10), 12)),
-    Entry::Did(0, Some(10)),
-    Entry::Asked(0, Op::Get(0x8000_0000_0000_0001)),
-    Entry::Did(0, Some(11)),
-    Entry::Committed(0, 1),
-];
+const ONE_SPLIT_KEY: &str = r#"["began",0,1],["asked",0,"put",9223372036854775809,11],
+    ["did",0,null],["asked",0,"put",1,10],["did",0,null],["asked",0,"put_if",1,10,12],["did",0,10],
+    ["asked",0,"get",9223372036854775809],["did",0,11],["committed",0,1]"#;
 
 /// A transaction that goes back to its first savepoint. Then it tries to go back to its second
 /// savepoint, which no longer exists.
-const WITH_SAVEPOINTS: [Entry; 16] = [
-    Entry::Began(0, 1),
-    Entry::Asked(0, Op::Put(1, 10)),
-    Entry::Did(0, None),
-    Entry::Saved(0),
-    Entry::Asked(0, Op::Put(1, 11)),
-    Entry::Did(0, Some(10)),
-    Entry::Saved(0),
-    Entry::Asked(0, Op::Take(1)),
-    Entry::Did(0, Some(11)),
-    Entry::Leave(0, Some(1)),
-    Entry::Undone(0),
-    Entry::Undone(0),
-    Entry::Returned(0, 1),
-    Entry::Asked(0, Op::Get(1)),
-    Entry::Did(0, Some(10)),
-    Entry::Leave(0, Some(2)),
-];
+const WITH_SAVEPOINTS: &str = r#"["began",0,1],["asked",0,"put",1,10],["did",0,null],["saved",0],
+    ["asked",0,"put",1,11],["did",0,10],["saved",0],["asked",0,"take",1],["did",0,11],
+    ["leave",0,1],["undone",0],["undone",0],["returned",0,1],["asked",0,"get",1],["did",0,10],
+    ["leave",0,2]"#;
 
 /// Each row has a history, an entry that replaces the entry at one place (if any), the number of
 /// stripes, and the wanted verdict.
-type Row = (&'static [Entry], Option<(usize, Entry)>, u64, Verdict);
+type Row = (&'static str, Change, u64, Wanted);
 
 /// Histories with their verdicts. A Busy entry must name a caller that holds the stripe at that
 /// moment (`Holder::Now`).
 static BY_HOLDERS_OF_NOW: [Row; 19] = [
     // Histories about replies, like `checker_replies` in `crates/txn_trace/proofs/Cases.antt`.
-    (
-        &REPLIES,
-        None,
-        8,
-        Verdict::Legal {
-            commits: 2,
-            running: 0,
-        },
-    ),
-    (
-        &REPLIES,
-        Some((12, STALE_REPLY)),
-        8,
-        Verdict::Illegal {
-            entry: 12,
-            rule: Rule::Replies,
-        },
-    ),
-    (
-        &NOT_UNDONE,
-        None,
-        8,
-        Verdict::Illegal {
-            entry: 8,
-            rule: Rule::Shape,
-        },
-    ),
+    (REPLIES, None, 8, Legal(2, 0)),
+    (REPLIES, STALE_REPLY, 8, Illegal(12, Rule::Replies)),
+    (NOT_UNDONE, None, 8, Illegal(8, Rule::Shape)),
     // Histories about locks.
-    (
-        &ON_A_CHANGE,
-        None,
-        8,
-        Verdict::Illegal {
-            entry: 4,
-            rule: Rule::Locks,
-        },
-    ),
-    (
-        &BUSY_BY_NOBODY,
-        None,
-        8,
-        Verdict::Illegal {
-            entry: 1,
-            rule: Rule::Locks,
-        },
-    ),
+    (ON_A_CHANGE, None, 8, Illegal(4, Rule::Locks)),
+    (BUSY_BY_NOBODY, None, 8, Illegal(1, Rule::Locks)),
     // `holder_has_begun` of `crates/txn_trace/proofs/HolderCases.antt`. Its Busy entry names a
     // caller that no longer holds the stripe.
-    (
-        &HOLDER_HAS_BEGUN,
-        None,
-        8,
-        Verdict::Illegal {
-            entry: 5,
-            rule: Rule::Locks,
-        },
-    ),
+    (HOLDER_HAS_BEGUN, None, 8, Illegal(5, Rule::Locks)),
     // Forged histories.
+    ("", None, 8, Legal(0, 0)),
+    (r#"["undone",0]"#, None, 8, Illegal(0, Rule::Shape)),
     (
-        &[],
+        r#"["began",0,1],["committed",0,2]"#,
         None,
         8,
-        Verdict::Legal {
-            commits: 0,
-            running: 0,
-        },
+        Illegal(1, Rule::Shape),
     ),
     (
-        &[Entry::Undone(0)],
+        r#"["began",0,1],["leave",0,1]"#,
         None,
         8,
-        Verdict::Illegal {
-            entry: 0,
-            rule: Rule::Shape,
-        },
+        Illegal(1, Rule::Shape),
     ),
-    (
-        &[Entry::Began(0, 1), Entry::Committed(0, 2)],
-        None,
-        8,
-        Verdict::Illegal {
-            entry: 1,
-            rule: Rule::Shape,
-        },
-    ),
-    (
-        &[Entry::Began(0, 1), Entry::Leave(0, Some(1))],
-        None,
-        8,
-        Verdict::Illegal {
-            entry: 1,
-            rule: Rule::Shape,
-        },
-    ),
-    (
-        &INVENTED,
-        None,
-        8,
-        Verdict::Illegal {
-            entry: 2,
-            rule: Rule::Replies,
-        },
-    ),
-    (
-        &ONE_STRIPE,
-        None,
-        8,
-        Verdict::Illegal {
-            entry: 3,
-            rule: Rule::Locks,
-        },
-    ),
-    (
-        &ONE_STRIPE,
-        None,
-        16,
-        Verdict::Legal {
-            commits: 0,
-            running: 2,
-        },
-    ),
+    (INVENTED, None, 8, Illegal(2, Rule::Replies)),
+    (ONE_STRIPE, None, 8, Illegal(3, Rule::Locks)),
+    (ONE_STRIPE, None, 16, Legal(0, 2)),
     // `put_if_history` of `crates/txn_trace/proofs/WideCases.antt`, the same history with a wrong
     // reply, and the same history with two changes taken back.
-    (
-        &PUT_IF,
-        None,
-        8,
-        Verdict::Legal {
-            commits: 0,
-            running: 0,
-        },
-    ),
-    (
-        &PUT_IF,
-        Some((4, Entry::Did(0, None))),
-        8,
-        Verdict::Illegal {
-            entry: 4,
-            rule: Rule::Replies,
-        },
-    ),
-    (
-        &PUT_IF_UNDONE_TWICE,
-        None,
-        8,
-        Verdict::Illegal {
-            entry: 7,
-            rule: Rule::Shape,
-        },
-    ),
+    (PUT_IF, None, 8, Legal(0, 0)),
+    (PUT_IF, NO_REPLY, 8, Illegal(4, Rule::Replies)),
+    (PUT_IF_UNDONE_TWICE, None, 8, Illegal(7, Rule::Shape)),
     // Histories with keys that share a split key, and with savepoints.
-    (
-        &ONE_SPLIT_KEY,
-        None,
-        8,
-        Verdict::Legal {
-            commits: 1,
-            running: 0,
-        },
-    ),
-    (
-        &ONE_SPLIT_KEY,
-        Some((4, Entry::Did(0, Some(11)))),
-        8,
-        Verdict::Illegal {
-            entry: 4,
-            rule: Rule::Replies,
-        },
-    ),
-    (
-        &WITH_SAVEPOINTS,
-        None,
-        8,
-        Verdict::Illegal {
-            entry: 15,
-            rule: Rule::Shape,
-        },
-    ),
+    (ONE_SPLIT_KEY, None, 8, Legal(1, 0)),
+    (ONE_SPLIT_KEY, OTHER_REPLY, 8, Illegal(4, Rule::Replies)),
+    (WITH_SAVEPOINTS, None, 8, Illegal(15, Rule::Shape)),
 ];
 
+/// Busy entries of caller 1 that name the caller itself, or a caller that does not exist.
+const BY_ITSELF: Change = Some((1, Entry::Busy(1, Op::Get(9), 1)));
+
+const BY_CALLER_64: Change = Some((1, Entry::Busy(1, Op::Get(9), 64)));
+
+const BY_THE_LAST: Change = Some((1, Entry::Busy(1, Op::Get(9), u64::MAX)));
+
 /// Histories with their verdicts. A Busy entry may name any other caller that has begun
-/// (`Holder::Begun`).
+/// (`Holder::Begun`). The first row is `holder_has_begun`. In the others a Busy entry names a
+/// caller that has not begun, or the caller itself.
 static BY_HOLDERS_THAT_HAVE_BEGUN: [Row; 5] = [
-    // The rows of `holder_has_begun`. Further rows have Busy entries that name the caller itself,
-    // or a caller that has not begun.
-    (
-        &HOLDER_HAS_BEGUN,
-        None,
-        8,
-        Verdict::Legal {
-            commits: 1,
-            running: 1,
-        },
-    ),
-    (
-        &BUSY_AT_FIRST,
-        None,
-        8,
-        Verdict::Illegal {
-            entry: 1,
-            rule: Rule::Locks,
-        },
-    ),
-    (
-        &BUSY_AT_FIRST,
-        Some((1, Entry::Busy(1, Op::Get(9), 1))),
-        8,
-        Verdict::Illegal {
-            entry: 1,
-            rule: Rule::Locks,
-        },
-    ),
-    (
-        &BUSY_AT_FIRST,
-        Some((1, Entry::Busy(1, Op::Get(9), 64))),
-        8,
-        Verdict::Illegal {
-            entry: 1,
-            rule: Rule::Locks,
-        },
-    ),
-    (
-        &BUSY_AT_FIRST,
-        Some((1, Entry::Busy(1, Op::Get(9), u64::MAX))),
-        8,
-        Verdict::Illegal {
-            entry: 1,
-            rule: Rule::Locks,
-        },
-    ),
+    (HOLDER_HAS_BEGUN, None, 8, Legal(1, 1)),
+    (BUSY_AT_FIRST, None, 8, Illegal(1, Rule::Locks)),
+    (BUSY_AT_FIRST, BY_ITSELF, 8, Illegal(1, Rule::Locks)),
+    (BUSY_AT_FIRST, BY_CALLER_64, 8, Illegal(1, Rule::Locks)),
+    (BUSY_AT_FIRST, BY_THE_LAST, 8, Illegal(1, Rule::Locks)),
 ];
 
 /// Replaces an entry of a history.
-fn replace(entries: &mut [Entry], change: Option<(usize, Entry)>) {
+fn replace(entries: &mut [Entry], change: Change) {
     if let Some((place, entry)) = change {
         if let Some(changed) = entries.get_mut(place) {
             *changed = entry;
@@ -508,10 +276,10 @@ fn replace(entries: &mut [Entry], change: Option<(usize, Entry)>) {
 
 fn judge_row(rt: &impl Abort, alloc: Global, holder: Holder, row: &Row) -> Result<(), AllocError> {
     let (history, change, stripes, wanted) = *row;
-    let mut entries = history.to_vec(alloc)?;
+    let mut entries = entries_of(alloc, history)?;
     replace(entries.as_mut_slice(), change);
     let verdict = judge(rt, alloc, &entries, stripes, holder)?;
-    says(rt, verdict, wanted, &entries, entries.len());
+    says(rt, verdict, wanted.verdict(), &entries, entries.len());
     Ok(())
 }
 
@@ -527,35 +295,10 @@ fn judge_rows(
     Ok(())
 }
 
-/// `WITH_SAVEPOINTS` without its last entry, which tries to go back to the second savepoint.
-fn back_at_1() -> &'static [Entry] {
-    &WITH_SAVEPOINTS[..15]
-}
-
-/// Checks the number of each rule.
-fn rules_have_numbers(rt: &impl Abort) {
-    for (rule, number) in &[(Rule::Replies, 1), (Rule::Locks, 2), (Rule::Shape, 3)] {
-        assert_eq!(rt; rule.number(), *number);
-    }
-}
-
-/// Checks the verdicts on all worked histories.
-fn judge_all(rt: &impl Abort, alloc: Global) -> Result<(), AllocError> {
-    judge_rows(rt, alloc, Holder::Now, &BY_HOLDERS_OF_NOW)?;
-    judge_rows(rt, alloc, Holder::Begun, &BY_HOLDERS_THAT_HAVE_BEGUN)?;
-    let back = judge(rt, alloc, back_at_1(), 8, Holder::Now)?;
-    let wanted = Verdict::Legal {
-        commits: 0,
-        running: 1,
-    };
-    says(rt, back, wanted, back_at_1(), 15);
-    Ok(())
-}
-
 #[test]
 fn worked_histories(rt: HostRuntime) -> Result<(), Fail> {
-    rules_have_numbers(&rt);
-    judge_all(&rt, rt.alloc())?;
+    judge_rows(&rt, rt.alloc(), Holder::Now, &BY_HOLDERS_OF_NOW)?;
+    judge_rows(&rt, rt.alloc(), Holder::Begun, &BY_HOLDERS_THAT_HAVE_BEGUN)?;
     Ok(())
 }
 
@@ -608,11 +351,11 @@ fn end_refused(rt: &impl Abort, alloc: Global, checker: &mut Checker, taken: usi
 
 /// The wanted verdict after the entry at `place`. Each row has the place of an entry, and the
 /// verdict from that entry on.
-fn verdict_at(rows: &[(usize, Verdict)], place: usize) -> Option<Verdict> {
+fn verdict_at(rows: &[(usize, Wanted)], place: usize) -> Option<Verdict> {
     let mut found = None;
     for (first, verdict) in rows {
         if *first <= place {
-            found = Some(*verdict);
+            found = Some(verdict.verdict());
         }
     }
     found
@@ -625,7 +368,7 @@ fn feed_rows(
     alloc: Global,
     checker: &mut Checker,
     entries: &[Entry],
-    rows: &[(usize, Verdict)],
+    rows: &[(usize, Wanted)],
 ) {
     for (i, entry) in entries.iter().enumerate() {
         if !is_fed(rt, checker, entry) {
@@ -636,94 +379,56 @@ fn feed_rows(
     }
 }
 
-/// If there is memory for a checker, feeds the entries to a new checker and checks its verdict
-/// after each entry.
-fn feed_all(rt: &impl Abort, alloc: Global, entries: &[Entry], rows: &[(usize, Verdict)]) {
+/// The entries of this text. If memory is refused, tries once more. Returns `None` if memory is
+/// refused twice.
+fn entries_if_read(rt: &impl Abort, alloc: Global, text: &str) -> Option<Vec<Entry>> {
+    for _ in 0..2 {
+        if let Ok(entries) = entries_of(alloc, text) {
+            return Some(entries);
+        }
+    }
+    assert!(rt; is_refused(alloc));
+    None
+}
+
+/// If there is memory for the entries and for a checker, feeds the entries of this text, with one
+/// of them replaced, to a new checker, and checks its verdict after each entry.
+fn feed_all(rt: &impl Abort, alloc: Global, text: &str, change: Change, rows: &[(usize, Wanted)]) {
+    let Some(mut entries) = entries_if_read(rt, alloc, text) else {
+        return;
+    };
+    replace(entries.as_mut_slice(), change);
     if let Some(mut checker) = start_checker(rt, alloc) {
-        feed_rows(rt, alloc, &mut checker, entries, rows);
+        feed_rows(rt, alloc, &mut checker, &entries, rows);
     }
 }
 
 /// The verdicts on `REPLIES` with a stale last reply. Each row has the place of an entry, and the
 /// verdict from that entry on.
-const OF_STALE_REPLIES: [(usize, Verdict); 6] = [
-    (
-        0,
-        Verdict::Legal {
-            commits: 0,
-            running: 1,
-        },
-    ),
-    (
-        3,
-        Verdict::Legal {
-            commits: 1,
-            running: 0,
-        },
-    ),
-    (
-        4,
-        Verdict::Legal {
-            commits: 1,
-            running: 1,
-        },
-    ),
-    (
-        9,
-        Verdict::Legal {
-            commits: 1,
-            running: 0,
-        },
-    ),
-    (
-        10,
-        Verdict::Legal {
-            commits: 1,
-            running: 1,
-        },
-    ),
-    (
-        12,
-        Verdict::Illegal {
-            entry: 12,
-            rule: Rule::Replies,
-        },
-    ),
+const OF_STALE_REPLIES: [(usize, Wanted); 6] = [
+    (0, Legal(0, 1)),
+    (3, Legal(1, 0)),
+    (4, Legal(1, 1)),
+    (9, Legal(1, 0)),
+    (10, Legal(1, 1)),
+    (12, Illegal(12, Rule::Replies)),
 ];
 
 /// This test is meant to be run with allocations refused. A refused entry changes nothing, and is
 /// fed once more.
 #[test]
 fn fed_entry_by_entry(rt: HostRuntime) {
-    let mut stale = REPLIES;
-    stale[12] = STALE_REPLY;
-    feed_all(&rt, rt.alloc(), &stale, &OF_STALE_REPLIES);
+    feed_all(&rt, rt.alloc(), REPLIES, STALE_REPLY, &OF_STALE_REPLIES);
 }
 
-/// The verdicts on `WITH_SAVEPOINTS`. Each row has the place of an entry, and the verdict from that
-/// entry on.
-const OF_SAVEPOINTS: [(usize, Verdict); 2] = [
-    (
-        0,
-        Verdict::Legal {
-            commits: 0,
-            running: 1,
-        },
-    ),
-    (
-        15,
-        Verdict::Illegal {
-            entry: 15,
-            rule: Rule::Shape,
-        },
-    ),
-];
+/// The verdicts on `WITH_SAVEPOINTS`.
+const OF_SAVEPOINTS: [(usize, Wanted); 2] = [(0, Legal(0, 1)), (15, Illegal(15, Rule::Shape))];
 
 /// This test is meant to be run with allocations refused. A refused entry changes nothing, and is
 /// fed once more.
 #[test]
 fn fed_with_savepoints(rt: HostRuntime) {
-    feed_all(&rt, rt.alloc(), &WITH_SAVEPOINTS, &OF_SAVEPOINTS);
+    feed_all(&rt, rt.alloc(), WITH_SAVEPOINTS, None, &OF_SAVEPOINTS);
 }
 
 /// How many histories had each verdict.
@@ -759,10 +464,10 @@ fn judge_history(
     stripes: u64,
     holder: Holder,
 ) -> Result<Verdict, AllocError> {
-    let verdict = judge_once(rt, alloc, history, stripes, holder)?;
+    let verdict = judge(rt, alloc, history, stripes, holder)?;
     assert!(rt; matches!(verdict, Verdict::Legal { .. }), "{history:?}");
     generated::spoil(draws, history)?;
-    judge_once(rt, alloc, history, stripes, holder)
+    judge(rt, alloc, history, stripes, holder)
 }
 
 /// Draws a history from the seed, and judges it with `judge_history`. Returns the verdict on the
@@ -776,21 +481,8 @@ fn judge_seed(
     let mut draws = Draws(seed);
     let stripes = draws.below(4).wrapping_add(1);
     let length = draws.below(31);
-    let mut history = generated::legal_history(alloc, &mut draws, stripes, length, holder)?;
+    let mut history = generated::history(alloc, &mut draws, Way::Locked(stripes, holder), length)?;
     judge_history(rt, alloc, &mut draws, &mut history, stripes, holder)
-}
-
-/// Draws and judges the history of a seed. If memory is refused, tries once more.
-fn judge_drawn(
-    rt: &impl Abort,
-    alloc: Global,
-    seed: u64,
-    holder: Holder,
-) -> Result<Verdict, AllocError> {
-    match judge_seed(rt, alloc, seed, holder) {
-        Ok(verdict) => Ok(verdict),
-        Err(_) => judge_seed(rt, alloc, seed, holder),
-    }
 }
 
 #[test]
@@ -798,8 +490,8 @@ fn agrees_with_the_plain_program(rt: HostRuntime) -> Result<(), Fail> {
     let alloc = rt.alloc();
     let mut tally = Tally::default();
     for seed in 0..1000 {
-        tally.count(judge_drawn(&rt, alloc, seed, Holder::Now)?);
-        tally.count(judge_drawn(&rt, alloc, seed, Holder::Begun)?);
+        tally.count(judge_seed(&rt, alloc, seed, Holder::Now)?);
+        tally.count(judge_seed(&rt, alloc, seed, Holder::Begun)?);
     }
     assert!(rt; 500 < tally.legal, "legal: {}", tally.legal);
     assert!(rt; 100 < tally.replies, "rule 1: {}", tally.replies);

@@ -1,6 +1,7 @@
 //! Tests of `txn_words` (the vocabulary of transactions), `txn_drive` (drives), `script_worker`
-//! (workers), `history_check` (the checker that judges histories), `boost_core` (the core) and
-//! `script_mix` (mixes of scripts).
+//! (workers), `history_check`, `serial_check` and `order_check` (the judges of histories),
+//! `script_outcomes` (what became of scripts), `boost_core` (the core), `script_mix` (mixes of
+//! scripts) and `owned_map` (transactions as values).
 //!
 //! Each call of a library is made in one small function without a contract. A test that uses these
 //! functions has only its own safety to prove.
@@ -15,7 +16,17 @@ mod drives;
 #[cfg(test)]
 mod histories;
 #[cfg(test)]
+mod lines;
+#[cfg(test)]
 mod mixes;
+#[cfg(test)]
+mod outcomes;
+#[cfg(test)]
+mod owned;
+#[cfg(test)]
+mod owned_limits;
+#[cfg(test)]
+mod texts;
 #[cfg(test)]
 mod traces;
 #[cfg(test)]

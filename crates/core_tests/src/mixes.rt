@@ -43,80 +43,49 @@ fn draw_is_the_next_word(rt: HostRuntime) -> Result<(), Fail> {
     Ok(())
 }
 
-/// A worker's turns in their order. Each turn is the name of the entry that the turn adds to the
-/// history, or `None` if the turn adds no entry.
-type Turns = &'static [Option<&'static str>];
+/// A worker's turns in their order. Each turn is a letter for the entry that the turn adds to the
+/// history (`caller_and_letter`), or `-` if the turn adds no entry.
+type Turns = &'static [u8];
 
-/// The turns of two empty scripts. Each script has the turns begin and commit.
-const TWO_EMPTY: Turns = &[
-    Some("began"),
-    Some("committed"),
-    Some("began"),
-    Some("committed"),
-];
+/// The turns of two empty scripts and of one. Each script has the turns begin and commit.
+const TWO_EMPTY: Turns = b"bcbc";
 
-/// The turns of one empty script.
-const ONE_EMPTY: Turns = &[Some("began"), Some("committed")];
-
-/// The turns of a script that aborts: begin, abort, seek, act.
-const ABORT: Turns = &[Some("began"), Some("leave"), None, Some("aborted")];
+const ONE_EMPTY: Turns = b"bc";
 
 /// The turns of two scripts that begin with a `help` action whose key is bad. This action takes no
 /// turn. The turns of each script are begin, abort, seek and act.
-const BAD_HELPS: Turns = &[
-    Some("began"),
-    Some("leave"),
-    None,
-    Some("aborted"),
-    Some("began"),
-    Some("leave"),
-    None,
-    Some("aborted"),
-];
+const BAD_HELPS: Turns = b"bl-xbl-x";
 
 /// The turns of two scripts. The first script begins with a `help` action whose key is bad. The
 /// second script is one put, whose turns are begin, ask, seek, act and commit.
-const BAD_HELP_AND_PUT: Turns = &[
-    Some("began"),
-    Some("leave"),
-    None,
-    Some("aborted"),
-    Some("began"),
-    Some("asked"),
-    None,
-    Some("did"),
-    Some("committed"),
-];
+const BAD_HELP_AND_PUT: Turns = b"bl-xba-dc";
 
-/// An entry's caller and its name.
-fn caller_and_name(entry: &Entry) -> (u64, &'static str) {
+/// An entry's caller, and the letter for the entry.
+fn caller_and_letter(entry: &Entry) -> (u64, u8) {
     match *entry {
-        Entry::Began(caller, _) => (caller, "began"),
-        Entry::Asked(caller, _) => (caller, "asked"),
-        Entry::Did(caller, _) => (caller, "did"),
-        Entry::Leave(caller, None) => (caller, "leave"),
-        Entry::Committed(caller, _) => (caller, "committed"),
-        Entry::Aborted(caller) => (caller, "aborted"),
-        _ => (64, "another entry"),
+        Entry::Began(caller, _) => (caller, b'b'),
+        Entry::Asked(caller, _) => (caller, b'a'),
+        Entry::Did(caller, _) => (caller, b'd'),
+        Entry::Leave(caller, None) => (caller, b'l'),
+        Entry::Committed(caller, _) => (caller, b'c'),
+        Entry::Aborted(caller) => (caller, b'x'),
+        _ => (64, b'?'),
     }
 }
 
 /// Draws one of the workers that still have turns, and takes its next turn. Returns the worker's
-/// number, and the entry that the turn adds to the history.
-fn take_turn(
-    words: &mut Pcg32,
-    live: &mut Vec<(u64, Turns)>,
-) -> Result<(u64, Option<&'static str>), Fail> {
+/// number, and the letter of the turn.
+fn take_turn(words: &mut Pcg32, live: &mut Vec<(u64, Turns)>) -> Result<(u64, u8), Fail> {
     let place = next_word_below(words, live.len() as u64) as usize;
     if live.len() <= place {
         return Err("no worker is left".into());
     }
     let (worker, turns) = live.remove(place);
-    let (name, later) = turns.split_first().ok_or("no turn is left")?;
+    let (letter, later) = turns.split_first().ok_or("no turn is left")?;
     if !later.is_empty() {
         live.insert(place, (worker, later))?;
     }
-    Ok((worker, *name))
+    Ok((worker, *letter))
 }
 
 /// Reads scripts from this text of a script file, mixes them with the seed, and returns the
@@ -144,10 +113,10 @@ fn take_turns(
         if live.is_empty() {
             break;
         }
-        let (worker, name) = take_turn(words, live)?;
-        if let Some(name) = name {
+        let turn = take_turn(words, live)?;
+        if turn.1 != b'-' {
             let entry = entries.next().ok_or("a short history")?;
-            assert!(rt; caller_and_name(entry) == (worker, name), "{entry:?}");
+            assert!(rt; caller_and_letter(entry) == turn, "{entry:?}");
         }
     }
     assert!(rt; live.is_empty() && entries.next().is_none());
@@ -176,14 +145,6 @@ struct Mix {
     workers: &'static [(u64, Turns)],
 }
 
-/// Worker 0 runs two empty scripts, and worker 1 runs a script that aborts.
-const BESIDE_AN_ABORT: Mix = Mix {
-    scripts: "{\"version\":1,\"workers\":2,\"stripes\":1,\"buckets\":2,\"tries\":0,\
-        \"scripts\":[[],[[\"abort\"]],[]]}",
-    seeds: 20,
-    workers: &[(0, TWO_EMPTY), (1, ABORT)],
-};
-
 /// The last of three workers has one script fewer than the others. With most seeds this worker ends
 /// first, and with some seeds it ends later.
 const THREE_WORKERS: Mix = Mix {
@@ -191,14 +152,6 @@ const THREE_WORKERS: Mix = Mix {
         \"scripts\":[[],[],[],[],[]]}",
     seeds: 50,
     workers: &[(0, TWO_EMPTY), (1, TWO_EMPTY), (2, ONE_EMPTY)],
-};
-
-/// The last of four workers has nothing to do. If worker 1 ends first, workers 0 and 2 remain.
-const FOUR_WORKERS: Mix = Mix {
-    scripts: "{\"version\":1,\"workers\":4,\"stripes\":8,\"buckets\":8,\"tries\":0,\
-        \"scripts\":[[],[],[]]}",
-    seeds: 50,
-    workers: &[(0, ONE_EMPTY), (1, ONE_EMPTY), (2, ONE_EMPTY)],
 };
 
 /// A `help` action whose key is bad takes no turn. Worker 0 has only such actions. Its eight turns
@@ -223,8 +176,6 @@ fn mixes_by_each_seed(rt: &impl Abort, alloc: Global, mix: &Mix) -> Result<(), F
 #[test]
 fn the_worker_drawn_goes(rt: HostRuntime) -> Result<(), Fail> {
     let alloc = rt.alloc();
-    mixes_by_each_seed(&rt, alloc, &BESIDE_AN_ABORT)?;
     mixes_by_each_seed(&rt, alloc, &THREE_WORKERS)?;
-    mixes_by_each_seed(&rt, alloc, &FOUR_WORKERS)?;
     mixes_by_each_seed(&rt, alloc, &BAD_HELPS_BESIDE_A_PUT)
 }

@@ -4,7 +4,7 @@
 use std::alloc::{AllocError, Global};
 use std::process::Abort;
 use std::test::Fail;
-use txn_words::{Answer, Entry, Limits, Op, Refusal, Reply, Seat, Step, answer_text};
+use txn_words::{Answer, Entry, Limits, Op, Refusal, Seat, Step, answer_text};
 
 /// Each row has an answer and its text.
 const ANSWERS: [(Answer, &str); 26] = [
@@ -156,12 +156,6 @@ fn refusals_of_key(seat: &Seat, key: u64) -> Result<(Option<Refusal>, Option<Ref
     ))
 }
 
-/// Returns true if `half_keys` changes limits that allow every key.
-fn are_half_keys_others() -> Result<bool, Refusal> {
-    let every = Limits::new(2, 8, 8)?;
-    Ok(every.half_keys() != every)
-}
-
 /// Each row has a key, and how a get of this key is refused if the limits allow only half keys.
 const KEYS: [(u64, Option<Refusal>); 3] = [
     (0x7fff_ffff_ffff_ffff, None),
@@ -196,64 +190,9 @@ fn keys_are(rt: &impl Abort, seat: &Seat, rows: &[(u64, Option<Refusal>)]) -> Re
 fn limits_and_keys(rt: HostRuntime) -> Result<(), Fail> {
     limits_are(&rt, &IN_RANGE, true);
     limits_are(&rt, &OUT_OF_RANGE, false);
-    assert!(rt; are_half_keys_others()?);
     let seat = open_seat(&rt, rt.alloc());
     keys_are(&rt, &seat, &KEYS)?;
     Ok(())
-}
-
-/// The key of an operation, and whether the operation is a change if it has this reply.
-fn key_and_change(op: Op, reply: Reply) -> (u64, bool) {
-    (op.key(), op.changes(reply))
-}
-
-/// Each row has an operation, a reply, the operation's key, and whether the operation is a change
-/// if it has this reply. A `PutIf` is a change if the reply is the value that it expects.
-const OPERATIONS: [(Op, Reply, u64, bool); 10] = [
-    (Op::Put(1, 10), None, 1, true),
-    (Op::Take(2), None, 2, false),
-    (Op::Get(3), None, 3, false),
-    (Op::PutIf(4, Some(5), 6), None, 4, false),
-    (Op::PutIf(1, Some(4), 6), Some(4), 1, true),
-    (Op::PutIf(1, Some(4), 6), Some(6), 1, false),
-    (Op::PutIf(1, Some(4), 6), None, 1, false),
-    (Op::PutIf(1, None, 6), None, 1, true),
-    (Op::PutIf(1, None, 6), Some(6), 1, false),
-    (Op::PutIf(1, None, 6), Some(4), 1, false),
-];
-
-/// One entry of each kind, with caller 7.
-const ENTRIES: [Entry; 10] = [
-    Entry::Began(7, 1),
-    Entry::Asked(7, Op::Get(3)),
-    Entry::Did(7, None),
-    Entry::Saved(7),
-    Entry::Leave(7, Some(1)),
-    Entry::Undone(7),
-    Entry::Returned(7, 1),
-    Entry::Committed(7, 1),
-    Entry::Busy(7, Op::Get(3), 2),
-    Entry::Aborted(7),
-];
-
-/// The caller of an entry.
-fn caller_of(entry: &Entry) -> u64 {
-    entry.caller()
-}
-
-fn operations_are(rt: &impl Abort, rows: &[(Op, Reply, u64, bool)]) {
-    for (op, reply, key, is_change) in rows {
-        let found = key_and_change(*op, *reply);
-        assert_eq!(rt; found, (*key, *is_change), "{op:?} of {reply:?}");
-    }
-}
-
-#[test]
-fn operations_and_entries(rt: HostRuntime) {
-    operations_are(&rt, &OPERATIONS);
-    for entry in &ENTRIES {
-        assert_eq!(rt; caller_of(entry), 7, "{entry:?}");
-    }
 }
 
 /// The number of savepoints.

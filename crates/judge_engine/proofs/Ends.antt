@@ -80,10 +80,10 @@ leaves_answer P F old new text (Line number fault) right h = absurd h
 pub leaves_verdict : (P : Verdict → Type 0) (F : Fault → Type 0) (old new : Option (List ℕ)) (outcome : Verdict) (fault : Fault) → P outcome → FailsToWrite old new (verdict_line outcome) fault → LeavesOutput P F old new fault
 leaves_verdict P F old new outcome fault right h = leaves_answer (IsLineOf P) F old new (verdict_line outcome) fault (outcome, right, refl) h
 
-pub answer_written : (text_of : List Entry → Found → List ℕ) (remaining old new : Option (List ℕ)) (bytes : List ℕ) (answer : Answer) (text : List ℕ) (r : Result Answer Fault) → IfSome remaining (λ all. bytes ≡ take max_read all) → IsAnswered text_of bytes answer text
-    → IfOk r (λ written. (written ≡ answer) × Appends old new text) → IfOk r (λ written. WritesAnswer text_of remaining written old new)
-answer_written text_of remaining old new bytes answer text (Ok written) known is (same, grows) = (bytes, known, (text, subst (λ (a : Answer). IsAnswered text_of bytes a text) (sym same) is, grows))
-answer_written text_of remaining old new bytes answer text (Err fault) known is h = tt
+pub answer_written : (real_time : Bool) (text_of : List Entry → Found → List ℕ) (remaining old new : Option (List ℕ)) (bytes : List ℕ) (answer : Answer) (text : List ℕ) (r : Result Answer Fault) → IfSome remaining (λ all. bytes ≡ take max_read all) → IsAnswered real_time text_of bytes answer text
+    → IfOk r (λ written. (written ≡ answer) × Appends old new text) → IfOk r (λ written. WritesAnswer real_time text_of remaining written old new)
+answer_written real_time text_of remaining old new bytes answer text (Ok written) known is (same, grows) = (bytes, known, (text, subst (λ (a : Answer). IsAnswered real_time text_of bytes a text) (sym same) is, grows))
+answer_written real_time text_of remaining old new bytes answer text (Err fault) known is h = tt
 
 -- ---- what `why` leaves at a fault
 

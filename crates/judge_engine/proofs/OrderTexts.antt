@@ -8,7 +8,7 @@ use Rattle.order_check.specs.declared.edge.Edge.{Edge}
 use Rattle.order_check.specs.declared.verdict.Verdict.{Verdict}
 use Rattle.order_check.specs.declared.verdict.Verdict.TheVariants.{Serializable, NotSerializable, Undecided}
 use Rattle.judge_engine.specs.declared.order.Ordered.{Ordered}
-use Rattle.judge_engine.specs.OrderLines.{each_edge, first_from, from_or, order_lines, order_text, serializable_text, text_by, txn_line}
+use Rattle.judge_engine.specs.OrderLines.{each_edge, each_txn, first_from, from_or, order_text, serializable_text, text_by}
 use Rattle.judge_engine.specs.Ordered.{IsOrdered}
 use Rattle.judge_engine.proofs.Listed.{joined}
 
@@ -40,27 +40,28 @@ module _ (text : Edge → ℕ → List ℕ) where
       ∙ ap (λ words. start ++ words)
       (sym (edges_push (take i edges) edge to) ∙ ap₂ (each_edge text) (sym (take_more edges i d within)) leads)
 
--- ---- the transactions of an order
+-- ---- the transactions of an order, or those that write a value
 
-order_push : (ts : List ℕ) (t : ℕ) → order_lines (ts ++ t ∷ []) ≡ order_lines ts ++ txn_line t
-order_push [] t = append-nil (txn_line t)
-order_push (x ∷ ts) t = ap (λ rest. txn_line x ++ rest) (order_push ts t) ∙ sym (append_assoc (txn_line x) (order_lines ts) (txn_line t))
+module _ (text : ℕ → List ℕ) where
+  txns_push : (ts : List ℕ) (t : ℕ) → each_txn text (ts ++ t ∷ []) ≡ each_txn text ts ++ text t
+  txns_push [] t = append-nil (text t)
+  txns_push (x ∷ ts) t = ap (λ rest. text x ++ rest) (txns_push ts t) ∙ sym (append_assoc (text x) (each_txn text ts) (text t))
 
-pub grown_order : (new old start : List ℕ) (ts : List ℕ) (i d : ℕ) → new ≡ old ++ txn_line (get_or ts i d) → old ≡ start ++ order_lines (take i ts) → i < length ts → new ≡ start ++ order_lines (take (i + 1) ts)
-grown_order new old start ts i d line before within =
-    joined start (order_lines (take i ts)) (txn_line (get_or ts i d)) old new before line
-    ∙ ap (λ lines. start ++ lines) (sym (order_push (take i ts) (get_or ts i d)) ∙ ap order_lines (sym (take_more ts i d within)))
+  pub grown_txns : (new old start : List ℕ) (ts : List ℕ) (i d : ℕ) → new ≡ old ++ text (get_or ts i d) → old ≡ start ++ each_txn text (take i ts) → i < length ts → new ≡ start ++ each_txn text (take (i + 1) ts)
+  grown_txns new old start ts i d line before within =
+      joined start (each_txn text (take i ts)) (text (get_or ts i d)) old new before line
+      ∙ ap (λ lines. start ++ lines) (sym (txns_push (take i ts) (get_or ts i d)) ∙ ap (each_txn text) (sym (take_more ts i d within)))
 
 -- ---- the text of a verdict on a history
 
-module _ (shows : Bool) (h : List Entry) where
-  by_verdict : (verdict : Verdict) (ordered : Ordered) → ordered.verdict ≡ verdict → IsOrdered h ordered → text_by shows ordered.commits ordered.running verdict ≡ order_text shows h verdict
+module _ (real_time shows : Bool) (h : List Entry) where
+  by_verdict : (verdict : Verdict) (ordered : Ordered) → ordered.verdict ≡ verdict → IsOrdered real_time h ordered → text_by real_time shows ordered.commits ordered.running verdict ≡ order_text real_time shows h verdict
   by_verdict (Serializable order) ordered is found =
       let shape = (rw is at found.verdict).0 in
-      ap₂ (λ (n m : ℕ). serializable_text shows n m order.items) (found.committed shape) (found.in_txn shape)
+      ap₂ (λ (n m : ℕ). serializable_text real_time shows n m order.items) (found.committed shape) (found.in_txn shape)
   by_verdict (NotSerializable reason) ordered is found = refl
-  by_verdict (Undecided key value) ordered is found = refl
+  by_verdict (Undecided key value writers) ordered is found = refl
 
   -- The counts of the judge are those of the history, wherever the text has them.
-  pub text_is : (ordered : Ordered) → IsOrdered h ordered → text_by shows ordered.commits ordered.running ordered.verdict ≡ order_text shows h ordered.verdict
+  pub text_is : (ordered : Ordered) → IsOrdered real_time h ordered → text_by real_time shows ordered.commits ordered.running ordered.verdict ≡ order_text real_time shows h ordered.verdict
   text_is ordered found = by_verdict ordered.verdict ordered refl found

@@ -20,4 +20,4 @@ answer_if false = No
 abbrev pub answer_of : Verdict → Answer
 answer_of (verdicts.Serializable order) = Yes
 answer_of (verdicts.NotSerializable reason) = No
-answer_of (verdicts.Undecided key value) = Undecided
+answer_of (verdicts.Undecided key value writers) = Undecided

@@ -1,10 +1,11 @@
--- PROMISES a-verdict-by-any-order-is-right: class_of
+-- PROMISES a-verdict-by-any-order-is-right: class_of, suffix_of
 -- The class of a cycle, by Adya's names.
 use Rattle.std.specs.Prelude.{◌==◌, ◌&&◌, Bool, true, false, List, [], ◌∷◌, count_by, nat_eq, if◌then◌else◌, ℕ, codes}
+use Rattle.std.specs.List.{list_any}
 use Rattle.std.specs.Option.{option_eq}
 use Rattle.order_check.specs.declared.edge.Edge.{Edge}
 use Rattle.order_check.specs.declared.edge.Kind.{Kind}
-use Rattle.order_check.specs.declared.edge.Kind.TheVariants.{Read, Replaced}
+use Rattle.order_check.specs.declared.edge.Kind.TheVariants.{Read, Replaced, Began}
 use Rattle.judge_engine.specs.declared.class.Class.{Class}
 use Rattle.judge_engine.specs.declared.class.Class.TheVariants.{LostUpdate, G1c, GSingle, G2Item}
 
@@ -13,6 +14,13 @@ use Rattle.judge_engine.specs.declared.class.Class.TheVariants.{LostUpdate, G1c,
 abbrev pub is_anti : Kind → Bool
 is_anti Read = false
 is_anti Replaced = true
+is_anti Began = false
+
+-- Whether edges of this kind are those of real time.
+abbrev pub is_time : Kind → Bool
+is_time Read = false
+is_time Replaced = false
+is_time Began = true
 
 -- Two transactions read one value of one key, and each replaced it.
 abbrev pub is_lost_update : List Edge → Bool
@@ -35,3 +43,10 @@ class_words LostUpdate = codes "lost update"
 class_words G1c = codes "G1c"
 class_words GSingle = codes "G-single"
 class_words G2Item = codes "G2-item"
+
+-- What follows the name of the class of a cycle, if an edge is one of real time.
+abbrev pub time_suffix : Bool → List ℕ
+time_suffix in_time = if in_time then codes "-realtime" else []
+
+abbrev pub suffix_of : List Edge → List ℕ
+suffix_of edges = time_suffix (list_any (λ edge. is_time edge.kind) edges)

@@ -7,9 +7,8 @@ use Rattle.order_check.specs.declared.verdict.Reason.{Reason}
 use Rattle.order_check.specs.declared.verdict.Reason.TheVariants.{Cycle}
 use Rattle.order_check.specs.declared.verdict.Verdict.{Verdict}
 use Rattle.order_check.specs.declared.verdict.Verdict.TheVariants.{NotSerializable}
-use Rattle.judge_engine.specs.Classes.{class_of, class_words}
-use Rattle.judge_engine.specs.OrderLines.{each_edge, first_did, first_from, order_text, second_did}
-use Rattle.judge_engine.specs.ReasonLines.{value_words}
+use Rattle.judge_engine.specs.Classes.{class_of, class_words, suffix_of}
+use Rattle.judge_engine.specs.OrderLines.{each_edge, first_did, first_from, order_text, second_did, which_words}
 use Rattle.judge_engine.specs.WhyLines.{name_words, why_text}
 
 -- The end of a label, and of its line.
@@ -27,10 +26,9 @@ arrow_line edge u =
     codes "  "
     ++ (decimal edge.from ++ (codes " -> "
     ++ (decimal u ++ (codes " [label=\""
-    ++ (decimal edge.from ++ (first_did edge.kind
-    ++ (value_words edge.value ++ (codes " at key "
-    ++ (decimal edge.key ++ (codes ",\\nwhich "
-    ++ (decimal u ++ (second_did edge.kind ++ label_end))))))))))))
+    ++ (decimal edge.from ++ (first_did edge ++ (codes "\\n"
+    ++ (which_words edge.kind
+    ++ (decimal u ++ (second_did edge.kind ++ label_end))))))))))
 
 -- The transaction from which an edge comes, and the edge.
 abbrev pub edge_dots : List Entry → Edge → ℕ → List ℕ
@@ -39,7 +37,8 @@ edge_dots h edge u = node_line h edge.from ++ arrow_line edge u
 -- The class of a cycle, which stands below the picture.
 abbrev pub class_line : List Edge → List ℕ
 class_line edges =
-    codes "  label=\"" ++ (class_words (class_of edges) ++ (codes "\";" ++ 10 ∷ []))
+    codes "  label=\""
+    ++ (class_words (class_of edges) ++ (suffix_of edges ++ (codes "\";" ++ 10 ∷ [])))
 
 abbrev pub cycle_dots : List Entry → List Edge → List ℕ
 cycle_dots h edges = class_line edges ++ each_edge (edge_dots h) edges (first_from edges 0)
@@ -54,11 +53,12 @@ verdict_dots h (NotSerializable reason) = reason_dots h reason
 verdict_dots h verdict = []
 
 -- The graph of a verdict on the history. The line of the verdict is a comment in it.
-abbrev pub dot_text : List Entry → Verdict → List ℕ
-dot_text h verdict =
-    (codes "digraph {" ++ 10 ∷ (codes "  // " ++ order_text false h verdict))
+abbrev pub dot_text : Bool → List Entry → Verdict → List ℕ
+dot_text real_time h verdict =
+    (codes "digraph {" ++ 10 ∷ (codes "  // " ++ order_text real_time false h verdict))
     ++ (verdict_dots h verdict ++ (codes "}" ++ 10 ∷ []))
 
 -- The text that explains a verdict on the history: its graph if this is asked for, else lines.
-abbrev pub text_or_graph : Bool → List Entry → Verdict → List ℕ
-text_or_graph as_graph h verdict = if as_graph then dot_text h verdict else why_text h verdict
+abbrev pub text_or_graph : Bool → Bool → List Entry → Verdict → List ℕ
+text_or_graph real_time as_graph h verdict =
+    if as_graph then dot_text real_time h verdict else why_text real_time h verdict

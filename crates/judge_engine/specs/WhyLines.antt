@@ -3,19 +3,23 @@ use Rattle.std.specs.Prelude.{ℕ, ◌==◌, ◌&&◌, Bool, true, false, List, 
 use Rattle.std.specs.List.{fold}
 use Rattle.std.specs.Option.{option_eq}
 use Rattle.txn_words.specs.declared.entry.Entry.{Entry}
-use Rattle.txn_words.specs.declared.entry.Entry.TheVariants.{Asked, Began, Did}
+use Rattle.txn_words.specs.declared.entry.Entry.TheVariants as entries
 use Rattle.txn_words.specs.declared.op.Op.{Op}
-use Rattle.txn_words.specs.Kinds.{caller_of}
+use Rattle.txn_words.specs.Kinds.{caller_of, is_began, is_commit}
 use Rattle.txn_words.specs.Map.{key_of}
 use Rattle.txn_trace.specs.History.{txn_after}
 use Rattle.bad_entry.specs.Desks.{txn_in, waiting_in}
 use Rattle.order_check.specs.declared.edge.Edge.{Edge}
+use Rattle.order_check.specs.declared.edge.Kind.{Kind}
+use Rattle.order_check.specs.declared.edge.Kind.TheVariants.{Read, Replaced, Began}
+use Rattle.judge_engine.specs.declared.order_why.Part.{Part}
+use Rattle.judge_engine.specs.declared.order_why.Part.TheVariants.{Whole, At, First, Last}
 use Rattle.order_check.specs.declared.verdict.Reason.{Reason}
 use Rattle.order_check.specs.declared.verdict.Reason.TheVariants.{Shape, Torn, Unwritten, Impossible, Cycle}
 use Rattle.order_check.specs.declared.verdict.Verdict.{Verdict}
 use Rattle.order_check.specs.declared.verdict.Verdict.TheVariants.{Serializable, NotSerializable, Undecided}
-use Rattle.judge_engine.specs.OrderLines.{each_edge, first_did, first_from, order_text, second_did}
-use Rattle.judge_engine.specs.ReasonLines.{entry_line, heading, lines_where, transaction_lines, transaction_words, value_words}
+use Rattle.judge_engine.specs.OrderLines.{each_edge, first_did, first_from, order_text, second_did, which_words}
+use Rattle.judge_engine.specs.ReasonLines.{entry_line, heading, lines_where, transaction_lines, transaction_words}
 
 -- ---- the entries of a transaction
 
@@ -23,25 +27,31 @@ abbrev pub waits_for : ℕ → Option Op → Bool
 waits_for k None = false
 waits_for k (Some op) = key_of op == k
 
--- Whether the entry that follows `g` asks for an operation on the key, or has the reply to one. If
--- no key is given, any entry will do.
-abbrev pub is_at : Option ℕ → List Entry → Entry → Bool
-is_at None g e = true
-is_at (Some k) g (Asked c op) = key_of op == k
-is_at (Some k) g (Did c r) = waits_for k (waiting_in g c)
-is_at (Some k) g e = false
+-- Whether the entry that follows `g` asks for an operation on the key, or has the reply to one.
+abbrev pub is_at : ℕ → List Entry → Entry → Bool
+is_at k g (entries.Asked c op) = key_of op == k
+is_at k g (entries.Did c r) = waits_for k (waiting_in g c)
+is_at k g e = false
 
--- Whether the entry that follows `g` is of this transaction, and on the key if one is given.
-abbrev pub belongs : ℕ → Option ℕ → List Entry → Entry → Bool
-belongs t at g e = option_eq nat_eq (txn_after (txn_in g) e (caller_of e)) (Some t) && is_at at g e
+-- Whether the entry that follows `g` is in this part of its transaction.
+abbrev pub is_in_part : Part → List Entry → Entry → Bool
+is_in_part Whole g e = true
+is_in_part (At k) g e = is_at k g e
+is_in_part First g e = is_began e
+is_in_part Last g e = is_commit e
 
--- The entries of the transaction, on the key if one is given.
-abbrev pub txn_lines : ℕ → Option ℕ → List Entry → List ℕ
-txn_lines t at h = lines_where (belongs t at) h
+-- Whether the entry that follows `g` is of this transaction, and in this part of it.
+abbrev pub belongs : ℕ → Part → List Entry → Entry → Bool
+belongs t part g e =
+    option_eq nat_eq (txn_after (txn_in g) e (caller_of e)) (Some t) && is_in_part part g e
+
+-- The entries of the transaction that are in this part of it.
+abbrev pub txn_lines : ℕ → Part → List Entry → List ℕ
+txn_lines t part h = lines_where (belongs t part) h
 
 -- The caller of the transaction after one more entry, if it is known.
 abbrev pub beginner_after : ℕ → Option ℕ → Entry → Option ℕ
-beginner_after t caller (Began c u) = if u == t then Some c else caller
+beginner_after t caller (entries.Began c u) = if u == t then Some c else caller
 beginner_after t caller e = caller
 
 abbrev pub beginner_in : ℕ → List Entry → Option ℕ
@@ -60,16 +70,28 @@ name_words h t = named_words t (beginner_in t h)
 abbrev pub edge_heading : List Entry → Edge → ℕ → List ℕ
 edge_heading h edge u =
     name_words h edge.from
-    ++ (first_did edge.kind
-    ++ (value_words edge.value ++ (codes " at key "
-    ++ (decimal edge.key ++ (codes ", which "
-    ++ (name_words h u ++ (second_did edge.kind ++ (codes ":" ++ 10 ∷ []))))))))
+    ++ (first_did edge ++ (codes " "
+    ++ (which_words edge.kind
+    ++ (name_words h u ++ (second_did edge.kind ++ (codes ":" ++ 10 ∷ []))))))
 
--- Why the first transaction of the edge comes before `u`, and the entries of both on the key.
+-- The parts of the two transactions that an edge is about: the entries on its key, or the end of the
+-- first transaction and the beginning of the second one.
+abbrev pub first_part : Kind → ℕ → Part
+first_part Read k = At k
+first_part Replaced k = At k
+first_part Began k = Last
+
+abbrev pub second_part : Kind → ℕ → Part
+second_part Read k = At k
+second_part Replaced k = At k
+second_part Began k = First
+
+-- Why the first transaction of the edge comes before `u`, and the entries of both that it is about.
 abbrev pub edge_lines : List Entry → Edge → ℕ → List ℕ
 edge_lines h edge u =
     edge_heading h edge u
-    ++ (txn_lines edge.from (Some edge.key) h ++ txn_lines u (Some edge.key) h)
+    ++ (txn_lines edge.from (first_part edge.kind edge.key) h
+    ++ txn_lines u (second_part edge.kind edge.key) h)
 
 -- ---- a transaction
 
@@ -77,10 +99,14 @@ abbrev pub key_words : Option ℕ → List ℕ
 key_words None = codes ":" ++ 10 ∷ []
 key_words (Some k) = codes " on key " ++ (decimal k ++ (codes ":" ++ 10 ∷ []))
 
+abbrev pub part_at : Option ℕ → Part
+part_at None = Whole
+part_at (Some k) = At k
+
 -- The entries of the transaction, on the key if one is given, below a line that names it.
 abbrev pub of_txn_lines : List Entry → ℕ → Option ℕ → List ℕ
 of_txn_lines h t at =
-    (codes "entries of " ++ (name_words h t ++ key_words at)) ++ txn_lines t at h
+    (codes "entries of " ++ (name_words h t ++ key_words at)) ++ txn_lines t (part_at at) h
 
 -- ---- the whole explanation
 
@@ -102,8 +128,8 @@ why_reason_lines h (Cycle edges) = each_edge (edge_lines h) edges.items (first_f
 abbrev pub why_verdict_lines : List Entry → Verdict → List ℕ
 why_verdict_lines h (Serializable order) = []
 why_verdict_lines h (NotSerializable reason) = why_reason_lines h reason
-why_verdict_lines h (Undecided k v) = []
+why_verdict_lines h (Undecided k v ts) = []
 
 -- The text that explains a verdict on the history: its line, and the lines of its reason.
-abbrev pub why_text : List Entry → Verdict → List ℕ
-why_text h verdict = order_text false h verdict ++ why_verdict_lines h verdict
+abbrev pub why_text : Bool → List Entry → Verdict → List ℕ
+why_text real_time h verdict = order_text real_time false h verdict ++ why_verdict_lines h verdict

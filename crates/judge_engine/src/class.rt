@@ -1,6 +1,7 @@
 //! The class of a cycle (`specs/Classes.antt`).
 ghost use Rattle.std.specs.Prelude.{◌≡◌, ◌==◌, count_by};
-ghost use Rattle.judge_engine.specs.Classes.{class_of, is_anti, is_lost_update};
+ghost use Rattle.std.specs.List.{list_any};
+ghost use Rattle.judge_engine.specs.Classes.{class_of, is_anti, is_lost_update, is_time};
 
 use order_check::{Edge, Kind};
 use std::fmt;
@@ -42,7 +43,45 @@ fn is_anti(kind: Kind) -> bool
     match kind {
         Kind::Read => false,
         Kind::Replaced => true,
+        Kind::Began => false,
     }
+}
+
+/// Whether edges of this kind are those of real time. Constant time.
+fn is_time(kind: Kind) -> bool
+    ensures { result ≡ is_time kind }
+{
+    match kind {
+        Kind::Read => false,
+        Kind::Replaced => false,
+        Kind::Began => true,
+    }
+}
+
+/// What the name of a class ends with, if an edge of the cycle is one of real time.
+#[derive(Clone, Copy)]
+pub(crate) struct TimeSuffix(pub(crate) bool);
+
+impl fmt::Display for TimeSuffix {
+    ghost use Rattle.std.specs.Prelude.{Some};
+    ghost use Rattle.judge_engine.specs.Classes.{time_suffix};
+
+    ghost output = { λ suffix. Some (time_suffix suffix.0) };
+
+    fn fmt<W: fmt::Write>(&self, f: &mut fmt::Formatter<W>) -> fmt::Result {
+        if self.0 {
+            f.write_str("-realtime")
+        } else {
+            Ok(())
+        }
+    }
+}
+
+/// Whether one of the edges is one of real time.
+pub(crate) fn has_time(edges: &[Edge]) -> bool
+    ensures { result ≡ list_any (λ edge. is_time edge.kind) edges.now }
+{
+    edges.iter().any(|edge| is_time(edge.kind))
 }
 
 /// How many edges are anti-dependencies.

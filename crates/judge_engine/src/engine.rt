@@ -108,12 +108,16 @@ pub fn check<R: Read + Drop, W: Write>(
 
 /// Reads a history file to its end, judges the history by any order of its transactions, and writes
 /// the verdict as one line. The line is `serializable C commits O open`, or `not serializable: `
-/// and the reason, or `undecided key K value V`. If the history is serializable and `shows_order`
+/// and the reason, or `undecided key K value V: transactions` and their numbers. If the history is serializable and `shows_order`
 /// is true, the transactions of a serial order follow, one in a line. Nothing else is written.
 /// Returns the answer that the verdict gives.
 ///
+/// If `real_time` is true, a transaction must also come after all that had committed when it began.
+/// The lines then begin with `serializable in real time` or `not serializable in real time`.
+///
 /// If the order of the commits is a serial order, the verdict is `serializable`. If it is
-/// `undecided`, the value named comes more than once at its key.
+/// `undecided`, the value named comes more than once at its key, and the transactions named are those
+/// that write it. A search for an order takes at most `most_branches` branches (`order_check`).
 ///
 /// At most 16,777,217 bytes are read. A read or a write is tried again only if it was interrupted.
 ///
@@ -133,19 +137,22 @@ pub fn check<R: Read + Drop, W: Write>(
 /// the size of the file.
 pub fn check_serializable<R: Read + Drop, W: Write>(
     alloc: Global,
+    real_time: bool,
+    most_branches: u64,
     shows_order: bool,
     input: R,
     output: &mut W,
 ) -> Result<Answer, Fault>
-    ensures answers { IfOk result (λ answer. WritesAnswer (order_text shows_order)
+    ensures answers { IfOk result (λ answer. WritesAnswer real_time
+        (order_text real_time shows_order)
         (R.remaining input) answer (W.contents output.old) (W.contents output.new)) }
     ensures fault { IfErr result (LeavesText
-        (IsAnswerText (order_text shows_order) (R.remaining input))
+        (IsAnswerText real_time (order_text real_time shows_order) (R.remaining input))
         (FailsToCheck (R.remaining input))
         (W.contents output.old) (W.contents output.new)) }
 {
     let bytes = read_file(alloc, input)?;
-    let (answer, text) = order_file(alloc, shows_order, bytes)?;
+    let (answer, text) = order_file(alloc, real_time, most_branches, shows_order, bytes)?;
     write_answer(answer, text.as_str(), output)
 }
 
@@ -190,7 +197,8 @@ pub fn why<R: Read + Drop, W: Write>(
 /// Judges a history file and writes the verdict's line, like `check_serializable`. If the history
 /// is not serializable, lines that explain the reason follow. For a cycle, each edge has a line
 /// with the two transactions, their callers and the key, and then the requests of both at this key
-/// with their replies. Returns the answer that the verdict gives.
+/// with their replies. An edge of real time has the `committed` of the first transaction and the
+/// `began` of the second one. Returns the answer that the verdict gives.
 ///
 /// If `as_graph` is true, a graph in the language of Graphviz' `dot` is written instead, with the
 /// verdict's line as a comment. For a cycle it has the class, a node for each transaction, and its
@@ -212,17 +220,21 @@ pub fn why<R: Read + Drop, W: Write>(
 /// that is refused, the cost of `bad_file`.
 pub fn why_serializable<R: Read + Drop, W: Write>(
     alloc: Global,
+    real_time: bool,
+    most_branches: u64,
     as_graph: bool,
     input: R,
     output: &mut W,
 ) -> Result<Answer, Fault>
-    ensures answers { IfOk result (λ answer. WritesAnswer (text_or_graph as_graph)
+    ensures answers { IfOk result (λ answer. WritesAnswer real_time
+        (text_or_graph real_time as_graph)
         (R.remaining input) answer (W.contents output.old) (W.contents output.new)) }
-    ensures fault { IfErr result (LeavesExplanation (IsTextFor (text_or_graph as_graph))
+    ensures fault { IfErr result (LeavesExplanation
+        (IsTextFor real_time (text_or_graph real_time as_graph))
         (R.remaining input) (W.contents output.old) (W.contents output.new)) }
 {
     let bytes = read_file(alloc, input)?;
-    match explain_order(alloc, as_graph, &bytes) {
+    match explain_order(alloc, real_time, most_branches, as_graph, &bytes) {
         Ok((answer, text)) => write_answer(answer, text.as_str(), output),
         Err(fault) => Err(tell(alloc, fault, &bytes, output)),
     }

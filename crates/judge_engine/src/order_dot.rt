@@ -4,9 +4,8 @@ ghost use Rattle.judge_engine.specs.DotLines.{arrow_line, class_line, cycle_dots
 ghost use Rattle.judge_engine.specs.DotLines.{node_line, reason_dots, verdict_dots};
 ghost use Rattle.judge_engine.specs.OrderLines.{each_edge, from_or};
 
-use crate::class::class_of;
-use crate::lines::OrNone;
-use crate::order_lines::{FirstDid, SecondDid, from_at};
+use crate::class::{TimeSuffix, class_of, has_time};
+use crate::order_lines::{FirstDid, SecondDid, Which, from_at};
 use crate::order_why::{Named, beginner_in};
 use order_check::{Edge, Reason, Verdict};
 use std::alloc::AllocError;
@@ -28,12 +27,11 @@ fn put_arrow(text: &mut String, edge: Edge, to: u64) -> Result<(), AllocError>
 {
     writeln!(
         text,
-        "  {} -> {to} [label=\"{}{}{} at key {},\\nwhich {to}{}\"];",
+        "  {} -> {to} [label=\"{}{}\\n{}{to}{}\"];",
         edge.from,
         edge.from,
-        FirstDid(edge.kind),
-        OrNone(edge.value),
-        edge.key,
+        FirstDid(edge),
+        Which(edge.kind),
         SecondDid(edge.kind),
     )
 }
@@ -75,7 +73,8 @@ fn put_cycle(text: &mut String, entries: &[SmallEntry], edges: &[Edge]) -> Resul
     ensures { OnOk result (string_bytes text.new
         ≡ string_bytes text.old ++ cycle_dots entries.now edges.now) }
 {
-    writeln!(text, "  label=\"{}\";", class_of(edges))?;
+    let suffix = TimeSuffix(has_time(edges));
+    writeln!(text, "  label=\"{}{suffix}\";", class_of(edges))?;
     put_edges(text, entries, edges, from_at(edges, 0, 0))
 }
 

@@ -3,19 +3,20 @@
 //! the history.
 ghost use Rattle.std.specs.Prelude.{◌≡◌, ◌<◌, ◌++◌, List, None, Some, IfOk, OnOk, length, slice_get, string_bytes};
 ghost use Rattle.std.specs.List.{All, fold};
-ghost use Rattle.txn_words.specs.Kinds.{caller_of};
+ghost use Rattle.txn_words.specs.Kinds.{caller_of, is_began, is_commit};
 ghost use Rattle.txn_words.specs.declared.entry.Entry.{Entry};
 ghost use Rattle.bad_entry.specs.Desks.{HaveNoted, IsDeskOf, waiting_in};
 ghost use Rattle.judge_engine.specs.OrderLines.{each_edge, from_or};
 ghost use Rattle.judge_engine.specs.WhyLines.{beginner_after, beginner_in, belongs, edge_heading};
-ghost use Rattle.judge_engine.specs.WhyLines.{edge_lines, is_at, misshapen_lines};
-ghost use Rattle.judge_engine.specs.WhyLines.{of_txn_lines, txn_lines, waits_for, why_reason_lines};
+ghost use Rattle.judge_engine.specs.WhyLines.{edge_lines, first_part, is_at, is_in_part, misshapen_lines};
+ghost use Rattle.judge_engine.specs.WhyLines.{of_txn_lines, part_at, second_part, txn_lines};
+ghost use Rattle.judge_engine.specs.WhyLines.{waits_for, why_reason_lines};
 ghost use Rattle.judge_engine.specs.WhyLines.{why_verdict_lines};
 
-use crate::lines::{OrNone, put_entry, put_if, put_transaction};
-use crate::order_lines::{FirstDid, SecondDid, from_at};
+use crate::lines::{put_entry, put_if, put_transaction};
+use crate::order_lines::{FirstDid, SecondDid, Which, from_at};
 use bad_entry::{Desk, Desks, next_txn};
-use order_check::{Edge, Reason, Verdict};
+use order_check::{Edge, Kind, Reason, Verdict};
 use std::alloc::{AllocError, Global};
 use std::fmt;
 use txn_trace::{Entry, Op, SmallEntry};
@@ -36,6 +37,19 @@ impl fmt::Display for Named {
             None => write!(f, "transaction {}", self.0),
         }
     }
+}
+
+/// A part of the entries of a transaction.
+#[derive(Clone, Copy)]
+pub(crate) enum Part {
+    /// All entries.
+    Whole,
+    /// The requests at this key, with their replies.
+    At(u64),
+    /// Its Began.
+    First,
+    /// Its Committed.
+    Last,
 }
 
 /// A key if there is one, and the end of a line of words.
@@ -88,14 +102,11 @@ fn waits_for(key: u64, waiting: Option<Op>) -> bool
 }
 
 /// Whether an entry asks for an operation on the key, or has the reply to one. `desk` is the state
-/// of its caller before the entry. If no key is given, returns true.
-fn is_at(key: Option<u64>, desk: Desk, entry: Entry) -> bool
+/// of its caller before the entry.
+fn is_at(key: u64, desk: Desk, entry: Entry) -> bool
     ensures { (h : List Entry) → desk.waiting ≡ waiting_in h (caller_of entry) →
         result ≡ is_at key h entry }
 {
-    let Some(key) = key else {
-        return true;
-    };
     match entry {
         Entry::Asked(_, op) => op.key() == key,
         Entry::Did(..) => waits_for(key, desk.waiting),
@@ -103,35 +114,79 @@ fn is_at(key: Option<u64>, desk: Desk, entry: Entry) -> bool
     }
 }
 
-/// Whether an entry is of a transaction, and on the key if one is given. `desk` is the state of its
-/// caller before the entry.
-fn belongs(txn: u64, key: Option<u64>, desk: Desk, entry: Entry) -> bool
-    ensures { (h : List Entry) → IsDeskOf h (caller_of entry) desk →
-        result ≡ belongs txn key h entry }
+/// Whether an entry is in this part of its transaction. `desk` is the state of its caller before the
+/// entry.
+fn is_in_part(part: Part, desk: Desk, entry: Entry) -> bool
+    ensures { (h : List Entry) → desk.waiting ≡ waiting_in h (caller_of entry) →
+        result ≡ is_in_part part h entry }
 {
-    next_txn(desk.txn, entry.caller(), entry) == Some(txn) && is_at(key, desk, entry)
+    match part {
+        Part::Whole => true,
+        Part::At(key) => is_at(key, desk, entry),
+        Part::First => is_began(entry),
+        Part::Last => is_committed(entry),
+    }
 }
 
-/// Adds the entries of a transaction, on the key if one is given.
+/// Whether an entry begins a transaction.
+fn is_began(entry: Entry) -> bool
+    ensures { result ≡ is_began entry }
+{
+    match entry {
+        Entry::Began(..) => true,
+        _ => false,
+    }
+}
+
+/// Whether an entry commits a transaction.
+fn is_committed(entry: Entry) -> bool
+    ensures { result ≡ is_commit entry }
+{
+    match entry {
+        Entry::Committed(..) => true,
+        _ => false,
+    }
+}
+
+/// Whether an entry is of a transaction, and in this part of it. `desk` is the state of its caller
+/// before the entry.
+fn belongs(txn: u64, part: Part, desk: Desk, entry: Entry) -> bool
+    ensures { (h : List Entry) → IsDeskOf h (caller_of entry) desk →
+        result ≡ belongs txn part h entry }
+{
+    next_txn(desk.txn, entry.caller(), entry) == Some(txn) && is_in_part(part, desk, entry)
+}
+
+/// Adds the entries of a transaction that are in this part of it.
 fn put_entries(
     alloc: Global,
     text: &mut String,
     entries: &[SmallEntry],
     txn: u64,
-    key: Option<u64>,
+    part: Part,
 ) -> Result<(), AllocError>
     requires { All (λ entry. caller_of entry < 64) entries.now }
     ensures { OnOk result (string_bytes text.new
-        ≡ string_bytes text.old ++ txn_lines txn key entries.now) }
+        ≡ string_bytes text.old ++ txn_lines txn part entries.now) }
 {
     let mut desks = Desks::new(alloc)?;
     for (index, packed) in entries.iter().enumerate() {
         let entry = packed.entry();
-        let is_chosen = belongs(txn, key, desks.at(entry.caller()), entry);
+        let is_chosen = belongs(txn, part, desks.at(entry.caller()), entry);
         put_if(alloc, text, is_chosen, index as u64, entry)?;
         desks.enter(entry);
     }
     Ok(())
+}
+
+/// The entries on the key if one is given, else all.
+fn part_at(key: Option<u64>) -> Part
+    ensures { result ≡ part_at key }
+{
+    match key {
+        Some(key) => Part::At(key),
+        None => Part::Whole,
+    }
 }
 
 /// Adds the entries of a transaction, on the key if one is given, below a line that names it.
@@ -148,7 +203,7 @@ fn put_txn(
 {
     let name = Named(txn, beginner_in(entries, txn));
     write!(text, "entries of {name}{}", OnKey(key))?;
-    put_entries(alloc, text, entries, txn, key)
+    put_entries(alloc, text, entries, txn, part_at(key))
 }
 
 /// Adds the line that says why the first transaction of an edge comes before another one.
@@ -165,12 +220,33 @@ fn put_heading(
     let second = Named(to, beginner_in(entries, to));
     writeln!(
         text,
-        "{first}{}{} at key {}, which {second}{}:",
-        FirstDid(edge.kind),
-        OrNone(edge.value),
-        edge.key,
+        "{first}{} {}{second}{}:",
+        FirstDid(edge),
+        Which(edge.kind),
         SecondDid(edge.kind),
     )
+}
+
+/// The part of the first transaction that an edge of this kind is about.
+fn first_part(kind: Kind, key: u64) -> Part
+    ensures { result ≡ first_part kind key }
+{
+    match kind {
+        Kind::Read => Part::At(key),
+        Kind::Replaced => Part::At(key),
+        Kind::Began => Part::Last,
+    }
+}
+
+/// The part of the second transaction that an edge of this kind is about.
+fn second_part(kind: Kind, key: u64) -> Part
+    ensures { result ≡ second_part kind key }
+{
+    match kind {
+        Kind::Read => Part::At(key),
+        Kind::Replaced => Part::At(key),
+        Kind::Began => Part::First,
+    }
 }
 
 /// Adds the lines of an edge that leads to the transaction `to`.
@@ -186,8 +262,10 @@ fn put_edge(
         ≡ string_bytes text.old ++ edge_lines entries.now edge to) }
 {
     put_heading(text, entries, edge, to)?;
-    put_entries(alloc, text, entries, edge.from, Some(edge.key))?;
-    put_entries(alloc, text, entries, to, Some(edge.key))
+    let first = first_part(edge.kind, edge.key);
+    let second = second_part(edge.kind, edge.key);
+    put_entries(alloc, text, entries, edge.from, first)?;
+    put_entries(alloc, text, entries, to, second)
 }
 
 /// Adds the lines of edges. Each edge leads to the transaction from which the next one comes, and

@@ -12,20 +12,20 @@ set_in name found = is_set (first_of name (rows_of found))
 abbrev pub flag_in : Found → Bool
 flag_in found = set_in (codes "commit-order") found
 
-pub check_is : (name : Text) (found : Found) (flag any shows : Bool) (file : Option Text) → name ≡ codes "check" → flag ≡ flag_in found → any ≡ set_in (codes "serializable") found → shows ≡ set_in (codes "show-order") found
-    → file ≡ first_value found (codes "FILE") → option_and_then (check_for flag any shows) file ≡ asked_in name (rows_of found)
-check_is name found flag any shows file named set any_set shows_set is =
-    ap (λ (b : Bool). option_and_then (check_for b any shows) file) set
-    ∙ ap₂ (λ (b s : Bool). option_and_then (check_for (flag_in found) b s) file) any_set shows_set
-    ∙ ap (option_and_then (check_for (flag_in found) (set_in (codes "serializable") found) (set_in (codes "show-order") found))) (is ∙ first_value-rows found (codes "FILE"))
+pub check_is : (name : Text) (found : Found) (flag any time shows : Bool) (word file : Option Text) → name ≡ codes "check" → flag ≡ flag_in found → any ≡ set_in (codes "serializable") found → time ≡ set_in (codes "real-time") found → shows ≡ set_in (codes "show-order") found
+    → word ≡ first_value found (codes "most-branches") → file ≡ first_value found (codes "FILE") → option_and_then (check_for flag any time shows word) file ≡ asked_in name (rows_of found)
+check_is name found flag any time shows word file named set any_set time_set shows_set word_is is =
+    ap₂ (λ (b t : Bool). option_and_then (check_for b any t shows word) file) set time_set
+    ∙ ap₂ (λ (b s : Bool). option_and_then (check_for (flag_in found) b (set_in (codes "real-time") found) s word) file) any_set shows_set
+    ∙ ap₂ (λ (w f : Option Text). option_and_then (check_for (flag_in found) (set_in (codes "serializable") found) (set_in (codes "real-time") found) (set_in (codes "show-order") found) w) f) (word_is ∙ first_value-rows found (codes "most-branches")) (is ∙ first_value-rows found (codes "FILE"))
     ∙ ap (λ given. asked_in given (rows_of found)) (sym named)
 
-pub why_is : (name : Text) (found : Found) (flag any graph : Bool) (file : Option Text) → name ≡ codes "why" → flag ≡ flag_in found → any ≡ set_in (codes "serializable") found → graph ≡ set_in (codes "dot") found
-    → file ≡ first_value found (codes "FILE") → option_and_then (why_for flag any graph) file ≡ asked_in name (rows_of found)
-why_is name found flag any graph file named set any_set graph_set is =
-    ap (λ (b : Bool). option_and_then (why_for b any graph) file) set
-    ∙ ap₂ (λ (b g : Bool). option_and_then (why_for (flag_in found) b g) file) any_set graph_set
-    ∙ ap (option_and_then (why_for (flag_in found) (set_in (codes "serializable") found) (set_in (codes "dot") found))) (is ∙ first_value-rows found (codes "FILE"))
+pub why_is : (name : Text) (found : Found) (flag any time graph : Bool) (word file : Option Text) → name ≡ codes "why" → flag ≡ flag_in found → any ≡ set_in (codes "serializable") found → time ≡ set_in (codes "real-time") found → graph ≡ set_in (codes "dot") found
+    → word ≡ first_value found (codes "most-branches") → file ≡ first_value found (codes "FILE") → option_and_then (why_for flag any time graph word) file ≡ asked_in name (rows_of found)
+why_is name found flag any time graph word file named set any_set time_set graph_set word_is is =
+    ap₂ (λ (b t : Bool). option_and_then (why_for b any t graph word) file) set time_set
+    ∙ ap₂ (λ (b g : Bool). option_and_then (why_for (flag_in found) b (set_in (codes "real-time") found) g word) file) any_set graph_set
+    ∙ ap₂ (λ (w f : Option Text). option_and_then (why_for (flag_in found) (set_in (codes "serializable") found) (set_in (codes "real-time") found) (set_in (codes "dot") found) w) f) (word_is ∙ first_value-rows found (codes "most-branches")) (is ∙ first_value-rows found (codes "FILE"))
     ∙ ap (λ given. asked_in given (rows_of found)) (sym named)
 
 pub watch_is : (name : Text) (found : Found) (flag : Bool) (word : Option Text) → name ≡ codes "watch" → flag ≡ flag_in found → word ≡ first_value found (codes "stripes")

@@ -66,20 +66,20 @@ check_not_opened by_commits name files old outcome failure =
 
 -- If `check_serializable` has written its text for the source with this name, `RunsCall` holds for
 -- this run.
-pub order_done : (shows : Bool) (name : Text) (files : Files) (bytes old new : Option (List ℕ)) (answer : Answer) → Holds (files name) bytes → WritesAnswer (order_text shows) bytes answer old new
-    → RunsCall (asked.CheckSerializable shows name) files old new (Ok answer)
-order_done shows name files bytes old new answer same = of_file (files name) bytes _ same
+pub order_done : (real_time : Bool) (most : ℕ) (shows : Bool) (name : Text) (files : Files) (bytes old new : Option (List ℕ)) (answer : Answer) → Holds (files name) bytes → WritesAnswer real_time (order_text real_time shows) bytes answer old new
+    → RunsCall (asked.CheckSerializable real_time most shows name) files old new (Ok answer)
+order_done real_time most shows name files bytes old new answer same = of_file (files name) bytes _ same
 
-pub order_failed : (shows : Bool) (name : Text) (files : Files) (bytes old new : Option (List ℕ)) (outcome : RunResult) (fault : EngineFault) → Holds (files name) bytes
-    → LeavesText (IsAnswerText (order_text shows) bytes) (FailsToCheck bytes) old new fault → IsErrAnd outcome (λ e. e ≡ Fault fault) → RunsCall (asked.CheckSerializable shows name) files old new outcome
-order_failed shows name files bytes old new outcome fault same left =
-    failed (λ answer. WritesAnswer (order_text shows) (files name) answer old new) (LeavesText (IsAnswerText (order_text shows) (files name)) (FailsToCheck (files name)) old new) outcome fault
-    (leaves (IsAnswerText (order_text shows) bytes) (IsAnswerText (order_text shows) (files name)) (FailsToCheck bytes) _ old new fault (λ text. of_file (files name) bytes _ same) (λ f. fails_to_check (files name) bytes f same) left)
+pub order_failed : (real_time : Bool) (most : ℕ) (shows : Bool) (name : Text) (files : Files) (bytes old new : Option (List ℕ)) (outcome : RunResult) (fault : EngineFault) → Holds (files name) bytes
+    → LeavesText (IsAnswerText real_time (order_text real_time shows) bytes) (FailsToCheck bytes) old new fault → IsErrAnd outcome (λ e. e ≡ Fault fault) → RunsCall (asked.CheckSerializable real_time most shows name) files old new outcome
+order_failed real_time most shows name files bytes old new outcome fault same left =
+    failed (λ answer. WritesAnswer real_time (order_text real_time shows) (files name) answer old new) (LeavesText (IsAnswerText real_time (order_text real_time shows) (files name)) (FailsToCheck (files name)) old new) outcome fault
+    (leaves (IsAnswerText real_time (order_text real_time shows) bytes) (IsAnswerText real_time (order_text real_time shows) (files name)) (FailsToCheck bytes) _ old new fault (λ text. of_file (files name) bytes _ same) (λ f. fails_to_check (files name) bytes f same) left)
 
-pub order_not_opened : (shows : Bool) (name : Text) (files : Files) (old : Option (List ℕ)) (outcome : RunResult) (failure : Failure) → (failure ≡ Fault faults.NoMemory) ⊎ (failure ≡ Fault faults.Read)
-    → IsErrAnd outcome (λ e. e ≡ failure) → RunsCall (asked.CheckSerializable shows name) files old old outcome
-order_not_opened shows name files old outcome failure =
-    not_opened (λ answer. WritesAnswer (order_text shows) (files name) answer old old) (LeavesText (IsAnswerText (order_text shows) (files name)) (FailsToCheck (files name)) old old) outcome failure (keeps_same old) (keeps_same old)
+pub order_not_opened : (real_time : Bool) (most : ℕ) (shows : Bool) (name : Text) (files : Files) (old : Option (List ℕ)) (outcome : RunResult) (failure : Failure) → (failure ≡ Fault faults.NoMemory) ⊎ (failure ≡ Fault faults.Read)
+    → IsErrAnd outcome (λ e. e ≡ failure) → RunsCall (asked.CheckSerializable real_time most shows name) files old old outcome
+order_not_opened real_time most shows name files old outcome failure =
+    not_opened (λ answer. WritesAnswer real_time (order_text real_time shows) (files name) answer old old) (LeavesText (IsAnswerText real_time (order_text real_time shows) (files name)) (FailsToCheck (files name)) old old) outcome failure (keeps_same old) (keeps_same old)
 
 -- If `why` has written an explanation of the source with this name, `RunsCall` holds for
 -- this run.
@@ -100,19 +100,19 @@ why_not_opened by_commits name files old outcome failure =
 
 -- If `why_serializable` has written its text for the source with this name, `RunsCall` holds for
 -- this run.
-pub reason_done : (as_graph : Bool) (name : Text) (files : Files) (bytes old new : Option (List ℕ)) (answer : Answer) → Holds (files name) bytes → WritesAnswer (text_or_graph as_graph) bytes answer old new
-    → RunsCall (asked.WhySerializable as_graph name) files old new (Ok answer)
-reason_done as_graph name files bytes old new answer same = of_file (files name) bytes _ same
+pub reason_done : (real_time : Bool) (most : ℕ) (as_graph : Bool) (name : Text) (files : Files) (bytes old new : Option (List ℕ)) (answer : Answer) → Holds (files name) bytes → WritesAnswer real_time (text_or_graph real_time as_graph) bytes answer old new
+    → RunsCall (asked.WhySerializable real_time most as_graph name) files old new (Ok answer)
+reason_done real_time most as_graph name files bytes old new answer same = of_file (files name) bytes _ same
 
-pub reason_failed : (as_graph : Bool) (name : Text) (files : Files) (bytes old new : Option (List ℕ)) (outcome : RunResult) (fault : EngineFault) → Holds (files name) bytes → LeavesExplanation (IsTextFor (text_or_graph as_graph)) bytes old new fault
-    → IsErrAnd outcome (λ e. e ≡ Fault fault) → RunsCall (asked.WhySerializable as_graph name) files old new outcome
-reason_failed as_graph name files bytes old new outcome fault same fails =
-    failed (λ answer. WritesAnswer (text_or_graph as_graph) (files name) answer old new) (LeavesExplanation (IsTextFor (text_or_graph as_graph)) (files name) old new) outcome fault (leaves_explanation (IsTextFor (text_or_graph as_graph)) (files name) bytes old new fault same fails)
+pub reason_failed : (real_time : Bool) (most : ℕ) (as_graph : Bool) (name : Text) (files : Files) (bytes old new : Option (List ℕ)) (outcome : RunResult) (fault : EngineFault) → Holds (files name) bytes → LeavesExplanation (IsTextFor real_time (text_or_graph real_time as_graph)) bytes old new fault
+    → IsErrAnd outcome (λ e. e ≡ Fault fault) → RunsCall (asked.WhySerializable real_time most as_graph name) files old new outcome
+reason_failed real_time most as_graph name files bytes old new outcome fault same fails =
+    failed (λ answer. WritesAnswer real_time (text_or_graph real_time as_graph) (files name) answer old new) (LeavesExplanation (IsTextFor real_time (text_or_graph real_time as_graph)) (files name) old new) outcome fault (leaves_explanation (IsTextFor real_time (text_or_graph real_time as_graph)) (files name) bytes old new fault same fails)
 
-pub reason_not_opened : (as_graph : Bool) (name : Text) (files : Files) (old : Option (List ℕ)) (outcome : RunResult) (failure : Failure) → (failure ≡ Fault faults.NoMemory) ⊎ (failure ≡ Fault faults.Read)
-    → IsErrAnd outcome (λ e. e ≡ failure) → RunsCall (asked.WhySerializable as_graph name) files old old outcome
-reason_not_opened as_graph name files old outcome failure =
-    not_opened (λ answer. WritesAnswer (text_or_graph as_graph) (files name) answer old old) (LeavesExplanation (IsTextFor (text_or_graph as_graph)) (files name) old old) outcome failure (keeps_same old) (keeps_same old)
+pub reason_not_opened : (real_time : Bool) (most : ℕ) (as_graph : Bool) (name : Text) (files : Files) (old : Option (List ℕ)) (outcome : RunResult) (failure : Failure) → (failure ≡ Fault faults.NoMemory) ⊎ (failure ≡ Fault faults.Read)
+    → IsErrAnd outcome (λ e. e ≡ failure) → RunsCall (asked.WhySerializable real_time most as_graph name) files old old outcome
+reason_not_opened real_time most as_graph name files old outcome failure =
+    not_opened (λ answer. WritesAnswer real_time (text_or_graph real_time as_graph) (files name) answer old old) (LeavesExplanation (IsTextFor real_time (text_or_graph real_time as_graph)) (files name) old old) outcome failure (keeps_same old) (keeps_same old)
 
 -- If `watch` has written the line of a verdict on the entries of standard input, `RunsCall` holds
 -- for this run.

@@ -19,13 +19,45 @@ check_by_commits : Spells (call (codes "check" ∷ codes "--commit-order" ∷ co
 unfolding clap_on_literals
 check_by_commits = refl
 
-serializable : Spells (call (codes "check" ∷ codes "--serializable" ∷ codes "a.json" ∷ [])) (Some (CheckSerializable false (codes "a.json")))
+serializable : Spells (call (codes "check" ∷ codes "--serializable" ∷ codes "a.json" ∷ [])) (Some (CheckSerializable false 10000 false (codes "a.json")))
 unfolding clap_on_literals
 serializable = refl
 
-show_order : Spells (call (codes "check" ∷ codes "--show-order" ∷ codes "a.json" ∷ codes "--serializable" ∷ [])) (Some (CheckSerializable true (codes "a.json")))
+show_order : Spells (call (codes "check" ∷ codes "--show-order" ∷ codes "a.json" ∷ codes "--serializable" ∷ [])) (Some (CheckSerializable false 10000 true (codes "a.json")))
 unfolding clap_on_literals
 show_order = refl
+
+in_time : Spells (call (codes "check" ∷ codes "--real-time" ∷ codes "a.json" ∷ codes "--serializable" ∷ [])) (Some (CheckSerializable true 10000 false (codes "a.json")))
+unfolding clap_on_literals
+in_time = refl
+
+only_in_time : Spells (call (codes "check" ∷ codes "--real-time" ∷ codes "a.json" ∷ [])) None
+unfolding clap_on_literals
+only_in_time = refl
+
+commits_in_time : Spells (call (codes "check" ∷ codes "--commit-order" ∷ codes "--real-time" ∷ codes "a.json" ∷ [])) None
+unfolding clap_on_literals
+commits_in_time = refl
+
+why_in_time : Spells (call (codes "why" ∷ codes "--serializable" ∷ codes "--real-time" ∷ codes "--dot" ∷ codes "a.json" ∷ [])) (Some (WhySerializable true 10000 true (codes "a.json")))
+unfolding clap_on_literals
+why_in_time = refl
+
+most_branches : Spells (call (codes "check" ∷ codes "--serializable" ∷ codes "--most-branches" ∷ codes "0" ∷ codes "a.json" ∷ [])) (Some (CheckSerializable false 0 false (codes "a.json")))
+unfolding clap_on_literals
+most_branches = refl
+
+all_branches : Spells (call (codes "why" ∷ codes "--most-branches=18446744073709551615" ∷ codes "--serializable" ∷ codes "a.json" ∷ [])) (Some (WhySerializable false 18446744073709551615 false (codes "a.json")))
+unfolding clap_on_literals
+all_branches = refl
+
+many_branches : Spells (call (codes "check" ∷ codes "--serializable" ∷ codes "--most-branches=18446744073709551616" ∷ codes "a.json" ∷ [])) None
+unfolding clap_on_literals
+many_branches = refl
+
+branches_by_locks : Spells (call (codes "check" ∷ codes "--most-branches" ∷ codes "7" ∷ codes "a.json" ∷ [])) None
+unfolding clap_on_literals
+branches_by_locks = refl
 
 no_order : Spells (call (codes "check" ∷ codes "--show-order" ∷ codes "a.json" ∷ [])) None
 unfolding clap_on_literals
@@ -51,11 +83,11 @@ why_by_commits : Spells (call (codes "why" ∷ codes "--commit-order" ∷ codes 
 unfolding clap_on_literals
 why_by_commits = refl
 
-why_serializable : Spells (call (codes "why" ∷ codes "--serializable" ∷ codes "a.json" ∷ [])) (Some (WhySerializable false (codes "a.json")))
+why_serializable : Spells (call (codes "why" ∷ codes "--serializable" ∷ codes "a.json" ∷ [])) (Some (WhySerializable false 10000 false (codes "a.json")))
 unfolding clap_on_literals
 why_serializable = refl
 
-graph : Spells (call (codes "why" ∷ codes "--dot" ∷ codes "a.json" ∷ codes "--serializable" ∷ [])) (Some (WhySerializable true (codes "a.json")))
+graph : Spells (call (codes "why" ∷ codes "--dot" ∷ codes "a.json" ∷ codes "--serializable" ∷ [])) (Some (WhySerializable false 10000 true (codes "a.json")))
 unfolding clap_on_literals
 graph = refl
 

@@ -1,13 +1,13 @@
--- How many locks a word asks for.
+-- How many locks or branches a word asks for.
 use Rattle.std.proofs.Common.{◌≡◌, ℕ, ◌<◌, ◌≤◌, ◌^◌, ◌&&◌, Bool, true, List, Option, Some, None, Result, Ok, Err, arith, sym, ap, ◌∙◌}
-use Rattle.std.specs.Prelude.{if◌then◌else◌, nat_le, option_and_then}
+use Rattle.std.specs.Prelude.{if◌then◌else◌, nat_le, nat_lt, option_and_then}
 use Rattle.std.specs.Result.{result_ok}
 use Rattle.std.specs.Str.Parse.{ParsesUnsigned, digits_value, without_leading_plus}
-use Rattle.std.proofs.lemmas.Bool.{and_parts, and_from, false_from_ne_true, le-leb, leb-true}
+use Rattle.std.proofs.lemmas.Bool.{and_parts, and_from, false_from_ne_true, le-leb, leb-true, lt-ltb, ltb-true}
 use Rattle.program_host.specs.Words.{is_numeral}
 use Rattle.program_host.proofs.Numerals.{numeral_to, numeral_from}
 use Rattle.txn_words.specs.Sizes.{max_stripes}
-use Rattle.judge_program.specs.Words.{stripes_in_word}
+use Rattle.judge_program.specs.Words.{number_in_word, stripes_in_word}
 
 abbrev pub in_range : ℕ → Option ℕ
 in_range n = if nat_le 1 n && nat_le n max_stripes then Some n else None
@@ -34,3 +34,17 @@ parsed word (Err e) fails =
     let parts = and_parts (is_numeral ds) _ is in
     fails (numeral_from ds parts.0, below stripes parts.1)
     in sym (ap (λ (b : Bool). if b then Some stripes else None) (false_from_ne_true _ no))
+
+-- A word that is parsed as a number stands for it.
+pub number_parsed : {E : Type 0} (word : List ℕ) (r : Result ℕ E) → ParsesUnsigned 64 10 word r → result_ok r ≡ number_in_word word
+number_parsed word (Ok n) parses =
+    let ds = without_leading_plus word in
+    let number = digits_value 10 ds in
+    ap Some parses.1 ∙ sym (ap (λ (b : Bool). if b then Some number else None) (and_from (is_numeral ds) (nat_lt number (2 ^ 64)) (numeral_to ds parses.0.0) (lt-ltb number (2 ^ 64) parses.0.1)))
+number_parsed word (Err e) fails =
+    let ds = without_leading_plus word in
+    let number = digits_value 10 ds in
+    let no : (is_numeral ds && nat_lt number (2 ^ 64)) ≡ true → ⊥ = λ is.
+    let parts = and_parts (is_numeral ds) _ is in
+    fails (numeral_from ds parts.0, ltb-true number (2 ^ 64) parts.1)
+    in sym (ap (λ (b : Bool). if b then Some number else None) (false_from_ne_true _ no))

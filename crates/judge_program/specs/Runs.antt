@@ -70,15 +70,16 @@ abbrev pub RunsCall : Asked → Files → Option (List ℕ) → Option (List ℕ
 RunsCall (Check by_commits file) files old new = EndsWith
     (ByWell (λ well. WritesLine (Checks by_commits (files file)) well old new))
     (LeavesOutput (Checks by_commits (files file)) (FailsToCheck (files file)) old new)
-RunsCall (CheckSerializable shows file) files old new = EndsWith
-    (λ answer. WritesAnswer (order_text shows) (files file) answer old new)
-    (LeavesText (IsAnswerText (order_text shows) (files file)) (FailsToCheck (files file)) old new)
+RunsCall (CheckSerializable real_time most_branches shows file) files old new = EndsWith
+    (λ answer. WritesAnswer real_time (order_text real_time shows) (files file) answer old new)
+    (LeavesText (IsAnswerText real_time (order_text real_time shows) (files file))
+    (FailsToCheck (files file)) old new)
 RunsCall (Why by_commits file) files old new = EndsWith
     (ByWell (λ well. WritesExplanation by_commits (files file) well old new))
     (LeavesExplanation (IsExplained by_commits) (files file) old new)
-RunsCall (WhySerializable as_graph file) files old new = EndsWith
-    (λ answer. WritesAnswer (text_or_graph as_graph) (files file) answer old new)
-    (LeavesExplanation (IsTextFor (text_or_graph as_graph)) (files file) old new)
+RunsCall (WhySerializable real_time most_branches as_graph file) files old new = EndsWith
+    (λ answer. WritesAnswer real_time (text_or_graph real_time as_graph) (files file) answer old new)
+    (LeavesExplanation (IsTextFor real_time (text_or_graph real_time as_graph)) (files file) old new)
 RunsCall (Watch basis) files old new = EndsWith
     (ByWell (λ well. WritesLine (Watches basis (files (codes "-"))) well old new))
     (LeavesOutput (Watches basis (files (codes "-")))

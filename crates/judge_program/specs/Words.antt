@@ -1,7 +1,7 @@
 -- PROMISES entries-as-lines: Spells
 -- The call that the words of a command line ask for, by the rules of `clap`.
-use Rattle.std.specs.Prelude.{◌≡◌, ℕ, ◌&&◌, Bool, true, false, List, [], codes}
-use Rattle.std.specs.Prelude.{Option, Some, None, if◌then◌else◌, nat_le, option_map}
+use Rattle.std.specs.Prelude.{◌≡◌, ℕ, ◌^◌, ◌&&◌, Bool, true, false, List, [], codes}
+use Rattle.std.specs.Prelude.{Option, Some, None, if◌then◌else◌, nat_le, nat_lt, option_map}
 use Rattle.std.specs.Prelude.{option_and_then}
 use Rattle.std.specs.Str.{bytes_eq}
 use Rattle.std.specs.Str.Parse.{digits_value, without_leading_plus}
@@ -21,17 +21,18 @@ use Rattle.judge_program.specs.declared.words.Call.{Call}
 use Rattle.judge_program.specs.declared.words.Call.TheVariants as calls
 
 -- A call of the program. `Check` judges the history file with this name, by the order of commits or
--- by locks. `CheckSerializable` says whether it is serializable in any order, and shows the order
--- if the flag is true. `Why` does what `Check` does, and says what leads to the bad entry.
--- `WhySerializable` does what `CheckSerializable` does, and says what leads to the reason, in lines
--- or as a graph if the flag is true. `Watch` judges the entries of standard input by these rules.
--- `Outcomes` reads a script file and a history file, and says what became of each script. `Help` and
--- `Version` show the usage and the version.
+-- by locks. `CheckSerializable` says whether it is serializable in any order, with real time if the
+-- first flag is true, takes at most so many
+-- branches, and shows the order if the second flag is true. `Why` does what `Check` does,
+-- and says what leads to the bad entry. `WhySerializable` does what `CheckSerializable` does, and
+-- says what leads to the reason, in lines or as a graph if the second flag is true. `Watch` judges
+-- the entries of standard input by these rules. `Outcomes` reads a script file and a history file,
+-- and says what became of each script. `Help` and `Version` show the usage and the version.
 pub data Asked : Type 0 where
   Check : Bool → Text → Asked
-  CheckSerializable : Bool → Text → Asked
+  CheckSerializable : Bool → ℕ → Bool → Text → Asked
   Why : Bool → Text → Asked
-  WhySerializable : Bool → Text → Asked
+  WhySerializable : Bool → ℕ → Bool → Text → Asked
   Watch : Basis → Asked
   Outcomes : Text → Text → Asked
   Help : Asked
@@ -39,9 +40,11 @@ pub data Asked : Type 0 where
 
 abbrev pub asked_of : Call → Asked
 asked_of (calls.Check by_commits file) = Check by_commits file.now
-asked_of (calls.CheckSerializable shows file) = CheckSerializable shows file.now
+asked_of (calls.CheckSerializable real_time most_branches shows file) =
+    CheckSerializable real_time most_branches shows file.now
 asked_of (calls.Why by_commits file) = Why by_commits file.now
-asked_of (calls.WhySerializable as_graph file) = WhySerializable as_graph file.now
+asked_of (calls.WhySerializable real_time most_branches as_graph file) =
+    WhySerializable real_time most_branches as_graph file.now
 asked_of (calls.Watch basis) = Watch basis
 asked_of (calls.Outcomes scripts history) = Outcomes scripts.now history.now
 asked_of calls.Help = Help
@@ -52,24 +55,24 @@ abbrev pub HasStripesIf : Asked → Type 0
 HasStripesIf (Watch basis) = HasStripes basis
 HasStripesIf asked = Unit {0}
 
--- The command line: `check [--commit-order] [--serializable] [--show-order] FILE`,
--- `outcomes SCRIPTS HISTORY`, `watch [--commit-order] [--stripes N]` and
--- `why [--commit-order] [--serializable] [--dot] FILE`. Each command is an application of `clap`,
--- and the definitions of `clap` say how its words are read.
+-- The command line: `check [RULES] [--show-order] FILE`, `outcomes SCRIPTS HISTORY`,
+-- `watch [--commit-order] [--stripes N]` and `why [RULES] [--dot] FILE`, where RULES are
+-- `[--commit-order] [--serializable] [--real-time] [--most-branches N]`. Each command is an application
+-- of `clap`, and the definitions of `clap` say how its words are read.
 abbrev pub flag_word : Text → Rule
 flag_word name = record (new_rule name) { long = Some name; action = Some SetTrue }
 
-abbrev pub stripes_word : Rule
-stripes_word = record (new_rule (codes "stripes")) {
-  long = Some (codes "stripes");
-  action = Some Set;
-}
+abbrev pub number_word : Text → Rule
+number_word name = record (new_rule name) { long = Some name; action = Some Set }
 
 abbrev pub flagged : Text → App
 flagged name = with_rule (new_app name) (flag_word (codes "commit-order"))
 
 abbrev pub ruled : Text → App
-ruled name = with_rule (flagged name) (flag_word (codes "serializable"))
+ruled name =
+    let in_any_order = with_rule (flagged name) (flag_word (codes "serializable")) in
+    let in_time = with_rule in_any_order (flag_word (codes "real-time")) in
+    with_rule in_time (number_word (codes "most-branches"))
 
 abbrev pub checking : App
 checking =
@@ -87,7 +90,7 @@ over_both =
     with_rule scripts (file_word (codes "HISTORY"))
 
 abbrev pub watching : App
-watching = with_rule (flagged (codes "watch")) stripes_word
+watching = with_rule (flagged (codes "watch")) (number_word (codes "stripes"))
 
 abbrev pub without_commands : App
 without_commands =
@@ -115,23 +118,42 @@ stripes_in_word word =
     if is_numeral digits && (nat_le 1 stripes && nat_le stripes max_stripes)
     then Some stripes else None
 
--- The call to judge a file, given the flags for the order of commits, for any order, and to show
--- the order. If both rules are asked for, or if an order is to be shown and none is looked for, the
--- command line is a usage error.
-abbrev pub check_for : Bool → Bool → Bool → Text → Option Asked
-check_for by_commits false false file = Some (Check by_commits file)
-check_for false true shows file = Some (CheckSerializable shows file)
-check_for true true shows file = None
-check_for by_commits false true file = None
+-- The number that a word stands for, if it is below 2^64, written as for `stripes_in_word`.
+abbrev pub number_in_word : Text → Option ℕ
+number_in_word word =
+    let digits = without_leading_plus word in
+    let number = digits_value 10 digits in
+    if is_numeral digits && nat_lt number (2 ^ 64) then Some number else None
+
+-- The number of branches, given its word if there is one.
+abbrev pub branches_for : Option Text → Option ℕ
+branches_for None = Some 10000
+branches_for (Some word) = number_in_word word
+
+-- The call to judge a file, given the flags for the order of commits, for any order, for real time,
+-- and to show the order, and the word for the number of branches. If both rules are asked for, or if
+-- real time is to count, branches are counted or an order is to be shown and no order is looked for,
+-- the command line is a usage error.
+abbrev pub check_for : Bool → Bool → Bool → Bool → Option Text → Text → Option Asked
+check_for by_commits false false false None file = Some (Check by_commits file)
+check_for by_commits false false false (Some word) file = None
+check_for false true real_time shows word file =
+    option_map (λ most. CheckSerializable real_time most shows file) (branches_for word)
+check_for true true real_time shows word file = None
+check_for by_commits false true shows word file = None
+check_for by_commits false false true word file = None
 
 -- The call to explain a verdict on a file, given the flags for the order of commits, for any order,
--- and for a graph. If both rules are asked for, or a graph by a rule that has none, the command line
--- is a usage error.
-abbrev pub why_for : Bool → Bool → Bool → Text → Option Asked
-why_for by_commits false false file = Some (Why by_commits file)
-why_for false true as_graph file = Some (WhySerializable as_graph file)
-why_for true true as_graph file = None
-why_for by_commits false true file = None
+-- for real time, and for a graph, and the word for the number of branches. If both rules are asked
+-- for, or real time, branches or a graph by a rule that has none, the command line is a usage error.
+abbrev pub why_for : Bool → Bool → Bool → Bool → Option Text → Text → Option Asked
+why_for by_commits false false false None file = Some (Why by_commits file)
+why_for by_commits false false false (Some word) file = None
+why_for false true real_time as_graph word file =
+    option_map (λ most. WhySerializable real_time most as_graph file) (branches_for word)
+why_for true true real_time as_graph word file = None
+why_for by_commits false true as_graph word file = None
+why_for by_commits false false true word file = None
 
 -- The rules to judge by. The arguments are the flag, and the word for the number of locks if there
 -- is one. If both the flag and the word are given, the command line is a usage error.
@@ -152,17 +174,21 @@ abbrev pub asked_in : Text → List Row → Option Asked
 asked_in name rows =
     let by_commits = is_set (first_of (codes "commit-order") rows) in
     let is_serializable = is_set (first_of (codes "serializable") rows) in
+    let real_time = is_set (first_of (codes "real-time") rows) in
+    let branches = first_of (codes "most-branches") rows in
     let shows = is_set (first_of (codes "show-order") rows) in
     let as_graph = is_set (first_of (codes "dot") rows) in
     if bytes_eq name (codes "check")
-    then option_and_then (check_for by_commits is_serializable shows) (first_of (codes "FILE") rows)
+    then option_and_then (check_for by_commits is_serializable real_time shows branches)
+    (first_of (codes "FILE") rows)
     else if bytes_eq name (codes "outcomes")
     then option_and_then (λ scripts. option_and_then (outcomes_for scripts)
     (first_of (codes "HISTORY") rows)) (first_of (codes "SCRIPTS") rows)
     else if bytes_eq name (codes "watch")
     then option_map Watch (basis_for by_commits (first_of (codes "stripes") rows))
     else if bytes_eq name (codes "why")
-    then option_and_then (why_for by_commits is_serializable as_graph) (first_of (codes "FILE") rows)
+    then option_and_then (why_for by_commits is_serializable real_time as_graph branches)
+    (first_of (codes "FILE") rows)
     else None
 
 -- The call that a command line asks for if `clap` returns an error of this kind. If the words ask

@@ -11,10 +11,10 @@ use std::fmt;
 
 /// The usage text, which is printed if the command line is not valid, and on request.
 pub(crate) const USAGE: &str = "usage: judge check [--commit-order] FILE
-       judge check --serializable [--show-order] FILE
+       judge check --serializable [--real-time] [--most-branches N] [--show-order] FILE
        judge watch [--commit-order | --stripes N]
        judge why [--commit-order] FILE
-       judge why --serializable [--dot] FILE
+       judge why --serializable [--real-time] [--most-branches N] [--dot] FILE
        judge outcomes SCRIPTS HISTORY
 
   check FILE  says whether the history of a file is legal, or which entry breaks which rule
@@ -26,6 +26,9 @@ pub(crate) const USAGE: &str = "usage: judge check [--commit-order] FILE
 
   --commit-order  judges by the order of commits, not by locks
   --serializable  says whether the committed transactions have any serial order
+  --real-time     a transaction must also come after all that had committed when it began
+  --most-branches N
+                  how often the search for an order may go back; 10000 if it is not given
   --show-order    prints the transactions in this order, one per line
   --dot           prints the cycle as a graph for Graphviz' dot, in place of the lines
   --stripes N     the number of locks, from 1 to 4096; 4096 if it is not given

@@ -92,15 +92,17 @@ fn check_file<S: System, W: Write>(
 fn check_order<S: System, W: Write>(
     alloc: Global,
     system: &S,
+    real_time: bool,
+    most_branches: u64,
     shows_order: bool,
     name: &str,
     output: &mut W,
 ) -> Result<Answer, Failure>
-    ensures { RunsCall (asked.CheckSerializable shows_order name.now) (S.bytes system.now)
-        (W.contents output.old) (W.contents output.new) result }
+    ensures { RunsCall (asked.CheckSerializable real_time most_branches shows_order name.now)
+        (S.bytes system.now) (W.contents output.old) (W.contents output.new) result }
 {
     let source = open(system, name, Failure::Fault(Fault::Read))?;
-    Ok(check_serializable(alloc, shows_order, source, output)?)
+    Ok(check_serializable(alloc, real_time, most_branches, shows_order, source, output)?)
 }
 
 /// Judges the history file with this name, and writes what leads to its bad entry.
@@ -123,15 +125,17 @@ fn explain_file<S: System, W: Write>(
 fn explain_order<S: System, W: Write>(
     alloc: Global,
     system: &S,
+    real_time: bool,
+    most_branches: u64,
     as_graph: bool,
     name: &str,
     output: &mut W,
 ) -> Result<Answer, Failure>
-    ensures { RunsCall (asked.WhySerializable as_graph name.now) (S.bytes system.now)
-        (W.contents output.old) (W.contents output.new) result }
+    ensures { RunsCall (asked.WhySerializable real_time most_branches as_graph name.now)
+        (S.bytes system.now) (W.contents output.old) (W.contents output.new) result }
 {
     let source = open(system, name, Failure::Fault(Fault::Read))?;
-    Ok(why_serializable(alloc, as_graph, source, output)?)
+    Ok(why_serializable(alloc, real_time, most_branches, as_graph, source, output)?)
 }
 
 /// Judges the entries on standard input.
@@ -182,17 +186,39 @@ fn answer<S: System, W: Write>(
         Call::Help => show(output, USAGE),
         Call::Version => show(output, VERSION),
         Call::Check { by_commits, file } => check_file(alloc, system, by_commits, file, output),
-        Call::CheckSerializable { shows_order, file } => {
-            check_order(alloc, system, shows_order, file, output)
-        }
+        Call::CheckSerializable {
+            real_time,
+            most_branches,
+            shows_order,
+            file,
+        } => check_order(
+            alloc,
+            system,
+            real_time,
+            most_branches,
+            shows_order,
+            file,
+            output,
+        ),
         Call::Outcomes { scripts, history } => {
             outcomes_in(alloc, system, scripts, history, output)
         }
         Call::Watch { basis } => watch_standard(alloc, system, basis, output),
         Call::Why { by_commits, file } => explain_file(alloc, system, by_commits, file, output),
-        Call::WhySerializable { as_graph, file } => {
-            explain_order(alloc, system, as_graph, file, output)
-        }
+        Call::WhySerializable {
+            real_time,
+            most_branches,
+            as_graph,
+            file,
+        } => explain_order(
+            alloc,
+            system,
+            real_time,
+            most_branches,
+            as_graph,
+            file,
+            output,
+        ),
     }
 }
 

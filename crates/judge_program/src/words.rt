@@ -11,9 +11,9 @@ ghost use Rattle.judge_engine.specs.Bases.{HasStripes};
 ghost use Rattle.judge_program.specs.declared.failure.Failure.TheVariants as failures;
 ghost use Rattle.program_host.specs.Words.{IsApp, file_word};
 ghost use Rattle.judge_program.specs.Words.{Spells, IsCallOf, HasStripesIf, asked_in, asked_of, basis_for};
-ghost use Rattle.judge_program.specs.Words.{check_for, checking, command_line, explaining, flag_word};
+ghost use Rattle.judge_program.specs.Words.{branches_for, check_for, checking, command_line, explaining, flag_word};
 ghost use Rattle.judge_program.specs.Words.{flagged, is_set, outcomes_for, over_both, ruled};
-ghost use Rattle.judge_program.specs.Words.{stripes_in_word, stripes_word, watching, why_for};
+ghost use Rattle.judge_program.specs.Words.{number_word, stripes_in_word, watching, why_for};
 
 use crate::failure::Failure;
 use clap::error::ErrorKind;
@@ -34,6 +34,10 @@ pub enum Call<'a> {
     },
     /// Say whether the history of a file is serializable, in any order.
     CheckSerializable {
+        /// True if real time counts.
+        real_time: bool,
+        /// The number of branches that the search for an order may take.
+        most_branches: u64,
         /// True to show the order.
         shows_order: bool,
         /// The file's name.
@@ -65,6 +69,10 @@ pub enum Call<'a> {
     /// Say whether the history of a file is serializable, in any order, and what leads to the
     /// reason if it is not.
     WhySerializable {
+        /// True if real time counts.
+        real_time: bool,
+        /// The number of branches that the search for an order may take.
+        most_branches: u64,
         /// True for the graph of a cycle, false for lines.
         as_graph: bool,
         /// The file's name.
@@ -78,6 +86,9 @@ pub(crate) const STANDARD: &str = "-";
 /// The greatest number of locks, which is also the default.
 const MAX_STRIPES: u64 = 4096;
 
+/// The number of branches that a search may take by default.
+const MOST_BRANCHES: u64 = 10_000;
+
 /// A flag with this name.
 fn flag<'a>(alloc: Global, name: &'a str) -> Arg<'a>
     ensures rule { rule_of result ≡ flag_word name.entry.now }
@@ -86,14 +97,12 @@ fn flag<'a>(alloc: Global, name: &'a str) -> Arg<'a>
     Arg::new(alloc, name).long(name).action(ArgAction::SetTrue)
 }
 
-/// The option for the number of locks, which may be left out.
-fn stripes_option<'a>(alloc: Global) -> Arg<'a>
-    ensures rule { rule_of result ≡ stripes_word }
+/// An option for a number, which may be left out.
+fn number_option<'a>(alloc: Global, name: &'a str) -> Arg<'a>
+    ensures rule { rule_of result ≡ number_word name.entry.now }
     ensures local { result.global ≡ false }
 {
-    Arg::new(alloc, "stripes")
-        .long("stripes")
-        .action(ArgAction::Set)
+    Arg::new(alloc, name).long(name).action(ArgAction::Set)
 }
 
 /// The argument for the name of a file, which may not be left out.
@@ -111,12 +120,14 @@ fn flagged_command<'a>(alloc: Global, name: &'a str) -> Result<Command<'a>, Allo
     Command::new(alloc, name).arg(flag(alloc, "commit-order"))
 }
 
-/// Makes a command with this name that has the flags to judge by the order of commits and by any
-/// order.
+/// Makes a command with this name that has the flags to judge by the order of commits, by any order,
+/// and with real time, and the option for the number of branches.
 fn ruled_command<'a>(alloc: Global, name: &'a str) -> Result<Command<'a>, AllocError>
     ensures { IfOk result (λ command. IsApp command (ruled name.entry.now)) }
 {
-    flagged_command(alloc, name)?.arg(flag(alloc, "serializable"))
+    let command = flagged_command(alloc, name)?.arg(flag(alloc, "serializable"))?;
+    let command = command.arg(flag(alloc, "real-time"))?;
+    command.arg(number_option(alloc, "most-branches"))
 }
 
 /// The command `check`.
@@ -147,7 +158,7 @@ fn outcomes_command<'a>(alloc: Global) -> Result<Command<'a>, AllocError>
 fn watch_command<'a>(alloc: Global) -> Result<Command<'a>, AllocError>
     ensures { IfOk result (λ command. IsApp command watching) }
 {
-    flagged_command(alloc, "watch")?.arg(stripes_option(alloc))
+    flagged_command(alloc, "watch")?.arg(number_option(alloc, "stripes"))
 }
 
 /// The command line of the program. Each command is added as soon as it is made, so that little
@@ -186,6 +197,17 @@ fn stripes_in(word: &str) -> Option<u64>
     }
 }
 
+/// Returns the number of branches, given its word if there is one. Returns `None` if the word is no
+/// number.
+fn branches_in(word: Option<&str>) -> Option<u64>
+    ensures { result ≡ branches_for (option_map (λ text. text.now) word.entry) }
+{
+    match word {
+        Some(word) => word.parse::<u64>().ok(),
+        None => Some(MOST_BRANCHES),
+    }
+}
+
 /// Returns the rules to judge by, given the flag and the word for the number of locks. Returns
 /// `None` if both are given, or if the word is no number from 1 to 4,096.
 fn basis_in(by_commits: bool, word: Option<&str>) -> Option<Basis>
@@ -207,41 +229,59 @@ fn basis_in(by_commits: bool, word: Option<&str>) -> Option<Basis>
     }
 }
 
-/// Returns the call to judge a file, given the flags. Returns `None` if two rules are asked for, or
-/// if an order is to be shown and none is looked for.
+/// Returns the call to judge a file, given the flags and the word for the number of branches. Returns
+/// `None` if two rules are asked for, if real time is to count, branches are counted or an order is
+/// to be shown, and no order is looked for, or if the word is no number.
 fn check_of<'a>(
     by_commits: bool,
     is_serializable: bool,
+    real_time: bool,
     shows_order: bool,
+    branches: Option<&str>,
     file: &'a str,
 ) -> Option<Call<'a>>
     ensures call { option_map asked_of result
-        ≡ check_for by_commits is_serializable shows_order file.entry.now }
+        ≡ check_for by_commits is_serializable real_time shows_order
+        (option_map (λ text. text.now) branches.entry) file.entry.now }
     ensures stripes { IfSome result (λ call. HasStripesIf (asked_of call)) }
 {
-    match (by_commits, is_serializable, shows_order) {
-        (_, false, false) => Some(Call::Check { by_commits, file }),
-        (false, true, _) => Some(Call::CheckSerializable { shows_order, file }),
-        (true, true, _) | (_, false, true) => None,
+    match (by_commits, is_serializable, real_time, shows_order) {
+        (_, false, false, false) if branches.is_none() => Some(Call::Check { by_commits, file }),
+        (false, true, _, _) => Some(Call::CheckSerializable {
+            real_time,
+            most_branches: branches_in(branches)?,
+            shows_order,
+            file,
+        }),
+        (true, true, _, _) | (_, false, _, _) => None,
     }
 }
 
-/// Returns the call to explain the verdict on a file, given the flags. Returns `None` if two rules
-/// are asked for, or a graph by a rule that has none.
+/// Returns the call to explain the verdict on a file, given the flags and the word for the number of
+/// branches. Returns `None` if two rules are asked for, real time, branches or a graph by a rule that
+/// has none, or if the word is no number.
 fn why_of<'a>(
     by_commits: bool,
     is_serializable: bool,
+    real_time: bool,
     as_graph: bool,
+    branches: Option<&str>,
     file: &'a str,
 ) -> Option<Call<'a>>
     ensures call { option_map asked_of result
-        ≡ why_for by_commits is_serializable as_graph file.entry.now }
+        ≡ why_for by_commits is_serializable real_time as_graph
+        (option_map (λ text. text.now) branches.entry) file.entry.now }
     ensures stripes { IfSome result (λ call. HasStripesIf (asked_of call)) }
 {
-    match (by_commits, is_serializable, as_graph) {
-        (_, false, false) => Some(Call::Why { by_commits, file }),
-        (false, true, _) => Some(Call::WhySerializable { as_graph, file }),
-        (_, false, true) | (true, true, _) => None,
+    match (by_commits, is_serializable, real_time, as_graph) {
+        (_, false, false, false) if branches.is_none() => Some(Call::Why { by_commits, file }),
+        (false, true, _, _) => Some(Call::WhySerializable {
+            real_time,
+            most_branches: branches_in(branches)?,
+            as_graph,
+            file,
+        }),
+        (_, false, _, _) | (true, true, _, _) => None,
     }
 }
 
@@ -264,12 +304,21 @@ fn call_named<'a>(name: &str, found: &ArgMatches<'a>) -> Option<Call<'a>>
 {
     let by_commits = has_flag(found, "commit-order");
     let is_serializable = has_flag(found, "serializable");
+    let real_time = has_flag(found, "real-time");
+    let branches = found.get_str("most-branches");
     let shows_order = has_flag(found, "show-order");
     let as_graph = has_flag(found, "dot");
     match name {
         "check" => {
             let file = found.get_str("FILE")?;
-            check_of(by_commits, is_serializable, shows_order, file)
+            check_of(
+                by_commits,
+                is_serializable,
+                real_time,
+                shows_order,
+                branches,
+                file,
+            )
         }
         "outcomes" => {
             let scripts = found.get_str("SCRIPTS")?;
@@ -282,7 +331,14 @@ fn call_named<'a>(name: &str, found: &ArgMatches<'a>) -> Option<Call<'a>>
         }
         "why" => {
             let file = found.get_str("FILE")?;
-            why_of(by_commits, is_serializable, as_graph, file)
+            why_of(
+                by_commits,
+                is_serializable,
+                real_time,
+                as_graph,
+                branches,
+                file,
+            )
         }
         _ => None,
     }

@@ -1,10 +1,8 @@
 -- A caller's own entries in the part of the history that begins at a given position.
 use Rattle.std.proofs.Common.{◌≡◌, ℕ, ◌+◌, ◌<◌, ◌↔◌, List, ◌∷◌, drop, get_or, length}
+use Rattle.locked_map.specs.Vocabulary.{Entry, caller_of, own}
 use Rattle.std.proofs.lemmas.Bool.{eq-eqb, ne_eqb}
 use Rattle.std.proofs.lemmas.List.{drop_more}
-use Rattle.txn_words.specs.Kinds.{caller_of}
-use Rattle.txn_words.specs.Shape.{own}
-use Rattle.txn_words.specs.declared.entry.Entry.{Entry}
 
 pub own_more : (c : ℕ) (h : List Entry) (i : ℕ) (e d : Entry) (rest more seen : List Entry) → i < length h → e ≡ get_or h i d → caller_of e ≡ c → rest ≡ e ∷ more
     → (own c (drop i h) ≡ rest) ↔ (own c h ≡ seen) → (own c (drop (i + 1) h) ≡ more) ↔ (own c h ≡ seen)

@@ -1,25 +1,55 @@
--- The caller after a call, for each end that the last hold may give.
-use Rattle.std.proofs.Common.{◌≡◌, ℕ, Bool, true, false, List, [], Option, None, inl, inr}
-use Rattle.std.proofs.Common.{refl, sym}
+-- Shows what a call leaves, for each end that its last hold may give, because each hold before it
+-- kept the call in progress, and the end says what the token's side value and claims become.
+use Rattle.std.proofs.Common.{◌≡◌, ℕ, suc, [], Option, Some, None, refl, ap, Bool, true, false, List, inl, inr, sym, ◌↔◌, ◌∙◌}
+use Rattle.std.proofs.Common.{if◌then◌else◌, Result, Err, is_some}
+use Rattle.locked_map.specs.Vocabulary.{Call, CommitNothing, Drive, End, Sizes, State, made, new_drive, seat_after, IsSameSide, Leveled}
+use Rattle.locked_map.specs.Vocabulary.{NoMemory, OutOfStep, Refusal, Seat, BadKey, Stop, is_bad_key}
+use Rattle.locked_map.proofs.Vocabulary.{append-nil, false≢true}
+use Rattle.std.specs.List.{filter}
+use Rattle.txn_words.specs.Kinds.{is_commit}
+use Rattle.txn_drive.specs.Drives.{first_phase}
+use Rattle.locked_map.specs.Holds.{FitsIf, Held, IsGoing, HasRun, is_out}
+use Rattle.locked_map.specs.Calls.{IsHeld, IsHolding, Ended, Failed, IsDone, Passed, Ran, WasRefused, WentOn, LeavesBy}
+use Rattle.locked_map.specs.Tokens.{Token, IsSameCaller, IsSameSeen}
 use Rattle.std.proofs.lemmas.Bool.{not-false}
-use Rattle.std.proofs.lemmas.List.{append-nil}
+use Rattle.locked_map.specs.Ready.{IsUnready, Lacks, refused_at, refused_by}
+use Rattle.locked_map.specs.Claims.{Readies, claims_at}
+use Rattle.locked_map.specs.Ready.{MovesSide}
+use Rattle.locked_map.specs.Suits.{may_refuse}
 use Rattle.txn_words.specs.declared.answer.Answer.TheVariants as answers
-use Rattle.txn_words.specs.declared.refusal.Refusal.{Refusal}
-use Rattle.txn_words.specs.declared.refusal.Refusal.TheVariants.{NoMemory, OutOfStep}
-use Rattle.txn_words.specs.Shape.{Seat, seat_after}
-use Rattle.txn_drive.specs.declared.call.Call.{Call}
 use Rattle.txn_drive.specs.declared.call.Call.TheVariants as calls
-use Rattle.txn_drive.specs.declared.«end».End.{End}
 use Rattle.txn_drive.specs.declared.«end».End.TheVariants as ends
-use Rattle.undo_log.specs.SideValue.{Leveled}
-use Rattle.locked_map.specs.Calls.{Ended, Failed, IsDone, IsHeld, Passed, Ran, WasRefused, WentOn}
-use Rattle.core_tokens.specs.Ready.{IsUnready, Lacks, refused_at, refused_by}
-use Rattle.core_tokens.specs.Claims.{Readies, claims_at}
-use Rattle.core_tokens.specs.Holds.{HasRun, is_out}
-use Rattle.core_tokens.specs.Sides.{MovesSide}
-use Rattle.undo_log.specs.Sides.{IsSameSide}
-use Rattle.core_tokens.specs.Suits.{may_refuse}
-use Rattle.core_tokens.specs.Tokens.{Token, IsSameCaller, IsSameSeen}
+use Rattle.map_answers.specs.declared.stop.Stop.TheVariants as stops
+
+-- A new drive has committed nothing.
+pub new_quiet : (d : Drive) → made d ≡ [] → CommitNothing (made d)
+new_quiet d none = ap (filter is_commit) none
+
+-- A call before its first hold.
+pub record Starts {S : Type 0} (k : Token S) (call : Call) (d : Drive) : Type 0 where
+  pub going : IsGoing k.seen k.seen d
+  pub whose : d.caller ≡ k.number
+  pub what : d.call ≡ call
+  pub holding : IsHolding k call k d
+
+pub starts : {S : Type 0} (k : Token S) (call : Call) (d : Drive) (limits : Sizes) (number : ℕ) → limits ≡ k.limits → number ≡ k.number → d ≡ new_drive limits.half number call → made d ≡ []
+    → FitsIf (seat_after k.seen) call (first_phase k.limits.half call) → Starts k call d
+starts k call d limits number limits_are number_is drive none fits =
+    let new : d ≡ new_drive k.limits.half k.number call = rw (drive, limits_are, number_is) in record {
+      going = record { on = record { entries = cc (append-nil k.seen); fits = rw new fits }; quiet = new_quiet d none };
+      whose = rw new;
+      what = rw new;
+      holding = record { holds = 0; held = (refl, new) };
+    }
+
+-- A hold after which the call goes on, and the hold that ends the call.
+pub holds_on : {S : Type 0} (k between l : Token S) (call : Call) (half e : Drive) (m n : State) (r : Option End) → IsHolding k call between half → r ≡ None → Held m between half r n l e → IsHolding k call l e
+holds_on k between l call half e m n r on none held =
+    record { holds = suc on.holds; held = (between, half, m, n, on.held, rw none at held) }
+
+pub is_held : {S : Type 0} (k between l : Token S) (call : Call) (half e : Drive) (m n : State) (r : Option End) (outcome : End) → IsHolding k call between half → r ≡ Some outcome → Held m between half r n l e → IsHeld k call outcome l
+is_held k between l call half e m n r outcome on is held =
+    record { between = between; half = half; holding = on; before = m; after = n; last = e; held = rw is at held }
 
 -- If `a` and `b` are equal side values and an end changes `b` to `c`, the end also changes `a` to
 -- `c`.
@@ -115,3 +145,29 @@ module _ {S : Type 0} (k l : Token S) where
   was_refused call refusal (inl by_token) = inl by_token
   was_refused call refusal (inr later) =
       inr (later.0, lacked call refusal (sound_if_free k.limits.half k.broken (seat_after k.seen) call later.0) later.1)
+
+help_at : (half b : Bool) (o : Option Seat) (key : ℕ) → b ≡ false → is_some o ≡ true → refused_at half b o (calls.Help key) ≡ (if is_bad_key half key then Some BadKey else None)
+help_at half b None key sound whole = absurd (cc whole)
+help_at half b (Some s) key sound whole = rw sound
+
+bad_only : (bad : Bool) → (if bad then Some BadKey else None) ≡ Some BadKey → bad ≡ true
+bad_only true is = refl
+bad_only false is = absurd (cc is)
+
+refused_bad : {S : Type 0} (k l : Token S) (key : ℕ) → refused_by k (calls.Help key) ≡ (if is_bad_key k.limits.half key then Some BadKey else None) → WasRefused k (calls.Help key) BadKey l → is_bad_key k.limits.half key ≡ true
+refused_bad k l key at (inl by_token) = bad_only (is_bad_key k.limits.half key) (sym at ∙ by_token.0)
+refused_bad k l key at (inr later) = absurd (false≢true later.1.may)
+
+bad_refused : {S T : Type 0} (words : S → List ℕ) (k l : Token S) (key : ℕ) (r : Result T Stop) → refused_by k (calls.Help key) ≡ Some BadKey → LeavesBy words k (calls.Help key) r l → r ≡ Err (stops.Refused BadKey)
+bad_refused words k l key (Err (stops.Refused refusal)) at (inl by_token) = cc (at, by_token.0)
+bad_refused words k l key (Err (stops.Refused refusal)) at (inr later) = absurd (cc (at, later.0))
+bad_refused words k l key r at leaves = absurd (cc (at, leaves.free))
+
+-- If the token is not broken, a call for help is refused with `BadKey` exactly if its key is bad.
+pub help_bad_key : {S T : Type 0} (words : S → List ℕ) (k l : Token S) (key : ℕ) (r : Result T Stop) → (k.broken ≡ false → is_some (seat_after k.seen) ≡ true) → LeavesBy words k (calls.Help key) r l
+    → k.broken ≡ false → (r ≡ Err (stops.Refused BadKey)) ↔ (is_bad_key k.limits.half key ≡ true)
+help_bad_key words k l key r rows leaves sound =
+    let at = help_at k.limits.half k.broken (seat_after k.seen) key sound (rows sound) in (
+      (λ is. refused_bad k l key at (rw is at leaves)),
+      λ bad. bad_refused words k l key r (at ∙ ap (λ b. if b then Some BadKey else None) bad) leaves,
+    )

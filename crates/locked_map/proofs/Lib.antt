@@ -1,4 +1,10 @@
+pub mod Vocabulary
+pub mod Noting
+pub mod Claiming
+pub mod Phases
+pub mod Working
+pub mod Stepping
+pub mod SeenRoom
+pub mod Holding
 pub mod Adding
-pub mod Refusing
 pub mod Calling
-pub mod Driving

@@ -1,27 +1,16 @@
 -- PROMISES callers-in-threads: IsHeld, WentOn
 -- The holds of a shared call, and the caller after the call.
-use Rattle.std.specs.Prelude.{ℕ, zero, suc, ◌≡◌, ◌≤◌, ◌⊎◌, true, false, List, ◌++◌, length}
-use Rattle.std.specs.Prelude.{Some, None, is_some, Result, Ok, Err}
-use Rattle.txn_words.specs.declared.entry.Entry.{Entry}
-use Rattle.txn_words.specs.declared.refusal.Refusal.{Refusal}
-use Rattle.txn_words.specs.declared.refusal.Refusal.TheVariants.{NoMemory, OutOfStep}
-use Rattle.txn_words.specs.Shape.{seat_after}
-use Rattle.txn_drive.specs.declared.call.Call.{Call}
+use Rattle.std.specs.Prelude.{ℕ, zero, suc, ◌≡◌, ◌≤◌, ◌⊎◌, true, false, List, ◌++◌, length, Some, None, is_some, Result, Ok, Err}
+use Rattle.locked_map.specs.Vocabulary.{Call, CommitNothing, Drive, End, Entry, IsMade, IsSameSide, NoMemory, OutOfStep, Refusal, State}
+use Rattle.locked_map.specs.Vocabulary.{Stop, new_drive, seat_after}
 use Rattle.txn_drive.specs.declared.call.Call.TheVariants as calls
-use Rattle.txn_drive.specs.declared.drive.Drive.{Drive}
-use Rattle.txn_drive.specs.declared.«end».End.{End}
 use Rattle.txn_drive.specs.declared.«end».End.TheVariants as ends
-use Rattle.txn_drive.specs.Drives.{new_drive}
-use Rattle.txn_drive.specs.Made.{IsMade, CommitNothing}
-use Rattle.undo_log.specs.Sides.{IsSameSide}
-use Rattle.boost_core.specs.State.{State}
-use Rattle.core_tokens.specs.Claims.{Readies, claims_at}
-use Rattle.core_tokens.specs.Holds.{Held}
-use Rattle.core_tokens.specs.Ready.{refused_by}
-use Rattle.core_tokens.specs.Sides.{MovesSide}
-use Rattle.core_tokens.specs.Suits.{may_refuse}
-use Rattle.core_tokens.specs.Tokens.{Token, IsSameCaller, IsSameSeen}
-use Rattle.map_answers.specs.declared.stop.Stop.{Stop}
+use Rattle.locked_map.specs.Claims.{Readies, claims_at}
+use Rattle.locked_map.specs.Holds.{Held}
+use Rattle.locked_map.specs.Ready.{refused_by}
+use Rattle.locked_map.specs.Ready.{MovesSide}
+use Rattle.locked_map.specs.Suits.{may_refuse}
+use Rattle.locked_map.specs.Tokens.{Token, IsSameCaller, IsSameSeen}
 use Rattle.map_answers.specs.declared.stop.Stop.TheVariants as stops
 
 -- A call has had this number of holds, none of which has ended the call. Each hold finds the core

@@ -1,11 +1,8 @@
 -- PROMISES callers-in-threads: IsOwn
 -- The result of closing a map.
-use Rattle.std.specs.Prelude.{ℕ, ◌≡◌, ◌==◌, ◌<◌, List, length, IsTrue, All}
-use Rattle.std.specs.List.{list_any}
-use Rattle.txn_words.specs.declared.entry.Entry.{Entry}
-use Rattle.txn_words.specs.Shape.{own}
-use Rattle.txn_words.specs.Sizes.{Sizes}
-use Rattle.core_tokens.specs.Tokens.{Token, AreCounted}
+use Rattle.std.specs.Prelude.{ℕ, ◌≡◌, ◌==◌, ◌<◌, List, length, IsTrue, All, Bool, true, false, codes}
+use Rattle.locked_map.specs.Vocabulary.{Entry, Sizes, list_any, own}
+use Rattle.locked_map.specs.Tokens.{Token, AreCounted}
 use Rattle.locked_map.specs.declared.unclosed.Unclosed.{Unclosed}
 use Rattle.locked_map.specs.declared.unclosed.Unclosed.TheVariants.{Missing, Differs}
 
@@ -42,3 +39,12 @@ IsBeside limits ks (Differs core callers) = IsAllHere limits.callers ks
 abbrev pub IsCounted : {L S J : Type 0} → List (Token S) → Unclosed L S J → Type 0
 IsCounted ks (Missing map callers) = Unit {0}
 IsCounted ks (Differs core callers) = AreCounted core.history ks
+
+-- The text of the reason why a map was not closed: a caller is missing, or the history differs.
+abbrev pub text_of : Bool → List ℕ
+text_of true = codes "a caller of the map is missing or was handed in twice"
+text_of false = codes "the history of the map is not what its callers saw"
+
+abbrev pub unclosed_text : {L S J : Type 0} → Unclosed L S J → List ℕ
+unclosed_text (Missing map callers) = text_of true
+unclosed_text (Differs core callers) = text_of false

@@ -1,3 +1,9 @@
+pub mod Vocabulary
+pub mod Claims
+pub mod Holds
+pub mod Noted
+pub mod Ready
+pub mod Suits
+pub mod Tokens
 pub mod Calls
 pub mod Closes
-pub mod Texts

@@ -25,17 +25,17 @@ ghost use Rattle.txn_words.specs.declared.entry.Entry.TheVariants as entries;
 ghost use Rattle.txn_words.specs.Shape.{Seat, seat_after};
 ghost use Rattle.txn_words.specs.Sizes.{is_bad_key};
 ghost use Rattle.txn_drive.specs.Made.{undone_by};
-ghost use Rattle.core_tokens.specs.Claims.{Readies, given_back};
-ghost use Rattle.core_tokens.specs.Noted.{last_txn};
-ghost use Rattle.core_tokens.specs.Ready.{refused_side};
-ghost use Rattle.core_tokens.specs.Tokens.{IsSameButSide};
+ghost use Rattle.locked_map.specs.Claims.{Readies, given_back};
+ghost use Rattle.locked_map.specs.Noted.{last_txn};
+ghost use Rattle.locked_map.specs.Ready.{refused_side};
+ghost use Rattle.locked_map.specs.Tokens.{IsSameButSide};
 ghost use Rattle.locked_map.specs.Calls.{EndsCall, WentOn};
 ghost use Rattle.undo_log.specs.Sides.{HasLevel, IsBackAt, IsSameSide, IsSettled};
 
+use crate::caller::Caller;
 use crate::receipt::Receipt;
 use crate::shared_map::SharedMap;
 use boost_core::{Call, End};
-use core_tokens::Caller;
 use map_answers::Stop;
 use std::sync::Wait;
 use std::sync::ledger::Ledger;
@@ -432,7 +432,7 @@ impl<L: Ledger> SharedMap<L> {
     /// for each of its ancestors except bucket 0. A bucket that is initialised already takes one
     /// hold. Any other bucket takes three holds, and at most two more each time its position no
     /// longer fits. May take memory.
-    #[tactic(auto, using(crate::proofs::Refusing::help_bad_key))]
+    #[tactic(auto, using(crate::proofs::Calling::help_bad_key))]
     pub fn help<S: Side, R: Wait>(
         &self,
         rt: &R,

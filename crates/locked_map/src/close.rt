@@ -8,14 +8,14 @@ ghost use Rattle.std.specs.List.{list_any};
 ghost use Rattle.txn_words.specs.declared.holder.Holder.TheVariants.{Begun};
 ghost use Rattle.txn_trace.specs.Legal.{IsLegal};
 ghost use Rattle.txn_words.specs.Shape.{own};
-ghost use Rattle.core_tokens.specs.Tokens.{AreCounted};
+ghost use Rattle.locked_map.specs.Tokens.{AreCounted};
 ghost use Rattle.locked_map.specs.Closes.{IsAllHere, IsBeside, IsCounted, IsOwn, IsWhy, back_of};
 
+use crate::caller::Caller;
 use crate::closed::Closed;
 use crate::shared_map::SharedMap;
 use crate::unclosed::Unclosed;
 use boost_core::Core;
-use core_tokens::Caller;
 use std::sync::ledger::Ledger;
 use txn_trace::{Limits, SmallEntry};
 use undo_log::Side;

@@ -1,8 +1,8 @@
 //! The result of `close`: the core and the callers, in one value, so that neither is dropped by
 //! mistake. The fields are public, so code can also make a `Closed` from other parts. Only the
 //! contract of `close` promises that the history is legal and has exactly the callers' entries.
+use crate::caller::Caller;
 use boost_core::Core;
-use core_tokens::Caller;
 use std::sync::ledger::Ledger;
 use undo_log::Side;
 

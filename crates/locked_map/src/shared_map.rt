@@ -3,14 +3,16 @@
 ghost use Rattle.std.specs.Prelude.{◌≡◌, true, IfOk, IfErr};
 ghost use Rattle.txn_words.specs.Shape.{seat_after};
 ghost use Rattle.txn_drive.specs.Drives.{first_phase};
-ghost use Rattle.core_tokens.specs.Holds.{FitsIf, HasRun, is_out};
-ghost use Rattle.core_tokens.specs.Tokens.{AreTickets, HasTried, IsSameCaller, IsSameClaims};
+ghost use Rattle.locked_map.specs.Holds.{FitsIf, HasRun, is_out};
+ghost use Rattle.locked_map.specs.Tokens.{AreTickets, HasTried, IsSameCaller, IsSameClaims};
 ghost use Rattle.locked_map.specs.Calls.{Ended, EndsCall, IsDone, IsHeld, Ran};
 ghost use Rattle.txn_words.specs.declared.holder.Holder.TheVariants.{Begun};
 ghost use Rattle.txn_trace.specs.Legal.{IsLegal};
 
+use crate::booked::Booked;
+use crate::caller::Caller;
+use crate::pass::Pass;
 use boost_core::{Call, Drive, End};
-use core_tokens::{Booked, Caller, Pass};
 use map_answers::Stop;
 use std::alloc::{AllocError, Global};
 use std::sync::ledger::{Blank, Ledger};
@@ -124,7 +126,7 @@ impl<L: Ledger> SharedMap<L> {
     }
 
     /// Takes the turns of a call, each under one hold, until the call has ended.
-    #[tactic(auto, using(crate::proofs::Driving::new_quiet))]
+    #[tactic(auto, using(crate::proofs::Calling::new_quiet))]
     fn drive<S: Side, H: OnRelease, R: Wait>(
         &self,
         rt: &R,

@@ -3,11 +3,11 @@
 //! `Unclosed` and `Closed` are separate types, since an `Unclosed` is an error with a text. The
 //! text shows only the reason and none of the values.
 ghost use Rattle.std.specs.Prelude.{◌≡◌};
-ghost use Rattle.locked_map.specs.Texts.{text_of};
+ghost use Rattle.locked_map.specs.Closes.{text_of};
 
+use crate::caller::Caller;
 use crate::shared_map::SharedMap;
 use boost_core::Core;
-use core_tokens::Caller;
 use std::error::Error;
 use std::fmt;
 use std::sync::ledger::Ledger;
@@ -36,7 +36,7 @@ impl<L: Ledger, S: Side> fmt::Debug for Unclosed<L, S> {
 /// Writes the reason as a sentence without a full stop.
 impl<L: Ledger, S: Side> fmt::Display for Unclosed<L, S> {
     ghost use Rattle.std.specs.Prelude.{Some};
-    ghost use Rattle.locked_map.specs.Texts.{unclosed_text};
+    ghost use Rattle.locked_map.specs.Closes.{unclosed_text};
 
     ghost output = { λ why. Some (unclosed_text why) };
 

@@ -1,17 +1,12 @@
 -- After a step on the list, each node is still at its position, and the same dummies are linked.
 use Rattle.std.proofs.Common.{◌≡◌, ℕ, ◌||◌, inl, inr, List, [], ◌∷◌, Bool, true, false, cond, map, refl, sym, ◌∙◌, ap, subst}
-use Rattle.std.specs.List.{AllByRecursion, range_with_len}
-use Rattle.node_list.specs.declared.node.Kind.{Kind}
-use Rattle.node_list.specs.declared.node.Kind.TheVariants.{Dummy, Regular}
-use Rattle.node_list.specs.Nodes.{NodeAt, Listing, IsLinked, linked_after, marked_at, written_at}
+use Rattle.map_ops.specs.Vocabulary.{AllByRecursion, Directory, Dummy, IsLinked, Kind, Listing, NodeAt, Regular, SortKey, has_dummy}
+use Rattle.map_ops.specs.Vocabulary.{limit_of, linked_after, marked_at, range_with_len, regular_at, sought, written_at}
+use Rattle.map_ops.proofs.Vocabulary.{each_linked}
 use Rattle.node_list.specs.Sound.{AllPlain}
-use Rattle.node_list.proofs.OrderLemmas.{each_linked, each_changed}
-use Rattle.list_steps.specs.Seek.{sought}
+use Rattle.node_list.proofs.OrderLemmas.{each_changed}
 use Rattle.list_steps.specs.Steps.{without_first_marked}
-use Rattle.split_key.specs.declared.sort.SortKey.{SortKey}
-use Rattle.split_key.specs.Sort.{regular_at}
-use Rattle.bucket_table.specs.Directory.{Directory, limit_of}
-use Rattle.bucket_table.specs.Dummies.{IsKeyedNode, has_dummy, is_dummy_of}
+use Rattle.bucket_table.specs.Dummies.{IsKeyedNode, is_dummy_of}
 use Rattle.bucket_table.proofs.DummyLemmas.{each_sought, has_dummy-linked_after, has_dummy-changed_at, either}
 use Rattle.map_ops.specs.TableAt.{linked_of, table_of}
 use Rattle.map_ops.specs.Sound.{Belong, IsEvenDummy}

@@ -1,30 +1,23 @@
 -- The answers to the calls on the buckets of a table.
-use Rattle.std.proofs.Common.{◌≡◌, ℕ, ◌-◌, ◌<◌, ◌^◌, ◌==◌, List, Option, Some, None, Bool, true, false, map, refl, sym, ◌∙◌, ap, arith, slice_index_or, if◌then◌else◌}
+use Rattle.std.proofs.Common.{◌≡◌, ℕ, ◌-◌, ◌<◌, ◌^◌, ◌==◌, List, Option, Some, None, Bool, true, false, map, refl, sym, ◌∙◌, ap, arith}
+use Rattle.std.proofs.Common.{slice_index_or, if◌then◌else◌}
 use Rattle.std.specs.Prelude.{Result, Ok, Err, is_some}
-use Rattle.std.specs.List.{slice_get, range_with_len}
+use Rattle.map_ops.specs.Vocabulary.{Again, Directory, Helper, HelperOutOfOrder, Holding, Idle, InitLink, InitRefusal, IsHome}
+use Rattle.map_ops.specs.Vocabulary.{Linked, Listing, NoMemory, NoSuchBucket, NoSuchHelper, NodeAt, ParentMissing, Present, Refusal}
+use Rattle.map_ops.specs.Vocabulary.{Seeking, StampsUsedUp, cursor_fits, has_dummy, helper_of, limit_of, range_with_len, slice_get}
+use Rattle.map_ops.proofs.Vocabulary.{slice_get-map}
 use Rattle.std.specs.Option.{option_map}
-use Rattle.std.proofs.lemmas.Option.{slice_get-map}
 use Rattle.std.proofs.lemmas.List.FromFn.{get_or-map-range_with_len}
 use Rattle.std.proofs.Math.ListN as lists
-use Rattle.node_list.specs.Nodes.{NodeAt, Listing}
-use Rattle.node_list.specs.Sound.{IsSound}
 use Rattle.list_steps.specs.Found.{change_number_of}
-use Rattle.bucket_table.specs.declared.answer.InitLink.{InitLink}
-use Rattle.bucket_table.specs.declared.answer.InitLink.TheVariants.{Again, Present, Linked}
-use Rattle.bucket_table.specs.declared.answer.InitRefusal.{InitRefusal}
-use Rattle.bucket_table.specs.declared.answer.InitRefusal.TheVariants.{NoSuchBucket, ParentMissing, NoSuchHelper, HelperOutOfOrder, NoMemory, StampsUsedUp}
-use Rattle.txn_words.specs.declared.refusal.Refusal.{Refusal}
 use Rattle.txn_words.specs.declared.refusal.Refusal.TheVariants as refusals
-use Rattle.bucket_table.specs.declared.helper.Helper.{Helper}
-use Rattle.bucket_table.specs.declared.helper.Helper.TheVariants.{Idle, Seeking, Holding}
-use Rattle.bucket_table.specs.Directory.{Directory, IsReadyHelper, limit_of, helper_of}
+use Rattle.bucket_table.specs.Directory.{IsReadyHelper}
 use Rattle.bucket_table.specs.Directory as directories
 use Rattle.bucket_table.specs.Answers as buckets
 use Rattle.bucket_table.specs.Segments as segments
-use Rattle.bucket_table.specs.Dummies.{has_dummy}
-use Rattle.bucket_table.specs.Home.{IsHome, IsHelperHome}
+use Rattle.bucket_table.specs.Home.{IsHelperHome}
 use Rattle.bucket_table.proofs.DirectoryLemmas.{helper_found}
-use Rattle.bucket_table.specs.Helpers.{cursor_fits, help_at}
+use Rattle.bucket_table.specs.Helpers.{help_at}
 use Rattle.map_ops.specs.TableAt.{Help, Nothing, Sought, Dummy, help_of, linked_of, table_of}
 use Rattle.map_ops.specs.Buckets.{LacksSegment, answer_for, helper_fits, seek_answer, link_answer, store_answer}
 

@@ -1,26 +1,17 @@
 -- The changes that calls on the buckets make to a table.
-use Rattle.std.proofs.Common.{◌≡◌, ℕ, ◌+◌, ◌<◌, ◌≤◌, ◌^◌, ◌==◌, ◌||◌, inl, inr, List, true, false, map, length, sym, ◌∙◌, ap, subst, arith, get_or, slice_set}
+use Rattle.std.proofs.Common.{◌≡◌, ℕ, ◌+◌, ◌<◌, ◌≤◌, ◌^◌, ◌==◌, ◌||◌, inl, inr, List, true, false, map, length, sym, ◌∙◌, ap, subst, arith}
+use Rattle.std.proofs.Common.{get_or, slice_set}
 use Rattle.std.specs.Prelude.{Result, Ok, Err}
-use Rattle.std.specs.List.{range_with_len}
-use Rattle.std.proofs.lemmas.Bool.{cases_eq, eq-eqb, ne_eqb}
+use Rattle.map_ops.specs.Vocabulary.{Again, Directory, InitLink, InitRefusal, InitSeek, Linked, Listing, NodeAt, Present, Seeking, dummy_at}
+use Rattle.map_ops.specs.Vocabulary.{has_dummy, limit_of, pred_of, range_with_len}
+use Rattle.map_ops.proofs.Vocabulary.{cases_eq, each_linked, eq-eqb, ne_eqb, reversed_even}
 use Rattle.std.proofs.lemmas.List.{length-set, ext_get_or, get_or-set_same, get_or-set_other}
 use Rattle.std.proofs.lemmas.List.FromFn.{length-map-range_with_len}
-use Rattle.node_list.specs.Nodes.{NodeAt, Listing}
-use Rattle.list_steps.specs.Found.{pred_of}
-use Rattle.split_key.specs.Sort.{dummy_at}
-use Rattle.split_key.proofs.SplitLemmas.{reversed_even}
-use Rattle.bucket_table.specs.declared.answer.InitSeek.{InitSeek}
 use Rattle.bucket_table.specs.declared.answer.InitSeek.TheVariants.{Ready, Placed}
-use Rattle.bucket_table.specs.declared.answer.InitLink.{InitLink}
-use Rattle.bucket_table.specs.declared.answer.InitLink.TheVariants.{Again, Present, Linked}
-use Rattle.bucket_table.specs.declared.answer.InitRefusal.{InitRefusal}
-use Rattle.bucket_table.specs.declared.helper.Helper.TheVariants.{Seeking}
-use Rattle.bucket_table.specs.Directory.{Directory, limit_of}
 use Rattle.bucket_table.specs.Directory as directories
 use Rattle.bucket_table.specs.Changes as parts
-use Rattle.bucket_table.specs.Dummies.{has_dummy, dummy_node}
+use Rattle.bucket_table.specs.Dummies.{dummy_node}
 use Rattle.list_steps.proofs.SeekLemmas.{each_sought}
-use Rattle.node_list.proofs.OrderLemmas.{each_linked}
 use Rattle.map_ops.specs.Sound.{AllEven, IsEvenDummy}
 use Rattle.map_ops.specs.TableAt.{TableAt, HasParents, linked_of, table_of}
 use Rattle.map_ops.specs.Buckets.{SeekChanges, LinkChanges, StoreChanges, answer_for}

@@ -1,26 +1,18 @@
 -- How a step at a key changes the table.
 use Rattle.std.proofs.Common.{◌≡◌, ℕ, List, [], ◌∷◌, Some, None, false, sym, ◌∙◌, ap, subst}
-use Rattle.node_list.specs.declared.node.Kind.TheVariants.{Regular}
-use Rattle.node_list.specs.Nodes.{NodeAt, Listing, linked_after, marked_at, node_of, written_at}
-use Rattle.node_list.specs.Sound.{IsSound}
-use Rattle.list_steps.specs.Content.{pairs, Replaces}
+use Rattle.map_ops.specs.Vocabulary.{Directory, IsSound, Listing, NodeAt, Regular, Replaces, SortKey, get, has_dummy, linked_after}
+use Rattle.map_ops.specs.Vocabulary.{marked_at, node_of, pairs, regular_at, written_at}
+use Rattle.map_ops.proofs.Vocabulary.{Rises, found_linked, some-injective}
 use Rattle.list_steps.specs.Steps.{Links, Marks, Swaps}
 use Rattle.list_steps.proofs.ContentLemmas.{pair_regular}
-use Rattle.node_list.proofs.NodesLemmas.{found_linked}
-use Rattle.node_list.proofs.OrderLemmas.{some-injective}
-use Rattle.split_key.specs.declared.sort.SortKey.{SortKey}
-use Rattle.split_key.specs.Sort.{regular_at}
-use Rattle.bucket_table.specs.Directory.{Directory}
-use Rattle.bucket_table.specs.Dummies.{has_dummy}
-use Rattle.txn_words.proofs.Order.{Rises}
-use Rattle.txn_words.specs.Map.{get}
 use Rattle.map_ops.specs.TableAt.{map_of, table_of}
 use Rattle.map_ops.specs.Steps.{HasNode, HasGap, Sets}
 use Rattle.map_ops.specs.Nodes.{LinksNode, MarksNode, WritesNode}
 use Rattle.map_ops.specs.Sound.{Belong}
 use Rattle.map_ops.proofs.ContentLemmas.{rises-pairs, map_of-linked, map_of-written, map_of-unlinked}
 use Rattle.map_ops.proofs.KeepLemmas.{same_buckets}
-use Rattle.map_ops.proofs.BelongLemmas.{belong_linked, belong_marked, belong_written, has_dummy-marked, has_dummy-written, has_dummy-regular, linked_same}
+use Rattle.map_ops.proofs.BelongLemmas.{belong_linked, belong_marked, belong_written, has_dummy-marked, has_dummy-written}
+use Rattle.map_ops.proofs.BelongLemmas.{has_dummy-regular, linked_same}
 
 module _ (old new : Listing) (key : ℕ) (sound : IsSound old) (after : IsSound new) (belong : Belong old.nodes) where
   old_rises : Rises (pairs old.nodes)

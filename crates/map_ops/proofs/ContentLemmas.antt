@@ -1,22 +1,17 @@
 -- The content of a list of nodes, and how a step at a node changes this content.
-use Rattle.std.proofs.Common.{◌≡◌, ◌≢◌, ℕ, ◌==◌, inl, inr, List, [], ◌∷◌, ◌++◌, Some, None, Bool, true, false, cond, not, ◌&&◌, ◌+◌, if◌then◌else◌, length, refl, sym, ◌∙◌, ap, subst, arith}
-use Rattle.std.specs.List.{fold, AllByRecursion}
-use Rattle.std.proofs.lemmas.Bool.{cases_eq, eq-eqb, ne_eqb}
+use Rattle.std.proofs.Common.{◌≡◌, ◌≢◌, ℕ, ◌==◌, inl, inr, List, [], ◌∷◌, ◌++◌, Some, None, Bool, true, false, cond, not, ◌&&◌, ◌+◌}
+use Rattle.std.proofs.Common.{if◌then◌else◌, length, refl, sym, ◌∙◌, ap, subst, arith}
+use Rattle.map_ops.specs.Vocabulary.{AllByRecursion, Dummy, IsKeyed, IsRising, Kind, Map, NodeAt, Regular, Replaces, SortKey, empty, fold}
+use Rattle.map_ops.specs.Vocabulary.{get, insert, node_of, ordered, pair_if, pairs, regular_at, remove}
+use Rattle.map_ops.proofs.Vocabulary.{Rises, cases_eq, each_found, eq-eqb, get-insert, ne_eqb, same_map, some-injective, some-none}
 use Rattle.std.proofs.lemmas.Bool.Decides.{eqb_tells}
-use Rattle.node_list.specs.declared.node.Kind.{Kind}
-use Rattle.node_list.specs.declared.node.Kind.TheVariants.{Dummy, Regular}
-use Rattle.node_list.specs.Nodes.{NodeAt, node_of, count_where, is_regular, live_count}
-use Rattle.node_list.specs.Order.{IsNodeBefore, IsRising}
-use Rattle.node_list.proofs.OrderLemmas.{some-injective, some-none, each_found}
-use Rattle.list_steps.specs.Content.{pair_if, pairs, Replaces}
-use Rattle.split_key.specs.declared.sort.SortKey.{SortKey}
-use Rattle.split_key.specs.Sort.{IsBefore, regular_at}
+use Rattle.node_list.specs.Nodes.{count_where, is_regular, live_count}
+use Rattle.node_list.specs.Order.{IsNodeBefore}
+use Rattle.split_key.specs.Sort.{IsBefore}
 use Rattle.split_key.proofs.SortLemmas.{before_apart}
-use Rattle.bucket_table.specs.Dummies.{IsKeyed}
-use Rattle.txn_words.specs.Map.{Map, count_of, empty, get, insert, remove}
-use Rattle.txn_words.specs.Ordered.{ordered}
-use Rattle.txn_words.proofs.Maps.{get-insert, same_map}
-use Rattle.txn_words.proofs.Order.{Rises, IsSortedBySplit, value_at, or_else, or_else_none, split_cmp_tied, sorted-rises, value_at-ordered, ordered_rising, length-ordered}
+use Rattle.txn_words.specs.Map.{count_of}
+use Rattle.txn_words.proofs.Order.{IsSortedBySplit, value_at, or_else, or_else_none, split_cmp_tied, sorted-rises, value_at-ordered}
+use Rattle.txn_words.proofs.Order.{ordered_rising, length-ordered}
 use Rattle.txn_words.proofs.OrderedPairs.{ordered-linked, ordered-written, ordered-unlinked}
 use Rattle.map_ops.specs.TableAt.{map_of}
 

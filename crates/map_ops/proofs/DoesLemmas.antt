@@ -1,21 +1,12 @@
 -- Shows what operations and jobs do to the table, because giving a spare back after the write
 -- changes neither the content nor another spare.
 use Rattle.std.proofs.Common.{◌≡◌, ℕ, List, Option, Some, None, Bool, true, false, cond, refl, sym, ◌∙◌, ap, subst}
-use Rattle.node_list.specs.Nodes.{NodeAt, Listing, SpareAt}
-use Rattle.node_list.specs.Sound.{IsSound}
-use Rattle.list_steps.specs.declared.cursor.Cursor.{Cursor}
-use Rattle.list_steps.specs.Content.{pairs}
-use Rattle.list_steps.specs.Found.{IsFound, at_of, fits, IsPlaced}
-use Rattle.list_steps.specs.Seek.{sought, KeepsRest}
-use Rattle.split_key.specs.declared.sort.SortKey.{SortKey}
-use Rattle.split_key.specs.Sort.{regular_at}
-use Rattle.bucket_table.specs.Directory.{Directory}
-use Rattle.bucket_table.specs.Dummies.{has_dummy}
-use Rattle.bucket_table.proofs.DummyLemmas.{has_dummy-sought}
-use Rattle.txn_words.specs.declared.op.Op.TheVariants.{Put, Take, Get, PutIf}
 use Rattle.std.specs.Prelude.{nat_eq}
-use Rattle.std.specs.Option.{option_eq}
-use Rattle.txn_words.specs.Map.{get, insert}
+use Rattle.map_ops.specs.Vocabulary.{Cursor, Directory, Get, IsPlaced, IsSound, Listing, NodeAt, Put, PutIf, SortKey, SpareAt, Take, at_of}
+use Rattle.map_ops.specs.Vocabulary.{fits, get, has_dummy, insert, option_eq, pairs, regular_at, sought}
+use Rattle.list_steps.specs.Found.{IsFound}
+use Rattle.list_steps.specs.Seek.{KeepsRest}
+use Rattle.bucket_table.proofs.DummyLemmas.{has_dummy-sought}
 use Rattle.map_ops.specs.declared.job.MapJob.TheVariants.{Relink}
 use Rattle.map_ops.specs.TableAt.{TableAt, content, map_of, table_of, KeepsSpares}
 use Rattle.map_ops.specs.declared.job.MapJob.{MapJob}

@@ -1,9 +1,8 @@
 -- The changes of two jobs with different keys can be taken back in either order.
 use Rattle.std.proofs.Common.{◌≡◌, ◌≢◌, ℕ, inl, inr, Bool, true, false, cond, Option, Some, None, refl, sym, ap, ◌∙◌}
 use Rattle.std.specs.Prelude.{◌==◌, is_some}
-use Rattle.std.proofs.lemmas.Bool.{cases_eq, eq-eqb, ne_eqb}
-use Rattle.txn_words.specs.Map.{Map, get, set_at}
-use Rattle.txn_words.proofs.Maps.{same_map, get-set_at}
+use Rattle.map_ops.specs.Vocabulary.{Map, get, set_at}
+use Rattle.map_ops.proofs.Vocabulary.{cases_eq, eq-eqb, get-set_at, ne_eqb, same_map}
 use Rattle.map_ops.specs.declared.job.MapJob.{MapJob}
 use Rattle.map_ops.specs.declared.job.MapJob.TheVariants.{Unput, Restore, Relink}
 use Rattle.map_ops.specs.TableAt.{TableAt, SpareAt, content, KeepsSpares, spare_out}

@@ -1,16 +1,10 @@
 -- Parts of a table that are unchanged if only its list, or only its spares, change.
 use Rattle.std.proofs.Common.{◌≡◌, ℕ, List, map, refl, ap, arith}
-use Rattle.std.specs.List.{range_with_len}
-use Rattle.node_list.specs.Nodes.{NodeAt, Listing}
+use Rattle.map_ops.specs.Vocabulary.{Cursor, Directory, Listing, NodeAt, has_dummy, limit_of, pairs, range_with_len, regular_at}
 use Rattle.node_list.specs.Follow as lists
 use Rattle.node_list.proofs.FollowLemmas as lists_again
-use Rattle.list_steps.specs.declared.cursor.Cursor.{Cursor}
-use Rattle.list_steps.specs.Content.{pairs}
 use Rattle.list_steps.specs.Found as cursors
 use Rattle.list_steps.proofs.CursorLemmas.{still_placed}
-use Rattle.split_key.specs.Sort.{regular_at}
-use Rattle.bucket_table.specs.Directory.{Directory, limit_of}
-use Rattle.bucket_table.specs.Dummies.{has_dummy}
 use Rattle.map_ops.specs.TableAt.{TableAt, table_of, Follows, IsPlaced, KeepsBuckets, KeepsNodes}
 
 -- If only the list changes, `KeepsBuckets` holds.

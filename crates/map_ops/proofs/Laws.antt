@@ -2,15 +2,11 @@
 -- old value, and that a spare stays the table's until it is spent. Higher layers use these lemmas.
 use Rattle.std.proofs.Common.{◌≡◌, ◌≢◌, ℕ, inl, inr, Bool, true, false, cond, Option, Some, None, [], refl, sym, ap, subst, ◌∙◌}
 use Rattle.std.specs.Prelude.{is_some, IfSome, nat_eq}
-use Rattle.std.specs.Option.{option_eq}
-use Rattle.std.proofs.lemmas.Bool.{cases_eq, eq-eqb, false≢true, ne_eqb}
-use Rattle.node_list.specs.Nodes.{SpareAt, out_at}
-use Rattle.node_list.proofs.OrderLemmas.{some-injective, some-none}
-use Rattle.bucket_table.specs.Directory.{Directory}
-use Rattle.txn_words.specs.declared.op.Op.{Op}
-use Rattle.txn_words.specs.declared.op.Op.TheVariants.{Put, Take, Get, PutIf}
-use Rattle.txn_words.specs.Map.{Map, after, get, insert, remove, set_at}
-use Rattle.txn_words.proofs.Maps.{get-insert, get-remove, get-insert-here, get-remove-here, same_map, get-set_at}
+use Rattle.map_ops.specs.Vocabulary.{Directory, Get, Map, Op, Put, PutIf, SpareAt, Take, after, get, insert, option_eq, out_at, remove}
+use Rattle.map_ops.specs.Vocabulary.{set_at}
+use Rattle.map_ops.proofs.Vocabulary.{cases_eq, eq-eqb, false≢true, get-insert, get-remove, get-set_at, ne_eqb, same_map, some-injective}
+use Rattle.map_ops.proofs.Vocabulary.{some-none}
+use Rattle.txn_words.proofs.Maps.{get-insert-here, get-remove-here}
 use Rattle.map_ops.specs.declared.job.MapJob.{MapJob}
 use Rattle.map_ops.specs.declared.job.MapJob.TheVariants.{Unput, Restore, Relink}
 use Rattle.map_ops.specs.TableAt.{TableAt, content, Owns, KeepsOthers, KeepsSpares}

@@ -1,3 +1,4 @@
+pub mod Vocabulary
 pub mod Laws
 pub mod KeepLemmas
 pub mod ContentLemmas

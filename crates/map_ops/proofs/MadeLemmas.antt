@@ -1,13 +1,12 @@
 -- The map that is collected from pairs.
 use Rattle.std.proofs.Common.{◌≡◌, ℕ, List, [], ◌∷◌, Some, None, Ok, Err, Result, cond, refl, sym, ◌∙◌, ap}
-use Rattle.std.specs.List.{fold}
+use Rattle.map_ops.specs.Vocabulary.{Map, empty, fold, get, insert}
 use Rattle.std.specs.Result.{IfOk}
 use Rattle.std.specs.Map.{update, update_all}
 use Rattle.std.specs.BTreeMap.{BTreeMap, IsFromIterResult, get as value_at}
 use Rattle.std.specs.Ordering.{nat_cmp, eq_by_cmp}
 use Rattle.std.specs.Cmp.{nat_cmp_total, eq_by_cmp_equiv}
 use Rattle.std.specs.FinMap.Entries.{find-put}
-use Rattle.txn_words.specs.Map.{Map, empty, get, insert}
 use Rattle.map_ops.specs.TableAt.{map_of}
 
 update_all-inserted : (ps : List (ℕ × ℕ)) (m : Map) (q : ℕ) → update_all (eq_by_cmp nat_cmp) (λ k. get m k) ps q ≡ get (fold (λ (m : Map) (pair : ℕ × ℕ). insert m pair.0 pair.1) m ps) q

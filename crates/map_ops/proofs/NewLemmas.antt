@@ -1,19 +1,16 @@
 -- A new table.
-use Prim.Native.Nat.{zero, suc}
-use Rattle.std.proofs.Common.{◌≡◌, ℕ, ◌+◌, ◌-◌, ◌<◌, ◌≤◌, ◌^◌, ◌||◌, inl, inr, List, [], ◌∷◌, Option, Some, None, Bool, true, false, map, length, refl, sym, ◌∙◌, ap, subst, arith, replicate}
+use Rattle.std.proofs.Common.{◌≡◌, ℕ, ◌+◌, ◌-◌, ◌<◌, ◌≤◌, ◌^◌, ◌||◌, inl, inr, List, [], ◌∷◌, Option, Some, None, Bool, true, false, map}
+use Rattle.std.proofs.Common.{length, refl, sym, ◌∙◌, ap, subst, arith, replicate}
 use Rattle.std.specs.Prelude.{is_some}
-use Rattle.std.specs.List.{range_with_len}
+use Rattle.map_ops.specs.Vocabulary.{Directory, Idle, Listing, NodeAt, SortKey, dummy_at, first_dummy, has_dummy, out_at, pairs}
+use Rattle.map_ops.specs.Vocabulary.{range_with_len}
+use Rattle.map_ops.proofs.Vocabulary.{reversed_even}
+use Prim.Native.Nat.{zero, suc}
 use Rattle.std.proofs.lemmas.List.{length-replicate}
-use Rattle.node_list.specs.Nodes.{NodeAt, Listing, first_dummy, out_at}
-use Rattle.list_steps.specs.Content.{pairs}
-use Rattle.split_key.specs.declared.sort.SortKey.{SortKey}
-use Rattle.split_key.specs.Sort.{dummy_at, is_same}
-use Rattle.split_key.proofs.SplitLemmas.{reversed_even, same_from_reversed}
+use Rattle.split_key.specs.Sort.{is_same}
+use Rattle.split_key.proofs.SplitLemmas.{same_from_reversed}
 use Rattle.split_key.proofs.SortLemmas.{cases_same, is_same_from}
-use Rattle.bucket_table.specs.declared.helper.Helper.TheVariants.{Idle}
-use Rattle.bucket_table.specs.Directory.{Directory}
 use Rattle.bucket_table.specs.Directory as directories
-use Rattle.bucket_table.specs.Dummies.{has_dummy}
 use Rattle.bucket_table.proofs.DummyLemmas.{keyed_dummy}
 use Rattle.map_ops.specs.Sound.{Belong}
 use Rattle.map_ops.specs.TableAt.{help_of, map_of, table_of, IsNew}

@@ -1,11 +1,7 @@
 -- How an operation is prepared or refused.
 use Rattle.std.proofs.Common.{◌≡◌, ℕ, Option, Some, true, sym, ◌∙◌, ap, subst}
-use Rattle.node_list.specs.Nodes.{SpareAt}
-use Rattle.txn_words.specs.declared.op.Op.{Op}
-use Rattle.txn_words.specs.declared.op.Op.TheVariants.{Put, PutIf, Take}
-use Rattle.txn_words.specs.declared.refusal.Refusal.{Refusal}
+use Rattle.map_ops.specs.Vocabulary.{Op, Put, PutIf, Refusal, SpareAt, Take, key_of}
 use Rattle.txn_words.specs.declared.refusal.Refusal.TheVariants.{StampsUsedUp, NoMemory}
-use Rattle.txn_words.specs.Map.{key_of}
 use Rattle.map_ops.specs.TableAt.{TableAt}
 use Rattle.map_ops.specs.Jobs.{takes_node}
 use Rattle.map_ops.specs.Changes.{GivesFor, IsRefused, Prepares}

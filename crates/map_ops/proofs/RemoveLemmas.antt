@@ -1,8 +1,7 @@
 -- The removal of a key that is not in a map.
 use Rattle.std.proofs.Common.{◌≡◌, ℕ, inl, inr, None, cond, sym, ◌∙◌, ap}
-use Rattle.std.proofs.lemmas.Bool.{cases_eq, eq-eqb, ne_eqb}
-use Rattle.txn_words.specs.Map.{Map, get, remove}
-use Rattle.txn_words.proofs.Maps.{get-remove, same_map}
+use Rattle.map_ops.specs.Vocabulary.{Map, get, remove}
+use Rattle.map_ops.proofs.Vocabulary.{cases_eq, eq-eqb, get-remove, ne_eqb, same_map}
 
 -- Removing a key that is absent changes nothing.
 pub remove-absent : (m : Map) (k : ℕ) → get m k ≡ None → remove m k ≡ m

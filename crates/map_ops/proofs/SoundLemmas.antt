@@ -1,8 +1,7 @@
 -- The steps that keep tables sound.
 use Rattle.std.proofs.Common.{◌≡◌, sym, subst}
-use Rattle.node_list.specs.Nodes.{Listing}
+use Rattle.map_ops.specs.Vocabulary.{Directory, Listing}
 use Rattle.node_list.specs.Follow.{Follows}
-use Rattle.bucket_table.specs.Directory.{Directory}
 use Rattle.bucket_table.proofs.HomeLemmas.{still_home}
 use Rattle.map_ops.specs.Sound.{Belong, IsSound}
 

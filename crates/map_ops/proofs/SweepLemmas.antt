@@ -1,11 +1,6 @@
 -- The parts of a table that a call of `sweep` leaves unchanged.
 use Rattle.std.proofs.Common.{◌≡◌, List, refl, sym, ◌∙◌, ap, subst}
-use Rattle.node_list.specs.Nodes.{NodeAt, Listing}
-use Rattle.node_list.specs.Sound.{IsSound}
-use Rattle.list_steps.specs.Content.{pairs}
-use Rattle.bucket_table.specs.Directory.{Directory}
-use Rattle.bucket_table.specs.Dummies.{has_dummy}
-use Rattle.list_steps.specs.declared.sweeps.SweepOutcome.{SweepOutcome}
+use Rattle.map_ops.specs.Vocabulary.{Directory, IsSound, Listing, NodeAt, SweepOutcome, has_dummy, pairs}
 use Rattle.list_steps.specs.declared.sweeps.SweepOutcome.TheVariants.{Swept, Clean}
 use Rattle.list_steps.specs.Steps as steps
 use Rattle.map_ops.specs.Sound.{Belong}

@@ -1,26 +1,14 @@
 -- The value of a key, as it is found at a cursor that was placed for the key.
 use Rattle.std.proofs.Common.{◌≡◌, ◌≢◌, ℕ, ◌%◌, Option, Some, None, true, refl, sym, ◌∙◌, ap, subst, arith}
 use Rattle.std.specs.Prelude.{IfOk, IsSome, Result, Ok, Err, is_ok, is_some}
+use Rattle.map_ops.specs.Vocabulary.{AllByRecursion, Cursor, Dummy, IsLinked, IsPlaced, IsSound, IsVacant, Kind, Listing, NodeAt, Regular}
+use Rattle.map_ops.specs.Vocabulary.{SortKey, at_of, fits, get, node_of, pairs, pred_of, regular_at}
+use Rattle.map_ops.proofs.Vocabulary.{Rises, each_found, false≢true, found_linked, place-found, some-injective, some-none}
 use Rattle.list_steps.specs.declared.cursor.Again.{Again}
-use Rattle.std.proofs.lemmas.Bool.{false≢true}
-use Rattle.std.specs.List.{AllByRecursion}
-use Rattle.node_list.specs.declared.node.Kind.{Kind}
-use Rattle.node_list.specs.declared.node.Kind.TheVariants.{Dummy, Regular}
-use Rattle.node_list.specs.Nodes.{NodeAt, Listing, IsLinked, node_of}
-use Rattle.node_list.specs.Order.{IsVacant}
-use Rattle.node_list.proofs.NodesLemmas.{found_linked, place-found}
-use Rattle.node_list.specs.Sound.{IsSound}
-use Rattle.node_list.proofs.OrderLemmas.{some-injective, some-none, each_found}
-use Rattle.list_steps.specs.declared.cursor.Cursor.{Cursor}
-use Rattle.list_steps.specs.Content.{pairs}
-use Rattle.list_steps.specs.Found.{at_of, fits, node_there, pred_of, IsPlaced}
+use Rattle.list_steps.specs.Found.{node_there}
 use Rattle.list_steps.specs.Steps.{IsAbsent, Finds}
 use Rattle.list_steps.proofs.CursorLemmas.{there}
-use Rattle.split_key.specs.declared.sort.SortKey.{SortKey}
-use Rattle.split_key.specs.Sort.{regular_at}
 use Rattle.split_key.proofs.SplitLemmas.{split_odd}
-use Rattle.txn_words.specs.Map.{get}
-use Rattle.txn_words.proofs.Order.{Rises}
 use Rattle.map_ops.specs.TableAt.{map_of}
 use Rattle.map_ops.specs.Sound.{Belong, IsEvenDummy}
 use Rattle.map_ops.specs.Steps.{HasNode, HasGap, Stands, place_in}

@@ -1,12 +1,11 @@
 -- A walk along the list that collects its pairs.
 use Rattle.std.proofs.Common.{◌≡◌, ℕ, List, [], ◌∷◌, ◌++◌, Some, None, refl, sym, ◌∙◌, ap, append_assoc}
+use Rattle.map_ops.specs.Vocabulary.{Dummy, IsSound, Listing, NodeAt, pair_if, pairs}
+use Rattle.map_ops.proofs.Vocabulary.{place-found}
 use Rattle.std.proofs.lemmas.List.{append-nil}
-use Rattle.node_list.specs.declared.node.Kind.TheVariants.{Dummy}
-use Rattle.node_list.specs.Nodes.{NodeAt, Listing, next_of, without_first}
+use Rattle.node_list.specs.Nodes.{next_of, without_first}
 use Rattle.node_list.specs.Order.{IsSpread}
-use Rattle.node_list.specs.Sound.{IsSound}
-use Rattle.node_list.proofs.NodesLemmas.{place-found}
-use Rattle.list_steps.specs.Content.{pair_if, pair_of, pairs}
+use Rattle.list_steps.specs.Content.{pair_of}
 use Rattle.list_steps.proofs.NodeLemmas.{IsAt, next_at, at_next, first_is, first_none}
 use Rattle.list_steps.proofs.ContentLemmas.{pairs_none}
 

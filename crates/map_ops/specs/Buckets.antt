@@ -1,17 +1,13 @@
 -- PROMISES buckets: seek_answer, link_answer
 -- The answer and the changes of each call on the buckets of a table.
 use Rattle.std.specs.Prelude.{◌≡◌, ℕ, ◌/◌, Bool, false, Option, Result, Ok, Err, List, slice_index_or}
-use Rattle.std.specs.List.{slice_get}
+use Rattle.map_ops.specs.Vocabulary.{HelperOutOfOrder, InitLink, InitRefusal, InitSeek, NoMemory, NoSuchBucket, NoSuchHelper, ParentMissing}
+use Rattle.map_ops.specs.Vocabulary.{Refusal, StampsUsedUp, slice_get}
 pub use Rattle.split_key.specs.Split.{parent_of}
 pub use Rattle.bucket_table.specs.Answers.{double_answer}
 use Rattle.bucket_table.specs.Answers as buckets
 use Rattle.bucket_table.specs.Changes as parts
-use Rattle.bucket_table.specs.declared.answer.InitSeek.{InitSeek}
-use Rattle.bucket_table.specs.declared.answer.InitLink.{InitLink}
 use Rattle.bucket_table.specs.declared.answer.Double.{Double}
-use Rattle.bucket_table.specs.declared.answer.InitRefusal.{InitRefusal}
-use Rattle.bucket_table.specs.declared.answer.InitRefusal.TheVariants.{NoSuchBucket, ParentMissing, NoSuchHelper, HelperOutOfOrder, NoMemory, StampsUsedUp}
-use Rattle.txn_words.specs.declared.refusal.Refusal.{Refusal}
 use Rattle.txn_words.specs.declared.refusal.Refusal.TheVariants as refusals
 use Rattle.map_ops.specs.TableAt.{TableAt, Help, last_of, linked_of, helps_of}
 pub use Rattle.map_ops.specs.TableAt.{helper_fits}

@@ -1,17 +1,18 @@
 -- PROMISES each-change-has-an-inverse: Applies, TakesBack
 -- The answer and the changes of each call.
 use Rattle.std.specs.Prelude.{◌≡◌, ◌≢◌, ◌<◌, ◌-◌, ◌^◌, ◌+◌, ℕ, Bool, true, false, Option, Some, None, is_some, if◌then◌else◌}
-use Rattle.txn_words.specs.declared.op.Op.{Op}
-use Rattle.txn_words.specs.declared.refusal.Refusal.{Refusal}
+use Rattle.map_ops.specs.Vocabulary.{Op, Refusal, after, get, key_of, set_at}
 use Rattle.txn_words.specs.declared.refusal.Refusal.TheVariants as refusals
-use Rattle.txn_words.specs.Map.{get, key_of, reply_of, after, set_at}
+use Rattle.txn_words.specs.Map.{reply_of}
 use Rattle.map_ops.specs.declared.act.Act.{Act}
 use Rattle.map_ops.specs.declared.act.Act.TheVariants.{Acted, Again as ActAgain}
 use Rattle.map_ops.specs.declared.act.Undo.{Undo}
 use Rattle.map_ops.specs.declared.act.Undo.TheVariants.{Undone, Again as UndoAgain}
 use Rattle.map_ops.specs.declared.job.MapJob.{MapJob}
 use Rattle.map_ops.specs.declared.job.MapJob.TheVariants.{Unput, Restore, Relink}
-use Rattle.map_ops.specs.TableAt.{TableAt, Cursor, SpareAt, SweepOutcome, content, table_changes, last_of, linked_of, nodes_of, nodes_sought, spare_out, Owns, KeepsOthers, KeepsSpares, KeepsBuckets, KeepsNodes, KeepsTable, Follows, IsPlaced, IsStart, SweepsNodes, cursor_changes, fits}
+use Rattle.map_ops.specs.TableAt.{TableAt, Cursor, SpareAt, SweepOutcome, content, table_changes, last_of, linked_of, nodes_of}
+use Rattle.map_ops.specs.TableAt.{nodes_sought, spare_out, Owns, KeepsOthers, KeepsSpares, KeepsBuckets, KeepsNodes, KeepsTable, Follows}
+use Rattle.map_ops.specs.TableAt.{IsPlaced, IsStart, SweepsNodes, cursor_changes, fits}
 use Rattle.map_ops.specs.Jobs.{PendingAt, takes_node, key_of_job, value_before, spare_of_job, job_of, IsDue}
 use Rattle.map_ops.specs.Nodes.{IsUnlinking, JobWrites, OpWrites, WritesNothing}
 

@@ -1,9 +1,6 @@
 -- Operations that are prepared, and the jobs that take changes back.
 use Rattle.std.specs.Prelude.{◌≡◌, ℕ, Bool, true, false, IsSome, Option, Some, None, nat_eq, if◌then◌else◌}
-use Rattle.std.specs.Option.{option_eq}
-use Rattle.txn_words.specs.declared.op.Op.{Op}
-use Rattle.txn_words.specs.declared.op.Op.TheVariants.{Put, Take, Get, PutIf}
-use Rattle.txn_words.specs.Map.{Map, get}
+use Rattle.map_ops.specs.Vocabulary.{Get, Map, Op, Put, PutIf, Take, get, option_eq}
 use Rattle.map_ops.specs.declared.job.MapJob.{MapJob}
 use Rattle.map_ops.specs.declared.job.MapJob.TheVariants.{Unput, Restore, Relink}
 use Rattle.map_ops.specs.TableAt.{SpareAt}

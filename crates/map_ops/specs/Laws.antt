@@ -1,8 +1,7 @@
 -- PROMISES each-change-has-an-inverse: GoesAndReturns, TakesBackTwo
 -- The situations that the laws of the table are about.
 use Rattle.std.specs.Prelude.{◌≡◌, ℕ, Option, Some}
-use Rattle.txn_words.specs.declared.op.Op.{Op}
-use Rattle.txn_words.specs.Ordered.{ordered}
+use Rattle.map_ops.specs.Vocabulary.{Op, ordered}
 use Rattle.map_ops.specs.declared.job.MapJob.{MapJob}
 use Rattle.map_ops.specs.TableAt.{TableAt, content, regular}
 use Rattle.map_ops.specs.Changes.{Applies, TakesBack}

@@ -1,3 +1,4 @@
+pub mod Vocabulary
 pub mod TableAt
 pub mod Jobs
 pub mod Nodes

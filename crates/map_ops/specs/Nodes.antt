@@ -1,11 +1,8 @@
 -- The writes to the linked nodes and to the change number.
 use Rattle.std.specs.Prelude.{◌≡◌, ℕ, ◌-◌, List, Option, Some, None, Bool, true, false, length, nat_eq}
-use Rattle.std.specs.Option.{option_eq}
-use Rattle.node_list.specs.declared.node.Kind.TheVariants.{Regular}
-use Rattle.node_list.specs.Nodes.{NodeAt, Listing, SpareAt, IsLinked, node_of, linked_after, marked_at, written_at, one_more, changes_after}
-use Rattle.split_key.specs.Sort.{regular_at}
-use Rattle.txn_words.specs.declared.op.Op.{Op}
-use Rattle.txn_words.specs.declared.op.Op.TheVariants.{Put, Take, Get, PutIf}
+use Rattle.map_ops.specs.Vocabulary.{Get, IsLinked, Listing, NodeAt, Op, Put, PutIf, Regular, SpareAt, Take, linked_after, marked_at}
+use Rattle.map_ops.specs.Vocabulary.{node_of, option_eq, regular_at, written_at}
+use Rattle.node_list.specs.Nodes.{one_more, changes_after}
 use Rattle.map_ops.specs.declared.job.MapJob.{MapJob}
 use Rattle.map_ops.specs.declared.job.MapJob.TheVariants.{Unput, Restore, Relink}
 

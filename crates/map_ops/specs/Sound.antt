@@ -1,12 +1,7 @@
 -- The invariants of every table.
 use Rattle.std.specs.Prelude.{◌≡◌, ◌%◌, List}
-use Rattle.std.specs.List.{AllByRecursion}
-use Rattle.node_list.specs.declared.node.Kind.TheVariants.{Dummy}
-use Rattle.node_list.specs.Nodes.{NodeAt, Listing}
+use Rattle.map_ops.specs.Vocabulary.{AllByRecursion, Directory, Dummy, IsHome, IsKeyed, Listing, NodeAt}
 use Rattle.node_list.specs.Sound as nodes
-use Rattle.bucket_table.specs.Directory.{Directory}
-use Rattle.bucket_table.specs.Dummies.{IsKeyed}
-use Rattle.bucket_table.specs.Home.{IsHome}
 
 -- If the node is a dummy, its split key is even. So a dummy is at no key's position.
 abbrev pub IsEvenDummy : NodeAt → Type 0

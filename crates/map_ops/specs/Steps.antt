@@ -1,12 +1,7 @@
 -- The effects of the functions in `src/change.rt`, from which the table's calls are built.
 use Rattle.std.specs.Prelude.{◌≡◌, ℕ, ◌<◌, ◌-◌, ◌^◌, Option, Some, None}
-use Rattle.node_list.specs.Nodes.{Listing, NodeAt}
-use Rattle.node_list.specs.Order.{IsVacant}
-use Rattle.list_steps.specs.Content.{pairs}
-use Rattle.split_key.specs.Sort.{regular_at}
-use Rattle.txn_words.specs.declared.refusal.Refusal.{Refusal}
+use Rattle.map_ops.specs.Vocabulary.{IsVacant, Listing, NodeAt, Refusal, get, pairs, regular_at, set_at}
 use Rattle.txn_words.specs.declared.refusal.Refusal.TheVariants.{StampsUsedUp, NoMemory}
-use Rattle.txn_words.specs.Map.{get, set_at}
 use Rattle.map_ops.specs.TableAt.{TableAt, SpareAt, KeepsBuckets, KeepsNodes, content, last_of, linked_of, map_of}
 use Rattle.map_ops.specs.Nodes.{IsNodeOf}
 use Rattle.map_ops.specs.Changes.{GivesSpare}

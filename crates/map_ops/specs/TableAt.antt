@@ -1,28 +1,19 @@
 -- PROMISES each-change-has-an-inverse: content, regular, Follows
 -- A table as contracts see it.
-use Rattle.std.specs.Prelude.{◌≡◌, ◌≢◌, ℕ, ◌<◌, ◌≤◌, ◌-◌, ◌%◌, ◌^◌, Bool, true, false, Option, Some, None, List, [], ◌∷◌, map, is_some, replicate, slice_index_or}
-use Rattle.std.specs.List.{AllByRecursion, fold, range_with_len}
+use Rattle.std.specs.Prelude.{◌≡◌, ◌≢◌, ℕ, ◌<◌, ◌≤◌, ◌-◌, ◌%◌, ◌^◌, Bool, true, false, Option, Some, None, List, [], ◌∷◌, map, is_some}
+use Rattle.std.specs.Prelude.{replicate, slice_index_or}
+use Rattle.map_ops.specs.Vocabulary.{AllByRecursion, Directory, Helper, Holding, Idle, IsHome, IsNearest, IsRising, Listing, Map, Seeking}
+use Rattle.map_ops.specs.Vocabulary.{cursor_fits, empty, first_dummy, fold, has_dummy, helper_of, insert, limit_of, out_at, pairs}
+use Rattle.map_ops.specs.Vocabulary.{range_with_len, regular_at, sought}
 pub use Rattle.node_list.specs.Nodes.{NodeAt, SpareAt}
-use Rattle.node_list.specs.Nodes.{Listing, first_dummy, out_at}
-use Rattle.node_list.specs.Order.{IsRising}
 use Rattle.node_list.specs.Follow as nodes
 use Rattle.node_list.specs.Sound as sound_lists
 pub use Rattle.list_steps.specs.declared.cursor.Cursor.{Cursor}
 pub use Rattle.list_steps.specs.declared.sweeps.SweepOutcome.{SweepOutcome}
-use Rattle.list_steps.specs.Seek.{sought}
 use Rattle.list_steps.specs.Steps as steps
-use Rattle.list_steps.specs.Content.{pairs}
 use Rattle.list_steps.specs.Found as cursors
-use Rattle.split_key.specs.Sort.{regular_at}
-use Rattle.bucket_table.specs.Directory.{Directory, IsNearest, helper_of, limit_of}
 use Rattle.bucket_table.specs.Directory as directories
-use Rattle.bucket_table.specs.Dummies.{has_dummy}
-use Rattle.bucket_table.specs.Home.{IsHome}
 pub use Rattle.bucket_table.specs.Helpers.{Help, Nothing, Sought, Dummy, help_of}
-use Rattle.bucket_table.specs.Helpers.{cursor_fits}
-use Rattle.bucket_table.specs.declared.helper.Helper.{Helper}
-use Rattle.bucket_table.specs.declared.helper.Helper.TheVariants.{Idle, Seeking, Holding}
-use Rattle.txn_words.specs.Map.{Map, empty, insert}
 
 -- The list of nodes and the buckets. Contracts speak of these two only through the definitions
 -- below.

@@ -22,10 +22,10 @@ pub told_some : (does : Access → Type 0) (accesses : List Access) (o : Option 
 told_some does accesses o d is told = subst (Told does accesses) is told
 
 -- One more edge with its meaning.
-meant_more : (accesses : List Access) (edge : Edge) (to : ℕ) (old new : Graph) → Adds edge to old new → Means accesses edge to → AreMeant accesses old → AreMeant accesses new
-meant_more accesses edge to old new adds means were u l has = elim (adds.only u l has) [
+meant_more : (accesses : List Access) (since : ℕ → ℕ) (edge : Edge) (to : ℕ) (old new : Graph) → Adds edge to old new → Means accesses since edge to → AreMeant accesses since old → AreMeant accesses since new
+meant_more accesses since edge to old new adds means were u l has = elim (adds.only u l has) [
   | inl before ↦ were u l before
-  | inr last ↦ subst (λ m. Means accesses m u) (sym last.1) (subst (Means accesses edge) (sym last.0) means)
+  | inr last ↦ subst (λ m. Means accesses since m u) (sym last.1) (subst (Means accesses since edge) (sym last.0) means)
 ]
 
 edge_from : (edge : Edge) (to : ℕ) (old new : Graph) → Adds edge to old new → IsEdge new edge.from to
@@ -63,18 +63,18 @@ module _ {R : Type 0} (accesses : List Access) (replacers : HashMap Version Doer
     pub len : length mid ≡ length old
     pub keeps : Keeps old mid
     pub reads : (t : ℕ) → a.source ≡ Some t → IsEdge mid t a.txn
-    pub meant : AreMeant accesses old → AreMeant accesses mid
+    pub meant : (since : ℕ → ℕ) → AreMeant accesses since old → AreMeant accesses since mid
 
   pub reads_nothing : (old mid : Graph) → mid ≡ old → ((t : ℕ) → a.source ≡ Some t → ⊥) → Reads old mid
   reads_nothing old mid same none =
-      subst (Reads old) (sym same) (record { len = refl; keeps = λ u l has. has; reads = λ t is. absurd (none t is); meant = λ were. were })
+      subst (Reads old) (sym same) (record { len = refl; keeps = λ u l has. has; reads = λ t is. absurd (none t is); meant = λ since were. were })
 
   pub reads_from : (old mid : Graph) (t : ℕ) → a.source ≡ Some t → Adds (record { from = t; kind = Read; key = a.key; value = a.need }) a.txn old mid → Reads old mid
   reads_from old mid t is adds = record {
     len = adds.len;
     keeps = adds.stays;
     reads = λ u u_is. let same : t ≡ u = cc (sym is ∙ u_is) in subst (λ v. IsEdge mid v a.txn) same (edge_from (record { from = t; kind = Read; key = a.key; value = a.need }) a.txn old mid adds);
-    meant = meant_more accesses (record { from = t; kind = Read; key = a.key; value = a.need }) a.txn old mid adds (subst (SourceIs accesses a) is (sourced a is_in), needs_at accesses a is_in);
+    meant = λ since were. meant_more accesses since (record { from = t; kind = Read; key = a.key; value = a.need }) a.txn old mid adds (subst (SourceIs accesses a) is (sourced a is_in), needs_at accesses a is_in) were;
   }
 
   module _ (old mid : Graph) (part : Reads old mid) where
@@ -117,11 +117,11 @@ module _ {R : Type 0} (accesses : List Access) (replacers : HashMap Version Doer
       abbrev pub back : Edge
       back = record { from = first.txn; kind = Replaced; key = a.key; value = a.need }
 
-      forth_meant : (first.txn ≡ a.txn → ⊥) → Means accesses forth first.txn
-      forth_meant other = (needs_at accesses a is_in, record { by = replacer.by; is_among = replacer.is_among; does_it = (replacer.does_it.0, need_same, replacer.does_it.2); txn_is = replacer.txn_is }, λ same. other (sym same))
+      forth_meant : (since : ℕ → ℕ) → (first.txn ≡ a.txn → ⊥) → Means accesses since forth first.txn
+      forth_meant since other = (needs_at accesses a is_in, record { by = replacer.by; is_among = replacer.is_among; does_it = (replacer.does_it.0, need_same, replacer.does_it.2); txn_is = replacer.txn_is }, λ same. other (sym same))
 
-      back_meant : (first.txn ≡ a.txn → ⊥) → a.need ≢ a.left → Means accesses back a.txn
-      back_meant other changed = (
+      back_meant : (since : ℕ → ℕ) → (first.txn ≡ a.txn → ⊥) → a.need ≢ a.left → Means accesses since back a.txn
+      back_meant since other changed = (
         record { by = replacer.by; is_among = replacer.is_among; txn_is = replacer.txn_is; key_is = replacer.does_it.0; need_is = need_same },
         record { by = a; is_among = is_in; does_it = (refl, refl, changed); txn_is = refl },
         other,
@@ -137,7 +137,7 @@ module _ {R : Type 0} (accesses : List Access) (replacers : HashMap Version Doer
           replaces = λ f is apart. subst (λ (d : Doer). IsEdge new a.txn d.txn) (same_first f is) (edge_from forth first.txn mid new adds);
           twice = λ f is apart changed. absurd (changed unchanged);
         };
-        meant = λ were. meant_more accesses forth first.txn mid new adds (forth_meant other) (part.meant were);
+        meant = λ since were. meant_more accesses since forth first.txn mid new adds (forth_meant since other) (part.meant since were);
       }
 
       -- Another transaction replaces what the access replaces too.
@@ -150,5 +150,5 @@ module _ {R : Type 0} (accesses : List Access) (replacers : HashMap Version Doer
           replaces = λ f is apart. subst (λ (d : Doer). IsEdge newer a.txn d.txn) (same_first f is) (more_edge new newer a.txn first.txn more.stays (edge_from forth first.txn mid new adds));
           twice = λ f is apart differ. subst (λ (d : Doer). IsEdge newer d.txn a.txn) (same_first f is) (edge_from back a.txn new newer more);
         };
-        meant = λ were. meant_more accesses back a.txn new newer more (back_meant other changed) (meant_more accesses forth first.txn mid new adds (forth_meant other) (part.meant were));
+        meant = λ since were. meant_more accesses since back a.txn new newer more (back_meant since other changed) (meant_more accesses since forth first.txn mid new adds (forth_meant since other) (part.meant since were));
       }

@@ -18,6 +18,7 @@ use Rattle.order_check.specs.Orders.{IsOrderOf}
 use Rattle.order_check.specs.Outcomes.{cell_of, footprints_of, IsTxn, ArePlain}
 use Rattle.order_check.specs.Tables.{IsAmong}
 use Rattle.order_check.proofs.Numbers.{place_at}
+use Rattle.order_check.proofs.Places.{place-here, place-later}
 
 -- Runs depend only on the footprints of the transactions that run.
 pub runs_alike : (footprints others : ℕ → Footprint) (vs : Values) (ts : List ℕ) → ((t : ℕ) → IsIn t ts → others t ≡ footprints t) → RunsFrom footprints vs ts → RunsFrom others vs ts
@@ -217,19 +218,42 @@ range_more n =
 abbrev alike_all : (count : ℕ) (xs : List Access) → ArePlain count xs → AreAlike (range_with_len 0 count) xs
 alike_all count xs plain = are_alike count 0 xs plain.rising (λ a is_in. let less = plain.below a is_in in omega arith) plain.distinct
 
-pub order_in_turn : (count : ℕ) (xs : List Access) → ArePlain count xs → RunInTurn no_values xs → IsOrderOf (IsTxn count) (footprints_of xs) (range_with_len 0 count)
-order_in_turn count xs plain runs = record {
+place_in_range : (n count t : ℕ) → n ≤ t → t < n + count → place t (range_with_len n count) + n ≡ t
+place_in_range n zero t low high = absurd (omega arith)
+place_in_range n (suc count) t low high = elim (cases_eq n t) [
+  | inl same ↦ let here = place-here n t (range_with_len (n + 1) count) same in omega arith
+  | inr other ↦
+      let rest = place_in_range (n + 1) count t (up other) (omega arith) in
+      let after = place-later n t (range_with_len (n + 1) count) other in
+      omega arith
+]
+  where
+    up : (n ≡ t → ⊥) → n + 1 ≤ t
+    up other = elim (cases_order n t) [
+      | inl same ↦ absurd (other same)
+      | inr order ↦ elim order [ inl less ↦ omega arith | inr greater ↦ absurd (omega arith) ]
+    ]
+
+pub order_in_turn : (count : ℕ) (since : ℕ → ℕ) (xs : List Access) → ((t u : ℕ) → t < since u → (t < u) × (u < count)) → ArePlain count xs → RunInTurn no_values xs → IsOrderOf (IsTxn count) (footprints_of xs) since (range_with_len 0 count)
+order_in_turn count since xs early plain runs = record {
   each = record {
     apart = range_apart 0 count;
     all = λ t below. in_range_all 0 count t (omega arith) (omega arith);
     only = λ t is_in. let below = (in_range 0 count t is_in).1 in omega arith;
   };
   runs = (alike_all count xs plain).to no_values runs;
+  in_time = λ t u less.
+      let parts = early t u less in
+      let forward = parts.0 in
+      let below = parts.1 in
+      let first = place_in_range 0 count t (omega arith) (omega arith) in
+      let second = place_in_range 0 count u (omega arith) (omega arith) in
+      omega arith;
 }
 
 -- And the other way round.
-pub runs_in_turn : (count : ℕ) (xs : List Access) → ArePlain count xs → IsOrderOf (IsTxn count) (footprints_of xs) (range_with_len 0 count) → RunInTurn no_values xs
-runs_in_turn count xs plain order = (alike_all count xs plain).from no_values order.runs
+pub runs_in_turn : (count : ℕ) (xs : List Access) → ArePlain count xs → RunsFrom (footprints_of xs) no_values (range_with_len 0 count) → RunInTurn no_values xs
+runs_in_turn count xs plain runs = (alike_all count xs plain).from no_values runs
 
 -- The numbers from 0 on name all of a list.
 shift : (f : ℕ → ℕ) (a n : ℕ) → map f (range_with_len (suc a) n) ≡ map (λ i. f (suc i)) (range_with_len a n)

@@ -1,6 +1,6 @@
 -- Shows that the outcome on accesses holds of the history's transactions, because the accesses are
 -- the footprints of the committed transactions, in the order of their commits.
-use Rattle.std.proofs.Common.{◌≡◌, ◌≢◌, ℕ, ◌<◌, List, [], ◌∷◌, length, map, Option, Some, None, refl, ap, sym, ◌∙◌, subst}
+use Rattle.std.proofs.Common.{◌≡◌, ◌≢◌, ℕ, ◌<◌, Bool, List, [], ◌∷◌, length, map, Option, Some, None, refl, ap, sym, ◌∙◌, subst}
 use Rattle.std.specs.Option.{IfSome}
 use mathlib.Core.Logic.{inl, inr}
 use Rattle.txn_words.specs.declared.entry.Entry.{Entry}
@@ -10,10 +10,10 @@ use Rattle.txn_trace.specs.History.{commits}
 use Rattle.order_check.specs.declared.access.Access.{Access}
 use Rattle.order_check.specs.declared.edge.Edge.{Edge}
 use Rattle.order_check.specs.declared.edge.Kind.{Kind}
-use Rattle.order_check.specs.declared.edge.Kind.TheVariants.{Read, Replaced}
+use Rattle.order_check.specs.declared.edge.Kind.TheVariants.{Read, Replaced, Began}
 use Rattle.order_check.specs.Choices.{IsUnwritten as IsLacking}
 use Rattle.order_check.specs.Dependencies.{Needs, Writes, Replaces, ComesOnce as OnceIn}
-use Rattle.order_check.specs.Footprints.{Cell, Footprint, no_values, value_seen}
+use Rattle.order_check.specs.Footprints.{Cell, Footprint, RunsFrom, no_values, value_seen}
 use Rattle.order_check.specs.Forces.{dependency_of, Forces}
 use Rattle.order_check.specs.Graphs.{IsWay, IsCycle}
 use Rattle.order_check.specs.Joined.{NeedsAt}
@@ -24,15 +24,16 @@ use Rattle.std.specs.List.{range_with_len}
 use Rattle.serial_check.specs.Serializable.{IsSerializableByCommits}
 use Rattle.order_check.specs.declared.outcome.Outcome.{Outcome}
 use Rattle.order_check.specs.InTurn.{RunInTurn}
-use Rattle.order_check.specs.Orders.{IsOrderOf}
-use Rattle.order_check.specs.Outcomes.{cell_of, footprints_of, ArePlain, IsTxn, IsOutcome, IsRepeated as RepeatedIn}
+use Rattle.order_check.specs.Outcomes.{cell_of, footprints_of, ArePlain, IsOutcome, IsRepeated as RepeatedIn}
 use Rattle.order_check.specs.Reasons.{RunOf, NeedsValue, WritesValue, ReplacesValue, MayWrite, IsUnwritten, ComesOnce, IsForced, IsRepeated}
 use Rattle.order_check.specs.Serializable.{IsCommitted}
 use Rattle.order_check.specs.Tables.{DoesWrite, IsAmong}
+use Rattle.order_check.specs.Timing.{IsSince, IsTiming, since_in}
 use Rattle.order_check.proofs.ByCommits.{commits_run, serializable_in_order}
 use Rattle.order_check.proofs.Histories.{order_from_history}
 use Rattle.order_check.proofs.AccessOrder.{runs_in_turn, places_all}
 use Rattle.order_check.proofs.Meanings.{comes_from, foot_there}
+use Rattle.order_check.proofs.RealTimes.{earlier_named}
 use Rattle.order_check.proofs.Numbers.{name_at as name_of, place_below, in_names, place_at}
 
 module _ (h : List Entry) (accesses : List Access) (plain : ArePlain (length (commits h)) accesses) (have : HaveAccesses h None accesses) where
@@ -105,26 +106,31 @@ module _ (h : List Entry) (accesses : List Access) (plain : ArePlain (length (co
         let places = (commits_run h shape).apart in
         apart (sym (place_at (commits h) i places below_i) ∙ ap (λ t. place t (commits h)) same ∙ place_at (commits h) j places below_j)
 
-    forced_of : (kind : Kind) (t u k : ℕ) (v : Option ℕ) → dependency_of kind footprints t u k v → IsForced h (record { from = name t; kind = kind; key = k; value = v }) (name u)
-    forced_of Read t u k v edge =
-        let below_t = below_of t k edge.writes.cell edge.writes.there in
-        let below_u = below_of u k edge.needs.cell edge.needs.there in
-        record { first = committed_at t below_t; second = committed_at u below_u; once = once_is k v edge.once; why = (writes_value t k v below_t edge.writes, needs_value u k v below_u edge.needs) }
-    forced_of Replaced t u k v edge =
-        let below_t = below_of t k edge.needs.cell edge.needs.there in
-        let below_u = below_of u k edge.replaces.cell edge.replaces.there in
-        record { first = committed_at t below_t; second = committed_at u below_u; once = once_is k v edge.once; why = (apart_at t u below_t below_u edge.apart, needs_value t k v below_t edge.needs, replaces_value u k v below_u edge.replaces) }
+    -- With or without real time.
+    module _ (b : Bool) (since : List ℕ) (timing : IsTiming (length (commits h)) since) (sinces : (i : ℕ) → i < length (commits h) → IsSince b h (name i) (since_in since i)) where
+      forced_of : (kind : Kind) (t u k : ℕ) (v : Option ℕ) → dependency_of kind footprints (since_in since) t u k v → IsForced b h (record { from = name t; kind = kind; key = k; value = v }) (name u)
+      forced_of Began t u k v edge =
+          let parts = earlier_named b h (commits_run h shape).apart since timing sinces t u edge in
+          record { first = committed_at t parts.0; second = committed_at u parts.1; why = parts.2 }
+      forced_of Read t u k v edge =
+          let below_t = below_of t k edge.writes.cell edge.writes.there in
+          let below_u = below_of u k edge.needs.cell edge.needs.there in
+          record { first = committed_at t below_t; second = committed_at u below_u; why = (once_is k v edge.once, writes_value t k v below_t edge.writes, needs_value u k v below_u edge.needs) }
+      forced_of Replaced t u k v edge =
+          let below_t = below_of t k edge.needs.cell edge.needs.there in
+          let below_u = below_of u k edge.replaces.cell edge.replaces.there in
+          record { first = committed_at t below_t; second = committed_at u below_u; why = (once_is k v edge.once, apart_at t u below_t below_u edge.apart, needs_value t k v below_t edge.needs, replaces_value u k v below_u edge.replaces) }
 
-    forced : (l : Edge) (u : ℕ) → Forces footprints l u → IsForced h (named_edge (commits h) l) (name u)
-    forced l u edge = forced_of l.kind l.from u l.key l.value edge
+      forced : (l : Edge) (u : ℕ) → Forces footprints (since_in since) l u → IsForced b h (named_edge (commits h) l) (name u)
+      forced l u edge = forced_of l.kind l.from u l.key l.value edge
 
-    way : (l : Edge) (ls : List Edge) (end : ℕ) → IsWay (Forces footprints) l ls end → IsWay (IsForced h) (named_edge (commits h) l) (map (named_edge (commits h)) ls) (name end)
-    way l [] end is = forced l end is
-    way l (m ∷ ms) end is = (forced l m.from is.0, way m ms end is.1)
+      way : (l : Edge) (ls : List Edge) (end : ℕ) → IsWay (Forces footprints (since_in since)) l ls end → IsWay (IsForced b h) (named_edge (commits h) l) (map (named_edge (commits h)) ls) (name end)
+      way l [] end is = forced l end is
+      way l (m ∷ ms) end is = (forced l m.from is.0, way m ms end is.1)
 
-    pub cycle_is : (ls : List Edge) → IsCycle (Forces footprints) ls → IsCycle (IsForced h) (map (named_edge (commits h)) ls)
-    cycle_is [] is = is
-    cycle_is (l ∷ ls) is = way l ls l.from is
+      pub cycle_is : (ls : List Edge) → IsCycle (Forces footprints (since_in since)) ls → IsCycle (IsForced b h) (map (named_edge (commits h)) ls)
+      cycle_is [] is = is
+      cycle_is (l ∷ ls) is = way l ls l.from is
 
   needs_at : (a : Access) → IsAmong a accesses → Needs (footprints a.txn) a.key a.need
   needs_at a is_in = record { cell = cell_of a; there = foot_there accesses a plain.distinct is_in; need_is = refl }
@@ -158,6 +164,20 @@ module _ (h : List Entry) (accesses : List Access) (plain : ArePlain (length (co
       let below : t < length (commits h) = subst (λ i. i < length (commits h)) txn_is (plain.below a is_in) in
       (below, writes_value t k v below (subst (λ i. Writes (footprints i) k v) txn_is (subst (λ q. Writes (footprints a.txn) q v) does.0 (subst (Writes (footprints a.txn) a.key) does.1 (writes_at a is_in does.2)))))
 
+  -- A transaction that writes a value, by its access and by its runs.
+  pub writer_is : (k : ℕ) (v : Option ℕ) (t : ℕ) (a : Access) → IsAmong a accesses → DoesWrite (k, v) a → name a.txn ≡ t → IsCommitted h t × WritesValue h t k v
+  writer_is k v t a is_among does name_is =
+      let writes = does_is a.txn k v a is_among refl does in
+      subst (λ u. IsCommitted h u × WritesValue h u k v) name_is (committed_at a.txn writes.0, writes.1)
+
+  pub writer_from : (k : ℕ) (v : Option ℕ) (t : ℕ) → IsCommitted h t → MayWrite h t k v → (a : Access) × IsAmong a accesses × DoesWrite (k, v) a × (name a.txn ≡ t)
+  writer_from k v t committed may =
+      let p = placed t committed in
+      let w = may_at t k v p may in
+      let f = comes_from accesses p.at k w.cell w.there in
+      let left_is : f.by.left ≡ v = ap (λ (c : Cell). c.now) f.cell_is ∙ w.now_is in
+      (f.by, f.is_among, (f.key_is, left_is, λ same. w.changed (sym (ap (λ (c : Cell). c.need) f.cell_is) ∙ same ∙ left_is)), ap name f.txn_is ∙ p.is)
+
   pub repeated_is : IsShaped h → (k : ℕ) (v : Option ℕ) → RepeatedIn accesses (k, v) → IsRepeated h k v
   repeated_is shape k v is =
       let first = does_is is.0 k v is.1.by is.1.is_among is.1.txn_is is.1.does_it in
@@ -174,12 +194,13 @@ module _ (h : List Entry) (accesses : List Access) (plain : ArePlain (length (co
       }
 
 -- The outcome, as the code has it.
-pub outcome_on : (n m : ℕ) (xs ys : List Access) (o p : Outcome) → n ≡ m → xs ≡ ys → o ≡ p → IsOutcome n xs o → IsOutcome m ys p
-outcome_on n m xs ys o p count same is outcome = subst (IsOutcome m ys) is (subst (λ zs. IsOutcome m zs o) same (subst (λ k. IsOutcome k xs o) count outcome))
+pub outcome_on : (n m : ℕ) (s r : List ℕ) (xs ys : List Access) (o p : Outcome) → n ≡ m → s ≡ r → xs ≡ ys → o ≡ p → IsOutcome n (since_in s) xs o → IsOutcome m (since_in r) ys p
+outcome_on n m s r xs ys o p count times same is outcome =
+    subst (IsOutcome m (since_in r) ys) is (subst (λ zs. IsOutcome m (since_in r) zs o) same (subst (λ k. IsOutcome k (since_in r) xs o) count (subst (λ q. IsOutcome n (since_in q) xs o) times outcome)))
 
 -- If the order of the commits is a serial order, the accesses run in turn.
 pub by_commits_in_turn : (h : List Entry) (n : ℕ) (xs : List Access) → n ≡ length (commits h) → ArePlain n xs → HaveAccesses h None xs → IsSerializableByCommits h → RunInTurn no_values xs
 by_commits_in_turn h n xs n_is plain have is =
     let order = order_from_history h is.shape (footprints_of xs) have (commits h) (serializable_in_order h is) in
     let all : map (λ t. place t (commits h)) (commits h) ≡ range_with_len 0 (length (commits h)) = places_all (commits h) (commits_run h is.shape).apart in
-    runs_in_turn n xs plain (subst (λ m. IsOrderOf (IsTxn m) (footprints_of xs) (range_with_len 0 m)) (sym n_is) (subst (IsOrderOf (IsTxn (length (commits h))) (footprints_of xs)) all order))
+    runs_in_turn n xs plain (subst (λ m. RunsFrom (footprints_of xs) no_values (range_with_len 0 m)) (sym n_is) (subst (RunsFrom (footprints_of xs) no_values) all order.runs))

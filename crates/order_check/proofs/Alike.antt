@@ -1,5 +1,5 @@
 -- Runs of transactions alone and runs of their footprints are the same.
-use Rattle.std.proofs.Common.{◌≡◌, ℕ, List, [], ◌∷◌, None, IsSome, refl, ap, sym, ◌∙◌, subst}
+use Rattle.std.proofs.Common.{◌≡◌, ℕ, List, [], ◌∷◌, None, IsSome, refl, ap, sym, ◌∙◌, subst, arith}
 use mathlib.Core.Logic.{inl, inr}
 use Rattle.txn_words.specs.declared.entry.Entry.{Entry}
 use Rattle.txn_words.specs.Map.{Map, empty, get}
@@ -8,9 +8,10 @@ use Rattle.txn_trace.specs.Alone.{alone, map_after, last_map}
 use Rattle.txn_trace.proofs.Seated.{the_some}
 use Rattle.order_check.specs.Lists.{IsIn}
 use Rattle.order_check.specs.Footprints.{Footprint, no_values, leaves, RunsFrom}
-use Rattle.order_check.specs.Orders.{IsOrderOf, HasNoOrder}
+use Rattle.order_check.specs.Orders.{IsOrderOf}
 use Rattle.order_check.specs.Serializable.{RunAlone, IsCommitted, IsSerialOrder}
 use Rattle.order_check.specs.Footprints.{HasFootprint}
+use Rattle.order_check.proofs.Numbers.{no_time}
 
 -- The map after a run has the values that the footprint leaves.
 after_is : (es : List Entry) (footprint : Footprint) (m : Map) → HasFootprint es footprint → IsSome (alone m es) → get (map_after m es) ≡ leaves footprint (get m)
@@ -42,14 +43,11 @@ module _ (h : List Entry) (footprints : ℕ → Footprint) where
 
   -- If each committed transaction has its footprint, an order of the footprints is one of the history.
   module _ (have : (t : ℕ) → IsCommitted h t → HasFootprint (of t h) (footprints t)) where
-    pub order_of_footprints : (ts : List ℕ) → IsSerialOrder h ts → IsOrderOf (IsCommitted h) footprints ts
-    order_of_footprints ts order = record { each = order.each; runs = feet_run ts empty (λ t is_in. have t (order.each.only t is_in)) order.replies }
+    pub order_of_footprints : (ts : List ℕ) → IsSerialOrder h ts → IsOrderOf (IsCommitted h) footprints no_time ts
+    order_of_footprints ts order = record { each = order.each; runs = feet_run ts empty (λ t is_in. have t (order.each.only t is_in)) order.replies; in_time = λ t u less. absurd (omega arith) }
 
-    pub order_of_history : (ts : List ℕ) → IsOrderOf (IsCommitted h) footprints ts → IsSerialOrder h ts
+    pub order_of_history : (ts : List ℕ) → IsOrderOf (IsCommitted h) footprints no_time ts → IsSerialOrder h ts
     order_of_history ts order = record { each = order.each; replies = alone_run ts empty (λ t is_in. have t (order.each.only t is_in)) order.runs }
-
-    pub no_order : HasNoOrder (IsCommitted h) footprints → (ts : List ℕ) → IsSerialOrder h ts → ⊥
-    no_order none ts order = none ts (order_of_footprints ts order)
 
 -- A transaction of an order runs alone on some map.
 pub runs_there : (h : List Entry) (ts : List ℕ) (m : Map) (t : ℕ) → RunAlone h m ts → IsIn t ts → (n : Map) × IsSome (alone n (of t h))

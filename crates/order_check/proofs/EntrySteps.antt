@@ -40,19 +40,19 @@ use Rattle.order_check.proofs.Places.{in_left, in_right}
 abbrev pub AreNewest : List Entry → List ℕ → Type 0
 AreNewest h newest = (c t : ℕ) → c < 64 → txn_in h c ≡ Some t → get_or newest c 0 ≡ t
 
-not_began : (before : ℕ → Option ℕ) (e : Entry) (x : ℕ) → ((c t : ℕ) → e ≡ Began c t → ⊥) → txn_after before e x ≡ before x
+pub not_began : (before : ℕ → Option ℕ) (e : Entry) (x : ℕ) → ((c t : ℕ) → e ≡ Began c t → ⊥) → txn_after before e x ≡ before x
 not_began before (Began c t) x not_it = absurd (not_it c t refl)
 not_began before _ x not_it = refl
 
 pub newest_same : (h : List Entry) (e : Entry) (newest : List ℕ) → ((c t : ℕ) → e ≡ Began c t → ⊥) → AreNewest h newest → AreNewest (h ++ e ∷ []) newest
 newest_same h e newest not_it was c t below is = was c t below (sym (not_began (txn_in h) e c not_it) ∙ ap (λ f. f c) (sym (txn_in-push h e)) ∙ is)
 
-set_here : (xs : List ℕ) (i v : ℕ) → i < length xs → get_or (set xs i v) i 0 ≡ v
+pub set_here : (xs : List ℕ) (i v : ℕ) → i < length xs → get_or (set xs i v) i 0 ≡ v
 set_here [] i v below = absurd (omega arith)
 set_here (x ∷ xs) zero v below = refl
 set_here (x ∷ xs) (suc i) v below = set_here xs i v (omega arith)
 
-set_other : (xs : List ℕ) (i j v : ℕ) → (i ≡ j → ⊥) → get_or (set xs i v) j 0 ≡ get_or xs j 0
+pub set_other : (xs : List ℕ) (i j v : ℕ) → (i ≡ j → ⊥) → get_or (set xs i v) j 0 ≡ get_or xs j 0
 set_other [] i j v apart = refl
 set_other (x ∷ xs) zero zero v apart = absurd (apart refl)
 set_other (x ∷ xs) zero (suc j) v apart = refl
@@ -75,12 +75,12 @@ same_default [] i d e below = absurd (omega arith)
 same_default (x ∷ xs) zero d e below = refl
 same_default (x ∷ xs) (suc i) d e below = same_default xs i d e (omega arith)
 
-get_left : (xs : List ℕ) (t i : ℕ) → i < length xs → get_or (xs ++ t ∷ []) i 0 ≡ get_or xs i 0
+pub get_left : (xs : List ℕ) (t i : ℕ) → i < length xs → get_or (xs ++ t ∷ []) i 0 ≡ get_or xs i 0
 get_left [] t i below = absurd (omega arith)
 get_left (x ∷ xs) t zero below = refl
 get_left (x ∷ xs) t (suc i) below = get_left xs t i (omega arith)
 
-get_last : (xs : List ℕ) (t i : ℕ) → i ≡ length xs → get_or (xs ++ t ∷ []) i 0 ≡ t
+pub get_last : (xs : List ℕ) (t i : ℕ) → i ≡ length xs → get_or (xs ++ t ∷ []) i 0 ≡ t
 get_last [] t zero is = refl
 get_last [] t (suc i) is = absurd (omega arith)
 get_last (x ∷ xs) t zero is = absurd (omega arith)

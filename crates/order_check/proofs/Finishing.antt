@@ -73,12 +73,12 @@ unwritten_same xs ys a same is =
           is.none t.other t.is_among (t.key_is ∙ w.0, t.left_is ∙ w.1, λ equal. w.2 (sym t.need_is ∙ equal ∙ t.left_is));
     }
 
-pub outcome_same : (count : ℕ) (xs ys : List Access) (outcome : Outcome) → AreSame xs ys → IsOutcome count ys outcome → IsOutcome count xs outcome
-outcome_same count xs ys (Order ts) same is = subst (λ footprints. IsOrderOf (IsTxn count) footprints ts.items) (feet_same xs ys same) is
-outcome_same count xs ys (Unwritten a) same is = (unwritten_same xs ys a same is.0, subst (λ footprints. HasNoOrder (IsTxn count) footprints) (feet_same xs ys same) is.1)
-outcome_same count xs ys (Impossible a) same is = (needs_same xs ys a.txn (a.key, a.need) same is.0, subst (λ footprints. HasNoOrder (IsTxn count) footprints) (feet_same xs ys same) is.1)
-outcome_same count xs ys (Cycle ls) same is = (subst (λ footprints. IsCycle (Forces footprints) ls.items) (feet_same xs ys same) is.0, subst (λ footprints. HasNoOrder (IsTxn count) footprints) (feet_same xs ys same) is.1)
-outcome_same count xs ys (Ambiguous l) same is =
+pub outcome_same : (count : ℕ) (since : ℕ → ℕ) (xs ys : List Access) (outcome : Outcome) → AreSame xs ys → IsOutcome count since ys outcome → IsOutcome count since xs outcome
+outcome_same count since xs ys (Order ts) same is = subst (λ footprints. IsOrderOf (IsTxn count) footprints since ts.items) (feet_same xs ys same) is
+outcome_same count since xs ys (Unwritten a) same is = (unwritten_same xs ys a same is.0, subst (λ footprints. HasNoOrder (IsTxn count) footprints since) (feet_same xs ys same) is.1)
+outcome_same count since xs ys (Impossible a) same is = (needs_same xs ys a.txn (a.key, a.need) same is.0, subst (λ footprints. HasNoOrder (IsTxn count) footprints since) (feet_same xs ys same) is.1)
+outcome_same count since xs ys (Cycle ls) same is = (subst (λ footprints. IsCycle (Forces footprints since) ls.items) (feet_same xs ys same) is.0, subst (λ footprints. HasNoOrder (IsTxn count) footprints since) (feet_same xs ys same) is.1)
+outcome_same count since xs ys (Ambiguous l) same is =
     let back = same_sym xs ys same in (
       is.0,
       writes_there ys xs (l.key, l.value) is.0 back is.1,
@@ -89,14 +89,14 @@ outcome_same count xs ys (Ambiguous l) same is =
     )
 
 -- A value that is needed and that nobody writes.
-pub unwritten : (count : ℕ) (accesses : List Access) (a : Access) → ArePlain count accesses → IsUnwritten accesses a → HasNoOrder (IsTxn count) (footprints_of accesses)
-unwritten count accesses a plain is = at a.need refl
+pub unwritten : (count : ℕ) (since : ℕ → ℕ) (accesses : List Access) (a : Access) → ArePlain count accesses → IsUnwritten accesses a → HasNoOrder (IsTxn count) (footprints_of accesses) since
+unwritten count since accesses a plain is = at a.need refl
   where
-    at : (v : Option ℕ) → a.need ≡ v → HasNoOrder (IsTxn count) (footprints_of accesses)
+    at : (v : Option ℕ) → a.need ≡ v → HasNoOrder (IsTxn count) (footprints_of accesses) since
     at None none = absurd (false≢true (sym (ap is_some none) ∙ is.some))
     at (Some n) need_is =
         let b = is.needs.by in
-        no_writer (IsTxn count) (footprints_of accesses) b.txn b.key n (plain.below b is.needs.is_among) (record { cell = cell_of b; there = foot_there accesses b plain.distinct is.needs.is_among; need_is = is.needs.need_is ∙ need_is })
+        no_writer (IsTxn count) (footprints_of accesses) since b.txn b.key n (plain.below b is.needs.is_among) (record { cell = cell_of b; there = foot_there accesses b plain.distinct is.needs.is_among; need_is = is.needs.need_is ∙ need_is })
         (λ t w.
         let f = comes_from accesses t b.key w.cell w.there in
         let left_is : f.by.left ≡ Some n = ap (λ (c : Cell). c.now) f.cell_is ∙ w.now_is in

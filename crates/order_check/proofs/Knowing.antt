@@ -38,20 +38,20 @@ sets_at row i j is = elim (cases_eq j i) [
 ]
 
 -- One more thing is known.
-pub known_more : (n : ℕ) (accesses : List Access) (rows : List (Vec Bool Global)) (t u : ℕ) (row changed : Vec Bool Global) → t < length rows → row ≡ get_or rows t row → SetsAt u row.items changed.items
-    → ((x y : ℕ) → is_known rows x y ≡ true → Precedes n accesses x y) → Precedes n accesses t u → (x y : ℕ) → is_known (set rows t changed) x y ≡ true → Precedes n accesses x y
-known_more n accesses rows t u row changed below is sets were so x y known = elim (cases_eq x t) [
+pub known_more : (n : ℕ) (since : ℕ → ℕ) (accesses : List Access) (rows : List (Vec Bool Global)) (t u : ℕ) (row changed : Vec Bool Global) → t < length rows → row ≡ get_or rows t row → SetsAt u row.items changed.items
+    → ((x y : ℕ) → is_known rows x y ≡ true → Precedes n since accesses x y) → Precedes n since accesses t u → (x y : ℕ) → is_known (set rows t changed) x y ≡ true → Precedes n since accesses x y
+known_more n since accesses rows t u row changed below is sets were so x y known = elim (cases_eq x t) [
   | inl here ↦
       let in_row : get_or changed.items y false ≡ true = ap (λ bits. get_or bits y false) (sym (row-set_here rows t changed below)) ∙ ap (λ z. is_known (set rows t changed) z y) (sym here) ∙ known in
-      subst (λ z. Precedes n accesses z y) (sym here) (elim (sets y in_row) [
+      subst (λ z. Precedes n since accesses z y) (sym here) (elim (sets y in_row) [
         | inl before ↦ were t y (ap (λ bits. get_or bits y false) (row_read rows t row below is) ∙ before)
-        | inr last ↦ subst (Precedes n accesses t) last so
+        | inr last ↦ subst (Precedes n since accesses t) last so
       ])
   | inr other ↦ were x y (ap (λ bits. get_or bits y false) (sym (row-set_other rows t x changed other)) ∙ known)
 ]
 
-pub precedes_over : (n : ℕ) (accesses : List Access) (t u v : ℕ) → Precedes n accesses t u → Precedes n accesses u v → Precedes n accesses t v
-precedes_over n accesses t u v first second ts order =
+pub precedes_over : (n : ℕ) (since : ℕ → ℕ) (accesses : List Access) (t u v : ℕ) → Precedes n since accesses t u → Precedes n since accesses u v → Precedes n since accesses t v
+precedes_over n since accesses t u v first second ts order =
     let a = first ts order in
     let b = second ts order in
     omega arith

@@ -26,7 +26,13 @@ pub mod AccessOrder
 pub mod Gathering
 pub mod EntrySteps
 pub mod AccessOutcomes
+mod Writing
 pub mod Misshapen
 mod Latest
 mod Knowing
 mod SourcesLeft
+pub mod Beginnings
+pub mod RealTimes
+pub mod SinceSteps
+pub mod Strictly
+pub mod Times

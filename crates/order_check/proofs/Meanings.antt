@@ -8,7 +8,7 @@ use Rattle.std.proofs.lemmas.List.Elements.{All-head, All-tail}
 use mathlib.Core.Logic.{inl, inr}
 use Rattle.order_check.specs.declared.access.Access.{Access}
 use Rattle.order_check.specs.declared.edge.Kind.{Kind}
-use Rattle.order_check.specs.declared.edge.Kind.TheVariants.{Read, Replaced}
+use Rattle.order_check.specs.declared.edge.Kind.TheVariants.{Read, Replaced, Began}
 use Rattle.order_check.specs.declared.edge.Edge.{Edge}
 use Rattle.order_check.specs.declared.table.Doer.{Doer}
 use Rattle.order_check.specs.Lists.{IsIn, place, HasEachOnce}
@@ -16,10 +16,10 @@ use Rattle.order_check.specs.Footprints.{Cell}
 use Rattle.order_check.specs.Dependencies.{Needs, Writes, Replaces, ComesOnce}
 use Rattle.order_check.specs.Forces.{dependency_of, Forces, OnlyThese}
 use Rattle.order_check.specs.Graphs.{Graph, HasEdge, AreInRange, KeepsEdges, IsWay, IsCycle}
-use Rattle.order_check.specs.Orders.{IsOrderOf, HasNoOrder}
+use Rattle.order_check.specs.Orders.{KeepsTime, IsOrderOf, HasNoOrder}
 use Rattle.order_check.specs.Tables.{Version, version_eq, DoesWrite, DoesReplace, ReplacesValue, IsAmong, ToldOf, Told, AreTold, AreBelow}
 use Rattle.order_check.specs.Joined.{NeedsAt, DoesAt, SourceIs, AreDistinct, meaning_of, AreMeant, IsEdge, IsJoined}
-use Rattle.order_check.specs.Outcomes.{cell_of, footprints_of, sources_of, AreAccesses, IsTxn, comes_once, IsOnce, IsRepeated}
+use Rattle.order_check.specs.Outcomes.{cell_of, footprints_of, sources_of, AreAccesses, IsTxn, comes_once, holds_always, IsOnce, IsRepeated}
 use Rattle.order_check.proofs.AccessEdges.{told_some}
 use Rattle.order_check.specs.Sources.{Gives}
 use Rattle.order_check.proofs.Versions.{runs_by_sources}
@@ -116,7 +116,7 @@ module _ (count : ℕ) (accesses : List Access) (are : AreAccesses count accesse
       let f = comes_from accesses t k cell there in
       subst (IsTxn count) f.txn_is (are.below f.by f.is_among)
 
-  module _ {S R : Type 0} (writers : HashMap Version Doer S) (replacers : HashMap Version Doer R) (told : AreTold accesses writers replacers) where
+  module _ (since : ℕ → ℕ) {S R : Type 0} (writers : HashMap Version Doer S) (replacers : HashMap Version Doer R) (told : AreTold accesses writers replacers) where
     below_of : (does : Access → Type 0) (d : Doer) → ToldOf does accesses d → d.txn < count
     below_of does d t = subst (IsTxn count) t.txn_is (are.below t.by t.is_among)
 
@@ -142,47 +142,52 @@ module _ (count : ℕ) (accesses : List Access) (are : AreAccesses count accesse
           fresh = λ is x wx. absurd (false≢true (sym (ap is_some is) ∙ parts.0));
         }
 
-    forces_of : (kind : Kind) (t k : ℕ) (v : Option ℕ) (u : ℕ) → meaning_of accesses kind t (k, v) u → ComesOnce (footprints_of accesses) k v → dependency_of kind (footprints_of accesses) t u k v
-    forces_of Read t k v u means once = record { once = once; writes = writes_of t (k, v) means.0; needs = needs_of u (k, v) means.1 }
-    forces_of Replaced t k v u means once = record { once = once; apart = means.2; needs = needs_of t (k, v) means.0; replaces = replaces_of u (k, v) means.1 }
+    once_at : (k : ℕ) (v : Option ℕ) → comes_once (told_at version_eq writers (k, v)) v ≡ true → ComesOnce (footprints_of accesses) k v
+    once_at k v once = once_of k v (told_at version_eq writers (k, v)) (told.writes (k, v)) once
 
-    module _ (graph : Graph) (meant : AreMeant accesses graph) where
-      edge_forces : (l : Edge) (u : ℕ) → HasEdge graph l u → IsOnce writers l → Forces (footprints_of accesses) l u
-      edge_forces l u has once =
-          forces_of l.kind l.from l.key l.value u (meant u l has) (once_of l.key l.value (told_at version_eq writers (l.key, l.value)) (told.writes (l.key, l.value)) once)
+    forces_of : (kind : Kind) (t k : ℕ) (v : Option ℕ) (u : ℕ) → meaning_of accesses since kind t (k, v) u → holds_always kind (told_at version_eq writers (k, v)) v ≡ true → dependency_of kind (footprints_of accesses) since t u k v
+    forces_of Read t k v u means once = record { once = once_at k v once; writes = writes_of t (k, v) means.0; needs = needs_of u (k, v) means.1 }
+    forces_of Replaced t k v u means once = record { once = once_at k v once; apart = means.2; needs = needs_of t (k, v) means.0; replaces = replaces_of u (k, v) means.1 }
+    forces_of Began t k v u means once = means
 
-      way_forces : (l : Edge) (ls : List Edge) (end : ℕ) → IsWay (HasEdge graph) l ls end → All (IsOnce writers) (l ∷ ls) → IsWay (Forces (footprints_of accesses)) l ls end
+    module _ (graph : Graph) (meant : AreMeant accesses since graph) where
+      edge_forces : (l : Edge) (u : ℕ) → HasEdge graph l u → IsOnce writers l → Forces (footprints_of accesses) since l u
+      edge_forces l u has once = forces_of l.kind l.from l.key l.value u (meant u l has) once
+
+      way_forces : (l : Edge) (ls : List Edge) (end : ℕ) → IsWay (HasEdge graph) l ls end → All (IsOnce writers) (l ∷ ls) → IsWay (Forces (footprints_of accesses) since) l ls end
       way_forces l [] end way all = edge_forces l end way (All-head (IsOnce writers) l [] all)
       way_forces l (m ∷ ms) end way all = (edge_forces l m.from way.0 (All-head (IsOnce writers) l (m ∷ ms) all), way_forces m ms end way.1 (All-tail (IsOnce writers) l (m ∷ ms) all))
 
-      cycle_forces : (ls : List Edge) → IsCycle (HasEdge graph) ls → All (IsOnce writers) ls → IsCycle (Forces (footprints_of accesses)) ls
+      cycle_forces : (ls : List Edge) → IsCycle (HasEdge graph) ls → All (IsOnce writers) ls → IsCycle (Forces (footprints_of accesses) since) ls
       cycle_forces [] cycle all = cycle
       cycle_forces (l ∷ ls) cycle all = way_forces l ls l.from cycle all
 
-      pub cycle_found : (ls : List Edge) → IsCycle (HasEdge graph) ls → All (IsOnce writers) ls → IsCycle (Forces (footprints_of accesses)) ls × HasNoOrder (IsTxn count) (footprints_of accesses)
+      pub cycle_found : (ls : List Edge) → IsCycle (HasEdge graph) ls → All (IsOnce writers) ls → IsCycle (Forces (footprints_of accesses) since) ls × HasNoOrder (IsTxn count) (footprints_of accesses) since
       cycle_found ls cycle all =
           let forced = cycle_forces ls cycle all in
-          (forced, cycle_no_order (IsTxn count) (footprints_of accesses) only_these ls forced)
+          (forced, cycle_no_order (IsTxn count) (footprints_of accesses) since only_these ls forced)
 
-      certain_way : ((u : ℕ) (l : Edge) → HasEdge graph l u → IsOnce writers l) → (l : Edge) (ls : List Edge) (end : ℕ) → IsWay (HasEdge graph) l ls end → IsWay (Forces (footprints_of accesses)) l ls end
+      certain_way : ((u : ℕ) (l : Edge) → HasEdge graph l u → IsOnce writers l) → (l : Edge) (ls : List Edge) (end : ℕ) → IsWay (HasEdge graph) l ls end → IsWay (Forces (footprints_of accesses) since) l ls end
       certain_way once l [] end way = edge_forces l end way (once end l way)
       certain_way once l (m ∷ ms) end way = (edge_forces l m.from way.0 (once m.from l way.0), certain_way once m ms end way.1)
 
-      certain_cycle : ((u : ℕ) (l : Edge) → HasEdge graph l u → IsOnce writers l) → (ls : List Edge) → IsCycle (HasEdge graph) ls → IsCycle (Forces (footprints_of accesses)) ls
+      certain_cycle : ((u : ℕ) (l : Edge) → HasEdge graph l u → IsOnce writers l) → (ls : List Edge) → IsCycle (HasEdge graph) ls → IsCycle (Forces (footprints_of accesses) since) ls
       certain_cycle once [] cycle = cycle
       certain_cycle once (l ∷ ls) cycle = certain_way once l ls l.from cycle
 
-      pub certain_found : ((u : ℕ) (l : Edge) → HasEdge graph l u → IsOnce writers l) → (ls : List Edge) → IsCycle (HasEdge graph) ls → IsCycle (Forces (footprints_of accesses)) ls × HasNoOrder (IsTxn count) (footprints_of accesses)
+      pub certain_found : ((u : ℕ) (l : Edge) → HasEdge graph l u → IsOnce writers l) → (ls : List Edge) → IsCycle (HasEdge graph) ls → IsCycle (Forces (footprints_of accesses) since) ls × HasNoOrder (IsTxn count) (footprints_of accesses) since
       certain_found once ls cycle =
           let forced = certain_cycle once ls cycle in
-          (forced, cycle_no_order (IsTxn count) (footprints_of accesses) only_these ls forced)
+          (forced, cycle_no_order (IsTxn count) (footprints_of accesses) since only_these ls forced)
 
-      from_below : (kind : Kind) (t : ℕ) (q : Version) (u : ℕ) → meaning_of accesses kind t q u → t < count
-      from_below Read t q u means = subst (IsTxn count) means.0.txn_is (are.below means.0.by means.0.is_among)
-      from_below Replaced t q u means = subst (IsTxn count) means.0.txn_is (are.below means.0.by means.0.is_among)
+      module _ (early : (t u : ℕ) → t < since u → t < count) where
+        from_below : (kind : Kind) (t : ℕ) (q : Version) (u : ℕ) → meaning_of accesses since kind t q u → t < count
+        from_below Read t q u means = subst (IsTxn count) means.0.txn_is (are.below means.0.by means.0.is_among)
+        from_below Replaced t q u means = subst (IsTxn count) means.0.txn_is (are.below means.0.by means.0.is_among)
+        from_below Began t q u means = early t u means
 
-      pub in_range : length graph ≡ count → AreInRange graph
-      in_range len u l has = subst (λ n. l.from < n) (sym len) (from_below l.kind l.from (l.key, l.value) u (meant u l has))
+        pub in_range : length graph ≡ count → AreInRange graph
+        in_range len u l has = subst (λ n. l.from < n) (sym len) (from_below l.kind l.from (l.key, l.value) u (meant u l has))
 
     -- If all accesses have their edges, an order that keeps the edges is one of the footprints.
     module _ (graph : Graph) (joined : (a : Access) → IsAmong a accesses → IsJoined replacers graph a) (ts : List ℕ) (keeps : KeepsEdges graph ts) where
@@ -246,10 +251,10 @@ module _ (count : ℕ) (accesses : List Access) (are : AreAccesses count accesse
             | inr apart_u ↦ absurd (first_other f is apart_u)
           ]
 
-      pub order_found : (n : ℕ) → n ≡ count → HasEachOnce (λ t. t < n) ts → IsOrderOf (IsTxn count) (footprints_of accesses) ts
-      order_found n same each =
+      pub order_found : KeepsTime since ts → (n : ℕ) → n ≡ count → HasEachOnce (λ t. t < n) ts → IsOrderOf (IsTxn count) (footprints_of accesses) since ts
+      order_found in_time n same each =
           let there : HasEachOnce (IsTxn count) ts = subst (λ m. HasEachOnce (λ t. t < m) ts) same each in
-          record { each = there; runs = runs_by_sources (footprints_of accesses) (sources_of accesses) ts there.apart (record { gives = kept_gives; reads = kept_reads; replaces = kept_replaces }) }
+          record { each = there; runs = runs_by_sources (footprints_of accesses) (sources_of accesses) ts there.apart (record { gives = kept_gives; reads = kept_reads; replaces = kept_replaces }); in_time = in_time }
 
     -- A value that comes more than once by the tables does so.
     pub repeated_of : (k : ℕ) (v : Option ℕ) (o : Option Doer) → Told (DoesWrite (k, v)) accesses o → comes_once o v ≡ false → IsRepeated accesses (k, v)
@@ -267,5 +272,10 @@ module _ (count : ℕ) (accesses : List Access) (are : AreAccesses count accesse
         absent_is None is = refl
         absent_is (Some n) is = absurd (false≢true (sym is))
 
-    pub repeated : (l : Edge) → comes_once (told_at version_eq writers (l.key, l.value)) l.value ≡ false → IsRepeated accesses (l.key, l.value)
-    repeated l often = repeated_of l.key l.value (told_at version_eq writers (l.key, l.value)) (told.writes (l.key, l.value)) often
+    often_of : (kind : Kind) (o : Option Doer) (v : Option ℕ) → holds_always kind o v ≡ false → comes_once o v ≡ false
+    often_of Read o v often = often
+    often_of Replaced o v often = often
+    often_of Began o v often = absurd (false≢true (sym often))
+
+    pub repeated : (l : Edge) → holds_always l.kind (told_at version_eq writers (l.key, l.value)) l.value ≡ false → IsRepeated accesses (l.key, l.value)
+    repeated l often = repeated_of l.key l.value (told_at version_eq writers (l.key, l.value)) (told.writes (l.key, l.value)) (often_of l.kind (told_at version_eq writers (l.key, l.value)) l.value often)

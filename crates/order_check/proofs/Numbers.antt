@@ -4,7 +4,7 @@ use Rattle.std.proofs.lemmas.Bool.{cases_eq}
 use mathlib.Core.Logic.{inl, inr}
 use Rattle.order_check.specs.Lists.{IsIn, AreApart, place}
 use Rattle.order_check.specs.Footprints.{Footprint, Values, no_values, leaves, RunsFrom}
-use Rattle.order_check.specs.Orders.{IsOrderOf, HasNoOrder}
+use Rattle.order_check.specs.Orders.{IsOrderOf}
 use Rattle.order_check.proofs.Places.{place-here, place-later, in_rest}
 
 pub name_at : (names : List ℕ) (t : ℕ) → IsIn t names → get_or names (place t names) 0 ≡ t
@@ -73,14 +73,18 @@ runs_map footprints footprints' f vs (t ∷ ts) same runs =
     subst (λ footprint. record { 0 : (k : ℕ) → Rattle.std.specs.Option.IfSome (footprint k) (λ cell. vs k ≡ cell.need); 1 : RunsFrom footprints' (leaves footprint vs) (map f ts) }) (sym is)
     (runs.0, runs_map footprints footprints' f (leaves (footprints t) vs) ts (λ u is_in. same u (inr is_in)) runs.1)
 
+-- Real time does not count.
+abbrev pub no_time : ℕ → ℕ
+no_time u = 0
+
 -- `names` has the number of each transaction.
 module _ (names : List ℕ) (apart : AreApart names) (footprints : ℕ → Footprint) where
   abbrev pub named : ℕ → Footprint
   named t = footprints (place t names)
 
   -- An order by places, with the numbers instead.
-  pub order_named : (ts : List ℕ) → IsOrderOf (λ i. i < length names) footprints ts → IsOrderOf (λ t. IsIn t names) named (map (λ i. get_or names i 0) ts)
-  order_named ts order = record {
+  pub order_named : (since : ℕ → ℕ) (ts : List ℕ) → IsOrderOf (λ i. i < length names) footprints since ts → IsOrderOf (λ t. IsIn t names) named no_time (map (λ i. get_or names i 0) ts)
+  order_named since ts order = record {
     each = record {
       apart = apart_map (λ i. get_or names i 0) (λ t. place t names) ts (λ i is_in. place_at names i apart (order.each.only i is_in)) order.each.apart;
       all = λ t is_in. subst (λ u. IsIn u (map (λ i. get_or names i 0) ts)) (name_at names t is_in) (in_map (λ i. get_or names i 0) (place t names) ts (order.each.all (place t names) (place_below names t is_in)));
@@ -89,10 +93,11 @@ module _ (names : List ℕ) (apart : AreApart names) (footprints : ℕ → Footp
           subst (λ u. IsIn u names) r.2 (in_names names r.0 (order.each.only r.0 r.1));
     };
     runs = runs_map footprints named (λ i. get_or names i 0) no_values ts (λ i is_in. ap footprints (place_at names i apart (order.each.only i is_in))) order.runs;
+    in_time = λ t u less. absurd (omega arith);
   }
 
   -- An order by numbers, with the places instead.
-  pub order_placed : (ts : List ℕ) → IsOrderOf (λ t. IsIn t names) named ts → IsOrderOf (λ i. i < length names) footprints (map (λ t. place t names) ts)
+  pub order_placed : (ts : List ℕ) → IsOrderOf (λ t. IsIn t names) named no_time ts → IsOrderOf (λ i. i < length names) footprints no_time (map (λ t. place t names) ts)
   order_placed ts order = record {
     each = record {
       apart = apart_map (λ t. place t names) (λ i. get_or names i 0) ts (λ t is_in. name_at names t (order.each.only t is_in)) order.each.apart;
@@ -102,7 +107,5 @@ module _ (names : List ℕ) (apart : AreApart names) (footprints : ℕ → Footp
           subst (λ j. j < length names) r.2 (place_below names r.0 (order.each.only r.0 r.1));
     };
     runs = runs_map named footprints (λ t. place t names) no_values ts (λ t is_in. refl) order.runs;
+    in_time = λ t u less. absurd (omega arith);
   }
-
-  pub no_order_named : HasNoOrder (λ i. i < length names) footprints → HasNoOrder (λ t. IsIn t names) named
-  no_order_named none ts order = none (map (λ t. place t names) ts) (order_placed ts order)

@@ -26,32 +26,32 @@ use Rattle.order_check.proofs.Meanings.{comes_from, foot_there}
 use Rattle.order_check.proofs.Values.{cases_option}
 use Rattle.order_check.proofs.Versions.{Changes}
 
-module _ (count : ℕ) (accesses : List Access) (a : Access) where
-  narrowed_with : (seen : List Access) (x : Access) (old new : Sources) → IsNarrowed count accesses a seen old
-      → ((s : Option ℕ) → IsLeft old s → IsLeft new s) → (x.left ≡ a.need → IsExcluded count accesses a (Some x.txn) ⊎ IsLeft new (Some x.txn)) → IsNarrowed count accesses a (seen ++ x ∷ []) new
+module _ (count : ℕ) (since : ℕ → ℕ) (accesses : List Access) (a : Access) where
+  narrowed_with : (seen : List Access) (x : Access) (old new : Sources) → IsNarrowed count since accesses a seen old
+      → ((s : Option ℕ) → IsLeft old s → IsLeft new s) → (x.left ≡ a.need → IsExcluded count since accesses a (Some x.txn) ⊎ IsLeft new (Some x.txn)) → IsNarrowed count since accesses a (seen ++ x ∷ []) new
   narrowed_with seen x old new was more last = record {
     first = ⊎_elim (λ e. inl e) (λ l. inr (more None l)) was.first;
     rest = λ b is_in left_is. elim (among_cases b x seen is_in) [
       | inl early ↦ ⊎_elim (λ e. inl e) (λ l. inr (more (Some b.txn) l)) (was.rest b early left_is)
-      | inr here ↦ subst (λ (y : Access). y.left ≡ a.need → IsExcluded count accesses a (Some y.txn) ⊎ IsLeft new (Some y.txn)) here last left_is
+      | inr here ↦ subst (λ (y : Access). y.left ≡ a.need → IsExcluded count since accesses a (Some y.txn) ⊎ IsLeft new (Some y.txn)) here last left_is
     ];
   }
 
   -- A change that is no source.
-  pub narrowed_same : (seen : List Access) (x : Access) (left : Sources) → IsNarrowed count accesses a seen left → (x.left ≡ a.need → IsExcluded count accesses a (Some x.txn)) → IsNarrowed count accesses a (seen ++ x ∷ []) left
+  pub narrowed_same : (seen : List Access) (x : Access) (left : Sources) → IsNarrowed count since accesses a seen left → (x.left ≡ a.need → IsExcluded count since accesses a (Some x.txn)) → IsNarrowed count since accesses a (seen ++ x ∷ []) left
   narrowed_same seen x left was never = narrowed_with seen x left left was (λ s l. l) (λ is. inl (never is))
 
   -- The first one that is, and a further one.
-  pub narrowed_only : (seen : List Access) (x : Access) → IsNarrowed count accesses a seen Nobody → IsNarrowed count accesses a (seen ++ x ∷ []) (Only (Some x.txn))
+  pub narrowed_only : (seen : List Access) (x : Access) → IsNarrowed count since accesses a seen Nobody → IsNarrowed count since accesses a (seen ++ x ∷ []) (Only (Some x.txn))
   narrowed_only seen x was = narrowed_with seen x Nobody (Only (Some x.txn)) was (λ s l. absurd l) (λ is. inr refl)
 
-  pub narrowed_several : (seen : List Access) (x : Access) (left : Sources) → IsNarrowed count accesses a seen left → IsNarrowed count accesses a (seen ++ x ∷ []) Several
+  pub narrowed_several : (seen : List Access) (x : Access) (left : Sources) → IsNarrowed count since accesses a seen left → IsNarrowed count since accesses a (seen ++ x ∷ []) Several
   narrowed_several seen x left was = narrowed_with seen x left Several was (λ s l. tt) (λ is. inr tt)
 
-  pub narrowed_begin : (left : Sources) → IsExcluded count accesses a None ⊎ IsLeft left None → IsNarrowed count accesses a [] left
+  pub narrowed_begin : (left : Sources) → IsExcluded count since accesses a None ⊎ IsLeft left None → IsNarrowed count since accesses a [] left
   narrowed_begin left first = record { first = first; rest = λ b is_in left_is. absurd is_in }
 
-  excluded : (changes : List Access) (left : Sources) → AreChanges accesses a.key changes → IsNarrowed count accesses a changes left → (source : Option ℕ) → (ts : List ℕ) → IsOrderOf (IsTxn count) (footprints_of accesses) ts → IsLast accesses ts a source → ⊥ ⊎ IsLeft left source
+  excluded : (changes : List Access) (left : Sources) → AreChanges accesses a.key changes → IsNarrowed count since accesses a changes left → (source : Option ℕ) → (ts : List ℕ) → IsOrderOf (IsTxn count) (footprints_of accesses) since ts → IsLast accesses ts a source → ⊥ ⊎ IsLeft left source
   excluded changes left all is None ts order last = ⊎_elim (λ e. inl (e ts order last)) (λ l. inr l) is.first
   excluded changes left all is (Some w) ts order last =
       let d = last.0 in
@@ -60,7 +60,7 @@ module _ (count : ℕ) (accesses : List Access) (a : Access) where
       (is.rest d.by (all.all d.by d.is_among (d.does_it.0, λ equal. d.does_it.2 equal)) d.does_it.1)
 
   -- After all changes, what is not left is excluded.
-  pub narrowed_end : (changes : List Access) (left : Sources) → AreChanges accesses a.key changes → IsNarrowed count accesses a changes left → HasOnly count accesses a left
+  pub narrowed_end : (changes : List Access) (left : Sources) → AreChanges accesses a.key changes → IsNarrowed count since accesses a changes left → HasOnly count since accesses a left
   narrowed_end changes Nobody all is = λ source ts order last. elim (excluded changes Nobody all is source ts order last) [
     | inl never ↦ never
     | inr never ↦ never
@@ -71,10 +71,10 @@ module _ (count : ℕ) (accesses : List Access) (a : Access) where
   ]
   narrowed_end changes Several all is = tt
 
-module _ (count : ℕ) (accesses : List Access) where
+module _ (count : ℕ) (since : ℕ → ℕ) (accesses : List Access) where
   module _ (plain : ArePlain count accesses) (a : Access) (is_in : IsAmong a accesses) where
     -- Each order has a source.
-    module _ (ts : List ℕ) (order : IsOrderOf (IsTxn count) (footprints_of accesses) ts) where
+    module _ (ts : List ℕ) (order : IsOrderOf (IsTxn count) (footprints_of accesses) since ts) where
       in_order : (b : Access) → IsAmong b accesses → IsIn b.txn ts
       in_order b in_b = order.each.all b.txn (plain.below b in_b)
 
@@ -101,11 +101,11 @@ module _ (count : ℕ) (accesses : List Access) where
       ]
 
     -- If all sources are excluded, there is no order.
-    pub none_left : HasOnly count accesses a Nobody → HasNoOrder (IsTxn count) (footprints_of accesses)
+    pub none_left : HasOnly count since accesses a Nobody → HasNoOrder (IsTxn count) (footprints_of accesses) since
     none_left excluded ts order = let s = source_in ts order in excluded s.0 ts order s.1
 
     -- If all but one are excluded, it is the source in every order.
-    pub one_left : (s : Option ℕ) → HasOnly count accesses a (Only s) → IsCertain count accesses a s
+    pub one_left : (s : Option ℕ) → HasOnly count since accesses a (Only s) → IsCertain count since accesses a s
     one_left s excluded ts order =
         let found = source_in ts order in
         elim (cases_option found.0 s) [
@@ -113,14 +113,14 @@ module _ (count : ℕ) (accesses : List Access) where
           | inr other ↦ absurd (excluded found.0 other ts order found.1)
         ]
 
-  module _ (a : Access) (known : Known) (are : AreKnown count accesses known) where
+  module _ (a : Access) (known : Known) (are : AreKnown count since accesses known) where
     -- A source that comes after the reader.
-    pub too_late : (source : Option ℕ) → is_late known.rows.items source a.txn ≡ true → IsExcluded count accesses a source
+    pub too_late : (source : Option ℕ) → is_late known.rows.items source a.txn ≡ true → IsExcluded count since accesses a source
     too_late None late ts order last = false≢true late
     too_late (Some w) late ts order last = let after = are a.txn w late ts order in let before = last.1 in absurd (omega arith)
 
     -- A source after which the key changes again before the reader.
-    pub overwritten : (source : Option ℕ) (b : Access) → IsAmong b accesses → ChangesKey a.key b → is_between known.rows.items source b.txn a.txn ≡ true → IsExcluded count accesses a source
+    pub overwritten : (source : Option ℕ) (b : Access) → IsAmong b accesses → ChangesKey a.key b → is_between known.rows.items source b.txn a.txn ≡ true → IsExcluded count since accesses a source
     overwritten None b in_b changes between ts order last =
         let early = are b.txn a.txn between ts order in
         elim (cases_eq b.txn a.txn) [
@@ -144,17 +144,17 @@ module _ (count : ℕ) (accesses : List Access) where
 
   module _ (a : Access) where
     -- The source comes before the reader, and no change comes between them.
-    pub source_first : (s : Option ℕ) → IsCertain count accesses a s → ComesFirst count accesses s a.txn
+    pub source_first : (s : Option ℕ) → IsCertain count since accesses a s → ComesFirst count since accesses s a.txn
     source_first None certain = tt
     source_first (Some w) certain = λ ts order. (certain ts order).1
 
-    pub none_between : (s : Option ℕ) (b : Access) → IsCertain count accesses a s → IsAmong b accesses → ChangesKey a.key b → StaysBeside count accesses s b.txn a.txn
+    pub none_between : (s : Option ℕ) (b : Access) → IsCertain count since accesses a s → IsAmong b accesses → ChangesKey a.key b → StaysBeside count since accesses s b.txn a.txn
     none_between None b certain in_b changes ts order = λ other. (certain ts order).1 b in_b changes other
     none_between (Some w) b certain in_b changes ts order = λ not_w not_a. (certain ts order).2 b in_b changes not_w not_a
 
   -- Who comes after the source comes after the reader, and who comes before the reader comes before
   -- the source.
-  pub reader_first : (w t reader : ℕ) → StaysBeside count accesses (Some w) t reader → t ≢ w → t ≢ reader → Precedes count accesses w t → Precedes count accesses reader t
+  pub reader_first : (w t reader : ℕ) → StaysBeside count since accesses (Some w) t reader → t ≢ w → t ≢ reader → Precedes count since accesses w t → Precedes count since accesses reader t
   reader_first w t reader beside not_w not_r after ts order =
       let late = after ts order in
       elim (beside ts order not_w not_r) [
@@ -162,7 +162,7 @@ module _ (count : ℕ) (accesses : List Access) where
         | inr first ↦ first
       ]
 
-  pub before_source : (w t reader : ℕ) → StaysBeside count accesses (Some w) t reader → t ≢ w → t ≢ reader → Precedes count accesses t reader → Precedes count accesses t w
+  pub before_source : (w t reader : ℕ) → StaysBeside count since accesses (Some w) t reader → t ≢ w → t ≢ reader → Precedes count since accesses t reader → Precedes count since accesses t w
   before_source w t reader beside not_w not_r before ts order =
       let early = before ts order in
       elim (beside ts order not_w not_r) [

@@ -20,7 +20,7 @@ among_at [] i d below = absurd (omega arith)
 among_at (x ∷ xs) zero d below = inl refl
 among_at (x ∷ xs) (suc i) d below = inr (among_at xs i d (omega arith))
 
-joined_more : {R : Type 0} (replacers : HashMap Version Doer R) (old new : Graph) (a : Access) → Keeps old new → IsJoined replacers old a → IsJoined replacers new a
+pub joined_more : {R : Type 0} (replacers : HashMap Version Doer R) (old new : Graph) (a : Access) → Keeps old new → IsJoined replacers old a → IsJoined replacers new a
 joined_more replacers old new a keeps was = record {
   reads = λ t is. more_edge old new t a.txn keeps (was.reads t is);
   replaces = λ f is apart. more_edge old new a.txn f.txn keeps (was.replaces f is apart);

@@ -37,21 +37,21 @@ IsLast accesses ts a (Some w) =
     → (place b.txn ts < place w ts) ⊎ (place a.txn ts < place b.txn ts))
 
 -- This is not the source in any order.
-abbrev pub IsExcluded : ℕ → List Access → Access → Option ℕ → Type 0
-IsExcluded count accesses a source =
-    (ts : List ℕ) → IsOrderOf (IsTxn count) (footprints_of accesses) ts → IsLast accesses ts a source → ⊥
+abbrev pub IsExcluded : ℕ → (ℕ → ℕ) → List Access → Access → Option ℕ → Type 0
+IsExcluded count since accesses a source =
+    (ts : List ℕ) → IsOrderOf (IsTxn count) (footprints_of accesses) since ts → IsLast accesses ts a source → ⊥
 
 -- This is the source in every order.
-abbrev pub IsCertain : ℕ → List Access → Access → Option ℕ → Type 0
-IsCertain count accesses a source =
-    (ts : List ℕ) → IsOrderOf (IsTxn count) (footprints_of accesses) ts → IsLast accesses ts a source
+abbrev pub IsCertain : ℕ → (ℕ → ℕ) → List Access → Access → Option ℕ → Type 0
+IsCertain count since accesses a source =
+    (ts : List ℕ) → IsOrderOf (IsTxn count) (footprints_of accesses) since ts → IsLast accesses ts a source
 
 -- All sources but these are excluded.
-abbrev pub HasOnly : ℕ → List Access → Access → Sources → Type 0
-HasOnly count accesses a Nobody = (source : Option ℕ) → IsExcluded count accesses a source
-HasOnly count accesses a (Only s) =
-    (source : Option ℕ) → source ≢ s → IsExcluded count accesses a source
-HasOnly count accesses a Several = Unit {0}
+abbrev pub HasOnly : ℕ → (ℕ → ℕ) → List Access → Access → Sources → Type 0
+HasOnly count since accesses a Nobody = (source : Option ℕ) → IsExcluded count since accesses a source
+HasOnly count since accesses a (Only s) =
+    (source : Option ℕ) → source ≢ s → IsExcluded count since accesses a source
+HasOnly count since accesses a Several = Unit {0}
 
 -- The source is one of those that are left.
 abbrev pub IsLeft : Sources → Option ℕ → Type 0
@@ -61,10 +61,10 @@ IsLeft Several source = Unit {0}
 
 -- Each of these sources is excluded or left: the beginning, and those of the changes seen that write
 -- what the access needs.
-pub record IsNarrowed (count : ℕ) (accesses : List Access) (a : Access) (seen : List Access) (left : Sources) : Type 0 where
-  pub first : IsExcluded count accesses a None ⊎ IsLeft left None
+pub record IsNarrowed (count : ℕ) (since : ℕ → ℕ) (accesses : List Access) (a : Access) (seen : List Access) (left : Sources) : Type 0 where
+  pub first : IsExcluded count since accesses a None ⊎ IsLeft left None
   pub rest : (b : Access) → IsAmong b seen → b.left ≡ a.need
-      → IsExcluded count accesses a (Some b.txn) ⊎ IsLeft left (Some b.txn)
+      → IsExcluded count since accesses a (Some b.txn) ⊎ IsLeft left (Some b.txn)
 
 -- Whether the access changes the key.
 abbrev pub changes_key : ℕ → Access → Bool
@@ -87,11 +87,11 @@ IsBeside ts (Some w) t reader =
     t ≢ w → t ≢ reader → (place t ts < place w ts) ⊎ (place reader ts < place t ts)
 
 -- The same in every order.
-abbrev pub StaysBeside : ℕ → List Access → Option ℕ → ℕ → ℕ → Type 0
-StaysBeside count accesses source t reader =
-    (ts : List ℕ) → IsOrderOf (IsTxn count) (footprints_of accesses) ts → IsBeside ts source t reader
+abbrev pub StaysBeside : ℕ → (ℕ → ℕ) → List Access → Option ℕ → ℕ → ℕ → Type 0
+StaysBeside count since accesses source t reader =
+    (ts : List ℕ) → IsOrderOf (IsTxn count) (footprints_of accesses) since ts → IsBeside ts source t reader
 
 -- If the source is a transaction, it comes before the reader in every order.
-abbrev pub ComesFirst : ℕ → List Access → Option ℕ → ℕ → Type 0
-ComesFirst count accesses None reader = Unit {0}
-ComesFirst count accesses (Some w) reader = Precedes count accesses w reader
+abbrev pub ComesFirst : ℕ → (ℕ → ℕ) → List Access → Option ℕ → ℕ → Type 0
+ComesFirst count since accesses None reader = Unit {0}
+ComesFirst count since accesses (Some w) reader = Precedes count since accesses w reader

@@ -1,9 +1,9 @@
 -- The edges that accesses give.
-use Rattle.std.specs.Prelude.{ℕ, ◌≡◌, ◌≢◌, Option, Some, None, List, [], ◌∷◌, length}
+use Rattle.std.specs.Prelude.{ℕ, ◌≡◌, ◌≢◌, ◌<◌, Option, Some, None, List, [], ◌∷◌, length}
 use Rattle.std.specs.HashMap.{HashMap, get as told_at}
 use Rattle.order_check.specs.declared.access.Access.{Access}
 use Rattle.order_check.specs.declared.edge.Kind.{Kind}
-use Rattle.order_check.specs.declared.edge.Kind.TheVariants.{Read, Replaced}
+use Rattle.order_check.specs.declared.edge.Kind.TheVariants.{Read, Replaced, Began}
 use Rattle.order_check.specs.declared.edge.Edge.{Edge}
 use Rattle.order_check.specs.declared.table.Doer.{Doer}
 use Rattle.order_check.specs.Graphs.{Graph, HasEdge}
@@ -37,17 +37,19 @@ abbrev pub AreDistinct : List Access → Type 0
 AreDistinct [] = Unit {0}
 AreDistinct (x ∷ xs) = ((a : Access) → IsAmong a xs → x.txn ≡ a.txn → x.key ≡ a.key → ⊥) × AreDistinct xs
 
--- What an edge to `u` says of the accesses.
-abbrev pub meaning_of : List Access → Kind → ℕ → Version → ℕ → Type 0
-meaning_of accesses Read t q u = DoesAt (DoesWrite q) accesses t × NeedsAt accesses u q
-meaning_of accesses Replaced t q u = NeedsAt accesses t q × DoesAt (ReplacesValue q) accesses u × (t ≢ u)
+-- What an edge to `u` says of the accesses, or of real time.
+abbrev pub meaning_of : List Access → (ℕ → ℕ) → Kind → ℕ → Version → ℕ → Type 0
+meaning_of accesses since Read t q u = DoesAt (DoesWrite q) accesses t × NeedsAt accesses u q
+meaning_of accesses since Replaced t q u =
+    NeedsAt accesses t q × DoesAt (ReplacesValue q) accesses u × (t ≢ u)
+meaning_of accesses since Began t q u = t < since u
 
-abbrev pub Means : List Access → Edge → ℕ → Type 0
-Means accesses l u = meaning_of accesses l.kind l.from (l.key, l.value) u
+abbrev pub Means : List Access → (ℕ → ℕ) → Edge → ℕ → Type 0
+Means accesses since l u = meaning_of accesses since l.kind l.from (l.key, l.value) u
 
 -- Each edge has its meaning.
-abbrev pub AreMeant : List Access → Graph → Type 0
-AreMeant accesses graph = (u : ℕ) (l : Edge) → HasEdge graph l u → Means accesses l u
+abbrev pub AreMeant : List Access → (ℕ → ℕ) → Graph → Type 0
+AreMeant accesses since graph = (u : ℕ) (l : Edge) → HasEdge graph l u → Means accesses since l u
 
 -- There is an edge from one transaction to the other.
 pub record IsEdge (graph : Graph) (t u : ℕ) : Type 0 where
@@ -71,4 +73,4 @@ pub record EdgesOne {R : Type 0} (accesses : List Access) (replacers : HashMap V
   pub len : length new ≡ length old
   pub keeps : Keeps old new
   pub joined : IsJoined replacers new a
-  pub meant : AreMeant accesses old → AreMeant accesses new
+  pub meant : (since : ℕ → ℕ) → AreMeant accesses since old → AreMeant accesses since new

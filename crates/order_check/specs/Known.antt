@@ -10,9 +10,9 @@ use Rattle.order_check.specs.Orders.{IsOrderOf}
 use Rattle.order_check.specs.Outcomes.{IsTxn, footprints_of}
 
 -- The first transaction comes before the second one in every order.
-abbrev pub Precedes : ℕ → List Access → ℕ → ℕ → Type 0
-Precedes count accesses t u =
-    (ts : List ℕ) → IsOrderOf (IsTxn count) (footprints_of accesses) ts → place t ts < place u ts
+abbrev pub Precedes : ℕ → (ℕ → ℕ) → List Access → ℕ → ℕ → Type 0
+Precedes count since accesses t u =
+    (ts : List ℕ) → IsOrderOf (IsTxn count) (footprints_of accesses) since ts → place t ts < place u ts
 
 -- The row of a transaction.
 abbrev pub row_of : List (Vec Bool Global) → ℕ → List Bool
@@ -25,9 +25,9 @@ abbrev pub is_known : List (Vec Bool Global) → ℕ → ℕ → Bool
 is_known rows t u = slice_index_or (row_of rows t) u false
 
 -- What the rows say is so.
-abbrev pub AreKnown : ℕ → List Access → Known → Type 0
-AreKnown count accesses known =
-    (t u : ℕ) → is_known known.rows.items t u ≡ true → Precedes count accesses t u
+abbrev pub AreKnown : ℕ → (ℕ → ℕ) → List Access → Known → Type 0
+AreKnown count since accesses known =
+    (t u : ℕ) → is_known known.rows.items t u ≡ true → Precedes count since accesses t u
 
 -- The row has true at no other index than before, and this one.
 abbrev pub SetsAt : ℕ → List Bool → List Bool → Type 0

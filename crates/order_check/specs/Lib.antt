@@ -3,6 +3,7 @@ pub mod Footprints
 pub mod Dependencies
 pub mod Orders
 pub mod Serializable
+pub mod RealTime
 pub mod Graphs
 pub mod Search
 pub mod Forces
@@ -10,6 +11,7 @@ pub mod Sources
 pub mod Tables
 pub mod Growth
 pub mod Joined
+pub mod Timing
 pub mod Choices
 pub mod Outcomes
 pub mod InTurn
@@ -17,6 +19,7 @@ pub mod Accesses
 pub mod Kept
 pub mod Reasons
 pub mod Named
+pub mod Writers
 pub mod Verdicts
 pub mod PlainProps
 pub mod Fed

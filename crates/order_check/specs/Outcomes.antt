@@ -5,6 +5,8 @@ use Rattle.order_check.specs.declared.access.Access.{Access}
 use Rattle.order_check.specs.declared.outcome.Outcome.{Outcome}
 use Rattle.order_check.specs.declared.outcome.Outcome.TheVariants.{Order, Unwritten, Impossible, Cycle, Ambiguous}
 use Rattle.order_check.specs.declared.edge.Edge.{Edge}
+use Rattle.order_check.specs.declared.edge.Kind.{Kind}
+use Rattle.order_check.specs.declared.edge.Kind.TheVariants.{Began}
 use Rattle.order_check.specs.declared.table.Doer.{Doer}
 use Rattle.order_check.specs.Footprints.{Cell, Footprint}
 use Rattle.order_check.specs.Forces.{Forces}
@@ -50,10 +52,17 @@ abbrev pub comes_once : Option Doer → Option ℕ → Bool
 comes_once None v = true
 comes_once (Some d) v = is_some v && d.is_only
 
-abbrev pub IsOnce : {S : Type 0} → HashMap Version Doer S → Edge → Type 0
-IsOnce writers l = comes_once (told_at version_eq writers (l.key, l.value)) l.value ≡ true
+-- Whether an edge of this kind holds in every order, if this is what is known of the writers of its
+-- value. An edge of real time has no value.
+abbrev pub holds_always : Kind → Option Doer → Option ℕ → Bool
+holds_always Began o v = true
+holds_always kind o v = comes_once o v
 
--- These edges are some of the others, and the value of each comes only once.
+abbrev pub IsOnce : {S : Type 0} → HashMap Version Doer S → Edge → Type 0
+IsOnce writers l =
+    holds_always l.kind (told_at version_eq writers (l.key, l.value)) l.value ≡ true
+
+-- These edges are some of the others, and each of them holds in every order.
 abbrev pub AreOnce : {S : Type 0} → HashMap Version Doer S → List Edge → List Edge → Type 0
 AreOnce writers all kept =
     (n : ℕ) (l : Edge) → slice_get kept n ≡ Some l → (m : ℕ) × (slice_get all m ≡ Some l) × IsOnce writers l
@@ -71,19 +80,21 @@ IsRepeated accesses q =
     × ((q.1 ≡ None) ⊎ DoesBeside (DoesWrite q) accesses t)
 
 -- One of the transactions needs the value of the access, and there is no order.
-abbrev pub IsImpossible : ℕ → List Access → Access → Type 0
-IsImpossible count accesses a =
-    NeedsAt accesses a.txn (a.key, a.need) × HasNoOrder (IsTxn count) (footprints_of accesses)
+abbrev pub IsImpossible : ℕ → (ℕ → ℕ) → List Access → Access → Type 0
+IsImpossible count since accesses a =
+    NeedsAt accesses a.txn (a.key, a.need) × HasNoOrder (IsTxn count) (footprints_of accesses) since
 
 -- The outcome on the accesses of so many transactions.
-abbrev pub IsOutcome : ℕ → List Access → Outcome → Type 0
-IsOutcome count accesses (Order ts) = IsOrderOf (IsTxn count) (footprints_of accesses) ts.items
-IsOutcome count accesses (Unwritten a) =
-    IsUnwritten accesses a × HasNoOrder (IsTxn count) (footprints_of accesses)
-IsOutcome count accesses (Impossible a) = IsImpossible count accesses a
-IsOutcome count accesses (Cycle ls) =
-    IsCycle (Forces (footprints_of accesses)) ls.items × HasNoOrder (IsTxn count) (footprints_of accesses)
-IsOutcome count accesses (Ambiguous l) = IsRepeated accesses (l.key, l.value)
+abbrev pub IsOutcome : ℕ → (ℕ → ℕ) → List Access → Outcome → Type 0
+IsOutcome count since accesses (Order ts) =
+    IsOrderOf (IsTxn count) (footprints_of accesses) since ts.items
+IsOutcome count since accesses (Unwritten a) =
+    IsUnwritten accesses a × HasNoOrder (IsTxn count) (footprints_of accesses) since
+IsOutcome count since accesses (Impossible a) = IsImpossible count since accesses a
+IsOutcome count since accesses (Cycle ls) =
+    IsCycle (Forces (footprints_of accesses) since) ls.items
+    × HasNoOrder (IsTxn count) (footprints_of accesses) since
+IsOutcome count since accesses (Ambiguous l) = IsRepeated accesses (l.key, l.value)
 
 -- The outcome is the order of the transactions' numbers.
 abbrev pub IsInTurn : ℕ → Outcome → Type 0

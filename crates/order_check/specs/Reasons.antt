@@ -1,17 +1,19 @@
--- PROMISES a-verdict-by-any-order-is-right: IsForced, IsRepeated
+-- PROMISES a-verdict-by-any-order-is-right: IsForced, IsRepeated, AreWriters
 -- Why a history is not serializable: what its transactions need and leave, and which of them must
 -- come first in every order.
-use Rattle.std.specs.Prelude.{ℕ, ◌≡◌, ◌≢◌, ◌⊎◌, false, Option, None, Some, List, [], ◌∷◌, ◌++◌, length}
+use Rattle.std.specs.Prelude.{ℕ, ◌≡◌, ◌≢◌, ◌<◌, ◌⊎◌, Bool, false, Option, None, Some, List, [], ◌∷◌, ◌++◌, length}
 use mathlib.Core.List.{IsPrefix}
 use Rattle.txn_words.specs.declared.entry.Entry.{Entry}
 use Rattle.txn_words.specs.Map.{Map, get}
 use Rattle.txn_words.specs.Shape.{is_shaped, IsShaped}
 use Rattle.txn_trace.specs.Alone.{AloneRun, alone}
-use Rattle.txn_trace.specs.History.{of}
+use Rattle.txn_trace.specs.History.{of, commits}
 use Rattle.order_check.specs.declared.edge.Kind.{Kind}
-use Rattle.order_check.specs.declared.edge.Kind.TheVariants.{Read, Replaced}
+use Rattle.order_check.specs.declared.edge.Kind.TheVariants.{Read, Replaced, Began}
 use Rattle.order_check.specs.declared.edge.Edge.{Edge}
+use Rattle.order_check.specs.Lists.{IsIn, place}
 use Rattle.order_check.specs.Serializable.{IsCommitted}
+use Rattle.order_check.specs.RealTime.{IsEarlierIf}
 
 -- The entry with this index is the first one of the wrong shape.
 pub record IsMisshapenAt (h : List Entry) (index : ℕ) : Type 0 where
@@ -56,18 +58,21 @@ pub record ComesOnce (h : List Entry) (k : ℕ) (v : Option ℕ) : Type 0 where
       → t ≡ u
   pub fresh : v ≡ None → IsUnwritten h k v
 
--- Why `t` comes before `u`: `u` reads what `t` writes, or `u` replaces what `t` reads.
-abbrev pub says : Kind → List Entry → ℕ → ℕ → ℕ → Option ℕ → Type 0
-says Read h t u k v = WritesValue h t k v × NeedsValue h u k v
-says Replaced h t u k v = (t ≢ u) × NeedsValue h t k v × ReplacesValue h u k v
+-- Why `t` comes before `u` in every order. The value comes only once, and `u` reads it where `t`
+-- writes it, or replaces it where `t` reads it. Or `t` had committed when `u` began, if real time
+-- counts.
+abbrev pub says : Bool → Kind → List Entry → ℕ → ℕ → ℕ → Option ℕ → Type 0
+says real_time Read h t u k v = ComesOnce h k v × WritesValue h t k v × NeedsValue h u k v
+says real_time Replaced h t u k v =
+    ComesOnce h k v × (t ≢ u) × NeedsValue h t k v × ReplacesValue h u k v
+says real_time Began h t u k v = IsEarlierIf real_time h t u
 
 -- The edge leads to `u`. Both transactions are committed. The edge says why the first one comes
--- before `u` in every order: its value comes only once.
-pub record IsForced (h : List Entry) (edge : Edge) (u : ℕ) : Type 0 where
+-- before `u` in every order.
+pub record IsForced (real_time : Bool) (h : List Entry) (edge : Edge) (u : ℕ) : Type 0 where
   pub first : IsCommitted h edge.from
   pub second : IsCommitted h u
-  pub once : ComesOnce h edge.key edge.value
-  pub why : says edge.kind h edge.from u edge.key edge.value
+  pub why : says real_time edge.kind h edge.from u edge.key edge.value
 
 -- The value comes more than once: two committed transactions write it, or a committed transaction
 -- makes the key absent.
@@ -76,3 +81,16 @@ pub record IsRepeated (h : List Entry) (k : ℕ) (v : Option ℕ) : Type 0 where
   pub committed : IsCommitted h txn
   pub writes : WritesValue h txn k v
   pub again : (v ≡ None) ⊎ ((u : ℕ) × IsCommitted h u × (u ≢ txn) × WritesValue h u k v)
+
+-- The list has the transactions in the order of their commits, and none twice.
+abbrev pub AreInOrder : List Entry → List ℕ → Type 0
+AreInOrder h [] = Unit {0}
+AreInOrder h (t ∷ ts) =
+    ((u : ℕ) → IsIn u ts → place t (commits h) < place u (commits h)) × AreInOrder h ts
+
+-- The list has each committed transaction that writes the value once, and no other, in the order of
+-- their commits.
+pub record AreWriters (h : List Entry) (k : ℕ) (v : Option ℕ) (ts : List ℕ) : Type 0 where
+  pub only : (t : ℕ) → IsIn t ts → IsCommitted h t × WritesValue h t k v
+  pub all : (t : ℕ) → IsCommitted h t → MayWrite h t k v → IsIn t ts
+  pub in_order : AreInOrder h ts

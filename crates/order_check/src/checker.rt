@@ -2,11 +2,12 @@
 //! The checker that is fed the entries of a history one after another, and judges it by any order
 //! of its transactions. It has the callers, what is kept of the transactions, the number of entries
 //! and the first entry of the wrong shape. It judges only when it is asked for its verdict.
-ghost use Rattle.std.specs.Prelude.{◌≡◌, ◌<◌, ◌++◌, [], ◌∷◌, List, IfOk, OnOk, OnErr};
+ghost use Rattle.std.specs.Prelude.{◌≡◌, ◌<◌, ◌++◌, [], ◌∷◌, Bool, List, IfOk, OnOk, OnErr};
 ghost use Rattle.txn_words.specs.Kinds.{caller_of};
 ghost use Rattle.txn_words.specs.Shape.{IsShaped};
 ghost use Rattle.txn_words.specs.declared.entry.Entry.{Entry};
 
+use crate::options::Options;
 use crate::transactions::Transactions;
 use crate::verdict::{Reason, Verdict};
 use history_check::Callers;
@@ -15,7 +16,8 @@ use txn_trace::Entry;
 
 /// A checker that is fed the entries of a history one after another.
 ///
-/// In a contract, `IsFed h checker` says that the checker was fed the entries `h`.
+/// In a contract, `IsFed real_time h checker` says that the checker judges with or without real time,
+/// and was fed the entries `h`.
 #[derive(Drop)]
 pub struct Checker {
     pub(crate) callers: Callers,
@@ -31,7 +33,7 @@ impl Checker {
     ghost use Rattle.history_check.specs.Callers.{HaveEntered};
     ghost use Rattle.serial_check.specs.Serializable.{IsSerializableByCommits};
     ghost use Rattle.order_check.specs.Fed.{IsFed};
-    ghost use Rattle.order_check.specs.Verdicts.{IsVerdictOn, IsOfCommits};
+    ghost use Rattle.order_check.specs.Verdicts.{IsVerdictIf, IsOfCommits};
 
     /// Returns a checker that was fed no entry yet.
     ///
@@ -42,12 +44,12 @@ impl Checker {
     /// # Cost
     ///
     /// Time and memory for 64 callers, so both are constant.
-    pub fn new(alloc: Global) -> Result<Checker, AllocError>
-        ensures { IfOk result (IsFed []) }
+    pub fn new(alloc: Global, options: Options) -> Result<Checker, AllocError>
+        ensures { IfOk result (IsFed options.real_time []) }
     {
         Ok(Checker {
             callers: Callers::new(alloc)?,
-            transactions: Transactions::new(alloc)?,
+            transactions: Transactions::new(alloc, options)?,
             fed: 0,
             misshapen: None,
         })
@@ -69,9 +71,10 @@ impl Checker {
     /// A Committed takes memory for each key of its transaction.
     pub fn feed(&mut self, entry: &Entry) -> Result<(), AllocError>
         requires { caller_of entry.now < 64 }
-        ensures ok { OnOk result ((h : List Entry) →
-            IsFed h self.old → IsFed (h ++ entry.now ∷ []) self.new) }
-        ensures err { OnErr result ((h : List Entry) → IsFed h self.old → IsFed h self.new) }
+        ensures ok { OnOk result ((b : Bool) (h : List Entry) →
+            IsFed b h self.old → IsFed b (h ++ entry.now ∷ []) self.new) }
+        ensures err { OnErr result ((b : Bool) (h : List Entry) →
+            IsFed b h self.old → IsFed b h self.new) }
     {
         if self.misshapen.is_some() {
             return Ok(());
@@ -99,11 +102,13 @@ impl Checker {
     ///
     /// Time and memory in proportion to the keys of the committed transactions, each counted once
     /// for each transaction that asked for it. The time is the expected one, since the keys are
-    /// hashed.
+    /// hashed. With real time also in proportion to the pairs of transactions that ran at the same
+    /// time. A search for an order adds at most the time of 64 steps for each of its branches.
     pub fn verdict(&self, alloc: Global) -> Result<Verdict, AllocError>
-        ensures verdict { (h : List Entry) → IsFed h self.now → IfOk result (IsVerdictOn h) }
-        ensures commits { (h : List Entry) → IsFed h self.now → IsSerializableByCommits h →
-            IfOk result (IsOfCommits h) }
+        ensures verdict { (b : Bool) (h : List Entry) → IsFed b h self.now →
+            IfOk result (IsVerdictIf b h) }
+        ensures commits { (b : Bool) (h : List Entry) → IsFed b h self.now →
+            IsSerializableByCommits h → IfOk result (IsOfCommits h) }
     {
         match self.misshapen {
             Some(entry) => Ok(Verdict::NotSerializable(Reason::Shape(entry))),
@@ -118,7 +123,8 @@ impl Checker {
     ///
     /// Constant time; takes no memory.
     pub fn callers(&self) -> &Callers
-        ensures { (h : List Entry) → IsFed h self.now → IsShaped h → HaveEntered h result.now }
+        ensures { (b : Bool) (h : List Entry) → IsFed b h self.now → IsShaped h →
+            HaveEntered h result.now }
     {
         &self.callers
     }

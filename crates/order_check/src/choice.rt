@@ -38,7 +38,7 @@ pub(crate) fn choose_sources(alloc: Global, accesses: &[Access]) -> Result<Choic
 {
     let tables = make_tables(alloc, accesses)?;
     let mut latest = HashMap::new(alloc);
-    let mut sourced = Vec::new(alloc);
+    let mut sourced = Vec::with_capacity(alloc, accesses.len())?;
     for access in accesses {
         let source = match source_of(&tables, &latest, access) {
             Source::Beginning => None,
@@ -83,17 +83,20 @@ fn source_of(tables: &Tables, latest: &HashMap<Version, u64>, access: &Access) -
     }
 }
 
-/// Searches for an order of so many transactions, and chooses the sources by it. Returns `None` if
-/// no order is found.
+/// Searches for an order of so many transactions by at most so many branches, and chooses the sources
+/// by it. `since` says of each
+/// transaction how many had committed when it began. Returns `None` if no order is found.
 pub(crate) fn find_sources(
     alloc: Global,
+    most_branches: usize,
     count: usize,
+    since: &[usize],
     accesses: &[Access],
 ) -> Result<Option<Vec<Access>>, AllocError>
     ensures { IfOk result (λ found. IfSome found (λ sourced.
         IsSourced accesses.now sourced.items)) }
 {
-    match find_writers(alloc, count, accesses)? {
+    match find_writers(alloc, most_branches, count, since, accesses)? {
         Some(writers) => with_writers(alloc, accesses, &writers),
         None => Ok(None),
     }
@@ -109,7 +112,7 @@ fn with_writers(
     ensures { IfOk result (λ found. IfSome found (λ sourced.
         IsSourced accesses.now sourced.items)) }
 {
-    let mut sourced = Vec::new(alloc);
+    let mut sourced = Vec::with_capacity(alloc, accesses.len())?;
     for access in accesses {
         let Some(source) = source_by(accesses, access, writers.get(sourced.len())) else {
             return Ok(None);

@@ -7,6 +7,8 @@ pub enum Kind {
     Read,
     /// The other one replaces what the first one reads.
     Replaced,
+    /// The first one had committed when the other one began. Only where real time counts.
+    Began,
 }
 
 /// A transaction that must come before another one, and why.
@@ -16,8 +18,8 @@ pub struct Edge {
     pub from: u64,
     /// Why it must come first.
     pub kind: Kind,
-    /// The key at which it must come first.
+    /// The key at which it must come first, or 0 by real time.
     pub key: u64,
-    /// The value of the key that it writes or reads.
+    /// The value of the key that it writes or reads, or `None` by real time.
     pub value: Option<u64>,
 }

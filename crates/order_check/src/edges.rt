@@ -1,21 +1,43 @@
-//! The edges that accesses give.
-ghost use Rattle.std.specs.Prelude.{◌≡◌, ◌<◌, ℕ, List, IfSome, vec_len, OnOk};
+//! The edges that accesses and real time give.
+ghost use Rattle.std.specs.Prelude.{◌≡◌, ◌<◌, ℕ, List, IfOk, IfSome, vec_len, OnOk};
 ghost use Rattle.order_check.specs.declared.access.Access.{Access};
 ghost use Rattle.order_check.specs.Joined.{EdgesOne, AreDistinct, AreSourced};
+ghost use Rattle.order_check.specs.Outcomes.{AreAccesses};
 ghost use Rattle.order_check.specs.Tables.{AreTold, AreBelow, IsAmong};
+ghost use Rattle.order_check.specs.Timing.{IsGraphOf, IsTiming, since_in};
 
 use crate::access::Access;
 use crate::edge::{Edge, Kind};
-use crate::graph::add;
+use crate::graph::{add, no_edges};
 use crate::table::Tables;
-use std::alloc::AllocError;
+use crate::timing::add_times;
+use std::alloc::{AllocError, Global};
+
+/// The edges of so many transactions. Those of real time come last. `since` says of each transaction
+/// how many had committed when it began.
+pub(crate) fn make_graph(
+    alloc: Global,
+    count: usize,
+    since: &[usize],
+    tables: &Tables,
+    accesses: &[Access],
+) -> Result<Vec<Vec<Edge>>, AllocError>
+    requires are { AreAccesses count accesses.now }
+    requires timing { IsTiming count since.now }
+    requires told { AreTold accesses.now tables.now.writers tables.now.replacers }
+    ensures { IfOk result (λ graph. IsGraphOf count (since_in since.now) accesses.now
+        tables.now.replacers graph.items) }
+{
+    let mut graph = no_edges(alloc, count)?;
+    for access in accesses {
+        add_edges(&mut graph, tables, access)?;
+    }
+    add_times(alloc, &mut graph, since)?;
+    Ok(graph)
+}
 
 /// Adds the edges that an access gives.
-pub(crate) fn add_edges(
-    graph: &mut Vec<Vec<Edge>>,
-    tables: &Tables,
-    access: &Access,
-) -> Result<(), AllocError>
+fn add_edges(graph: &mut Vec<Vec<Edge>>, tables: &Tables, access: &Access) -> Result<(), AllocError>
     requires range { access.now.txn < vec_len graph.old }
     requires doers { AreBelow tables.now.writers tables.now.replacers (vec_len graph.old) }
     ensures { OnOk result ((accesses : List Access)

@@ -12,6 +12,7 @@ ghost use Rattle.order_check.specs.Known.{AreKnown};
 ghost use Rattle.order_check.specs.Orders.{HasNoOrder};
 ghost use Rattle.order_check.specs.Outcomes.{ArePlain, IsImpossible, IsTxn, footprints_of};
 ghost use Rattle.order_check.specs.Tables.{IsAmong};
+ghost use Rattle.order_check.specs.Timing.{since_in};
 
 use crate::access::Access;
 use crate::known::Known;
@@ -36,19 +37,23 @@ pub(crate) enum Sources {
     Several,
 }
 
-/// Finds an access that gets what it needs in no order.
+/// Finds an access that gets what it needs in no order. `since` says of each transaction how many had
+/// committed when it began.
 pub(crate) fn find_impossible(
     alloc: Global,
     count: usize,
+    since: &[usize],
     accesses: &[Access],
 ) -> Result<Option<Access>, AllocError>
     requires { ArePlain count accesses.now }
-    ensures { IfOk result (λ found. IfSome found (IsImpossible count accesses.now)) }
+    ensures { IfOk result (λ found. IfSome found
+        (IsImpossible count (since_in since.now) accesses.now)) }
 {
     if count > MOST_TRANSACTIONS || accesses.len() > MOST_ACCESSES {
         return Ok(None);
     }
     let mut known = Known::new(alloc, count)?;
+    known.learn_times(since);
     for _ in 0..ROUNDS {
         known.has_grown = false;
         let found = narrow_all(alloc, &mut known, accesses)?;
@@ -69,10 +74,10 @@ fn narrow_all(
     known: &mut Known,
     accesses: &[Access],
 ) -> Result<Option<Access>, AllocError>
-    ensures known { OnOk result ((n : ℕ) → ArePlain n accesses.now
-        → AreKnown n accesses.now known.old → AreKnown n accesses.now known.new) }
-    ensures found { IfOk result (λ found. IfSome found (λ access. (n : ℕ) → ArePlain n accesses.now
-        → AreKnown n accesses.now known.old → IsImpossible n accesses.now access)) }
+    ensures known { OnOk result ((n : ℕ) (since : ℕ → ℕ) → ArePlain n accesses.now
+        → AreKnown n since accesses.now known.old → AreKnown n since accesses.now known.new) }
+    ensures found { IfOk result (λ found. IfSome found (λ access. (n : ℕ) (since : ℕ → ℕ)
+        → ArePlain n accesses.now → AreKnown n since accesses.now known.old → IsImpossible n since accesses.now access)) }
 {
     for access in accesses {
         let changes = changes_of(alloc, accesses, access.key)?;
@@ -106,13 +111,13 @@ fn is_change(access: &Access, key: u64) -> bool
 /// Excludes sources of an access, and notes what follows if one is left. Returns false if none is.
 /// `changes` are the accesses that change its key.
 fn narrow(known: &mut Known, changes: &[Access], access: &Access) -> bool
-    ensures known { (n : ℕ) (accesses : List Access) → ArePlain n accesses
-        → AreKnown n accesses known.old → AreChanges accesses access.now.key changes.now
+    ensures known { (n : ℕ) (since : ℕ → ℕ) (accesses : List Access) → ArePlain n accesses
+        → AreKnown n since accesses known.old → AreChanges accesses access.now.key changes.now
         → IsAmong access.now accesses
-        → AreKnown n accesses known.new }
-    ensures none { result ≡ false → (n : ℕ) (accesses : List Access) → ArePlain n accesses
-        → AreKnown n accesses known.old → AreChanges accesses access.now.key changes.now
-        → IsAmong access.now accesses → HasNoOrder (IsTxn n) (footprints_of accesses) }
+        → AreKnown n since accesses known.new }
+    ensures none { result ≡ false → (n : ℕ) (since : ℕ → ℕ) (accesses : List Access)
+        → ArePlain n accesses → AreKnown n since accesses known.old → AreChanges accesses access.now.key changes.now
+        → IsAmong access.now accesses → HasNoOrder (IsTxn n) (footprints_of accesses) since }
 {
     match sources_left(known, changes, access) {
         Sources::Nobody => false,
@@ -126,8 +131,10 @@ fn narrow(known: &mut Known, changes: &[Access], access: &Access) -> bool
 
 /// The sources of an access that are not excluded.
 fn sources_left(known: &Known, changes: &[Access], access: &Access) -> Sources
-    ensures { (n : ℕ) (accesses : List Access) → AreKnown n accesses known.now
-        → AreChanges accesses access.now.key changes.now → HasOnly n accesses access.now result }
+    ensures { (n : ℕ) (since : ℕ → ℕ) (accesses : List Access)
+        → AreKnown n since accesses known.now
+        → AreChanges accesses access.now.key changes.now
+        → HasOnly n since accesses access.now result }
 {
     let mut left = first_source(known, changes, access);
     for change in changes {
@@ -138,9 +145,10 @@ fn sources_left(known: &Known, changes: &[Access], access: &Access) -> Sources
 
 /// The beginning as a source, if it is not excluded.
 fn first_source(known: &Known, changes: &[Access], access: &Access) -> Sources
-    ensures { (n : ℕ) (accesses : List Access) → AreKnown n accesses known.now
+    ensures { (n : ℕ) (since : ℕ → ℕ) (accesses : List Access)
+        → AreKnown n since accesses known.now
         → AreChanges accesses access.now.key changes.now
-        → IsExcluded n accesses access.now None ⊎ IsLeft result None }
+        → IsExcluded n since accesses access.now None ⊎ IsLeft result None }
 {
     if access.need.is_some() {
         return Sources::Nobody;
@@ -159,10 +167,11 @@ fn narrow_by(
     access: &Access,
     change: &Access,
 ) -> Sources
-    ensures { (n : ℕ) (accesses : List Access) → AreKnown n accesses known.now
+    ensures { (n : ℕ) (since : ℕ → ℕ) (accesses : List Access)
+        → AreKnown n since accesses known.now
         → AreChanges accesses access.now.key changes.now
-        → (seen : List Access) → IsNarrowed n accesses access.now seen left
-        → IsNarrowed n accesses access.now (seen ++ change.now ∷ []) result }
+        → (seen : List Access) → IsNarrowed n since accesses access.now seen left
+        → IsNarrowed n since accesses access.now (seen ++ change.now ∷ []) result }
 {
     if change.left != access.need {
         return left;
@@ -179,8 +188,9 @@ fn narrow_by(
 
 /// Whether the source is excluded: it comes after the access, or a change comes between them.
 fn is_excluded(known: &Known, changes: &[Access], access: &Access, source: Option<usize>) -> bool
-    ensures { result ≡ true → (n : ℕ) (accesses : List Access) → AreKnown n accesses known.now
-        → AreChanges accesses access.now.key changes.now → IsExcluded n accesses access.now source }
+    ensures { result ≡ true → (n : ℕ) (since : ℕ → ℕ) (accesses : List Access)
+        → AreKnown n since accesses known.now → AreChanges accesses access.now.key changes.now
+        → IsExcluded n since accesses access.now source }
 {
     if is_late(known, source, access.txn) {
         return true;
@@ -215,9 +225,11 @@ fn is_between(known: &Known, source: Option<usize>, txn: usize, reader: usize) -
 
 /// Notes what follows if this is the source of the access.
 fn learn_by(known: &mut Known, changes: &[Access], access: &Access, source: Option<usize>)
-    ensures { (n : ℕ) (accesses : List Access) → AreKnown n accesses known.old
-        → AreChanges accesses access.now.key changes.now → IsCertain n accesses access.now source
-        → AreKnown n accesses known.new }
+    ensures { (n : ℕ) (since : ℕ → ℕ) (accesses : List Access)
+        → AreKnown n since accesses known.old
+        → AreChanges accesses access.now.key changes.now
+        → IsCertain n since accesses access.now source
+        → AreKnown n since accesses known.new }
 {
     learn_source(known, source, access.txn);
     for change in changes {
@@ -227,8 +239,9 @@ fn learn_by(known: &mut Known, changes: &[Access], access: &Access, source: Opti
 
 /// Notes that the source comes before the reader.
 fn learn_source(known: &mut Known, source: Option<usize>, reader: usize)
-    ensures { (n : ℕ) (accesses : List Access) → AreKnown n accesses known.old
-        → ComesFirst n accesses source reader → AreKnown n accesses known.new }
+    ensures { (n : ℕ) (since : ℕ → ℕ) (accesses : List Access)
+        → AreKnown n since accesses known.old
+        → ComesFirst n since accesses source reader → AreKnown n since accesses known.new }
 {
     if let Some(source) = source {
         known.learn(source, reader);
@@ -237,8 +250,9 @@ fn learn_source(known: &mut Known, source: Option<usize>, reader: usize)
 
 /// Notes what follows for a transaction that changes the key, if this is the source of the reader.
 fn learn_of(known: &mut Known, source: Option<usize>, txn: usize, reader: usize)
-    ensures { (n : ℕ) (accesses : List Access) → AreKnown n accesses known.old
-        → StaysBeside n accesses source txn reader → AreKnown n accesses known.new }
+    ensures { (n : ℕ) (since : ℕ → ℕ) (accesses : List Access)
+        → AreKnown n since accesses known.old
+        → StaysBeside n since accesses source txn reader → AreKnown n since accesses known.new }
 {
     if txn == reader {
         return;
@@ -252,8 +266,10 @@ fn learn_of(known: &mut Known, source: Option<usize>, txn: usize, reader: usize)
 /// The same where the source is a transaction.
 fn learn_beside(known: &mut Known, source: usize, txn: usize, reader: usize)
     requires { txn ≢ reader }
-    ensures { (n : ℕ) (accesses : List Access) → AreKnown n accesses known.old
-        → StaysBeside n accesses (Some source) txn reader → AreKnown n accesses known.new }
+    ensures { (n : ℕ) (since : ℕ → ℕ) (accesses : List Access)
+        → AreKnown n since accesses known.old
+        → StaysBeside n since accesses (Some source) txn reader
+        → AreKnown n since accesses known.new }
 {
     if txn == source {
         return;

@@ -6,7 +6,8 @@
 //! replaces: if those that are left have a serial order, they have one in which it comes first. So
 //! one that fits and is safe is placed at once. Where there is none, the search tries each one that
 //! fits, in the order of the commits, if what it replaces can come back. The keys' values depend
-//! only on the set of the placed transactions, so no set is tried twice.
+//! only on the set of the placed transactions, so no set is tried twice. A transaction fits only when
+//! all that had committed when it began are placed.
 //!
 //! Nothing is proved of what is found, except that the search ends. The judge tests it.
 
@@ -15,9 +16,9 @@ use crate::placing::{Placing, Standing};
 use std::alloc::{AllocError, Global};
 use std::collections::HashSet;
 
-/// The number of steps that a search may take in vain. A step places a transaction, or goes back to
-/// the last choice.
-const VAIN_STEPS: usize = 20_000;
+/// The number of steps that a search may take in vain for each branch that it may take. A step places
+/// a transaction, or goes back to the last choice.
+const STEPS_OF_A_BRANCH: usize = 64;
 
 /// The number of transactions among which a step looks.
 const WINDOW: usize = 256;
@@ -42,11 +43,16 @@ struct Search {
     sum: u64,
     /// The sums that were met.
     met: HashSet<u64>,
+    /// The number of branches that may still be taken.
+    branches_left: usize,
 }
 
 /// Searches for an order, and returns for each access the index of the access that writes what it
 /// needs there, or `None` if the key is as it was at the beginning. The whole is `None` if no order
-/// is found.
+/// is found. `since` says of each transaction how many had committed when it began.
+///
+/// A *branch* goes back to the last choice, to try the next one. The search ends after so many
+/// branches, or after 64 steps in vain for each of them.
 ///
 /// # Errors
 ///
@@ -54,21 +60,25 @@ struct Search {
 ///
 /// # Cost
 ///
-/// Time and memory in proportion to the number of transactions and accesses.
+/// Time and memory in proportion to the number of transactions, accesses and branches.
 pub(crate) fn find_writers(
     alloc: Global,
+    most_branches: usize,
     count: usize,
+    since: &[usize],
     accesses: &[Access],
 ) -> Result<Option<Vec<Option<usize>>>, AllocError> {
-    let placing = Placing::new(alloc, count, accesses)?;
+    let placing = Placing::new(alloc, count, since, accesses)?;
     let mut search = Search {
         after: placing.head(),
         placing,
         path: Vec::new(alloc),
         sum: 0,
         met: HashSet::new(alloc),
+        branches_left: most_branches,
     };
-    for _ in 0..count.saturating_add(VAIN_STEPS) {
+    let vain = most_branches.saturating_mul(STEPS_OF_A_BRANCH);
+    for _ in 0..count.saturating_add(vain).saturating_add(1) {
         if search.path.len() == count {
             return Ok(Some(search.writers(alloc, accesses)?));
         }
@@ -80,8 +90,8 @@ pub(crate) fn find_writers(
 }
 
 impl Search {
-    /// Places one more transaction, or goes back to the last choice. Returns false if no choice is
-    /// left.
+    /// Places one more transaction, or goes back to the last choice. Returns false if no choice or no
+    /// branch is left.
     fn step(&mut self) -> Result<bool, AllocError> {
         let Some(choice) = self.choose() else {
             return Ok(self.go_back());
@@ -118,8 +128,12 @@ impl Search {
         found
     }
 
-    /// Goes back to the last choice among several.
+    /// Goes back to the last choice among several, by a branch. Returns false if there is none.
     fn go_back(&mut self) -> bool {
+        let Some(left) = self.branches_left.checked_sub(1) else {
+            return false;
+        };
+        self.branches_left = left;
         while let Some(choice) = self.path.pop() {
             self.placing.take_back(choice.txn);
             self.sum = self.sum.wrapping_sub(weight(choice.txn));

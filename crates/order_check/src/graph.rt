@@ -9,7 +9,7 @@ use std::alloc::{AllocError, Global};
 pub(crate) fn no_edges(alloc: Global, count: usize) -> Result<Vec<Vec<Edge>>, AllocError>
     ensures { IfOk result (λ graph. AreEmpty count graph.items) }
 {
-    let mut graph = Vec::new(alloc);
+    let mut graph = Vec::with_capacity(alloc, count)?;
     for _ in 0..count {
         graph.push(Vec::new(alloc))?;
     }

@@ -4,9 +4,10 @@ ghost use Rattle.std.specs.Prelude.{◌<◌, IfOk};
 ghost use Rattle.std.specs.List.{All};
 ghost use Rattle.txn_words.specs.Kinds.{caller_of};
 ghost use Rattle.serial_check.specs.Serializable.{IsSerializableByCommits};
-ghost use Rattle.order_check.specs.Verdicts.{IsVerdictOn, IsOfCommits};
+ghost use Rattle.order_check.specs.Verdicts.{IsVerdictIf, IsOfCommits};
 
 use crate::checker::Checker;
+use crate::options::Options;
 use crate::verdict::Verdict;
 use std::alloc::{AllocError, Global};
 use txn_trace::{Entry, SmallEntry};
@@ -22,12 +23,12 @@ use txn_trace::{Entry, SmallEntry};
 /// # Cost
 ///
 /// The time and memory of a `Checker` that is fed the entries, and of its verdict.
-pub fn check(alloc: Global, entries: &[Entry]) -> Result<Verdict, AllocError>
+pub fn check(alloc: Global, options: Options, entries: &[Entry]) -> Result<Verdict, AllocError>
     requires { All (λ entry. caller_of entry < 64) entries.now }
-    ensures verdict { IfOk result (IsVerdictOn entries.now) }
+    ensures verdict { IfOk result (IsVerdictIf options.real_time entries.now) }
     ensures commits { IsSerializableByCommits entries.now → IfOk result (IsOfCommits entries.now) }
 {
-    let mut checker = Checker::new(alloc)?;
+    let mut checker = Checker::new(alloc, options)?;
     for entry in entries {
         checker.feed(entry)?;
     }
@@ -43,12 +44,16 @@ pub fn check(alloc: Global, entries: &[Entry]) -> Result<Verdict, AllocError>
 /// # Cost
 ///
 /// The cost of `check`.
-pub fn check_packed(alloc: Global, entries: &[SmallEntry]) -> Result<Verdict, AllocError>
+pub fn check_packed(
+    alloc: Global,
+    options: Options,
+    entries: &[SmallEntry],
+) -> Result<Verdict, AllocError>
     requires { All (λ entry. caller_of entry < 64) entries.now }
-    ensures verdict { IfOk result (IsVerdictOn entries.now) }
+    ensures verdict { IfOk result (IsVerdictIf options.real_time entries.now) }
     ensures commits { IsSerializableByCommits entries.now → IfOk result (IsOfCommits entries.now) }
 {
-    let mut checker = Checker::new(alloc)?;
+    let mut checker = Checker::new(alloc, options)?;
     for entry in entries {
         checker.feed(&entry.entry())?;
     }

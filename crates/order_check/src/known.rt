@@ -2,6 +2,7 @@
 ghost use Rattle.std.specs.Prelude.{◌≡◌, ℕ, List, IfOk, true, false, replicate, slice_index_or};
 ghost use Rattle.order_check.specs.declared.access.Access.{Access};
 ghost use Rattle.order_check.specs.Known.{AreKnown, Precedes, SetsAt, is_known};
+ghost use Rattle.order_check.specs.Timing.{since_in};
 
 use std::alloc::{AllocError, Global};
 
@@ -17,7 +18,8 @@ pub(crate) struct Known {
 impl Known {
     /// Nothing is known of so many transactions.
     pub(crate) fn new(alloc: Global, count: usize) -> Result<Known, AllocError>
-        ensures { (n : ℕ) (accesses : List Access) → IfOk result (AreKnown n accesses) }
+        ensures { (n : ℕ) (since : ℕ → ℕ) (accesses : List Access)
+            → IfOk result (AreKnown n since accesses) }
     {
         let mut rows = Vec::new(alloc);
         for _ in 0..count {
@@ -41,8 +43,9 @@ impl Known {
 
     /// Notes that the first transaction comes before the second one.
     pub(crate) fn learn(&mut self, first: usize, second: usize)
-        ensures { (n : ℕ) (accesses : List Access) → AreKnown n accesses self.old
-            → Precedes n accesses first second → AreKnown n accesses self.new }
+        ensures { (n : ℕ) (since : ℕ → ℕ) (accesses : List Access)
+            → AreKnown n since accesses self.old
+            → Precedes n since accesses first second → AreKnown n since accesses self.new }
     {
         if first < self.rows.len() && !self.is_before(first, second) {
             set(&mut self.rows[first], second);
@@ -50,10 +53,34 @@ impl Known {
         }
     }
 
+    /// Notes what real time says. `since` says of each transaction how many had committed when it
+    /// began.
+    pub(crate) fn learn_times(&mut self, since: &[usize])
+        ensures { (n : ℕ) (accesses : List Access)
+            → AreKnown n (since_in since.now) accesses self.old
+            → AreKnown n (since_in since.now) accesses self.new }
+    {
+        for second in 0..since.len() {
+            let end = since[second];
+            self.learn_first(end, second);
+        }
+    }
+
+    /// Notes that so many transactions, the first ones to commit, come before the second one.
+    fn learn_first(&mut self, end: usize, second: usize)
+        ensures { (n : ℕ) (since : ℕ → ℕ) (accesses : List Access) → end ≡ since second
+            → AreKnown n since accesses self.old → AreKnown n since accesses self.new }
+    {
+        for first in 0..end {
+            self.learn(first, second);
+        }
+    }
+
     /// Notes what follows from what is known.
     pub(crate) fn close(&mut self)
-        ensures { (n : ℕ) (accesses : List Access) → AreKnown n accesses self.old
-            → AreKnown n accesses self.new }
+        ensures { (n : ℕ) (since : ℕ → ℕ) (accesses : List Access)
+            → AreKnown n since accesses self.old
+            → AreKnown n since accesses self.new }
     {
         for middle in 0..self.rows.len() {
             self.close_over(middle);
@@ -62,8 +89,9 @@ impl Known {
 
     /// Notes what follows by this transaction in the middle.
     fn close_over(&mut self, middle: usize)
-        ensures { (n : ℕ) (accesses : List Access) → AreKnown n accesses self.old
-            → AreKnown n accesses self.new }
+        ensures { (n : ℕ) (since : ℕ → ℕ) (accesses : List Access)
+            → AreKnown n since accesses self.old
+            → AreKnown n since accesses self.new }
     {
         for first in 0..self.rows.len() {
             if self.is_before(first, middle) {
@@ -75,8 +103,9 @@ impl Known {
     /// Notes that the first transaction comes before those that come after the one in the middle.
     fn follow(&mut self, first: usize, middle: usize)
         requires { is_known self.old.rows.items first middle ≡ true }
-        ensures { (n : ℕ) (accesses : List Access) → AreKnown n accesses self.old
-            → AreKnown n accesses self.new }
+        ensures { (n : ℕ) (since : ℕ → ℕ) (accesses : List Access)
+            → AreKnown n since accesses self.old
+            → AreKnown n since accesses self.new }
     {
         for second in 0..self.rows.len() {
             if self.is_before(middle, second) {

@@ -13,12 +13,15 @@
 //! order that keeps them is serial. Where values repeat, a search proposes other sources, or the
 //! edges that every order keeps exclude all of them.
 //!
-//! Proved: each verdict is right (`IsVerdictOn`), and names the order of the commits if that is a
+//! A checker may judge whether the history is strictly serializable (`IsStrictlySerializable`): a
+//! transaction comes after all that had committed when it began. These are edges too.
+//!
+//! Proved: each verdict is right (`IsVerdictIf`), and names the order of the commits if that is a
 //! serial order.
 //!
 //! By the law `by_commits`, a history that is legal by locks is serializable.
 //!
-//! Only tested: that few verdicts are undecided. Missing: real time.
+//! Only tested: that few verdicts are undecided.
 #![tactic(auto)]
 
 mod access;
@@ -35,15 +38,19 @@ mod in_turn;
 mod known;
 mod laws;
 mod naming;
+mod options;
 mod outcome;
 mod placing;
 mod search;
 mod table;
+mod timing;
 mod transactions;
 mod verdict;
+mod writers;
 
 pub use checker::Checker;
 pub use edge::{Edge, Kind};
 pub use history::{check, check_packed};
-pub use laws::{by_commits, edges_forced, no_order, sources_suffice};
+pub use laws::{by_commits, edges_forced, in_time, no_order, sources_suffice};
+pub use options::Options;
 pub use verdict::{Reason, Verdict};

@@ -23,7 +23,7 @@ pub(crate) fn names_at(
 ) -> Result<Vec<u64>, AllocError>
     ensures { IfOk result (λ named. named.items ≡ map (name_at names.now) places.now) }
 {
-    let mut named = Vec::new(alloc);
+    let mut named = Vec::with_capacity(alloc, places.len())?;
     for place in places {
         named.push(name_at(names, *place as u64))?;
     }
@@ -38,7 +38,7 @@ pub(crate) fn named_edges(
 ) -> Result<Vec<Edge>, AllocError>
     ensures { IfOk result (λ named. named.items ≡ map (named_edge names.now) edges.now) }
 {
-    let mut named = Vec::new(alloc);
+    let mut named = Vec::with_capacity(alloc, edges.len())?;
     for edge in edges {
         named.push(Edge {
             from: name_at(names, edge.from),

@@ -2,18 +2,19 @@
 ghost use Rattle.std.specs.Prelude.{◌≡◌, IfOk, IfSome, IsNone, true, false};
 ghost use Rattle.std.specs.HashMap.{get as told_at};
 ghost use Rattle.std.specs.List.{All};
-ghost use Rattle.order_check.specs.Outcomes.{AreAccesses, AreCertain, AreOnce, ArePlain, IsInTurn, IsOutcome, IsOnce, IsRepeated, comes_once};
+ghost use Rattle.order_check.specs.Outcomes.{AreAccesses, AreCertain, AreOnce, ArePlain};
+ghost use Rattle.order_check.specs.Outcomes.{IsInTurn, IsOutcome, IsOnce, IsRepeated, holds_always};
 ghost use Rattle.std.specs.List.{range_with_len};
 ghost use Rattle.order_check.specs.Footprints.{no_values};
 ghost use Rattle.order_check.specs.InTurn.{RunInTurn};
 ghost use Rattle.order_check.specs.Tables.{version_eq};
+ghost use Rattle.order_check.specs.Timing.{IsTiming, since_in};
 
 use crate::access::Access;
 use crate::choice::{Choice, choose_sources, find_sources};
-use crate::edge::Edge;
-use crate::edges::add_edges;
+use crate::edge::{Edge, Kind};
+use crate::edges::make_graph;
 use crate::exclusion::find_impossible;
-use crate::graph::no_edges;
 use crate::in_turn::run_in_turn;
 use crate::search::{Found, find_order};
 use crate::table::{Tables, make_tables};
@@ -35,24 +36,33 @@ pub(crate) enum Outcome {
     Ambiguous(Edge),
 }
 
-/// Judges the accesses of so many transactions. Their sources mean nothing, and are chosen. If the
-/// transactions find what they need in the order of their numbers, this order is the outcome.
-pub(crate) fn judge(alloc: Global, count: usize, accesses: &[Access]) -> Result<Outcome, AllocError>
-    requires { ArePlain count accesses.now }
-    ensures outcome { IfOk result (IsOutcome count accesses.now) }
+/// Judges the accesses of so many transactions. Their sources mean nothing, and are chosen. `since`
+/// says of each transaction how many of them had committed when it began, or 0 if real time does not
+/// count. If the transactions find what they need in the order of their numbers, this order is the
+/// outcome. A search for another order takes at most so many branches.
+pub(crate) fn judge(
+    alloc: Global,
+    most_branches: usize,
+    count: usize,
+    since: &[usize],
+    accesses: &[Access],
+) -> Result<Outcome, AllocError>
+    requires plain { ArePlain count accesses.now }
+    requires timing { IsTiming count since.now }
+    ensures outcome { IfOk result (IsOutcome count (since_in since.now) accesses.now) }
     ensures in_turn { RunInTurn no_values accesses.now → IfOk result (IsInTurn count) }
 {
     if run_in_turn(alloc, accesses)? {
         return Ok(Outcome::Order(places(alloc, count)?));
     }
-    judge_out_of_turn(alloc, count, accesses)
+    judge_out_of_turn(alloc, most_branches, count, since, accesses)
 }
 
 /// The numbers of so many transactions, in rising order.
 fn places(alloc: Global, count: usize) -> Result<Vec<usize>, AllocError>
     ensures { IfOk result (λ order. order.items ≡ range_with_len 0 count) }
 {
-    let mut order = Vec::new(alloc);
+    let mut order = Vec::with_capacity(alloc, count)?;
     for place in 0..count {
         order.push(place)?;
     }
@@ -62,14 +72,17 @@ fn places(alloc: Global, count: usize) -> Result<Vec<usize>, AllocError>
 /// Judges the accesses by a graph, and by a search where the graph does not tell.
 fn judge_out_of_turn(
     alloc: Global,
+    most_branches: usize,
     count: usize,
+    since: &[usize],
     accesses: &[Access],
 ) -> Result<Outcome, AllocError>
-    requires { ArePlain count accesses.now }
-    ensures { IfOk result (IsOutcome count accesses.now) }
+    requires plain { ArePlain count accesses.now }
+    requires timing { IsTiming count since.now }
+    ensures { IfOk result (IsOutcome count (since_in since.now) accesses.now) }
 {
-    match judge_plain(alloc, count, accesses)? {
-        Outcome::Ambiguous(edge) => judge_found(alloc, count, accesses, edge),
+    match judge_plain(alloc, count, since, accesses)? {
+        Outcome::Ambiguous(edge) => judge_found(alloc, most_branches, count, since, accesses, edge),
         outcome => Ok(outcome),
     }
 }
@@ -78,17 +91,20 @@ fn judge_out_of_turn(
 /// excluded.
 fn judge_found(
     alloc: Global,
+    most_branches: usize,
     count: usize,
+    since: &[usize],
     accesses: &[Access],
     edge: Edge,
 ) -> Result<Outcome, AllocError>
     requires plain { ArePlain count accesses.now }
+    requires timing { IsTiming count since.now }
     requires repeated { IsRepeated accesses.now (edge.key, edge.value) }
-    ensures { IfOk result (IsOutcome count accesses.now) }
+    ensures { IfOk result (IsOutcome count (since_in since.now) accesses.now) }
 {
-    match find_sources(alloc, count, accesses)? {
-        Some(sourced) => judge_sourced(alloc, count, &sourced),
-        None => judge_excluding(alloc, count, accesses, edge),
+    match find_sources(alloc, most_branches, count, since, accesses)? {
+        Some(sourced) => judge_sourced(alloc, count, since, &sourced),
+        None => judge_excluding(alloc, count, since, accesses, edge),
     }
 }
 
@@ -97,40 +113,51 @@ fn judge_found(
 fn judge_excluding(
     alloc: Global,
     count: usize,
+    since: &[usize],
     accesses: &[Access],
     edge: Edge,
 ) -> Result<Outcome, AllocError>
     requires plain { ArePlain count accesses.now }
+    requires timing { IsTiming count since.now }
     requires repeated { IsRepeated accesses.now (edge.key, edge.value) }
-    ensures { IfOk result (IsOutcome count accesses.now) }
+    ensures { IfOk result (IsOutcome count (since_in since.now) accesses.now) }
 {
-    match find_impossible(alloc, count, accesses)? {
+    match find_impossible(alloc, count, since, accesses)? {
         Some(access) => Ok(Outcome::Impossible(access)),
         None => Ok(Outcome::Ambiguous(edge)),
     }
 }
 
 /// Judges the accesses by a graph.
-fn judge_plain(alloc: Global, count: usize, accesses: &[Access]) -> Result<Outcome, AllocError>
-    requires { ArePlain count accesses.now }
-    ensures { IfOk result (IsOutcome count accesses.now) }
+fn judge_plain(
+    alloc: Global,
+    count: usize,
+    since: &[usize],
+    accesses: &[Access],
+) -> Result<Outcome, AllocError>
+    requires plain { ArePlain count accesses.now }
+    requires timing { IsTiming count since.now }
+    ensures { IfOk result (IsOutcome count (since_in since.now) accesses.now) }
 {
     match choose_sources(alloc, accesses)? {
-        Choice::Sourced(sourced) => judge_sourced(alloc, count, &sourced),
+        Choice::Sourced(sourced) => judge_sourced(alloc, count, since, &sourced),
         Choice::Unwritten(access) => Ok(Outcome::Unwritten(access)),
     }
 }
 
 /// Judges accesses with their sources.
-fn judge_sourced(alloc: Global, count: usize, accesses: &[Access]) -> Result<Outcome, AllocError>
-    requires { AreAccesses count accesses.now }
-    ensures { IfOk result (IsOutcome count accesses.now) }
+fn judge_sourced(
+    alloc: Global,
+    count: usize,
+    since: &[usize],
+    accesses: &[Access],
+) -> Result<Outcome, AllocError>
+    requires are { AreAccesses count accesses.now }
+    requires timing { IsTiming count since.now }
+    ensures { IfOk result (IsOutcome count (since_in since.now) accesses.now) }
 {
     let tables = make_tables(alloc, accesses)?;
-    let mut graph = no_edges(alloc, count)?;
-    for access in accesses {
-        add_edges(&mut graph, &tables, access)?;
-    }
+    let graph = make_graph(alloc, count, since, &tables, accesses)?;
     match find_order(alloc, &graph)? {
         Found::Order(order) => Ok(Outcome::Order(order)),
         Found::Cycle(edges) => match first_repeated(&tables, &edges) {
@@ -146,7 +173,7 @@ fn judge_sourced(alloc: Global, count: usize, accesses: &[Access]) -> Result<Out
     }
 }
 
-/// The edges whose values come only once.
+/// The edges that hold in every order.
 fn keep_once(
     alloc: Global,
     tables: &Tables,
@@ -154,14 +181,14 @@ fn keep_once(
 ) -> Result<Vec<Vec<Edge>>, AllocError>
     ensures { IfOk result (λ kept. AreCertain tables.now.writers graph.now kept.items) }
 {
-    let mut kept = Vec::new(alloc);
+    let mut kept = Vec::with_capacity(alloc, graph.len())?;
     for row in graph {
         kept.push(keep_in(alloc, tables, row)?)?;
     }
     Ok(kept)
 }
 
-/// The edges of one transaction whose values come only once.
+/// The edges of one transaction that hold in every order.
 fn keep_in(alloc: Global, tables: &Tables, row: &[Edge]) -> Result<Vec<Edge>, AllocError>
     ensures { IfOk result (λ kept. AreOnce tables.now.writers row.now kept.items) }
 {
@@ -174,11 +201,11 @@ fn keep_in(alloc: Global, tables: &Tables, row: &[Edge]) -> Result<Vec<Edge>, Al
     Ok(kept)
 }
 
-/// The first edge whose value comes more than once.
+/// The first edge that need not hold in every order: its value comes more than once.
 fn first_repeated(tables: &Tables, edges: &[Edge]) -> Option<Edge>
     ensures none { IsNone result → All (IsOnce tables.now.writers) edges.now }
-    ensures some { IfSome result (λ l.
-        comes_once (told_at version_eq tables.now.writers (l.key, l.value)) l.value ≡ false) }
+    ensures some { IfSome result (λ l. holds_always l.kind
+        (told_at version_eq tables.now.writers (l.key, l.value)) l.value ≡ false) }
 {
     for edge in edges {
         if !is_once(tables, edge) {
@@ -188,11 +215,15 @@ fn first_repeated(tables: &Tables, edges: &[Edge]) -> Option<Edge>
     None
 }
 
-/// Whether the value of an edge comes only once.
+/// Whether the value of an edge comes only once, or it is an edge of real time. Then it holds in every
+/// order.
 fn is_once(tables: &Tables, edge: &Edge) -> bool
-    ensures { result
-        ≡ comes_once (told_at version_eq tables.now.writers (edge.now.key, edge.now.value)) edge.now.value }
+    ensures { result ≡ holds_always edge.now.kind
+        (told_at version_eq tables.now.writers (edge.now.key, edge.now.value)) edge.now.value }
 {
+    if let Kind::Began = edge.kind {
+        return true;
+    }
     match tables.writers.get(&(edge.key, edge.value)) {
         Some(doer) => edge.value.is_some() && doer.is_only,
         None => true,

@@ -48,6 +48,8 @@ pub(crate) struct Placing {
     /// of all transactions is the head of the ring.
     next: Vec<usize>,
     last: Vec<usize>,
+    /// How many transactions had committed when each one began.
+    since: Vec<usize>,
 }
 
 impl Placing {
@@ -55,12 +57,13 @@ impl Placing {
     pub(crate) fn new(
         alloc: Global,
         count: usize,
+        since: &[usize],
         accesses: &[Access],
     ) -> Result<Placing, AllocError> {
         let mut numbers = HashMap::new(alloc);
-        let mut steps = Vec::new(alloc);
-        let mut next = Vec::new(alloc);
-        let mut last = Vec::new(alloc);
+        let mut steps = Vec::with_capacity(alloc, count)?;
+        let mut next = Vec::with_capacity(alloc, count.saturating_add(1))?;
+        let mut last = Vec::with_capacity(alloc, count.saturating_add(1))?;
         for txn in 0..count {
             steps.push(Vec::new(alloc))?;
             next.push(txn + 1)?;
@@ -75,7 +78,7 @@ impl Placing {
             needs: 0,
             writes: 0
         }; numbers.len()]?;
-        let mut current = Vec::new(alloc);
+        let mut current = Vec::with_capacity(alloc, numbers.len())?;
         for number in 0..numbers.len() {
             current.push(number)?;
         }
@@ -88,6 +91,7 @@ impl Placing {
             current,
             next,
             last,
+            since: copied(alloc, since)?,
         })
     }
 
@@ -111,6 +115,9 @@ impl Placing {
         let Some(steps) = self.steps.get(txn) else {
             return Standing::Shut;
         };
+        if at(&self.since, txn) > self.next(self.head()) {
+            return Standing::Shut;
+        }
         let mut standing = Standing::Safe;
         for step in steps {
             if at(&self.current, step.key) != step.need {
@@ -235,6 +242,15 @@ fn count_down(uses: &mut Vec<Uses>, steps: &[Step]) {
             written.writes = written.writes.saturating_sub(1);
         }
     }
+}
+
+/// The same numbers.
+fn copied(alloc: Global, numbers: &[usize]) -> Result<Vec<usize>, AllocError> {
+    let mut copy = Vec::with_capacity(alloc, numbers.len())?;
+    for number in numbers {
+        copy.push(*number)?;
+    }
+    Ok(copy)
 }
 
 /// The number at an index, or 0 if there is none.

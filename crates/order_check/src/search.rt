@@ -54,7 +54,7 @@ pub(crate) fn find_order(alloc: Global, graph: &[Vec<Edge>]) -> Result<Found, Al
     };
     let mut visits = vec![in alloc; unvisited; graph.len()]?;
     let mut path = Vec::new(alloc);
-    let mut order = Vec::new(alloc);
+    let mut order = Vec::with_capacity(alloc, graph.len())?;
     for root in 0..graph.len() {
         if let Mark::New = visits[root].mark {
             path.push(root)?;

@@ -10,9 +10,10 @@ pub enum Verdict {
     Serializable(Vec<u64>),
     /// The history is not serializable, for this reason.
     NotSerializable(Reason),
-    /// The judge does not know. It found edges in a circle, but one of them rests on this value of
-    /// this key, which comes more than once.
-    Undecided(u64, Option<u64>),
+    /// The judge does not know. It found edges in a circle, but one of them rests on a value that
+    /// comes more than once. The fields are the key, the value, and the committed transactions that
+    /// write the value there, in the order of their commits.
+    Undecided(u64, Option<u64>, Vec<u64>),
 }
 
 /// Why a history is not serializable.

@@ -1,16 +1,14 @@
 //! These tests run the program on a system in memory, with threads and without. They compare both
-//! outputs and the status of each call. If a call has a seed, its output is compared with that of
-//! the engine. All other texts were written by hand. By contract, `is_told` may be false although
-//! standard error took the whole line. These tests require that `is_told` is then true.
+//! outputs and the status of each call. All texts were written by hand. By contract, `is_told` may
+//! be false although standard error took the whole line. These tests require that `is_told` is then
+//! true.
 
 use crate::devices::{Desk, Ended, Narrow, compare_ended};
-use boostmap_engine::mix;
 use boostmap_program::run;
 use std::alloc::Global;
 use std::io::ErrorKind;
 use std::process::Abort;
 use std::sync::Wait;
-use std::test::Fail;
 use std::thread::Threads;
 use unthreaded_program::Ending;
 
@@ -20,11 +18,6 @@ const STEPS: &str =
     \"put\",1,10],[\"seek\",0],[\"act\",0],[\"commit\",0]]}";
 
 const REPORT: &str = "began 1\nasked\nplaced\ndone none\ncommitted 1\nsize 2 count 1\n1 10\n";
-
-/// A step file in which step 4, counted from 0, has a text instead of a number.
-const BAD_STEPS: &str =
-    "{\"version\":1,\"callers\":2,\"stripes\":8,\"buckets\":8,\"steps\":[[\"begin\",0],[\"ask\",0,\
-    \"put\",1,10],[\"seek\",0],[\"act\",0],[\"ask\",0,\"put\",\"1\",10],[\"commit\",0]]}";
 
 /// A history file with one transaction that commits.
 const LEGAL: &str =
@@ -52,22 +45,11 @@ const RUN_HISTORY: &str =
     "{\"entries\":[[\"began\",0,1],[\"asked\",0,\"put\",1,10],[\"did\",0,null],\
     [\"committed\",0,1]],\"stripes\":8,\"version\":3}\n";
 
-/// A script file with two workers. Each worker has one script of twelve gets. The history of a run
-/// shows the order of the workers' turns.
-const TWO_WORKERS: &str =
-    "{\"version\":1,\"workers\":2,\"stripes\":8,\"buckets\":8,\"tries\":0,\"scripts\":[[[\"get\",\
-    1],[\"get\",1],[\"get\",1],[\"get\",1],[\"get\",1],[\"get\",1],[\"get\",1],[\"get\",1],\
-    [\"get\",1],[\"get\",1],[\"get\",1],[\"get\",1]],[[\"get\",2],[\"get\",2],[\"get\",2],\
-    [\"get\",2],[\"get\",2],[\"get\",2],[\"get\",2],[\"get\",2],[\"get\",2],[\"get\",2],\
-    [\"get\",2],[\"get\",2]]]}";
-
 const FILES: &[(&str, &str)] = &[
     ("steps.json", STEPS),
-    ("bad.json", BAD_STEPS),
     ("legal.json", LEGAL),
     ("illegal.json", ILLEGAL),
     ("script.json", SCRIPT),
-    ("two.json", TWO_WORKERS),
     ("empty.json", ""),
 ];
 
@@ -138,66 +120,29 @@ const CALLS: &[Called] = &[
     ("boostmap ", "", USAGE, 2),
     ("boostmap replay steps.json", REPORT, "", 0),
     ("boostmap mix --seed 7 script.json", HISTORY, "", 0),
-    ("boostmap check legal.json", LEGAL_LINE, "", 0),
+    ("boostmap check -- legal.json", LEGAL_LINE, "", 0),
     (
         "boostmap check illegal.json",
         "illegal entry 2 rule 1\n",
         "",
         1,
     ),
-    ("boostmap run script.json", RUN_HISTORY, "", 0),
-    ("boostmap run steps.json", "", "refused 21\n", 3),
-    ("boostmap run missing.json", "", "read failed\n", 4),
-    ("boostmap walk steps.json", "", USAGE, 2),
-    ("boostmap mix --seed x script.json", "", USAGE, 2),
-    ("boostmap replay bad.json", "", "refused 21 step 4\n", 3),
-    ("boostmap check empty.json", "", "refused 20\n", 3),
-    ("boostmap mix --seed 7 steps.json", "", "refused 21\n", 3),
-    ("boostmap replay missing.json", "", "read failed\n", 4),
-    ("boostmap check missing.json", "", "read failed\n", 4),
-    ("boostmap replay -- steps.json", REPORT, "", 0),
-    ("bin/x replay steps.json", REPORT, "", 0),
-    ("boostmap run -- script.json", RUN_HISTORY, "", 0),
     ("bin/x run script.json", RUN_HISTORY, "", 0),
-    ("boostmap check -- legal.json", LEGAL_LINE, "", 0),
-    ("bin/x check legal.json", LEGAL_LINE, "", 0),
+    ("boostmap run steps.json", "", "refused 21\n", 3),
+    ("boostmap check empty.json", "", "refused 20\n", 3),
+    ("boostmap run missing.json", "", READ_FAILED, 4),
 ];
 
-/// Each line has the words of a call that is not valid.
+/// Each line has the words of a call that is not valid. `tests/program.sh` has more of them.
 const NO_CALLS: &str = "boostmap
 boostmap steps.json
-boostmap replay
-boostmap replay steps.json two.json
-boostmap replay --seed 7 steps.json
 boostmap replay -x
-boostmap Replay steps.json
 boostmap repla steps.json
-boostmap run
-boostmap run steps.json two.json
-boostmap run --seed 7 steps.json
-boostmap Run steps.json
-boostmap mix steps.json
-boostmap mix --seed 7
 boostmap mix --seed steps.json
-boostmap mix --seed 7 steps.json two.json
-boostmap mix --seed +7 steps.json
 boostmap mix --seed -7 steps.json
-boostmap mix --seed 7x steps.json
-boostmap mix --seed 0x7 steps.json
 boostmap mix --seed= steps.json
-boostmap mix --seed 18446744073709551616 steps.json
 boostmap mix --seed 7 --seed 7 steps.json
-boostmap check
-boostmap check steps.json two.json
-boostmap check --seed 7 steps.json
-boostmap Check steps.json
-boostmap help
 boostmap help replay
-boostmap -h
-boostmap --help
-boostmap replay -h
-boostmap replay --help
-boostmap --version
 boostmap -V";
 
 #[test]
@@ -213,20 +158,8 @@ fn each_command_and_each_status(rt: HostRuntime) {
 
 /// Each row has a call of the program without threads, both outputs, and the status.
 const UNTHREADED_CALLS: &[Called] = &[
-    ("boostmap ", "", USAGE, 2),
-    ("boostmap run", "", USAGE, 2),
     ("boostmap replay steps.json", REPORT, "", 0),
-    ("boostmap replay bad.json", "", "refused 21 step 4\n", 3),
-    ("boostmap mix --seed 7 script.json", HISTORY, "", 0),
-    ("boostmap check legal.json", LEGAL_LINE, "", 0),
-    (
-        "boostmap check illegal.json",
-        "illegal entry 2 rule 1\n",
-        "",
-        1,
-    ),
     ("boostmap run script.json", "", "no thread\n", 4),
-    ("boostmap run steps.json", "", "no thread\n", 4),
     ("boostmap run missing.json", "", READ_FAILED, 4),
 ];
 
@@ -236,53 +169,6 @@ fn without_threads(rt: HostRuntime) {
         let ended = run_unthreaded(rt.alloc(), &Desk::new(words, FILES));
         compare_ended(&rt, &ended, (*output, *errors, *status), words);
     }
-}
-
-/// Runs the engine of `mix` on `TWO_WORKERS` with this seed, and returns its output.
-fn mix_two(alloc: Global, seed: u64) -> Result<Narrow, Fail> {
-    let mut output = Narrow::whole();
-    mix(alloc, seed, &mut TWO_WORKERS.as_bytes(), &mut output)?;
-    Ok(output)
-}
-
-/// Each row has a call of `mix`, and the seed that the engine must get. The call must print the
-/// engine's history for that seed. The history depends on both halves of a seed, the high one and
-/// the low one.
-const SEEDS: &[(&str, u64)] = &[
-    ("boostmap mix --seed 7 two.json", 7),
-    ("boostmap mix two.json --seed 7", 7),
-    ("boostmap mix --seed=7 two.json", 7),
-    ("boostmap mix --seed 007 two.json", 7),
-    ("boostmap mix --seed 0 -- two.json", 0),
-    ("bin/x mix --seed 18446744073709551615 two.json", u64::MAX),
-    ("boostmap mix --seed 1 two.json", 1),
-    ("boostmap mix --seed 4294967297 two.json", 4_294_967_297),
-    ("boostmap mix --seed 4294967296 two.json", 4_294_967_296),
-];
-
-#[test]
-fn seeds_of_mix(rt: HostRuntime) -> Result<(), Fail> {
-    for (words, seed) in SEEDS {
-        let history = mix_two(rt.alloc(), *seed)?;
-        let wanted = (history.text(), "", 0);
-        compare(&rt, rt.alloc(), &Desk::new(words, FILES), wanted);
-    }
-    Ok(())
-}
-
-/// Two different seeds of `SEEDS` give different histories of `TWO_WORKERS`, even if they have the
-/// same high half or the same low half.
-#[test]
-fn seeds_that_differ_in_one_half(rt: HostRuntime) -> Result<(), Fail> {
-    for (_, first) in SEEDS {
-        let one = mix_two(rt.alloc(), *first)?;
-        for (_, second) in SEEDS {
-            let other = mix_two(rt.alloc(), *second)?;
-            let are_same = one.text() == other.text();
-            assert!(rt; are_same == (first == second), "{first} and {second}");
-        }
-    }
-    Ok(())
 }
 
 /// Each row has the kind of an error, a pair, and a text. If reading the words of the call fails

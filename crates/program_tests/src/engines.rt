@@ -31,20 +31,12 @@ enum Command {
     Run,
 }
 
-/// Similar files for one command, with the same output and status. There is one file for each line
-/// of `pieces` and each word of `fillings`. Blanks separate the words. The file is made from
-/// `frame` in two steps: first the line replaces each gap `#`, then the word replaces each gap `@`.
-#[derive(Clone, Copy)]
-struct Files {
-    command: Command,
-    frame: &'static str,
-    pieces: &'static str,
-    fillings: &'static str,
-    /// The output that the command must print. If the status is that of a fault, this is the
-    /// fault's line instead.
-    printed: &'static str,
-    status: u8,
-}
+/// Similar files for one command: a frame, pieces, fillings, and the output and the status that the
+/// command must have for each of them. There is one file for each line of the pieces and each word
+/// of the fillings. Blanks separate the words. The file is made from the frame in two steps: first
+/// the line replaces each gap `#`, then the word replaces each gap `@`. If the status is that of a
+/// fault, the fault's line stands for the output.
+type Files = (&'static str, &'static str, &'static str, (&'static str, u8));
 
 /// Runs the engine of a command. Without a fault, returns `false` if `check` finds the history
 /// illegal, and `true` otherwise.
@@ -107,29 +99,18 @@ fn compare_file<T: Abort + Threads + Wait + Sync>(
     }
 }
 
-/// Does `compare_file` for the file with this piece and this filling.
-fn compare_filled<T: Abort + Threads + Wait + Sync>(
-    rt: &T,
-    alloc: Global,
-    files: Files,
-    piece: &str,
-    filling: &str,
-) -> Result<(), Fail> {
-    let text = filled(alloc, files.frame, piece, filling)?;
-    let wanted = (files.printed, files.status);
-    compare_file(rt, alloc, files.command, &text, wanted);
-    Ok(())
-}
-
 /// Does `compare_file` for each of these files.
 fn compare_files<T: Abort + Threads + Wait + Sync>(
     rt: &T,
     alloc: Global,
+    command: Command,
     files: Files,
 ) -> Result<(), Fail> {
-    for piece in files.pieces.split('\n') {
-        for filling in files.fillings.split(' ') {
-            compare_filled(rt, alloc, files, piece, filling)?;
+    let (frame, pieces, fillings, wanted) = files;
+    for piece in pieces.split('\n') {
+        for filling in fillings.split(' ') {
+            let text = filled(alloc, frame, piece, filling)?;
+            compare_file(rt, alloc, command, &text, wanted);
         }
     }
     Ok(())
@@ -137,9 +118,15 @@ fn compare_files<T: Abort + Threads + Wait + Sync>(
 
 #[test]
 fn prints_of_files(rt: HostRuntime) -> Result<(), Fail> {
-    for table in [replays::FILES, checks::FILES, mixes::FILES, runs::FILES] {
+    let tables = [
+        (Command::Replay, replays::FILES),
+        (Command::Check, checks::FILES),
+        (Command::Mix(7), mixes::FILES),
+        (Command::Run, runs::FILES),
+    ];
+    for (command, table) in tables {
         for files in table {
-            compare_files(&rt, rt.alloc(), *files)?;
+            compare_files(&rt, rt.alloc(), command, *files)?;
         }
     }
     Ok(())

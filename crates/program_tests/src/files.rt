@@ -23,18 +23,11 @@ enum Kind {
     History,
 }
 
-/// Similar files, with the same fault or with none. There is one file for each line of `pieces` and
-/// each word of `fillings`. Blanks separate the words. The file is made from `frame` in two steps:
-/// first the line replaces each gap `#`, then the word replaces each gap `@`.
-#[derive(Clone, Copy)]
-struct Files {
-    kind: Kind,
-    frame: &'static str,
-    pieces: &'static str,
-    fillings: &'static str,
-    /// The fault with which the files are refused, or `None` if they are good.
-    fault: Option<FileFault>,
-}
+/// Similar files of one kind: a frame, pieces, fillings, and the fault with which the files are
+/// refused, or `None` if they are good. There is one file for each line of the pieces and each word
+/// of the fillings. Blanks separate the words. The file is made from the frame in two steps: first
+/// the line replaces each gap `#`, then the word replaces each gap `@`.
+type Files = (&'static str, &'static str, &'static str, Option<FileFault>);
 
 /// The fault with which a file is refused, or `None` if the file is good.
 fn fault_of(alloc: Global, kind: Kind, bytes: &[u8]) -> Option<FileFault> {
@@ -55,24 +48,13 @@ fn has_fault(rt: &impl Abort, alloc: Global, kind: Kind, text: &str, wanted: Opt
     same_fault(rt, fault_of(alloc, kind, text.as_bytes()), wanted, text);
 }
 
-/// Checks the fault of the file with this piece and this filling.
-fn compare_filled(
-    rt: &impl Abort,
-    alloc: Global,
-    files: Files,
-    piece: &str,
-    filling: &str,
-) -> Result<(), Fail> {
-    let text = filled(alloc, files.frame, piece, filling)?;
-    has_fault(rt, alloc, files.kind, &text, files.fault);
-    Ok(())
-}
-
 /// Checks the fault of each of these files.
-fn compare_files(rt: &impl Abort, alloc: Global, files: Files) -> Result<(), Fail> {
-    for piece in files.pieces.split('\n') {
-        for filling in files.fillings.split(' ') {
-            compare_filled(rt, alloc, files, piece, filling)?;
+fn compare_files(rt: &impl Abort, alloc: Global, kind: Kind, files: Files) -> Result<(), Fail> {
+    let (frame, pieces, fillings, fault) = files;
+    for piece in pieces.split('\n') {
+        for filling in fillings.split(' ') {
+            let text = filled(alloc, frame, piece, filling)?;
+            has_fault(rt, alloc, kind, &text, fault);
         }
     }
     Ok(())
@@ -82,9 +64,14 @@ fn compare_files(rt: &impl Abort, alloc: Global, files: Files) -> Result<(), Fai
 /// members, pieces, limits.
 #[test]
 fn faults_of_files(rt: HostRuntime) -> Result<(), Fail> {
-    for table in [steps::FILES, scripts::FILES, histories::FILES] {
+    let tables = [
+        (Kind::Steps, steps::FILES),
+        (Kind::Scripts, scripts::FILES),
+        (Kind::History, histories::FILES),
+    ];
+    for (kind, table) in tables {
         for files in table {
-            compare_files(&rt, rt.alloc(), *files)?;
+            compare_files(&rt, rt.alloc(), kind, *files)?;
         }
     }
     Ok(())

@@ -76,17 +76,14 @@ impl PieceKind for PointKind {
     }
 }
 
-/// Similar drawings of width 7. There is one drawing for each version in `versions`. The drawing is
-/// made from `frame` in two steps: first `points` replaces each gap `#`, then the version replaces
-/// each gap `@`.
-#[derive(Clone, Copy)]
-struct Drawings {
-    frame: &'static str,
-    points: &'static str,
-    versions: &'static [&'static str],
-    /// The points of each drawing, or the fault if the drawings are refused.
-    content: Result<&'static [(u64, u64)], FileFault>,
-}
+/// Similar drawings of width 7: texts, versions, and the points of each drawing, or the fault if the
+/// drawings are refused. There is one drawing for each line of the texts and each word of the
+/// versions, which replaces each gap `@`. Each `#` in a text stands for a line feed.
+type Drawings = (
+    &'static str,
+    &'static str,
+    Result<&'static [(u64, u64)], FileFault>,
+);
 
 /// The width and the points of a drawing.
 fn drawing_in(alloc: Global, text: &str) -> Result<(u64, Vec<(u64, u64)>), FileFault> {
@@ -99,297 +96,118 @@ fn drawing_in(alloc: Global, text: &str) -> Result<(u64, Vec<(u64, u64)>), FileF
     Ok((width, points))
 }
 
-/// A drawing with gaps for its points and its version.
-const IN_VERSION: &str = r#"{"points":#,"version":@,"width":7}"#;
-
 /// Each row has similar drawings, with their content or their fault. The last rows have points that
 /// version 1 does not allow. In version 1, such a point is a wrong piece, even if it comes after
 /// more than three points. In version 2 it is not a wrong piece, nor in version 4, which is not a
 /// supported version.
 const DRAWINGS: &[Drawings] = &[
-    Drawings {
-        frame: r#"{"version":1,"width":7,"points":[]}"#,
-        points: "",
-        versions: &[""],
-        content: Ok(&[]),
-    },
-    Drawings {
-        frame: " {\"points\":[[1,2],[3,4]],\n\"width\":7,\"version\":1} ",
-        points: "",
-        versions: &[""],
-        content: Ok(&[(1, 2), (3, 4)]),
-    },
-    Drawings {
-        frame: r#"{"x":[[1e5],{"width":8}],"width":7,"version":1,"points":[[1,2],[3,4]],"":null}"#,
-        points: "",
-        versions: &[""],
-        content: Ok(&[(1, 2), (3, 4)]),
-    },
-    Drawings {
-        frame: "{\"points\":0,\"width\":8,\"version\":2,\"width\":7,\"version\":1,\
-            \"points\":[[1,2],[3,4]]}",
-        points: "",
-        versions: &[""],
-        content: Ok(&[(1, 2), (3, 4)]),
-    },
-    Drawings {
-        frame: r#"{"version":1,"width":7,"points":[[1,2],[3,4],[5,6]]}"#,
-        points: "",
-        versions: &[""],
-        content: Ok(&[(1, 2), (3, 4), (5, 6)]),
-    },
-    Drawings {
-        frame: r#"{"version":1,"width":7,"points":[ [ 1 , 2 ] ,[3,4] ] } "#,
-        points: "",
-        versions: &[""],
-        content: Ok(&[(1, 2), (3, 4)]),
-    },
-    Drawings {
-        frame: "{\r\n\t\"version\": 1,\n\t\"width\": 7,\n\t\"points\": [\n\t\t[1,\n\t\t2]\n\t]\n}\n",
-        points: "",
-        versions: &[""],
-        content: Ok(&[(1, 2)]),
-    },
-    Drawings {
-        frame: r#"{"version":1,"wi\u0064th":7,"points":[[1,2]]}"#,
-        points: "",
-        versions: &[""],
-        content: Ok(&[(1, 2)]),
-    },
-    Drawings {
-        frame: r#"{"version":1,"width":8,"points":[[1,2]],"width":7,"note":"é","points":[[3,4]]}"#,
-        points: "",
-        versions: &[""],
-        content: Ok(&[(3, 4)]),
-    },
-    Drawings {
-        frame: r#"{"version":1,"width":7,"points":[[18446744073709551615,9999999999999999999]]}"#,
-        points: "",
-        versions: &[""],
-        content: Ok(&[(18_446_744_073_709_551_615, 9_999_999_999_999_999_999)]),
-    },
-    Drawings {
-        frame: r#"{"version":1,"width":7,"points":[[0,0000000000000000000]]}"#,
-        points: "",
-        versions: &[""],
-        content: Err(FileFault::NotJson),
-    },
-    Drawings {
-        frame: r#"{"version":1,"width":7,"points":[[1,02]]}"#,
-        points: "",
-        versions: &[""],
-        content: Err(FileFault::NotJson),
-    },
-    Drawings {
-        frame: r#"{"version":1,"width":7,"points":[[1,2],]}"#,
-        points: "",
-        versions: &[""],
-        content: Err(FileFault::NotJson),
-    },
-    Drawings {
-        frame: r#"{"version":1,"width":7,"points":[[1,2]],}"#,
-        points: "",
-        versions: &[""],
-        content: Err(FileFault::NotJson),
-    },
-    Drawings {
-        frame: r#"{"version":1,"width":7,"points":[[1,2]]}}"#,
-        points: "",
-        versions: &[""],
-        content: Err(FileFault::NotJson),
-    },
-    Drawings {
-        frame: r#"{"version":1,"width":7"points":[[1,2]]}"#,
-        points: "",
-        versions: &[""],
-        content: Err(FileFault::NotJson),
-    },
-    Drawings {
-        frame: r#"{"version":1,"width":7,"points":[[1 2]]}"#,
-        points: "",
-        versions: &[""],
-        content: Err(FileFault::NotJson),
-    },
-    Drawings {
-        frame: r#"{"version":1,"width":7,"points":[[1,2]] "#,
-        points: "",
-        versions: &[""],
-        content: Err(FileFault::NotJson),
-    },
-    Drawings {
-        frame: r#"{"version":1,"width":7,"points":[[1,18446744073709551616]]}"#,
-        points: "",
-        versions: &[""],
-        content: Err(FileFault::Piece(Part::Entry, 0)),
-    },
-    Drawings {
-        frame: r#"{"version":1,"width":7,"points":[[1,2],[1,2,3]]}"#,
-        points: "",
-        versions: &[""],
-        content: Err(FileFault::Piece(Part::Entry, 1)),
-    },
-    Drawings {
-        frame: r#"{"version":1,"width":7,"points":[[1,2],[1,nul]]}"#,
-        points: "",
-        versions: &[""],
-        content: Err(FileFault::NotJson),
-    },
-    Drawings {
-        frame: r#"{"version":1,"width":null,"points":[[1,2]]}"#,
-        points: "",
-        versions: &[""],
-        content: Err(FileFault::Member),
-    },
-    Drawings {
-        frame: r#"{"version":1,"width":7,"points":"[[1,2]]"}"#,
-        points: "",
-        versions: &[""],
-        content: Err(FileFault::Member),
-    },
-    Drawings {
-        frame: "",
-        points: "",
-        versions: &[""],
-        content: Err(FileFault::NotJson),
-    },
-    Drawings {
-        frame: r#"{"version":1,"width":7,"points":[[1,2]}"#,
-        points: "",
-        versions: &[""],
-        content: Err(FileFault::NotJson),
-    },
-    Drawings {
-        frame: r#"{"version":1,"width":7,"points":[]} 7"#,
-        points: "",
-        versions: &[""],
-        content: Err(FileFault::NotJson),
-    },
-    Drawings {
-        frame: r#"{"version":1,"width":7,"points":[],"x":1e999}"#,
-        points: "",
-        versions: &[""],
-        content: Err(FileFault::NotJson),
-    },
-    Drawings {
-        frame: "7",
-        points: "",
-        versions: &[""],
-        content: Err(FileFault::Member),
-    },
-    Drawings {
-        frame: "[]",
-        points: "",
-        versions: &[""],
-        content: Err(FileFault::Member),
-    },
-    Drawings {
-        frame: r#"{"width":7,"points":[]}"#,
-        points: "",
-        versions: &[""],
-        content: Err(FileFault::Member),
-    },
-    Drawings {
-        frame: r#"{"version":1,"points":[]}"#,
-        points: "",
-        versions: &[""],
-        content: Err(FileFault::Member),
-    },
-    Drawings {
-        frame: r#"{"version":1,"width":-7,"points":[]}"#,
-        points: "",
-        versions: &[""],
-        content: Err(FileFault::Member),
-    },
-    Drawings {
-        frame: r#"{"version":1,"width":7}"#,
-        points: "",
-        versions: &[""],
-        content: Err(FileFault::Member),
-    },
-    Drawings {
-        frame: r#"{"version":1,"width":7,"points":[],"points":{}}"#,
-        points: "",
-        versions: &[""],
-        content: Err(FileFault::Member),
-    },
-    Drawings {
-        frame: r#"{"version":2,"width":7,"points":[0,[1,2]]}"#,
-        points: "",
-        versions: &[""],
-        content: Err(FileFault::Piece(Part::Entry, 0)),
-    },
-    Drawings {
-        frame: r#"{"version":1,"width":7,"points":[[1,2],[1,2],[1,2],[1,2],[1,2,3],[]]}"#,
-        points: "",
-        versions: &[""],
-        content: Err(FileFault::Piece(Part::Entry, 4)),
-    },
-    Drawings {
-        frame: r#"{"version":1,"width":7,"points":[[1,2],[3,4],[5,6],[7,8]]}"#,
-        points: "",
-        versions: &[""],
-        content: Err(FileFault::Limit),
-    },
-    Drawings {
-        frame: r#"{"version":4,"width":7,"points":[]}"#,
-        points: "",
-        versions: &[""],
-        content: Err(FileFault::Limit),
-    },
-    Drawings {
-        frame: r#"{"version":0,"width":7,"points":[]}"#,
-        points: "",
-        versions: &[""],
-        content: Err(FileFault::Limit),
-    },
-    Drawings {
-        frame: IN_VERSION,
-        points: "[[1,2],[3,0]]",
-        versions: &["1"],
-        content: Err(FileFault::Piece(Part::Entry, 1)),
-    },
-    Drawings {
-        frame: IN_VERSION,
-        points: "[[1,2],[3,0]]",
-        versions: &["2"],
-        content: Ok(&[(1, 2), (3, 0)]),
-    },
-    Drawings {
-        frame: IN_VERSION,
-        points: "[[1,2],[3,0]]",
-        versions: &["4"],
-        content: Err(FileFault::Limit),
-    },
-    Drawings {
-        frame: IN_VERSION,
-        points: "[[1,2],[3,0],[4],[5,0]]",
-        versions: &["1"],
-        content: Err(FileFault::Piece(Part::Entry, 1)),
-    },
-    Drawings {
-        frame: IN_VERSION,
-        points: "[[1,2],[3,0],[4],[5,0]]",
-        versions: &["2", "4"],
-        content: Err(FileFault::Piece(Part::Entry, 2)),
-    },
-    Drawings {
-        frame: IN_VERSION,
-        points: "[[1,2],[4],[3,0]]",
-        versions: &["1", "2", "4"],
-        content: Err(FileFault::Piece(Part::Entry, 1)),
-    },
-    Drawings {
-        frame: IN_VERSION,
-        points: "[[1,2],[1,2],[1,2],[1,2],[3,0]]",
-        versions: &["1"],
-        content: Err(FileFault::Piece(Part::Entry, 4)),
-    },
-    Drawings {
-        frame: IN_VERSION,
-        points: "[[1,2],[1,2],[1,2],[1,2],[3,0]]",
-        versions: &["2", "4"],
-        content: Err(FileFault::Limit),
-    },
+    (r#"{"version":1,"width":7,"points":[]}"#, "", Ok(&[])),
+    (
+        r#" {"points":[[1,2],[3,4]],#"width":7,"version":1} #
+{"x":[[1e5],{"width":8}],"width":7,"version":1,"points":[[1,2],[3,4]],"":null}
+{"points":0,"width":8,"version":2,"width":7,"version":1,"points":[[1,2],[3,4]]}
+{"version":1,"width":7,"points":[ [ 1 , 2 ] ,[3,4] ] } #"#,
+        "",
+        Ok(&[(1, 2), (3, 4)]),
+    ),
+    (
+        "{\r#\t\"version\": 1,#\t\"width\": 7,#\t\"points\": [#\t\t[1,#\t\t2]#\t]#}#
+{\"version\":1,\"wi\\u0064th\":7,\"points\":[[1,2]]}",
+        "",
+        Ok(&[(1, 2)]),
+    ),
+    (
+        r#"{"version":1,"width":8,"points":[[1,2]],"width":7,"note":"é","points":[[3,4]]}"#,
+        "",
+        Ok(&[(3, 4)]),
+    ),
+    (
+        r#"{"version":1,"width":7,"points":[[1,2],[3,4],[5,6]]}"#,
+        "",
+        Ok(&[(1, 2), (3, 4), (5, 6)]),
+    ),
+    (
+        r#"{"version":1,"width":7,"points":[[18446744073709551615,9999999999999999999]]}"#,
+        "",
+        Ok(&[(18_446_744_073_709_551_615, 9_999_999_999_999_999_999)]),
+    ),
+    (
+        r#"
+{"version":1,"width":7,"points":[[0,0000000000000000000]]}
+{"version":1,"width":7,"points":[[1,02]]}
+{"version":1,"width":7,"points":[[1,2],]}
+{"version":1,"width":7,"points":[[1,2]],}
+{"version":1,"width":7,"points":[[1,2]]}}
+{"version":1,"width":7"points":[[1,2]]}
+{"version":1,"width":7,"points":[[1 2]]}
+{"version":1,"width":7,"points":[[1,2]] #
+{"version":1,"width":7,"points":[[1,2],[1,nul]]}
+{"version":1,"width":7,"points":[[1,2]}
+{"version":1,"width":7,"points":[]} 7
+{"version":1,"width":7,"points":[],"x":1e999}"#,
+        "",
+        Err(FileFault::NotJson),
+    ),
+    (
+        r#"7
+[]
+{"version":1,"width":null,"points":[[1,2]]}
+{"version":1,"width":7,"points":"[[1,2]]"}
+{"width":7,"points":[]}
+{"version":1,"points":[]}
+{"version":1,"width":-7,"points":[]}
+{"version":1,"width":7}
+{"version":1,"width":7,"points":[],"points":{}}"#,
+        "",
+        Err(FileFault::Member),
+    ),
+    (
+        r#"{"version":1,"width":7,"points":[[1,18446744073709551616]]}
+{"version":2,"width":7,"points":[0,[1,2]]}"#,
+        "",
+        Err(FileFault::Piece(Part::Entry, 0)),
+    ),
+    (
+        r#"{"version":1,"width":7,"points":[[1,2],[1,2,3]]}
+{"version":1,"width":7,"points":[[1,2],[3,0]]}
+{"version":1,"width":7,"points":[[1,2],[3,0],[4],[5,0]]}"#,
+        "",
+        Err(FileFault::Piece(Part::Entry, 1)),
+    ),
+    (
+        r#"{"version":1,"width":7,"points":[[1,2],[1,2],[1,2],[1,2],[1,2,3],[]]}
+{"version":1,"width":7,"points":[[1,2],[1,2],[1,2],[1,2],[3,0]]}"#,
+        "",
+        Err(FileFault::Piece(Part::Entry, 4)),
+    ),
+    (
+        r#"{"version":1,"width":7,"points":[[1,2],[3,4],[5,6],[7,8]]}
+{"version":4,"width":7,"points":[]}
+{"version":0,"width":7,"points":[]}
+{"version":4,"width":7,"points":[[1,2],[3,0]]}"#,
+        "",
+        Err(FileFault::Limit),
+    ),
+    (
+        r#"{"points":[[1,2],[3,0]],"version":@,"width":7}"#,
+        "2",
+        Ok(&[(1, 2), (3, 0)]),
+    ),
+    (
+        r#"{"points":[[1,2],[3,0],[4],[5,0]],"version":@,"width":7}"#,
+        "2 4",
+        Err(FileFault::Piece(Part::Entry, 2)),
+    ),
+    (
+        r#"{"points":[[1,2],[4],[3,0]],"version":@,"width":7}"#,
+        "1 2 4",
+        Err(FileFault::Piece(Part::Entry, 1)),
+    ),
+    (
+        r#"{"points":[[1,2],[1,2],[1,2],[1,2],[3,0]],"version":@,"width":7}"#,
+        "2 4",
+        Err(FileFault::Limit),
+    ),
 ];
 
 /// Returns true if the drawing with this text has width 7 and these points, or has this fault.
@@ -404,22 +222,14 @@ fn has_content(
     }
 }
 
-/// Makes the drawing in this version, and compares its points or its fault with `content`.
-fn compare_version(
-    rt: &impl Abort,
-    alloc: Global,
-    drawings: Drawings,
-    version: &str,
-) -> Result<(), Fail> {
-    let text = filled(alloc, drawings.frame, drawings.points, version)?;
-    assert!(rt; has_content(alloc, &text, drawings.content), "{text}");
-    Ok(())
-}
-
 /// Compares the points or the fault of each of these drawings.
 fn compare(rt: &impl Abort, alloc: Global, drawings: Drawings) -> Result<(), Fail> {
-    for version in drawings.versions {
-        compare_version(rt, alloc, drawings, version)?;
+    let (texts, versions, content) = drawings;
+    for text in texts.split('\n') {
+        for version in versions.split(' ') {
+            let text = filled(alloc, text, "\n", version)?;
+            assert!(rt; has_content(alloc, &text, content), "{text}");
+        }
     }
     Ok(())
 }
@@ -445,14 +255,22 @@ type Shapes = (
     Option<()>,
 );
 
-/// Each row has the text and the number with which an array begins, and the shapes of its other
+/// Each row has an array, the text and the number with which it begins, and the shapes of its other
 /// elements. If the array has no such beginning, the row has the shapes of all its elements.
-const ELEMENTS: &[(Leading, Shapes)] = &[
-    (Some(("put", 1, 2)), (None, None, None, None)),
-    (None, (None, Some((8, 9)), None, None)),
-    (None, (Some(9), None, Some(Some(9)), None)),
-    (None, (None, None, Some(None), None)),
-    (None, (None, None, None, Some(()))),
+const ELEMENTS: &[(&str, Leading, Shapes)] = &[
+    (
+        r#"["put",1,9999999999999999999,null]"#,
+        Some(("put", 1, 2)),
+        (None, None, None, None),
+    ),
+    ("[8,9]", None, (None, Some((8, 9)), None, None)),
+    ("[9]", None, (Some(9), None, Some(Some(9)), None)),
+    ("[null]", None, (None, None, Some(None), None)),
+    (
+        r#"["save",0]"#,
+        Some(("save", 0, 0)),
+        (None, None, None, Some(())),
+    ),
 ];
 
 /// Returns the text and the number with which the elements begin, and the elements that follow.
@@ -473,44 +291,35 @@ fn shapes_of(values: &[Plain<'_>]) -> Shapes {
     )
 }
 
-/// Takes the bracket that opens an array.
-fn begin(reader: &mut Reader<'_>) -> bool {
-    matches!(reader.next(), Some(Token::BeginArray))
-}
-
-/// Reads the next array, and compares its elements with `leading` and `shapes`. The array must have
-/// at most four elements, all of them plain.
-fn compare_next(rt: &impl Abort, reader: &mut Reader<'_>, leading: Leading, shapes: Shapes) {
+/// Reads an array of at most four plain elements, and compares its elements with `leading` and
+/// `shapes`.
+fn compare_elements(rt: &impl Abort, text: &str, leading: Leading, shapes: Shapes) {
     let mut elements = ArrayVec::<Plain<'_>, 4>::new();
-    assert!(rt; begin(reader));
-    assert!(rt; matches!(plain_elements(reader, 1, &mut elements), Ok(true)));
+    assert!(rt; whole_array(text, &mut elements), "{text}");
     match leading_in(&elements) {
         Some((name, number, rest)) => {
             assert!(rt; leading == Some((name, number, rest.len())));
-            assert!(rt; shapes_of(rest) == shapes, "{shapes:?}");
+            assert!(rt; shapes_of(rest) == shapes, "{text}");
         }
         None => assert!(rt;
             leading.is_none() && shapes_of(&elements) == shapes,
-            "{shapes:?}"
+            "{text}"
         ),
     }
 }
 
-/// Compares each array in an array of arrays with its row of `ELEMENTS`.
-fn compare_each(rt: &impl Abort, reader: &mut Reader<'_>) {
-    assert!(rt; begin(reader));
-    for (leading, shapes) in ELEMENTS {
-        compare_next(rt, reader, *leading, *shapes);
+#[test]
+fn elements(rt: HostRuntime) {
+    for (text, leading, shapes) in ELEMENTS {
+        compare_elements(&rt, text, *leading, *shapes);
     }
+    let mut elements = ArrayVec::<Plain<'_>, 2>::new();
+    assert!(rt; !whole_array("[1,2],3", &mut elements));
 }
 
-#[test]
-fn elements(rt: HostRuntime) -> Result<(), Fail> {
-    let text = r#"[["put",1,18446744073709551615,null],[8,9],[9],[null],[]]"#;
-    let mut scratch = Scratch::new(rt.alloc());
-    let mut reader = Reader::new(text, &mut scratch)?;
-    compare_each(&rt, &mut reader);
-    Ok(())
+/// Takes the bracket that opens an array.
+fn begin(reader: &mut Reader<'_>) -> bool {
+    matches!(reader.next(), Some(Token::BeginArray))
 }
 
 /// Skips the next value.
@@ -572,14 +381,6 @@ fn elements_in_plain_form(rt: HostRuntime) {
     for (text, end) in PLAIN {
         assert!(rt; elements_at(text, 0, &mut elements) == *end, "{text}");
     }
-}
-
-#[test]
-fn whole_arrays_in_plain_form(rt: HostRuntime) {
-    let mut elements = ArrayVec::<Plain<'_>, 2>::new();
-    assert!(rt; whole_array("[1,2]", &mut elements));
-    assert!(rt; two_in(&elements) == Some((1, 2)));
-    assert!(rt; !whole_array("[1,2],3", &mut elements));
 }
 
 #[test]

@@ -1,13 +1,8 @@
 -- The entries that a caller's steps add, one after another, and the entries of a transfer.
-use Rattle.std.proofs.Common.{◌≡◌, ℕ, ◌+◌, cond, true, false, List, [], ◌∷◌, ◌++◌, Option, unwrap_or, refl, sym, ap, subst, ◌∙◌, append_assoc, append-nil, eq-eqb}
-use Rattle.txn_words.specs.declared.entry.Entry.{Entry}
-use Rattle.txn_words.specs.declared.entry.Entry.TheVariants.{Asked, Did}
-use Rattle.txn_words.specs.declared.op.Op.{Op}
-use Rattle.txn_words.specs.declared.op.Op.TheVariants.{Get, Put}
-use Rattle.txn_words.specs.Shape.{own}
-use Rattle.striped_map.specs.declared.caller.Caller.{Caller}
-use Rattle.striped_map.specs.Callers.{number, seen, IsStep}
-use Rattle.striped_map.proofs.AdditionLemmas.{own-append}
+use Rattle.std.proofs.Common.{◌≡◌, ℕ, ◌+◌, cond, true, false, List, [], ◌∷◌, ◌++◌, Option, unwrap_or, refl, sym, ap, subst, ◌∙◌}
+use Rattle.std.proofs.Common.{append_assoc, append-nil, eq-eqb}
+use Rattle.samples.specs.Vocabulary.{Asked, Caller, Did, Entry, Get, IsStep, Op, Put, number, own, seen}
+use Rattle.samples.proofs.Vocabulary.{own-append}
 use Rattle.samples.specs.StripedTransfers.{CannotMove, HasAdded, HasWorked, reading, writing}
 
 added_none : (a : Caller) → HasAdded a [] a

@@ -1,17 +1,14 @@
 -- What a transfer's commit means. If a legal history ends with the commit, the transaction has the
 -- same replies as if it ran alone on the map that the earlier commits leave.
-use Rattle.std.proofs.Common.{◌≡◌, ◌≢◌, ℕ, zero, suc, ◌+◌, Bool, true, false, cond, List, [], ◌∷◌, ◌++◌, Some, Option, is_some, IsSome, slice_get, refl, sym, ap, subst, ◌∙◌, append_assoc, append-nil}
+use Rattle.std.proofs.Common.{◌≡◌, ◌≢◌, ℕ, zero, suc, ◌+◌, Bool, true, false, cond, List, [], ◌∷◌, ◌++◌, Some, Option, is_some, IsSome}
+use Rattle.std.proofs.Common.{slice_get, refl, sym, ap, subst, ◌∙◌, append_assoc, append-nil}
+use Rattle.samples.specs.Vocabulary.{Began, Begun, Caller, Committed, Entry, IsLegal, IsRun, IsSince, alone, how_many, is_commit, map_after}
+use Rattle.samples.specs.Vocabulary.{number, of, own, seen, serial, stripes_in, stripes_of}
+use Rattle.samples.proofs.Vocabulary.{own-append, own_extends}
 use Rattle.std.specs.List.{filter}
 use Rattle.std.proofs.lemmas.Bool.{eqb-true, eq-eqb}
-use Rattle.txn_words.specs.declared.entry.Entry.{Entry}
-use Rattle.txn_words.specs.declared.entry.Entry.TheVariants.{Began, Committed}
-use Rattle.txn_words.specs.declared.holder.Holder.TheVariants.{Begun}
-use Rattle.txn_trace.specs.History.{of}
-use Rattle.txn_words.specs.Kinds.{is_began, is_commit}
-use Rattle.txn_trace.specs.Alone.{alone, map_after}
-use Rattle.txn_trace.specs.Legal.{IsLegal}
-use Rattle.txn_trace.specs.Serial.{serial}
-use Rattle.txn_words.specs.Shape.{own, how_many, is_shaped, IsShaped}
+use Rattle.txn_words.specs.Kinds.{is_began}
+use Rattle.txn_words.specs.Shape.{is_shaped, IsShaped}
 use Rattle.txn_trace.proofs.Committing.{own_goes, commits_so}
 use Rattle.txn_trace.proofs.Pushes.{txn_in, txn_at, txn_in-push, of-push_in, alone-push, own-push_in, how_many-push}
 use Rattle.txn_trace.proofs.Callers.{Callers, ended, shaped_number, not_after_end}
@@ -19,12 +16,8 @@ use Rattle.txn_trace.proofs.Shaped.{callers_of, first_of_rest, shape_front}
 use Rattle.txn_trace.proofs.Seated.{none_before, are_seated}
 use Rattle.txn_trace.proofs.Steps.{serial-push_commit}
 use Rattle.txn_trace.proofs.Now.{open_going}
-use Rattle.striped_map.specs.declared.caller.Caller.{Caller}
-use Rattle.striped_map.specs.Callers.{number, seen, stripes_held, stripes_in, IsSince, IsRun}
-use Rattle.striped_map.specs.Seats.{stripes_of}
+use Rattle.striped_map.specs.Callers.{stripes_held}
 use Rattle.striped_map.specs.Steps.{Extends}
-use Rattle.striped_map.proofs.Hands.{own_extends}
-use Rattle.striped_map.proofs.AdditionLemmas.{own-append}
 use Rattle.striped_map.proofs.CallSpans.{since_then, since_began}
 use Rattle.samples.specs.StripedTransfers.{HasTransferred, HasWorked, HasWritten, Makes}
 use Rattle.samples.proofs.Works.{made}

@@ -1,7 +1,7 @@
+pub mod Vocabulary
 pub mod Adding
 pub mod Commits
 pub mod Merging
-pub mod Sums
 pub mod Tries
 pub mod Whole
 pub mod Whys

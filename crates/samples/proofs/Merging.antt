@@ -1,23 +1,17 @@
 -- The callers of all visits are merged, and the history of the host has the entries of all visits.
-use Rattle.std.proofs.Common.{◌≡◌, ◌<◌, ℕ, zero, suc, ◌+◌, List, [], ◌∷◌, Some, Option, length, map, slice_get, cond, refl, sym, ap, subst, ◌∙◌, arith, eq-eqb, false}
+use Rattle.std.proofs.Common.{◌≡◌, ◌<◌, ℕ, zero, suc, ◌+◌, List, [], ◌∷◌, Some, Option, length, map, slice_get, cond, refl, sym, ap, subst}
+use Rattle.std.proofs.Common.{◌∙◌, arith, eq-eqb, false}
 use Rattle.std.specs.Prelude.{All, Result, Ok}
-use Rattle.std.specs.List.{fold}
+use Rattle.samples.specs.Vocabulary.{Begun, Caller, Entry, Host, IsLegal, Stop, caller_of, fold, has_made, have_made, numbers, own, seen_by}
+use Rattle.samples.specs.Vocabulary.{stripes_of, taken}
+use Rattle.samples.proofs.Vocabulary.{get_or_from_slice_get, slice_get_within}
 use Rattle.std.specs.Option.{option_map}
 use Rattle.std.proofs.lemmas.List.{length-map}
-use Rattle.std.proofs.lemmas.Option.{slice_get-map, slice_get_within, get_or_from_slice_get}
-use Rattle.txn_words.specs.declared.entry.Entry.{Entry}
-use Rattle.txn_words.specs.declared.holder.Holder.TheVariants.{Begun}
-use Rattle.txn_words.specs.Kinds.{caller_of}
-use Rattle.txn_words.specs.Shape.{own}
-use Rattle.txn_trace.specs.Legal.{IsLegal}
+use Rattle.std.proofs.lemmas.Option.{slice_get-map}
 use Rattle.txn_trace.proofs.BadEntries.{legal_none}
-use Rattle.map_answers.specs.declared.stop.Stop.{Stop}
-use Rattle.striped_map.specs.declared.caller.Caller.{Caller}
-use Rattle.striped_map.specs.declared.host.Host.{Host}
 use Rattle.striped_map.specs.declared.open.Opening.{Opening}
-use Rattle.striped_map.specs.Callers.{has_made, IsNew}
-use Rattle.striped_map.specs.Hosts.{have_made, numbers, seen_by, taken, IsOpened, IsWhole}
-use Rattle.striped_map.specs.Seats.{stripes_of}
+use Rattle.striped_map.specs.Callers.{IsNew}
+use Rattle.striped_map.specs.Hosts.{IsOpened, IsWhole}
 use Rattle.striped_map.specs.Steps.{IsMerged}
 use Rattle.samples.specs.declared.visits.Visit.{Visit}
 use Rattle.samples.specs.declared.visits.Visitor.{Visitor}
@@ -79,20 +73,17 @@ module _ (asked : Opening) (host : Host) (callers : List Caller) (visitors : Lis
         made = each k v d at is;
       }
 
+  all_at : (P : Visited → Type 0) → ((k : ℕ) (x : Visited) → slice_get done k ≡ Some x → P x) → All P done
+  all_at P holds k d less = let (x, is) = is_there done k less in subst P (sym (get_or_from_slice_get done k x d is)) (holds k x is)
+
   pub all_same : All (λ d. d.me.map.value ≡ host.map.value) done
-  all_same k d less =
-      let (x, is) = is_there done k less in let its = seated k x is in
-      subst (λ (y : Visited). y.me.map.value ≡ host.map.value) (sym (get_or_from_slice_get done k x d is)) (its.made.map_is ∙ its.new.map_is)
+  all_same = all_at (λ d. d.me.map.value ≡ host.map.value) (λ k x is. let its = seated k x is in its.made.map_is ∙ its.new.map_is)
 
   pub all_closed : All (λ d. d.me.is_open ≡ false) done
-  all_closed k d less =
-      let (x, is) = is_there done k less in let its = seated k x is in
-      subst (λ (y : Visited). y.me.is_open ≡ false) (sym (get_or_from_slice_get done k x d is)) (its.made.closed its.new.closed)
+  all_closed = all_at (λ d. d.me.is_open ≡ false) (λ k x is. let its = seated k x is in its.made.closed its.new.closed)
 
   pub all_childless : All (λ d. has_made d.me ≡ false) done
-  all_childless k d less =
-      let (x, is) = is_there done k less in let its = seated k x is in
-      subst (λ (y : Visited). has_made y.me ≡ false) (sym (get_or_from_slice_get done k x d is)) (its.made.made_is ∙ its.new.childless)
+  all_childless = all_at (λ d. has_made d.me ≡ false) (λ k x is. let its = seated k x is in its.made.made_is ∙ its.new.childless)
 
   -- After all callers were merged.
   module _ (left : Host) (map_is : left.map ≡ host.map) (numbers_are : numbers left ≡ numbers host) (seen_is : seen_by left ≡ seen_by host)

@@ -1,12 +1,10 @@
 -- The failed tries of a transfer. The work that is tried is a relation, and if this relation
 -- implies another one, `Fails` and `FailsBusy` also hold for the other one.
 use Rattle.std.proofs.Common.{◌≡◌, ℕ, ◌≤◌, zero, suc, Bool, subst}
-use mathlib.Core.Logic.{inl, inr}
 use Rattle.std.specs.Prelude.{Result, Ok, Err}
-use Rattle.map_answers.specs.declared.stop.Stop.{Stop}
-use Rattle.map_answers.specs.declared.stop.Stop.TheVariants.{Busy}
-use Rattle.striped_map.specs.declared.caller.Caller.{Caller}
-use Rattle.striped_map.specs.Attempts.{Fails, FailsBusy, FailsOrNot, on_callers}
+use Rattle.samples.specs.Vocabulary.{Busy, Caller, FailsBusy, FailsOrNot, Stop}
+use mathlib.Core.Logic.{inl, inr}
+use Rattle.striped_map.specs.Attempts.{Fails, on_callers}
 use Rattle.samples.specs.StripedTransfers.{GivesUp, HasWorked, Works}
 
 fails_so : {T : Type 0} (work wider : Caller → Result T Stop → Caller → Type 0) (a b : Caller) (stop : Stop) → ((a : Caller) (r : Result T Stop) (b : Caller) → work a r b → wider a r b) → Fails work a b stop → Fails wider a b stop

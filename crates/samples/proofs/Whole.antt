@@ -1,29 +1,13 @@
 -- Which replies visitors got, given their entries in a legal history.
-use Rattle.std.proofs.Common.{◌≡◌, ℕ, Bool, true, false, cond, List, [], ◌∷◌, ◌++◌, Option, Some, None, IsSome, IfOk, refl, sym, ap, subst, ◌∙◌, append_assoc, append-nil, eq-eqb}
+use Rattle.std.proofs.Common.{◌≡◌, ℕ, Bool, true, false, cond, List, [], ◌∷◌, ◌++◌, Option, Some, None, IsSome, IfOk, refl, sym, ap, subst}
+use Rattle.std.proofs.Common.{◌∙◌, append_assoc, append-nil, eq-eqb}
 use Rattle.std.specs.Prelude.{nat_eq, Result, Ok, Err}
-use Rattle.std.specs.Option.{option_eq, option_and_then}
-use Rattle.std.specs.List.{fold}
-use Rattle.std.proofs.lemmas.Bool.{false≢true}
-use Rattle.txn_words.specs.declared.entry.Entry.{Entry}
-use Rattle.txn_words.specs.declared.entry.Entry.TheVariants.{Began, Asked, Did, Committed}
-use Rattle.txn_words.specs.declared.holder.Holder.TheVariants.{Begun}
-use Rattle.txn_words.specs.declared.op.Op.{Op}
-use Rattle.txn_words.specs.declared.op.Op.TheVariants.{Put, Get}
-use Rattle.txn_words.specs.Kinds.{caller_of}
-use Rattle.txn_words.specs.Map.{Map, get, insert}
-use Rattle.txn_words.specs.Shape.{own}
-use Rattle.txn_words.proofs.Maps.{get-insert-here}
-use Rattle.txn_trace.specs.Alone.{AloneRun, act, alone}
-use Rattle.txn_trace.specs.Legal.{IsLegal}
-use Rattle.txn_trace.specs.Serial.{serial}
+use Rattle.samples.specs.Vocabulary.{AloneRun, Asked, Began, Begun, Caller, Committed, Did, Entry, Get, IsLegal, IsRun, IsSince, IsStep}
+use Rattle.samples.specs.Vocabulary.{Map, Op, Put, Stop, act, alone, caller_of, fold, get, insert, number, option_and_then, option_eq, own}
+use Rattle.samples.specs.Vocabulary.{seen, serial}
+use Rattle.samples.proofs.Vocabulary.{false≢true, get-insert-here, own-append, own_extends, same_option}
 use Rattle.txn_trace.proofs.Committing.{has_committed}
-use Rattle.txn_trace.proofs.Now.{same_option}
-use Rattle.map_answers.specs.declared.stop.Stop.{Stop}
-use Rattle.striped_map.specs.declared.caller.Caller.{Caller}
-use Rattle.striped_map.specs.Callers.{number, seen, IsRun, IsSince, IsStep}
 use Rattle.striped_map.specs.Rule.{HasEnded}
-use Rattle.striped_map.proofs.Hands.{own_extends}
-use Rattle.striped_map.proofs.AdditionLemmas.{own-append}
 use Rattle.samples.specs.declared.visits.Visit.{Visit}
 use Rattle.samples.specs.Visits.{visiting, working, HasDone, HasMade, HasVisited, IsAnswered}
 

@@ -1,12 +1,11 @@
 -- The reason why nothing was moved, in terms of the map before the transaction.
 use Rattle.std.proofs.Common.{◌≡◌, ◌<◌, ◌≤◌, ◌+◌, ◌^◌, ℕ, refl, subst, sym}
 use Rattle.std.specs.Prelude.{Result, Ok, Err, IfErr}
+use Rattle.samples.specs.Vocabulary.{IsStopped, OnlyWorked, State, Stop}
+use Rattle.samples.proofs.Vocabulary.{after}
 use Rattle.txn_words.specs.declared.step.Step.TheVariants.{Begin, Commit}
-use Rattle.map_answers.specs.declared.stop.Stop.{Stop}
-use Rattle.boost_core.specs.State.{State}
-use Rattle.owned_map.specs.Effects.{HasBegun, IsStopped}
-use Rattle.owned_map.specs.Within.{OnlyWorked}
-use Rattle.owned_map.proofs.Only.{after, same}
+use Rattle.owned_map.specs.Effects.{HasBegun}
+use Rattle.owned_map.proofs.Only.{same}
 use Rattle.samples.specs.declared.bank.NotMoved.{NotMoved}
 use Rattle.samples.specs.declared.bank.NotMoved.TheVariants.{TooLittle, TooMuch, Stopped}
 use Rattle.samples.specs.Transfers.{balance}

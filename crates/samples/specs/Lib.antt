@@ -1,3 +1,4 @@
+pub mod Vocabulary
 pub mod OwnedTransfers
 pub mod StripedTransfers
 pub mod Transfers

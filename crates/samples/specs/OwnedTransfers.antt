@@ -1,13 +1,9 @@
 -- Why a transfer in a map with one owner moved nothing.
 use Rattle.std.specs.Prelude.{ℕ, ◌≡◌, ◌+◌, ◌^◌, ◌<◌, ◌≤◌, Some}
+use Rattle.samples.specs.Vocabulary.{IsStopped, OnlyWorked, State, Stop, now}
 use Rattle.txn_words.specs.declared.step.Step.{Step}
-use Rattle.txn_trace.specs.Now.{now}
-use Rattle.map_answers.specs.declared.stop.Stop.{Stop}
 use Rattle.boost_core.specs.Refusals.{owner_of}
 use Rattle.boost_core.specs.declared.owner.Owner.TheVariants.{Caller}
-use Rattle.boost_core.specs.State.{State}
-use Rattle.owned_map.specs.Effects.{IsStopped}
-use Rattle.owned_map.specs.Within.{OnlyWorked}
 use Rattle.samples.specs.declared.bank.NotMoved.{NotMoved}
 use Rattle.samples.specs.declared.bank.NotMoved.TheVariants.{TooLittle, TooMuch, Stopped}
 use Rattle.samples.specs.Transfers.{balance}

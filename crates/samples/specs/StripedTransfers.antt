@@ -1,20 +1,8 @@
 -- Transfers between the accounts of a striped map.
 use Rattle.std.specs.Prelude.{ℕ, ◌≡◌, ◌+◌, ◌^◌, ◌<◌, ◌≤◌, ◌⊎◌, Bool, true, false, List, [], ◌∷◌, ◌++◌, Option, Some, unwrap_or, slice_get}
 use Rattle.std.specs.Prelude.{Result, Ok, Err}
-use Rattle.txn_words.specs.declared.entry.Entry.{Entry}
-use Rattle.txn_words.specs.declared.entry.Entry.TheVariants.{Asked, Did, Committed}
-use Rattle.txn_words.specs.declared.holder.Holder.TheVariants.{Begun}
-use Rattle.txn_words.specs.declared.op.Op.TheVariants.{Get, Put}
-use Rattle.txn_words.specs.Kinds.{is_commit}
-use Rattle.txn_trace.specs.Legal.{IsLegal}
-use Rattle.txn_words.specs.Map.{Map}
-use Rattle.txn_trace.specs.Serial.{serial}
-use Rattle.txn_words.specs.Shape.{own, how_many}
-use Rattle.map_answers.specs.declared.stop.Stop.{Stop}
-use Rattle.map_answers.specs.declared.stop.Stop.TheVariants.{Busy}
-use Rattle.striped_map.specs.declared.caller.Caller.{Caller}
-use Rattle.striped_map.specs.Attempts.{FailsBusy, FailsOrNot}
-use Rattle.striped_map.specs.Callers.{number, seen, stripes_in}
+use Rattle.samples.specs.Vocabulary.{Asked, Begun, Busy, Caller, Committed, Did, Entry, FailsBusy, FailsOrNot, Get, IsLegal, Map, Put, Stop}
+use Rattle.samples.specs.Vocabulary.{how_many, is_commit, number, own, seen, serial, stripes_in}
 use Rattle.samples.specs.Transfers.{balance, IsTransfer}
 
 -- The sum cannot be moved: the first account has less than the sum, or the second would have 2^64

@@ -1,6 +1,6 @@
 -- Transfers between accounts.
 use Rattle.std.specs.Prelude.{ℕ, ◌≡◌, ◌≢◌, ◌+◌, unwrap_or}
-use Rattle.txn_words.specs.Map.{Map, get}
+use Rattle.samples.specs.Vocabulary.{Map, get}
 
 -- The balance of an account. It is 0 if the map has no value for the account.
 abbrev pub balance : Map → ℕ → ℕ

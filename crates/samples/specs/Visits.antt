@@ -1,19 +1,8 @@
 -- The entries of a visit to a map, and the answers to all visitors.
-use Rattle.std.specs.Prelude.{ℕ, ◌≡◌, ◌+◌, false, List, [], ◌∷◌, ◌++◌, length, slice_get, Option, Some, Result}
-use Rattle.std.specs.Prelude.{Ok, IfOk}
-use Rattle.txn_words.specs.declared.op.Op.TheVariants.{Put, Get}
-use Rattle.txn_words.specs.declared.entry.Entry.{Entry}
-use Rattle.txn_words.specs.declared.entry.Entry.TheVariants.{Began, Asked, Did, Committed}
-use Rattle.txn_words.specs.declared.holder.Holder.TheVariants.{Begun}
-use Rattle.txn_words.specs.Shape.{own}
-use Rattle.txn_trace.specs.History.{of}
-use Rattle.txn_trace.specs.Legal.{IsLegal}
-use Rattle.map_answers.specs.declared.stop.Stop.{Stop}
-use Rattle.striped_map.specs.declared.caller.Caller.{Caller}
-use Rattle.striped_map.specs.declared.host.Host.{Host}
-use Rattle.striped_map.specs.Callers.{has_made, number, seen}
-use Rattle.striped_map.specs.Hosts.{seen_by}
-use Rattle.striped_map.specs.Seats.{known, stripes_of}
+use Rattle.std.specs.Prelude.{ℕ, ◌≡◌, ◌+◌, false, List, [], ◌∷◌, ◌++◌, length, slice_get, Option, Some, Result, Ok, IfOk}
+use Rattle.samples.specs.Vocabulary.{Asked, Began, Begun, Caller, Committed, Did, Entry, Get, Host, IsLegal, Put, Stop, has_made, number}
+use Rattle.samples.specs.Vocabulary.{of, own, seen, seen_by, stripes_of}
+use Rattle.striped_map.specs.Seats.{known}
 use Rattle.striped_map.specs.Steps.{HasAll, HasNoOther}
 use Rattle.samples.specs.declared.visits.Visit.{Visit}
 

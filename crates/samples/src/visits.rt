@@ -155,6 +155,7 @@ fn merge_all(alloc: Global, host: &mut Host, done: Vec<Visited>) -> Result<Vec<A
 /// # Errors
 ///
 /// `NoMemory` if memory is refused.
+#[tactic(auto, using(striped_map::proofs::Collecting::none_left))]
 fn hand_out(host: &mut Host) -> Result<Vec<Entry>, Refusal>
     requires keeps { kept_by host.old ≡ Entries }
     requires whole { IsWhole host.old }

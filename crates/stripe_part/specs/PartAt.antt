@@ -2,7 +2,7 @@
 use Rattle.std.specs.Prelude.{ℕ, refl}
 use Rattle.std.specs.Coded.{Coded, code_by, coded×, coded_ℕ}
 use Rattle.txn_words.specs.Map.{Map, empty}
-use Rattle.probe_map.specs.MapAt.{content_code}
+use Rattle.stripe_part.specs.MapAt.{content_code}
 
 -- The content, and how many changes of the open transaction can be taken back.
 pub record PartAt : Type 0 where

@@ -1,12 +1,12 @@
 //! Functions that change a map, and the number of its changes that can be taken back. They take the
-//! two fields of a `CountedMap`. They are not its methods, since the type's invariant does not hold
+//! two fields of a `Part`. They are not its methods, since the type's invariant does not hold
 //! in the middle of a change.
 ghost use Rattle.std.specs.Prelude.{◌≡◌, ℕ, ◌+◌, ◌<◌, ◌≤◌, OnErr, IfOk, IfErr};
 ghost use Rattle.txn_words.specs.Map.{after, reply_of, set_at};
 ghost use Rattle.stripe_part.specs.Calls.{Does, IsRefused, TakesBack};
 ghost use Rattle.stripe_part.specs.Stored.{part_of};
 
-use probe_map::ProbeMap;
+use crate::map::ProbeMap;
 use txn_words::{Op, Refusal, Reply};
 
 /// Gives the key this value. If `value` is `None`, removes the key.

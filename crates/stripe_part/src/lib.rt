@@ -1,31 +1,32 @@
-//! The map of one stripe of a striped map. It can take changes back. Only the stripe's holder uses
-//! its `Part`, as plain memory, so a part needs no cursors, no marked nodes and no buckets in split
-//! order. It contains a `ProbeMap`.
+//! The map of one stripe of a striped map. Only the stripe's holder uses it, as plain memory, so it
+//! needs no cursors, no marked nodes and no buckets in split order.
 //!
-//! A contract sees a part as a `PartAt`: its `content`, a finite map, and `owed`, the number of
-//! changes of the open transaction that can be taken back without memory. The part's user keeps
-//! these changes in one log for all its parts.
+//! `ProbeMap` is a map in one flat array, by open addressing with linear probing (Knuth, "The Art of
+//! Computer Programming", volume 3, section 6.4). A probe begins at the key's home, the slot that a
+//! hash of the key gives, and visits the slots one by one, round the end. It stops at a slot that is
+//! empty or has the key. A key that is removed keeps its slot, without a value, so that no probe for
+//! another key stops too early. A contract sees a map as its `content`, a finite map, and `spare`, the
+//! number of new keys that it has room for.
 //!
-//! - `apply` does an operation as on a plain map. A change is then owed. A refusal leaves the part
-//!   unchanged; a get is never refused.
-//! - `take_back` gives a change's key the value from before. This is an inverse of boosting;
-//!   inverses are run newest first.
-//! - `settle` keeps all changes.
-//!
-//! Invariant: for each change owed the map has room for one more key, which the change has
-//! reserved. Map and count are in a box, made at the first change unless the part is made with
-//! room.
-//!
-//! `apply` and `take_back` take amortized constant time, except for keys whose hashes collide. Only
-//! `with_capacity_and_seed`, `apply` and `pairs` take memory.
+//! A `Part` is such a map that can take changes back. A contract sees its `content` and `owed`, the
+//! number of changes of the open transaction that can be taken back without memory: for each the map
+//! has room for one more key. `apply` does an operation, whose change is then owed; a refusal leaves
+//! the part unchanged, and a get is never refused. `take_back` gives a change's key the value from
+//! before. This is an inverse of boosting; inverses are run newest first, from a log that the part's
+//! user keeps. `settle` keeps all changes. The calls take amortized constant time, except for keys
+//! whose hashes collide.
 //!
 //! Not proved: a part made by `with_capacity_and_seed` needs no memory for its first keys. Not
-//! claimed: how hard it is to choose colliding keys if the seed is unknown. Only tested: a part
-//! grows, and a refused allocation leaves it unchanged.
+//! claimed: how hard it is to choose colliding keys if the seed is unknown. Only tested: the room of
+//! removed keys is used again; map and part grow; with enough memory, no call returns "no memory".
 #![tactic(auto)]
 
 mod change;
-mod counted_map;
+mod hash;
+mod map;
 mod part;
+mod probe;
+mod slot;
 
+pub use map::ProbeMap;
 pub use part::Part;

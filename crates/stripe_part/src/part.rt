@@ -1,14 +1,13 @@
-//! The public type `Part`: a box with the map and the number of its changes. The box is made at the
-//! first change, or at the start if the part is to have room. A part without a box is empty, and a
-//! call on it returns what it returns for an empty map. Only this module tests whether there is a
-//! box. The content of the box and the invariant are in `counted_map.rt`.
+//! The public type `Part`: a map, and how many changes can be taken back. The type's invariant: for
+//! each of these changes the map has room for one more key, so that taking back needs no memory. The
+//! functions on the two fields are in `change.rt`.
 ghost use Rattle.std.specs.Prelude.{◌≡◌, ℕ, ◌<◌, IfOk, IfErr, OnErr};
 ghost use Rattle.txn_words.specs.Map.{count_of};
-ghost use Rattle.txn_words.specs.declared.refusal.Refusal.TheVariants.{NoMemory};
 ghost use Rattle.stripe_part.specs.PartAt.{nothing};
 ghost use Rattle.stripe_part.specs.Calls.{Does, IsRefused, TakesBack};
 
-use crate::counted_map::CountedMap;
+use crate::change::{apply, take_back};
+use crate::map::ProbeMap;
 use std::alloc::{AllocError, Global};
 use std::marker::Model;
 use txn_words::{Op, Refusal, Reply};
@@ -20,57 +19,31 @@ use txn_words::{Op, Refusal, Reply};
 ///
 /// # Cost
 ///
-/// A part takes no memory before its first change. The first change takes memory for a box and for
-/// the map's array. A part that has room from the start takes both at the start.
+/// A part has 64 bytes. It takes memory for its array at the first operation that may be a change,
+/// or at the start if it is to have room.
+// The fields that each operation touches come first, and are in one cache line wherever a list of
+// parts begins 0 or 16 bytes past the begin of a line.
 #[derive(Drop)]
 pub struct Part {
-    inner: Inner,
-}
-
-/// What a part is made of.
-#[derive(Drop)]
-pub(crate) enum Inner {
-    /// There was no change yet. The map will have this seed.
-    Empty(u64),
-    /// The map.
-    Made(Box<CountedMap>),
+    owed: usize,
+    map: ProbeMap,
 }
 
 impl Model for Part {
+    ghost use Rattle.std.specs.Prelude.{◌≤◌};
     ghost use Rattle.stripe_part.specs.PartAt.{PartAt, part_code};
-    ghost use Rattle.stripe_part.specs.Inside.{inside};
+    ghost use Rattle.stripe_part.specs.Stored.{part_of};
 
     ghost Value = { PartAt };
 
     ghost coded = { part_code };
 
-    ghost view = { λ p. inside p.inner };
-}
+    ghost view = { λ p. part_of p.map.content p.owed };
 
-/// A new, empty map with this seed.
-#[cold]
-#[inline(never)]
-fn made(alloc: Global, seed: u64) -> Result<Box<CountedMap>, Refusal>
-    ensures ok { IfOk result (λ made. made.value ≡ nothing) }
-    ensures err { IfErr result (λ refusal. refusal ≡ NoMemory) }
-{
-    Box::new(alloc, CountedMap::new(alloc, seed)).map_err(|_| Refusal::NoMemory)
+    ghost invariant = { λ p. p.owed ≤ p.map.spare };
 }
 
 impl Part {
-    /// An empty part with the seed 0 and no change to take back.
-    ///
-    /// # Cost
-    ///
-    /// Constant time; takes no memory.
-    pub fn new() -> Part
-        ensures { result ≡ nothing }
-    {
-        Part {
-            inner: Inner::Empty(0),
-        }
-    }
-
     /// An empty part with no change to take back and with room for `keys` keys. The hash of its keys
     /// has this seed, on which only the time of the calls depends.
     ///
@@ -85,20 +58,21 @@ impl Part {
     ///
     /// # Cost
     ///
-    /// Time and memory in proportion to `keys`: a box, and the map's array. If `keys` is 0,
-    /// constant time and no memory.
+    /// Time and memory in proportion to `keys`. If `keys` is 0, constant time and no memory.
     pub fn with_capacity_and_seed(alloc: Global, keys: usize, seed: u64) -> Result<Part, AllocError>
         ensures { IfOk result (λ part. part ≡ nothing) }
     {
         if keys == 0 {
             return Ok(Part {
-                inner: Inner::Empty(seed),
+                owed: 0,
+                map: ProbeMap::with_seed(alloc, seed),
             });
         }
-        let made = CountedMap::with_capacity(alloc, keys, seed)?;
-        let inner = Box::new(alloc, made)?;
+        // `apply` reserves room for two keys when it puts one: for the key, and for taking the
+        // change back.
         Ok(Part {
-            inner: Inner::Made(inner),
+            owed: 0,
+            map: ProbeMap::with_capacity_and_seed(alloc, keys.saturating_add(1), seed)?,
         })
     }
 
@@ -115,21 +89,12 @@ impl Part {
     /// Amortized constant time, except for keys whose hashes collide (`ProbeMap::get`). A get takes
     /// no memory; other operations may.
     #[inline(always)]
-    pub fn apply(&mut self, alloc: Global, op: Op) -> Result<Reply, Refusal>
+    pub fn apply(&mut self, op: Op) -> Result<Reply, Refusal>
         ensures ok { IfOk result (Does self.old self.new op) }
         ensures err { IfErr result (IsRefused op) }
         ensures unchanged { OnErr result (self.new ≡ self.old) }
     {
-        if let Inner::Empty(seed) = self.inner {
-            if !op.changes(None) {
-                return Ok(None);
-            }
-            self.inner = Inner::Made(made(alloc, seed)?);
-        }
-        match &mut self.inner {
-            Inner::Made(inner) => inner.apply(op),
-            Inner::Empty(_) => unreachable!(),
-        }
+        apply(&mut self.map, &mut self.owed, op)
     }
 
     /// Takes a change back: the change's key gets the value that it had before, and all other keys
@@ -144,10 +109,7 @@ impl Part {
         requires { 0 < self.old.owed }
         ensures { TakesBack self.old self.new key before }
     {
-        match &mut self.inner {
-            Inner::Made(inner) => inner.take_back(key, before),
-            Inner::Empty(_) => unreachable!(),
-        }
+        take_back(&mut self.map, &mut self.owed, key, before);
     }
 
     /// Keeps all changes: they can no longer be taken back.
@@ -155,33 +117,26 @@ impl Part {
     /// # Cost
     ///
     /// Constant time; takes no memory.
+    #[inline(always)]
     pub fn settle(&mut self)
         ensures content { self.new.content ≡ self.old.content }
         ensures owed { self.new.owed ≡ 0 }
     {
-        if let Inner::Made(inner) = &mut self.inner {
-            inner.settle();
-        }
+        self.owed = 0;
     }
 
     /// How many changes can be taken back. Constant time.
     pub fn changes(&self) -> usize
         ensures { result ≡ self.now.owed }
     {
-        match &self.inner {
-            Inner::Made(inner) => inner.changes(),
-            Inner::Empty(_) => 0,
-        }
+        self.owed
     }
 
     /// How many keys there are. Constant time.
     pub fn len(&self) -> u64
         ensures { result ≡ count_of self.now.content }
     {
-        match &self.inner {
-            Inner::Made(inner) => inner.len(),
-            Inner::Empty(_) => 0,
-        }
+        self.map.len() as u64
     }
 
     /// The keys with their values, in rising order of keys.
@@ -197,9 +152,8 @@ impl Part {
     pub fn pairs(&self, alloc: Global) -> Result<Vec<(u64, u64)>, AllocError>
         ensures { IfOk result (λ pairs. pairs.items ≡ self.now.content.rows) }
     {
-        match &self.inner {
-            Inner::Made(inner) => inner.pairs(alloc),
-            Inner::Empty(_) => Ok(Vec::new(alloc)),
-        }
+        let mut pairs = self.map.pairs(alloc)?;
+        pairs.sort()?;
+        Ok(pairs)
     }
 }

@@ -1,7 +1,7 @@
--- PROMISES the-striped-map: IsOpened, IsNoHistory
+-- PROMISES the-striped-map: IsOpened, IsNoHistory, Collects
 -- The facts that contracts name about a host.
-use Rattle.std.specs.Prelude.{ℕ, ◌≡◌, ◌≢◌, ◌+◌, ◌<◌, Bool, ◌&&◌, nat_le, true, false, List, [], length, Some, slice_get}
-use Rattle.std.specs.List.{HoldsAt}
+use Rattle.std.specs.Prelude.{ℕ, ◌≡◌, ◌≢◌, ◌+◌, ◌<◌, ◌⊎◌, Bool, ◌&&◌, ◌||◌, nat_le, true, false, List, [], ◌∷◌, ◌++◌, length, map, Some, slice_get}
+use Rattle.std.specs.List.{AllByRecursion, HoldsAt}
 use Rattle.txn_words.specs.declared.refusal.Refusal.{Refusal}
 use Rattle.txn_words.specs.declared.refusal.Refusal.TheVariants.{Limit, NoMemory}
 use Rattle.txn_words.specs.declared.entry.Entry.{Entry}
@@ -12,9 +12,12 @@ use Rattle.striped_map.specs.declared.keep.Keep.TheVariants.{Entries}
 use Rattle.striped_map.specs.declared.no_history.NoHistory.{NoHistory}
 use Rattle.striped_map.specs.declared.no_history.NoHistory.TheVariants.{NotKept, Missing, NoMemory as NoSpace}
 use Rattle.striped_map.specs.declared.open.Opening.{Opening}
+use Rattle.striped_map.specs.declared.map.StripedMap.{StripedMap}
+use Rattle.striped_map.specs.declared.seat.MapSeat.{MapSeat}
+use Rattle.striped_map.specs.declared.view.View.{View}
 use Rattle.striped_map.specs.Callers.{IsNew}
-use Rattle.striped_map.specs.Seats.{keep_of, known}
-use Rattle.striped_map.specs.Steps.{HasWhole, IsMerged}
+use Rattle.striped_map.specs.Seats.{IsOverIn, keep_of, known}
+use Rattle.striped_map.specs.Steps.{AreMade, HasWhole, IsMerged, taken_in}
 
 -- The callers that were merged into the host, the newest first, each with its number and the
 -- beginning of the history that it had seen. This beginning has all its entries.
@@ -42,6 +45,37 @@ HasTaken host c = IsMerged c (taken host)
 -- The beginning of the history that the host has seen.
 abbrev pub seen_by : Host → List Entry
 seen_by host = (known host.hand.seat).seen
+
+-- What a merged seat leaves: its number, and the beginning of the history that it had seen.
+abbrev pub left_by : MapSeat → ℕ × List Entry
+left_by seat = ((known seat).number, (known seat).seen)
+
+-- Whether one of these seats has made a caller, or one had made a caller before.
+abbrev pub one_made : Bool → List MapSeat → Bool
+one_made before [] = before
+one_made before (seat ∷ seats) = one_made before seats || (known seat).parent
+
+-- From `v` to `w`, callers of this map that had ended were merged into the seat with this view, the
+-- last of the list `ended` first. There is none if the map does not keep its entries, or if all
+-- callers had been merged before.
+pub record CollectsIn (map_is : StripedMap) (v w : View) : Type 0 where
+  pub ended : List MapSeat
+  pub each : AllByRecursion (IsOverIn map_is) ended
+  pub kept : keep_of map_is ≢ Entries → ended ≡ []
+  pub whole : HasWhole v → ended ≡ []
+  pub taken_are : w.retired ≡ map left_by ended ++ v.retired
+  pub made_are : w.parent ≡ one_made v.parent ended
+
+-- From `a` to `b`, the host has merged callers of its map that had ended. Each was in no transaction
+-- and held no stripe. What was merged before stays.
+abbrev pub Collects : Host → Host → Type 0
+Collects a b = CollectsIn a.map.value (known a.hand.seat) (known b.hand.seat)
+
+-- From `v` to `w`, at most one caller of this map was merged, the one with the number `c`, which had
+-- ended.
+abbrev pub MergesAtMost : StripedMap → ℕ → View → View → Type 0
+MergesAtMost map_is c v w = (w ≡ v) ⊎ ((seat : MapSeat) × IsOverIn map_is seat
+    × ((known seat).number ≡ c) × (w ≡ taken_in v (known seat)) × AreMade w)
 
 -- What the host's map keeps of its history.
 abbrev pub kept_by : Host → Keep

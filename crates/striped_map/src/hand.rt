@@ -38,8 +38,9 @@ use std::hint;
 use txn_trace::{Op, Refusal, Reply};
 
 /// How often a call that takes every stripe tries to take a stripe that another caller holds. Such
-/// a caller mostly gives the stripe back within a microsecond.
-const TRIES: usize = 1000;
+/// a caller mostly gives the stripe back within a microsecond, but later if its thread was
+/// interrupted. All tries together take some 50 milliseconds.
+const TRIES: usize = 1_000_000;
 
 /// A change that can be taken back: the place of its stripe in the list of held stripes, its
 /// sub-key, and the value before the change.
@@ -535,7 +536,6 @@ impl Hand {
         &mut self,
         keep: Keep,
         map: &StripedMap,
-        alloc: Global,
         place: usize,
         op: Op,
         sub_key: u64,
@@ -560,7 +560,7 @@ impl Hand {
         ensures still { (known self.new.seat).held ≡ (known self.old.seat).held }
     {
         let stripe = self.held[place];
-        let reply = map.apply(&mut self.seat, alloc, stripe, under(op, sub_key))?;
+        let reply = map.apply(&mut self.seat, stripe, under(op, sub_key))?;
         map.add(
             &mut self.seat,
             keep,
@@ -579,7 +579,6 @@ impl Hand {
     fn work(
         &mut self,
         map: &StripedMap,
-        alloc: Global,
         place: usize,
         op: Op,
         sub_key: u64,
@@ -606,19 +605,19 @@ impl Hand {
                 if self.make_room().is_err() {
                     return Err(Refusal::NoMemory);
                 }
-                match self.apply(Keep::Entries, map, alloc, place, op, sub_key) {
+                match self.apply(Keep::Entries, map, place, op, sub_key) {
                     Ok(reply) => Ok(reply),
                     Err(refusal) => Err(refusal),
                 }
             }
-            keep => self.apply(keep, map, alloc, place, op, sub_key),
+            keep => self.apply(keep, map, place, op, sub_key),
         }
     }
 
     /// Does an operation.
     #[tactic(auto, using(crate::proofs::Ends::moved_on, crate::proofs::Ends::moved_did, crate::proofs::Ends::moved_busy))]
     #[inline(always)]
-    pub(crate) fn operate(&mut self, map: &StripedMap, alloc: Global, op: Op) -> Result<Reply, Stop>
+    pub(crate) fn operate(&mut self, map: &StripedMap, op: Op) -> Result<Reply, Stop>
         requires map { IsOf self.old.seat map.now }
         requires open { IsAt Opened (known self.old.seat) }
         ensures map { IsOf self.new.seat map.now }
@@ -638,7 +637,7 @@ impl Hand {
         let stripe = (op.key() % stripes) as usize;
         let sub_key = op.key() / stripes;
         match self.hold(map, stripe) {
-            Ok(place) => match self.work(map, alloc, place, op, sub_key) {
+            Ok(place) => match self.work(map, place, op, sub_key) {
                 Ok(reply) => Ok(reply),
                 Err(refusal) => Err(Stop::Refused(refusal)),
             },

@@ -11,8 +11,8 @@ pub enum Keep {
     Nothing,
     /// The number of commits. A commit then returns its place among all commits.
     Commits,
-    /// Each caller's own entries, each with its position in the history. If all callers are merged,
-    /// the host hands the history out (`Host::history`).
+    /// Each caller's own entries, each with its position in the history. When all callers are merged
+    /// or dropped, the host hands the history out (`Host::history`).
     Entries,
 }
 
@@ -26,6 +26,15 @@ impl Keep {
             Keep::Nothing => 1 << 62,
             Keep::Commits => 1 << 62,
             Keep::Entries => 1 << 16,
+        }
+    }
+
+    /// How many places the shelf of a map has that keeps this: one for each number that the map
+    /// gives out, if it keeps its entries.
+    pub(crate) fn places(self) -> usize {
+        match self {
+            Keep::Entries => 1 << 16,
+            _ => 0,
         }
     }
 }

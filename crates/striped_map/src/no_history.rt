@@ -7,7 +7,7 @@ use std::fmt;
 pub enum NoHistory {
     /// The map does not keep its entries (`Keep::Entries`).
     NotKept,
-    /// The caller with this number was not merged. If it was dropped, its entries are lost.
+    /// The caller with this number has not ended: it was neither merged nor dropped.
     Missing(u64),
     /// Memory is refused.
     NoMemory,

@@ -109,9 +109,16 @@ fn makes_all<R: Abort>(rt: &R, alloc: Global, caller: &mut Caller) {
     assert!(rt; matches!(caller.another(alloc), Err(Refusal::Limit)));
 }
 
+/// All of them are in the history, once the others have ended too. Only the second caller has
+/// transactions, two.
 #[test]
 fn the_numbers_are_used_up(rt: HostRuntime) {
-    let (_host, mut one, other, _third) = with_host(&rt, rt.alloc(), Keep::Entries);
+    let (mut host, mut one, other, third) = with_host(&rt, rt.alloc(), Keep::Entries);
     makes_all(&rt, rt.alloc(), &mut one);
-    let _goes_on = moves_three(moves_three(other));
+    let other = moves_three(moves_three(other));
+    merge(&rt, &mut host, third);
+    drop(one);
+    hands_out_nothing(&rt, &mut host, NoHistory::Missing(2));
+    drop(other);
+    hands_out(&rt, rt.alloc(), &mut host, 2);
 }

@@ -14,8 +14,8 @@
 //! - Operation that finds its stripe held: at the later one of two stamps. One is the first stamp
 //!   of the call. The other is the second stamp of the first begin of the caller that holds the
 //!   stripe.
-use crate::calls::{Ask, Home, NEW, Row, Told, answer, open};
-use crate::threads::{Work, in_threads, must_start};
+use crate::calls::{Ask, Home, Told, answer, open};
+use crate::threads::must_start;
 use history_check::{Checker, Verdict};
 use std::alloc::{AllocError, Global};
 use std::process::Abort;
@@ -522,30 +522,4 @@ fn runs_750_to_999(rt: HostRuntime) {
 fn four_hundred_scripts(rt: HostRuntime) {
     let commits = commits_of(&rt, rt.alloc(), 4096, 4, 0, Plan::Scripts);
     assert!(rt; commits == Some(400));
-}
-
-/// Caller 1 puts 60 at key 6 in its thread.
-const PUTS: &[Row] = &[
-    (0, Ask::Begin, Told::Done),
-    (0, Ask::Do(Op::Put(6, 60)), NEW),
-    (0, Ask::Commit, Told::Number(1)),
-];
-
-/// Caller 2 gets the key in another thread, after the thread of caller 1 has ended.
-const GETS: &[Row] = &[
-    (1, Ask::Begin, Told::Done),
-    (1, Ask::Do(Op::Get(6)), Told::Replied(Some(60))),
-    (1, Ask::Commit, Told::Number(2)),
-];
-
-/// Runs both threads, one after the other.
-fn play_in_turn<R: Threads + Wait + Abort + Sync>(rt: &R, callers: &mut [Caller]) {
-    assert!(rt; callers.len() == 2);
-    in_threads(rt, &mut callers[..1], Work::Calls(PUTS));
-    in_threads(rt, &mut callers[1..], Work::Calls(GETS));
-}
-
-#[test]
-fn two_threads_in_turn(rt: HostRuntime) {
-    play_in_turn(&rt, open(&rt, rt.alloc(), 8, 2).callers.as_mut_slice());
 }

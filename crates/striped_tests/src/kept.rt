@@ -2,7 +2,6 @@
 //! judged by `history_check`. How many transactions it commits was worked out by hand.
 ghost use Rattle.std.specs.Prelude.{◌≡◌};
 
-use crate::calls::{Ask, NEW, Row, Told, open_as, play};
 use crate::meets::{merge, moves_three, with_host};
 use history_check::{Checker, Verdict};
 use std::alloc::{AllocError, Global};
@@ -10,23 +9,7 @@ use std::process::Abort;
 use std::thread;
 use std::thread::Threads;
 use striped_map::{Caller, Host, Keep, NoHistory, Opening};
-use txn_words::{Entry, Holder, Op};
-
-/// A commit in a map that keeps nothing, or its entries, has no place.
-const NO_PLACE: &[Row] = &[
-    (0, Ask::Begin, Told::Done),
-    (0, Ask::Do(Op::Put(1, 10)), NEW),
-    (0, Ask::Commit, Told::Done),
-];
-
-#[test]
-fn only_counted_commits_have_a_place(rt: HostRuntime) {
-    for keep in [Keep::Nothing, Keep::Entries] {
-        let mut opening = Opening::new(4, 1);
-        opening.keep = keep;
-        play(&rt, &mut open_as(&rt, rt.alloc(), opening), NO_PLACE);
-    }
-}
+use txn_words::{Entry, Holder};
 
 /// Makes a call, whatever its answer. The call's map stays.
 fn begins(caller: &mut Caller)
@@ -194,14 +177,85 @@ fn a_kept_history_is_legal(rt: HostRuntime) {
     merges_all(&rt, rt.alloc(), &mut host, one, other, third);
 }
 
-/// Without the third caller there is no history, also after it is dropped.
+/// The caller at a place commits a put of its own key. If it is the one that stays in a transaction,
+/// it then begins another, and changes the key again.
+fn puts_its_key(caller: &mut Caller, key: u64, is_open: bool) {
+    begins(caller);
+    puts(caller, key, 1);
+    commits(caller);
+    if is_open {
+        begins(caller);
+        puts(caller, key, 2);
+    }
+}
+
+/// Callers are dropped in an order, each by its place among those that are left. While one lives,
+/// the history is missing one, after that it has a commit of each.
+fn dropped_in_order<R: Abort>(rt: &R, alloc: Global, order: &[usize], open: usize) {
+    let mut opening = Opening::new(4, order.len());
+    opening.keep = Keep::Entries;
+    let (mut host, mut callers) = opening.open(alloc).expect(rt, "a map");
+    for place in 0..callers.len() {
+        assert!(rt; place < callers.len());
+        puts_its_key(&mut callers[place], place as u64, place == open);
+    }
+    for place in order {
+        let history = host.history();
+        assert!(rt; matches!(history, Err(NoHistory::Missing(_))));
+        assert!(rt; *place < callers.len());
+        drop(callers.remove(*place));
+    }
+    hands_out(rt, alloc, &mut host, order.len() as u64);
+    hands_out(rt, alloc, &mut host, order.len() as u64);
+}
+
+/// Three callers are dropped in each order, one of them in a transaction, or none.
 #[test]
-fn a_caller_is_missing(rt: HostRuntime) {
-    let (mut host, one, other, third) = with_host(&rt, rt.alloc(), Keep::Entries);
-    moves_and_merges(&rt, &mut host, one, other);
-    hands_out_nothing(&rt, &mut host, NoHistory::Missing(3));
-    drop(third);
-    hands_out_nothing(&rt, &mut host, NoHistory::Missing(3));
+fn dropped_in_every_order(rt: HostRuntime) {
+    for first in 0..3usize {
+        for second in 0..2usize {
+            for open in 0..4usize {
+                dropped_in_order(&rt, rt.alloc(), &[first, second, 0], open);
+            }
+        }
+    }
+}
+
+/// Moves 3 from account 1 to account 2, makes another caller, and is dropped; nine times in all, each
+/// time by the caller that was made. The last is dropped in a transaction.
+fn passes_on<R: Abort>(rt: &R, alloc: Global, caller: Caller) {
+    let mut caller = caller;
+    for _ in 0..9 {
+        caller = moves_three(caller);
+        caller = caller.another(alloc).expect(rt, "another caller");
+    }
+    begins(&mut caller);
+    puts(&mut caller, 3, 3);
+}
+
+/// Two threads make callers and drop them. The third caller is merged, or dropped.
+fn dropped_in_threads<R: Abort + Threads + Sync>(rt: &R, alloc: Global, is_merged: bool) {
+    let (mut host, one, other, third) = with_host(rt, alloc, Keep::Entries);
+    let third = takes_part(third);
+    thread::join(
+        rt,
+        move || passes_on(rt, alloc, one),
+        move || passes_on(rt, alloc, other),
+    );
+    hands_out_nothing(rt, &mut host, NoHistory::Missing(3));
+    if is_merged {
+        merge(rt, &mut host, third);
+    } else {
+        drop(third);
+    }
+    hands_out(rt, alloc, &mut host, 19);
+}
+
+#[test]
+fn callers_are_dropped_in_threads(rt: HostRuntime) {
+    for is_merged in [false, true] {
+        dropped_in_threads(&rt, rt.alloc(), is_merged);
+    }
 }
 
 /// A map that does not keep its entries hands out no history.

@@ -3,50 +3,13 @@
 //! By the contracts, any call may be refused memory. Here a call is refused only if its row says
 //! so.
 use crate::calls::{
-    Ask, Home, NEW, Row, Told, Worked, counted, has_left, leaves, must, open, open_as, play,
-    play_worked,
+    Ask, Home, NEW, Row, Told, Worked, has_left, leaves, must, open, play, play_worked,
 };
 use std::alloc::{AllocError, Global};
 use std::process::Abort;
 use std::test::Fail;
 use striped_map::{Opening, Stop};
 use txn_words::{Op, Refusal};
-
-/// Opens a map with these numbers of stripes and callers, and returns how many callers it has.
-/// Returns `None` if the numbers are refused with `Limit`.
-fn callers_in(alloc: Global, stripes: usize, callers: usize) -> Result<Option<usize>, AllocError> {
-    match Opening::new(stripes, callers).open(alloc) {
-        Ok((_host, made)) => Ok(Some(made.len())),
-        Err(Refusal::Limit) => Ok(None),
-        Err(_) => Err(AllocError),
-    }
-}
-
-/// Each row has the numbers of stripes and callers, and whether a map can be opened with them.
-const MAPS: &[(usize, usize, bool)] = &[
-    (0, 1, false),
-    (1, 0, true),
-    (1, 1, true),
-    (1, 4096, true),
-    (4096, 1, true),
-    (4096, 4096, true),
-    (1, 4097, false),
-    (4097, 1, false),
-    (
-        18_446_744_073_709_551_615,
-        18_446_744_073_709_551_615,
-        false,
-    ),
-];
-
-#[test]
-fn stripes_and_callers(rt: HostRuntime) -> Result<(), Fail> {
-    for (row, &(stripes, callers, is_there)) in MAPS.iter().enumerate() {
-        let made = callers_in(rt.alloc(), stripes, callers)?;
-        must(&rt, row, made == is_there.then_some(callers));
-    }
-    Ok(())
-}
 
 /// Opens a map with these numbers of stripes and callers, and room for this number of keys. Returns
 /// the refusal, or `None` if the map is opened.
@@ -61,10 +24,10 @@ fn why_not(alloc: Global, stripes: usize, callers: usize, keys: usize) -> Option
 const ROOMS: &[(usize, usize, usize, Option<Refusal>)] = &[
     (1, 1, 0, None),
     (1, 0, 1, None),
-    (3, 1, 2, None),
+    (1, 4096, 0, None),
     (4096, 4096, 100_000, None),
     (0, 1, 1, Some(Refusal::Limit)),
-    (1, 4097, 1, Some(Refusal::Limit)),
+    (1, 4097, 0, Some(Refusal::Limit)),
     (4097, 1, 1, Some(Refusal::Limit)),
     (1, 4097, 18_446_744_073_709_551_615, Some(Refusal::Limit)),
     (1, 1, 18_446_744_073_709_551_615, Some(Refusal::NoMemory)),
@@ -78,69 +41,6 @@ fn room_for_keys(rt: HostRuntime) {
         let found = why_not(rt.alloc(), stripes, callers, keys);
         must(&rt, row, found == wanted);
     }
-}
-
-/// A map with one caller and room for a thousand keys.
-fn open_roomy<R: Abort>(rt: &R, alloc: Global, stripes: usize) -> Home {
-    let mut opening = counted(stripes, 1);
-    opening.keys = 1_000;
-    open_as(rt, alloc, opening)
-}
-
-/// Calls that find no key in the map.
-const NO_KEYS: &[Row] = &[
-    (0, Ask::Begin, Told::Done),
-    (0, Ask::Len, Told::Number(0)),
-    (0, Ask::Do(Op::Get(0)), NEW),
-    (0, Ask::Do(Op::Take(999)), NEW),
-    (0, Ask::Do(Op::PutIf(1, Some(0), 1)), NEW),
-    (0, Ask::Abort, Told::Done),
-];
-
-/// Puts a thousand rising keys, each in a separate transaction, and then 500 more in one
-/// transaction.
-fn put_a_thousand<R: Abort>(rt: &R, home: &mut Home) {
-    for key in 0..1_000u64 {
-        let rows = [
-            (0, Ask::Begin, Told::Done),
-            (0, Ask::Do(Op::Put(key, key)), NEW),
-            (0, Ask::Commit, Told::Number(key + 1)),
-        ];
-        play(rt, home, rows.as_slice());
-    }
-    play(rt, home, &[(0, Ask::Begin, Told::Done)]);
-    for key in 1_000..1_500u64 {
-        play(rt, home, &[(0, Ask::Do(Op::Put(key, key)), NEW)]);
-    }
-    play(rt, home, &[(0, Ask::Commit, Told::Number(1_001))]);
-}
-
-/// Returns one pair for each number below `keys`. The number is both the key and the value.
-fn selves(alloc: Global, keys: u64) -> Result<Vec<(u64, u64)>, AllocError> {
-    let mut pairs = Vec::new(alloc);
-    for key in 0..keys {
-        pairs.push((key, key))?;
-    }
-    Ok(pairs)
-}
-
-/// Plays `NO_KEYS`, puts 1,500 keys, and checks the committed pairs.
-fn play_roomy<R: Abort>(rt: &R, home: &mut Home, wanted: &[(u64, u64)]) {
-    play(rt, home, NO_KEYS);
-    put_a_thousand(rt, home);
-    has_left(rt, &mut home.host, wanted);
-}
-
-/// A map that is opened with room for a thousand keys is empty at first, and then takes 1,500 keys.
-/// It has 1, 7 or 4,096 stripes; with 4,096, each stripe gets at most one key.
-#[test]
-fn a_roomy_map(rt: HostRuntime) -> Result<(), Fail> {
-    let wanted = selves(rt.alloc(), 1_500)?;
-    for &stripes in &[1, 7, 4096usize] {
-        let home = &mut open_roomy(&rt, rt.alloc(), stripes);
-        play_roomy(&rt, home, wanted.as_slice());
-    }
-    Ok(())
 }
 
 /// The last of 4,096 callers has the number 4,096, which another caller's busy call reports.

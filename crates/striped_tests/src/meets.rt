@@ -56,32 +56,6 @@ fn both_moved<R: Abort>(rt: &R, told: Result<(bool, bool), Stop>) {
     assert!(rt; matches!(told, Ok((true, true))));
 }
 
-/// `one` moves 10 from account 1 to account 2. Then `other` catches up with `one`, and moves 4
-/// back.
-fn there_and_back(one: &mut Caller, other: &mut Caller) -> Result<(bool, bool), Stop>
-    requires same_map { one.old.map.value ≡ other.old.map.value }
-{
-    let is_there = transfer(one, 0, 1, 2, 10)?;
-    other.catch_up(one);
-    let is_back = transfer(other, 0, 2, 1, 4)?;
-    Ok((is_there, is_back))
-}
-
-/// Does `there_and_back` with callers that are then dropped.
-fn move_and_drop(mut one: Caller, mut other: Caller) -> Result<(bool, bool), Stop>
-    requires same_map { one.map.value ≡ other.map.value }
-{
-    there_and_back(&mut one, &mut other)
-}
-
-#[test]
-fn a_commit_is_seen(rt: HostRuntime) {
-    let (mut home, second, third) = three(&rt, rt.alloc());
-    play(&rt, &mut home, FILLED);
-    both_moved(&rt, move_and_drop(second, third));
-    leaves(&rt, &mut home, &[(1, 4), (2, 6), (3, u64::MAX)]);
-}
-
 /// Moves 3 from account 1 to account 2, with as many tries as it takes. Returns the caller.
 pub(crate) fn moves_three(mut caller: Caller) -> Caller
     ensures same_map { result.map.value ≡ caller.map.value }
@@ -245,26 +219,4 @@ fn merged_callers_are_gathered(rt: HostRuntime) {
     has_left(&rt, &mut host, &[(1, 6), (2, 4), (3, 30)]);
     host.gather();
     asks(&rt, &mut third, COMMITS_FIFTH);
-}
-
-/// A caller that has begun a transaction is not merged, but handed back. It aborts, and is merged.
-fn merges_when_idle<R: Abort>(rt: &R, host: &mut Host, mut caller: Caller)
-    requires same_map { caller.map.value ≡ host.old.map.value }
-{
-    let begun = caller.begin();
-    assert!(rt; begun.is_ok());
-    if let Err(mut back) = host.take_in(caller) {
-        let aborted = back.abort();
-        assert!(rt; aborted.is_ok());
-        merge(rt, host, back);
-    }
-}
-
-#[test]
-fn an_open_caller_is_not_merged(rt: HostRuntime) {
-    let (mut host, first, _second, mut third) = with_host(&rt, rt.alloc(), Keep::Commits);
-    asks(&rt, &mut third, FILLS);
-    merges_when_idle(&rt, &mut host, first);
-    host.gather();
-    has_left(&rt, &mut host, &[(1, 10)]);
 }

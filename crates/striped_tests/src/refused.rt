@@ -74,46 +74,23 @@ const CALLS: &[Row] = &[
 
 /// Puts twenty keys, and takes half of them. The parts of the map that have no room at first must
 /// grow for this.
-const GROWS: &[Row] = &[
-    (0, Ask::Begin, Told::Done),
-    (0, Ask::Do(Op::Put(10, 10)), NEW),
-    (0, Ask::Do(Op::Put(11, 11)), NEW),
-    (0, Ask::Do(Op::Put(12, 12)), NEW),
-    (0, Ask::Do(Op::Put(13, 13)), NEW),
-    (0, Ask::Do(Op::Put(14, 14)), NEW),
-    (0, Ask::Do(Op::Put(15, 15)), NEW),
-    (0, Ask::Do(Op::Put(16, 16)), NEW),
-    (0, Ask::Do(Op::Put(17, 17)), NEW),
-    (0, Ask::Do(Op::Put(18, 18)), NEW),
-    (0, Ask::Do(Op::Put(19, 19)), NEW),
-    (0, Ask::Do(Op::Put(20, 20)), NEW),
-    (0, Ask::Do(Op::Put(21, 21)), NEW),
-    (0, Ask::Do(Op::Put(22, 22)), NEW),
-    (0, Ask::Do(Op::Put(23, 23)), NEW),
-    (0, Ask::Do(Op::Put(24, 24)), NEW),
-    (0, Ask::Do(Op::Put(25, 25)), NEW),
-    (0, Ask::Do(Op::Put(26, 26)), NEW),
-    (0, Ask::Do(Op::Put(27, 27)), NEW),
-    (0, Ask::Do(Op::Put(28, 28)), NEW),
-    (0, Ask::Do(Op::Put(29, 29)), NEW),
-    (0, Ask::Do(Op::Take(20)), Told::Replied(Some(20))),
-    (0, Ask::Do(Op::Take(21)), Told::Replied(Some(21))),
-    (0, Ask::Do(Op::Take(22)), Told::Replied(Some(22))),
-    (0, Ask::Do(Op::Take(23)), Told::Replied(Some(23))),
-    (0, Ask::Do(Op::Take(24)), Told::Replied(Some(24))),
-    (0, Ask::Do(Op::Take(25)), Told::Replied(Some(25))),
-    (0, Ask::Do(Op::Take(26)), Told::Replied(Some(26))),
-    (0, Ask::Do(Op::Take(27)), Told::Replied(Some(27))),
-    (0, Ask::Do(Op::Take(28)), Told::Replied(Some(28))),
-    (0, Ask::Do(Op::Take(29)), Told::Replied(Some(29))),
-    (0, Ask::Len, Told::Number(11)),
-];
+fn grow<R: Abort>(rt: &R, home: &mut Home) -> Result<(), Refusal> {
+    play_again(rt, home, &[(0, Ask::Begin, Told::Done)])?;
+    for key in 10..30u64 {
+        play_again(rt, home, &[(0, Ask::Do(Op::Put(key, key)), NEW)])?;
+    }
+    for key in 20..30u64 {
+        let had = Told::Replied(Some(key));
+        play_again(rt, home, &[(0, Ask::Do(Op::Take(key)), had)])?;
+    }
+    play_again(rt, home, &[(0, Ask::Len, Told::Number(11))])
+}
 
-/// Makes the calls of `CALLS` in one transaction, and those of `GROWS` in another. Then drops the
+/// Makes the calls of `CALLS` in one transaction, and those of `grow` in another. Then drops the
 /// caller, which takes the second transaction back.
 fn call_and_grow<R: Abort>(rt: &R, home: &mut Home) -> Result<(), Refusal> {
     play_again(rt, home, CALLS)?;
-    play_again(rt, home, GROWS)?;
+    grow(rt, home)?;
     home.callers.clear();
     has_left_again(rt, &mut home.host, &[(1, 10)])
 }

@@ -9,52 +9,6 @@ use txn_words::{Op, Refusal};
 /// The reply to an operation on a key that had the value 10.
 const TEN: Told = Told::Replied(Some(10));
 
-/// A transaction puts a key and commits.
-static FIRST_COMMIT: Worked<'static> = Worked {
-    stripes: 8,
-    callers: 2,
-    rows: &[
-        (0, Ask::Begin, Told::Done),
-        (0, Ask::Do(Op::Put(1, 10)), NEW),
-        (0, Ask::Commit, Told::Number(1)),
-    ],
-    left: &[(1, 10)],
-};
-
-/// A transaction puts a key and aborts. The abort takes the put back.
-static ABORT_TAKES_BACK: Worked<'static> = Worked {
-    stripes: 8,
-    callers: 2,
-    rows: &[
-        (0, Ask::Begin, Told::Done),
-        (0, Ask::Do(Op::Put(1, 10)), NEW),
-        (0, Ask::Abort, Told::Done),
-        (0, Ask::Abort, Told::Refused(Refusal::NotOpen)),
-    ],
-    left: &[],
-};
-
-/// Caller 1 takes a key and aborts. Before the abort, caller 2 finds the key's stripe held. After
-/// the abort, caller 2 finds the key with its old value.
-static ABORTED_TAKE_RESTORES: Worked<'static> = Worked {
-    stripes: 8,
-    callers: 2,
-    rows: &[
-        (0, Ask::Begin, Told::Done),
-        (0, Ask::Do(Op::Put(3, 30)), NEW),
-        (0, Ask::Commit, Told::Number(1)),
-        (0, Ask::Begin, Told::Done),
-        (0, Ask::Do(Op::Take(3)), Told::Replied(Some(30))),
-        (1, Ask::Begin, Told::Done),
-        (1, Ask::Do(Op::Get(3)), Told::Busy(1)),
-        (0, Ask::Abort, Told::Done),
-        (1, Ask::Begin, Told::Done),
-        (1, Ask::Do(Op::Get(3)), Told::Replied(Some(30))),
-        (1, Ask::Commit, Told::Number(2)),
-    ],
-    left: &[(3, 30)],
-};
-
 /// Caller 2 finds caller 1's stripe held, begins again, and commits before caller 1.
 static BUSY_BETWEEN_CALLERS: Worked<'static> = Worked {
     stripes: 8,
@@ -69,29 +23,6 @@ static BUSY_BETWEEN_CALLERS: Worked<'static> = Worked {
         (0, Ask::Commit, Told::Number(2)),
     ],
     left: &[(1, 10)],
-};
-
-/// Keys on both sides of 2^63, and conditional puts.
-static KEYS_OF_64_BITS: Worked<'static> = Worked {
-    stripes: 8,
-    callers: 2,
-    rows: &[
-        (0, Ask::Begin, Told::Done),
-        (0, Ask::Do(Op::Put(9_223_372_036_854_775_809, 11)), NEW),
-        (0, Ask::Do(Op::Put(1, 10)), NEW),
-        (0, Ask::Do(Op::PutIf(1, None, 12)), TEN),
-        (0, Ask::Do(Op::PutIf(1, Some(10), 12)), TEN),
-        (0, Ask::Do(Op::PutIf(2, None, 20)), NEW),
-        (0, Ask::Do(Op::PutIf(3, Some(5), 6)), NEW),
-        (0, Ask::Do(Op::Put(18_446_744_073_709_551_615, 7)), NEW),
-        (0, Ask::Commit, Told::Number(1)),
-    ],
-    left: &[
-        (1, 12),
-        (2, 20),
-        (9_223_372_036_854_775_809, 11),
-        (18_446_744_073_709_551_615, 7),
-    ],
 };
 
 /// A transaction gives its stripes back at its end and not before. Keys 1, 9 and 17 are in one
@@ -123,75 +54,6 @@ static RIGHTS_COME_BACK: Worked<'static> = Worked {
     left: &[(9, 91)],
 };
 
-/// A transaction of caller 2 begins and commits between two operations of caller 1.
-static STEP_BETWEEN: Worked<'static> = Worked {
-    stripes: 8,
-    callers: 2,
-    rows: &[
-        (0, Ask::Begin, Told::Done),
-        (0, Ask::Do(Op::Put(2, 20)), NEW),
-        (1, Ask::Begin, Told::Done),
-        (1, Ask::Do(Op::Put(4, 40)), NEW),
-        (1, Ask::Commit, Told::Number(1)),
-        (0, Ask::Do(Op::Get(4)), Told::Replied(Some(40))),
-        (0, Ask::Commit, Told::Number(2)),
-    ],
-    left: &[(2, 20), (4, 40)],
-};
-
-/// A return to a savepoint takes back the changes after this savepoint, and drops the later
-/// savepoints.
-static SAVEPOINTS: Worked<'static> = Worked {
-    stripes: 4,
-    callers: 1,
-    rows: &[
-        (0, Ask::Begin, Told::Done),
-        (0, Ask::Do(Op::Put(1, 10)), NEW),
-        (0, Ask::Save, Told::Number(1)),
-        (0, Ask::Do(Op::Put(1, 11)), TEN),
-        (0, Ask::Do(Op::Put(5, 50)), NEW),
-        (0, Ask::Save, Told::Number(2)),
-        (0, Ask::Do(Op::Take(1)), Told::Replied(Some(11))),
-        (0, Ask::Do(Op::Put(2, 20)), NEW),
-        (0, Ask::Back(1), Told::Done),
-        (0, Ask::Do(Op::Get(1)), TEN),
-        (0, Ask::Do(Op::Get(5)), NEW),
-        (0, Ask::Do(Op::Get(2)), NEW),
-        (0, Ask::Back(1), Told::Done),
-        (0, Ask::Do(Op::Get(1)), TEN),
-        (0, Ask::Back(2), Told::Refused(Refusal::NoSuchLevel)),
-        (0, Ask::Back(0), Told::Done),
-        (0, Ask::Do(Op::Get(1)), NEW),
-        (0, Ask::Save, Told::Number(1)),
-        (0, Ask::Commit, Told::Number(1)),
-    ],
-    left: &[],
-};
-
-/// Nine changes of one transaction are taken back.
-static NINE_UNDONE: Worked<'static> = Worked {
-    stripes: 8,
-    callers: 1,
-    rows: &[
-        (0, Ask::Begin, Told::Done),
-        (0, Ask::Do(Op::Put(1, 1)), NEW),
-        (0, Ask::Do(Op::Put(2, 2)), NEW),
-        (0, Ask::Do(Op::Put(3, 3)), NEW),
-        (0, Ask::Do(Op::Put(4, 4)), NEW),
-        (0, Ask::Do(Op::Put(5, 5)), NEW),
-        (0, Ask::Do(Op::Put(6, 6)), NEW),
-        (0, Ask::Do(Op::Put(7, 7)), NEW),
-        (0, Ask::Do(Op::Put(8, 8)), NEW),
-        (0, Ask::Do(Op::Put(9, 9)), NEW),
-        (0, Ask::Len, Told::Number(9)),
-        (0, Ask::Abort, Told::Done),
-        (0, Ask::Begin, Told::Done),
-        (0, Ask::Len, Told::Number(0)),
-        (0, Ask::Commit, Told::Number(1)),
-    ],
-    left: &[],
-};
-
 /// The refusals of a caller in each phase. A call that finds a stripe busy ends its transaction. A
 /// stripe is never busy for the caller that holds it.
 static REFUSALS_IN_ORDER: Worked<'static> = Worked {
@@ -221,48 +83,13 @@ static REFUSALS_IN_ORDER: Worked<'static> = Worked {
 };
 
 #[test]
-fn first_commit(rt: HostRuntime) {
-    play_worked(&rt, rt.alloc(), &FIRST_COMMIT)
-}
-
-#[test]
-fn abort_takes_back(rt: HostRuntime) {
-    play_worked(&rt, rt.alloc(), &ABORT_TAKES_BACK)
-}
-
-#[test]
-fn aborted_take_restores(rt: HostRuntime) {
-    play_worked(&rt, rt.alloc(), &ABORTED_TAKE_RESTORES)
-}
-
-#[test]
 fn busy_between_callers(rt: HostRuntime) {
     play_worked(&rt, rt.alloc(), &BUSY_BETWEEN_CALLERS)
 }
 
 #[test]
-fn keys_of_64_bits(rt: HostRuntime) {
-    play_worked(&rt, rt.alloc(), &KEYS_OF_64_BITS)
-}
-
-#[test]
 fn rights_come_back(rt: HostRuntime) {
     play_worked(&rt, rt.alloc(), &RIGHTS_COME_BACK)
-}
-
-#[test]
-fn step_between(rt: HostRuntime) {
-    play_worked(&rt, rt.alloc(), &STEP_BETWEEN)
-}
-
-#[test]
-fn savepoints(rt: HostRuntime) {
-    play_worked(&rt, rt.alloc(), &SAVEPOINTS)
-}
-
-#[test]
-fn nine_undone_newest_first(rt: HostRuntime) {
-    play_worked(&rt, rt.alloc(), &NINE_UNDONE)
 }
 
 #[test]

@@ -1,9 +1,8 @@
 //! Threads for callers: `in_threads` runs each caller in its own thread. Its argument of type
-//! `Work` says what the callers do there. This module has no tests. `histories` and `transfers`
+//! `Work` says what the callers do there. This module has no tests. `another` and `transfers`
 //! call `in_threads`. The closure of a thread scope has no `assert!`, which would be slow to prove
 //! there.
 use crate::another::come_and_go;
-use crate::calls::{Row, ask_row};
 use crate::transfers::{move_many, take_part};
 use std::alloc::Global;
 use std::process::Abort;
@@ -14,30 +13,19 @@ use striped_map::Caller;
 
 /// The work of each caller in its thread.
 #[derive(Clone, Copy)]
-pub(crate) enum Work<'a> {
+pub(crate) enum Work {
     /// Makes callers, which move a sum, and drops them.
     ComesAndGoes(Global),
-    /// Makes these calls.
-    Calls(&'a [Row]),
     /// Moves many sums between accounts.
     Moves,
     /// The caller at place 0 commits after a while. Meanwhile every other caller makes a transfer.
     TakesPart,
 }
 
-/// Lets this caller make the requests of the rows, in order. The places in the rows are ignored.
-/// Each answer must be the answer of its row.
-fn ask_all<R: Abort>(rt: &R, caller: &mut Caller, rows: &[Row]) {
-    for (row, &(_, what, wanted)) in rows.iter().enumerate() {
-        ask_row(rt, caller, row, what, wanted);
-    }
-}
-
 /// Does the work of the caller at this place.
 fn do_work<R: Abort>(rt: &R, caller: &mut Caller, place: usize, what: Work) {
     match what {
         Work::ComesAndGoes(alloc) => come_and_go(rt, alloc, caller),
-        Work::Calls(rows) => ask_all(rt, caller, rows),
         Work::Moves => move_many(rt, caller, place as u64),
         Work::TakesPart => take_part(rt, caller, place),
     }

@@ -1,7 +1,7 @@
 //! Tests of `transfer` of `samples::accounts`, by one caller and by several in their threads. No
 //! contract says that a transfer is made as soon as its stripes are free. The balances were worked
 //! out by hand. After four threads have moved sums that look random, only the total is known.
-use crate::calls::{Ask, Home, NEW, Row, Told, answer, leaves, must, open, play};
+use crate::calls::{Ask, Home, NEW, Row, Told, answer, leaves, open, play};
 use crate::threads::{Work, in_threads};
 use samples::accounts::transfer;
 use std::process::Abort;
@@ -20,12 +20,10 @@ fn moved(caller: &mut Caller, tries: u64, from: u64, to: u64, sum: u64) -> Resul
     transfer(caller, tries, from, to, sum)
 }
 
-/// Calls `transfer` with as many tries as it takes. Checks that the transfer is made exactly if the
-/// last part of `what` is true.
-fn must_move<R: Abort>(rt: &R, caller: &mut Caller, row: usize, what: (u64, u64, u64, bool)) {
-    let (from, to, sum, wanted) = what;
-    let is_moved = moved(caller, u64::MAX, from, to, sum);
-    must(rt, row, is_moved == Ok(wanted));
+/// Moves 10 from account 1 to account 2, with as many tries as it takes.
+fn must_move<R: Abort>(rt: &R, caller: &mut Caller) {
+    let is_moved = moved(caller, u64::MAX, 1, 2, 10);
+    assert!(rt; is_moved == Ok(true));
 }
 
 /// The first caller tries once to move 10 from account 1 to account 2. The answer must be `wanted`.
@@ -42,40 +40,6 @@ pub(crate) const FILLED: &[Row] = &[
     (0, Ask::Do(Op::Put(3, u64::MAX)), NEW),
     (0, Ask::Commit, Told::Number(1)),
 ];
-
-/// Each row has the two accounts and the sum of a transfer, and whether the transfer is made. It is
-/// not made if the first account has too little, or if the second one would then have 2^64 or more.
-/// An account without a key has 0.
-const TRANSFERS: &[(u64, u64, u64, bool)] = &[
-    (1, 2, 11, false),
-    (1, 2, 10, true),
-    (1, 2, 1, false),
-    (2, 3, 1, false),
-    (3, 1, 5, true),
-    (2, 3, 6, false),
-    (5, 2, 1, false),
-    (5, 2, 0, true),
-];
-
-/// The first caller makes the transfer of each row, with the outcome that the row says.
-fn transfer_all<R: Abort>(rt: &R, home: &mut Home) {
-    assert!(rt; 0 < home.callers.len());
-    for (row, &what) in TRANSFERS.iter().enumerate() {
-        must_move(rt, &mut home.callers[0], row, what);
-    }
-}
-
-/// Makes the transfers, and checks the balances at the end.
-fn play_transfers<R: Abort>(rt: &R, home: &mut Home) {
-    play(rt, home, FILLED);
-    transfer_all(rt, home);
-    leaves(rt, home, &[(1, 5), (2, 10), (3, u64::MAX - 5), (5, 0)]);
-}
-
-#[test]
-fn too_little_and_too_much(rt: HostRuntime) {
-    play_transfers(&rt, &mut open(&rt, rt.alloc(), 4, 1));
-}
 
 /// A caller puts 15 in account 1 and does not commit, so it holds the stripe of this account.
 fn holds<R: Abort>(rt: &R, home: &mut Home, place: usize) {
@@ -107,7 +71,7 @@ fn busy_to_the_end_of_the_holder(rt: HostRuntime) {
 /// The caller at place 0 commits after a while. Meanwhile the other caller moves 10.
 pub(crate) fn take_part<R: Abort>(rt: &R, caller: &mut Caller, place: usize) {
     if place > 0 {
-        return must_move(rt, caller, 0, (1, 2, 10, true));
+        return must_move(rt, caller);
     }
     for _ in 0..1000u64 {
         thread::yield_now();

@@ -243,60 +243,6 @@ fn over_once_busy(rt: HostRuntime) {
     play_busy(&rt, &mut open(&rt, rt.alloc(), 4, 2));
 }
 
-/// Caller 1 begins a transaction with `Caller::begin`, so there is no `Transaction` for it.
-const BEGINS: &[Row] = &[
-    (0, Ask::Begin, Told::Done),
-    (0, Ask::Do(Op::Put(1, 5)), NEW),
-];
-
-/// Caller 1 commits the transaction of `BEGINS`.
-const GOES_ON: &[Row] = &[(0, Ask::Commit, Told::Number(1))];
-
-/// `Transaction::begin` is refused, since the caller has an open transaction. The open transaction
-/// continues.
-fn play_begun<R: Abort>(rt: &R, home: &mut Home) {
-    let already_open = Err(Stop::Refused(Refusal::AlreadyOpen));
-    play(rt, home, BEGINS);
-    play_first(rt, home, &[], End::IsDropped, already_open);
-    play(rt, home, GOES_ON);
-    leaves(rt, home, &[(1, 5)]);
-}
-
-#[test]
-fn begun_already(rt: HostRuntime) {
-    play_begun(&rt, &mut open(&rt, rt.alloc(), 4, 1));
-}
-
-/// Puts 10 at key 1, and then returns early, since there is no level 1 to go back to.
-fn goes_too_far(caller: &mut Caller) -> Result<u64, Stop> {
-    let mut t = Transaction::begin(caller)?;
-    t.put(1, 10)?;
-    t.back(1)?;
-    Ok(t.commit()?.unwrap_or(0))
-}
-
-/// Each caller calls `goes_too_far`, which must return early.
-fn go_too_far<R: Abort>(rt: &R, home: &mut Home) {
-    for (place, caller) in home.callers.iter_mut().enumerate() {
-        let too_far = Err(Stop::Refused(Refusal::NoSuchLevel));
-        must(rt, place, goes_too_far(caller) == too_far);
-    }
-}
-
-/// An early return takes the put back.
-fn play_returned<R: Abort>(rt: &R, home: &mut Home) {
-    play(rt, home, HOLDS);
-    play(rt, home, LETS_GO);
-    go_too_far(rt, home);
-    play(rt, home, AFTER);
-    leaves(rt, home, &[(1, 5)]);
-}
-
-#[test]
-fn returned_early(rt: HostRuntime) {
-    play_returned(&rt, &mut open(&rt, rt.alloc(), 4, 2));
-}
-
 /// Makes calls for which there is no `Ask`: `is_empty`, `contains_key`, and `swap` twice. The
 /// second `swap` puts no value, since key 1 has a value by then.
 fn looks(caller: &mut Caller) -> Result<[bool; 4], Stop> {

@@ -55,33 +55,6 @@ fn has_put_all(rt: &impl Abort, home: &mut Home, numbers: &[u64]) -> bool {
     true
 }
 
-/// The calls that `help_few_keys` makes before it links a dummy.
-const FEW_KEYS: [(Call, Answer); 2] = [
-    (Call::Double(2), Answer::Double(Double::Light)),
-    (Call::Seek(0, 1), Answer::Seek(Ok(InitSeek::Placed))),
-];
-
-/// The calls that `help_few_keys` makes after its first link, if that link succeeds.
-const STORED: [(Call, Answer); 2] = [
-    (Call::Store(0), Answer::Store(Ok(()))),
-    (Call::Seek(0, 1), Answer::Seek(Ok(InitSeek::Ready))),
-];
-
-/// With fewer than five keys the table does not double, but helper 0 can still initialise bucket 1.
-/// If memory for the helper's link is refused, the helper keeps its cursor, and the link is tried
-/// once more.
-fn help_few_keys(rt: &impl Abort, home: &mut Home) {
-    make_all(rt, home, &FEW_KEYS);
-    let refused = Answer::Link(Err(InitRefusal::NoMemory));
-    if home.make(Call::Link(0)) == refused {
-        assert!(rt; home.nearest(1) == Some(0));
-        let answer = home.make(Call::Link(0));
-        assert!(rt; answer == Answer::Link(Ok(InitLink::Linked)) || answer == refused);
-    } else {
-        make_all(rt, home, &STORED);
-    }
-}
-
 /// Calls to double a table that has five keys, each with its answer.
 const DOUBLINGS: [(Call, Answer); 3] = [
     (Call::Double(2), Answer::Double(Double::Doubled(4))),
@@ -90,15 +63,13 @@ const DOUBLINGS: [(Call, Answer); 3] = [
 ];
 
 /// Puts keys 1 to 5 and doubles the size to 4. If memory for a key is refused twice, puts no more
-/// keys, calls `help_few_keys` and returns false.
+/// keys, and returns false.
 fn has_five_keys(rt: &impl Abort, home: &mut Home) -> bool {
     if !has_put_all(rt, home, &[1, 2, 3, 4]) {
-        help_few_keys(rt, home);
         return false;
     }
     assert!(rt; home.make(Call::Double(2)) == Answer::Double(Double::Light));
     if !has_put(rt, home, 5) {
-        help_few_keys(rt, home);
         return false;
     }
     make_all(rt, home, &DOUBLINGS);

@@ -1,5 +1,5 @@
-//! Pseudorandom numbers. They are the same in each run, so a failure can be repeated. The tests
-//! `probe_map_tests` and `stripe_part_tests` use them. A draw uses only the upper 31 bits of the
+//! Pseudorandom numbers. They are the same in each run, so a failure can be repeated. The tests of
+//! `probe_map_tests` use them. A draw uses only the upper 31 bits of the
 //! state, since the lower bits of a linear congruential generator repeat after few numbers.
 
 /// A linear congruential generator (Knuth, "The Art of Computer Programming", volume 2, section

@@ -1,6 +1,6 @@
-//! Tests of the crates that make up the table. Each of these crates has one module here:
-//! `split_key`, `node_list`, `list_steps`, `bucket_table`, `undo_log`, `map_ops`, `probe_map` and
-//! `stripe_part`.
+//! Tests of the crates that make up the table. Each has one module here:
+//! `split_key`, `node_list`, `list_steps`, `bucket_table`, `undo_log`, `map_ops`, and the two
+//! maps of `stripe_part`.
 //!
 //! The tests cover what no contract says: that each call succeeds while memory is free, the state
 //! after a refused allocation, and the values in worked runs. Many library calls are made by

@@ -86,42 +86,29 @@ fn link_here(list: &mut NodeList, cursor: &Cursor, spare: Spare) -> Result<NodeR
     }
 }
 
-/// Replaces the list by a new one.
-fn begin(alloc: Global, list: &mut NodeList) -> Result<Answer, Fail> {
-    *list = NodeList::new(alloc, 0)?;
-    Ok(Answer::Done)
-}
-
 /// Links a new node for a key that the list does not have.
-fn put(list: &mut NodeList, number: u64, value: u64) -> Result<Answer, Fail> {
+fn put(list: &mut NodeList, number: u64, value: u64) -> Result<(), Fail> {
     let at = at(number);
     let spare = regular_spare(list, at, value)?;
     let cursor = seek_from_head(list, at);
     let _ = link_here(list, &cursor, spare)?;
-    Ok(Answer::Done)
+    Ok(())
 }
 
 /// Marks the node of a key that is there, and returns the key's value.
-fn take(list: &mut NodeList, number: u64) -> Result<Answer, Fail> {
+fn take(list: &mut NodeList, number: u64) -> Result<u64, Fail> {
     let at = at(number);
     let cursor = seek_from_head(list, at);
     let node = regular_there(list, &cursor)?;
-    Ok(Answer::Value(mark_at(list, node)))
+    Ok(mark_at(list, node))
 }
 
 /// Writes the value of a key that is there, and returns the value before the write.
-fn write(list: &mut NodeList, number: u64, value: u64) -> Result<Answer, Fail> {
+fn write(list: &mut NodeList, number: u64, value: u64) -> Result<u64, Fail> {
     let at = at(number);
     let cursor = seek_from_head(list, at);
     let node = regular_there(list, &cursor)?;
-    Ok(Answer::Value(swap_at(list, node, value)))
-}
-
-/// Seeks a key. Returns true if the cursor fits and the key is absent.
-fn is_absent(list: &mut NodeList, number: u64) -> bool {
-    let at = at(number);
-    let cursor = seek_from_head(list, at);
-    look(list, &cursor) == Ok(None)
+    Ok(swap_at(list, node, value))
 }
 
 /// The kind, the key and the mark of the first twelve nodes of a list.
@@ -167,7 +154,7 @@ fn link_stale(
     at: SortKey,
     value: u64,
     last: NodeRef,
-) -> Result<Answer, Fail>
+) -> Result<(), Fail>
     requires placed { IsPlaced list.old cursor }
     requires at { at_of cursor ≡ at }
     requires first { IsBefore (dummy_at 0) at }
@@ -188,7 +175,7 @@ fn link_stale(
         return Err("not behind the last node".into());
     }
     let _ = link_here(list, &cursor, spare)?;
-    Ok(Answer::Done)
+    Ok(())
 }
 
 /// Returns true if a node follows this node in the list.
@@ -200,7 +187,7 @@ fn is_followed(list: &NodeList, node: NodeRef) -> bool {
 
 /// Seeks keys 2 and 4 in a new list. Links key 4 first, so that the cursor of key 2 no longer fits.
 /// Then links key 2 with `link_stale`.
-fn put_both(list: &mut NodeList) -> Result<Answer, Fail> {
+fn put_both(list: &mut NodeList) -> Result<(), Fail> {
     let (at_two, at_four) = (at(2), at(4));
     let early = seek_from_head(list, at_two);
     let late = seek_from_head(list, at_four);
@@ -209,248 +196,66 @@ fn put_both(list: &mut NodeList) -> Result<Answer, Fail> {
 }
 
 /// Seeks a key that is there, marks its node at the cursor, and returns the key's value.
-fn take_there(list: &mut NodeList, number: u64) -> Result<Answer, Fail> {
+fn take_there(list: &mut NodeList, number: u64) -> Result<u64, Fail> {
     let at = at(number);
     let cursor = seek_from_head(list, at);
     if !is_key_there(list, &cursor) {
         return Err("the key is not there".into());
     }
     match mark(list, cursor) {
-        Ok(value) => Ok(Answer::Value(value)),
+        Ok(value) => Ok(value),
         Err(_) => Err("the cursor does not fit".into()),
     }
 }
 
-/// Writes the value of a key, and then marks the key's node. The key must be there. Both calls use
-/// one cursor, which must fit until the mark, and must not fit after the mark. Returns the value
-/// before the write, the value after the write, and the value that the mark returns.
-fn write_and_take(list: &mut NodeList, number: u64, value: u64) -> Result<Answer, Fail> {
+/// Writes the value of a key that is there, at its cursor. Returns the value before the write.
+fn write_there(list: &mut NodeList, number: u64, value: u64) -> Result<u64, Fail> {
     let at = at(number);
     let cursor = seek_from_head(list, at);
     if !is_key_there(list, &cursor) {
         return Err("the key is not there".into());
     }
-    let node = regular_there(list, &cursor)?;
-    let Ok(before) = swap(list, cursor, value) else {
-        return Err("the cursor does not fit".into());
-    };
-    let between = value_of(list, node)?;
-    if !is_key_there(list, &cursor) {
-        return Err("a written value leaves the cursor fitting".into());
-    }
-    let Ok(last) = mark(list, cursor) else {
-        return Err("the cursor does not fit".into());
-    };
-    if look(list, &cursor) != Err(Again) {
-        return Err("the cursor of a marked node fits".into());
-    }
-    Ok(Answer::Values(before, between, last))
-}
-
-/// The value of a node.
-fn value_of(list: &NodeList, node: NodeRef) -> Result<u64, Fail> {
-    Ok(list.linked_node(node).ok_or("no node")?.value)
-}
-
-/// Seeks the end of the list. Returns true if the cursor is at the first node, and no node follows
-/// that node.
-fn ends_at_the_head(list: &mut NodeList) -> bool {
-    let at = at(u64::MAX);
-    let cursor = seek_from_head(list, at);
-    let head = list.head();
-    look(list, &cursor) == Ok(None) && cursor.pred() == head && !is_followed(list, head)
-}
-
-/// A call on a list.
-#[derive(Clone, Copy)]
-enum Call {
-    /// Makes a new list.
-    Begin,
-    /// Links the node of a key, with this value.
-    Put(u64, u64),
-    /// Links key 4 and then key 2. The first cursor of key 2 is stale.
-    PutBoth,
-    /// Marks the node of a key.
-    Take(u64),
-    /// Marks the node of a key at its cursor.
-    TakeThere(u64),
-    /// Writes the value of a key at its cursor, and marks the key's node at the same cursor.
-    Write(u64, u64),
-    /// Writes the value of a key at its cursor, and marks its node there.
-    WriteAndTake(u64, u64),
-    /// Tests whether a key is absent.
-    Look(u64),
-    /// Tests whether a seek to the end of the list stops at the first node.
-    LookAtTheEnd,
-    Sweep,
-    /// Looks at the node with this rank.
-    Node(usize),
-    /// Reads the count of marked nodes and the change number.
-    Read,
-}
-
-/// The answer to a call.
-#[derive(Clone, Copy, PartialEq, Eq)]
-enum Answer {
-    Done,
-    Value(u64),
-    Values(u64, u64, u64),
-    IsSo(bool),
-    Swept(SweepOutcome),
-    Dummy,
-    /// A regular node: its key, and whether it is marked.
-    Regular(u64, bool),
-    End,
-    Figures(u64, u64),
-}
-
-/// The node with this rank.
-fn node_of_rank(alloc: Global, list: &NodeList, rank: usize) -> Result<Answer, Fail> {
-    Ok(match nodes(alloc, list)?.get(rank) {
-        Some((Kind::Dummy, _, _)) => Answer::Dummy,
-        Some((Kind::Regular, key, marked)) => Answer::Regular(*key, *marked),
-        None => Answer::End,
-    })
-}
-
-/// Makes a call.
-fn make(alloc: Global, list: &mut NodeList, call: Call) -> Result<Answer, Fail> {
-    match call {
-        Call::Begin => begin(alloc, list),
-        Call::Put(number, value) => put(list, number, value),
-        Call::PutBoth => put_both(list),
-        Call::Take(number) => take(list, number),
-        Call::TakeThere(number) => take_there(list, number),
-        Call::Write(number, value) => write(list, number, value),
-        Call::WriteAndTake(number, value) => write_and_take(list, number, value),
-        Call::Node(rank) => node_of_rank(alloc, list, rank),
-        other => Ok(look_or_sweep(list, other)),
+    match swap(list, cursor, value) {
+        Ok(before) => Ok(before),
+        Err(_) => Err("the cursor does not fit".into()),
     }
 }
 
-/// Looks for a key or for the end, sweeps, or reads the figures. These calls always succeed.
-fn look_or_sweep(list: &mut NodeList, call: Call) -> Answer {
-    match call {
-        Call::Look(number) => Answer::IsSo(is_absent(list, number)),
-        Call::LookAtTheEnd => Answer::IsSo(ends_at_the_head(list)),
-        Call::Sweep => Answer::Swept(sweep(list)),
-        _ => Answer::Figures(list.marked_count(), list.changes()),
-    }
+/// Checks the kind, the key and the mark of each node after the dummy of bucket 0.
+fn has_nodes(
+    rt: &impl Abort,
+    alloc: Global,
+    list: &NodeList,
+    wanted: &[(Kind, u64, bool)],
+) -> Result<(), Fail> {
+    let nodes = nodes(alloc, list)?;
+    assert!(rt; nodes.first() == Some(&(Kind::Dummy, 0, false)));
+    assert!(rt; nodes.get(1..) == Some(wanted));
+    Ok(())
 }
 
-const HALF: u64 = 1 << 63;
+/// Links key 4 and then key 2, whose first cursor is stale. Then marks and sweeps the node of key
+/// 4.
+fn put_and_sweep(rt: &impl Abort, alloc: Global, list: &mut NodeList) -> Result<(), Fail> {
+    let regular = Kind::Regular;
+    put_both(list)?;
+    has_nodes(rt, alloc, list, &[(regular, 4, false), (regular, 2, false)])?;
+    assert!(rt; take_there(list, 4)? == 40);
+    has_nodes(rt, alloc, list, &[(regular, 4, true), (regular, 2, false)])?;
+    assert!(rt; sweep(list) == SweepOutcome::Swept);
+    assert!(rt; sweep(list) == SweepOutcome::Clean);
+    has_nodes(rt, alloc, list, &[(regular, 2, false)])?;
+    assert!(rt; list.marked_count() == 0 && list.changes() == 4);
+    Ok(())
+}
 
-/// Runs of calls. Each row has a call, its answer, and the split key at which the marked nodes
-/// begin after the call, or `None` if no node is marked.
-///
-/// In hexadecimal, the split keys of 3, 2, 5 and 2^52 begin with the digits c, 4, a and 0. Each
-/// seek begins at the head, and unlinks the marked nodes that it passes. For example, the seek of
-/// key 5 unlinks the marked node of key 2. Two keys that differ by 2^63 have the same split key.
-/// Their sort keys distinguish them.
-const CALLS: [(Call, Answer, Option<u64>); 58] = [
-    (Call::PutBoth, Answer::Done, None),
-    (Call::Node(0), Answer::Dummy, None),
-    (Call::Node(1), Answer::Regular(4, false), None),
-    (Call::Node(2), Answer::Regular(2, false), None),
-    (Call::Node(3), Answer::End, None),
-    (
-        Call::TakeThere(4),
-        Answer::Value(40),
-        Some(0x2000_0000_0000_0000),
-    ),
-    (Call::Node(0), Answer::Dummy, Some(0x2000_0000_0000_0000)),
-    (
-        Call::Node(1),
-        Answer::Regular(4, true),
-        Some(0x2000_0000_0000_0000),
-    ),
-    (
-        Call::Node(2),
-        Answer::Regular(2, false),
-        Some(0x2000_0000_0000_0000),
-    ),
-    (Call::Node(3), Answer::End, Some(0x2000_0000_0000_0000)),
-    (Call::Sweep, Answer::Swept(SweepOutcome::Swept), None),
-    (Call::Sweep, Answer::Swept(SweepOutcome::Clean), None),
-    (Call::Node(0), Answer::Dummy, None),
-    (Call::Node(1), Answer::Regular(2, false), None),
-    (Call::Node(2), Answer::End, None),
-    (Call::Read, Answer::Figures(0, 4), None),
-    (Call::Begin, Answer::Done, None),
-    (Call::Put(2, 20), Answer::Done, None),
-    (
-        Call::WriteAndTake(2, 21),
-        Answer::Values(20, 21, 21),
-        Some(0x4000_0000_0000_0000),
-    ),
-    (Call::LookAtTheEnd, Answer::IsSo(true), None),
-    (Call::Node(0), Answer::Dummy, None),
-    (Call::Node(1), Answer::End, None),
-    (Call::Read, Answer::Figures(0, 4), None),
-    (Call::Begin, Answer::Done, None),
-    (Call::Put(2, 2), Answer::Done, None),
-    (Call::Put(4, 4), Answer::Done, None),
-    (Call::Take(2), Answer::Value(2), Some(0x4000_0000_0000_0000)),
-    (Call::Take(4), Answer::Value(4), Some(0x2000_0000_0000_0000)),
-    (
-        Call::Sweep,
-        Answer::Swept(SweepOutcome::Swept),
-        Some(0x4000_0000_0000_0000),
-    ),
-    (Call::Node(0), Answer::Dummy, Some(0x4000_0000_0000_0000)),
-    (
-        Call::Node(1),
-        Answer::Regular(2, true),
-        Some(0x4000_0000_0000_0000),
-    ),
-    (Call::Node(2), Answer::End, Some(0x4000_0000_0000_0000)),
-    (
-        Call::Read,
-        Answer::Figures(1, 5),
-        Some(0x4000_0000_0000_0000),
-    ),
-    (Call::Sweep, Answer::Swept(SweepOutcome::Swept), None),
-    (Call::Sweep, Answer::Swept(SweepOutcome::Clean), None),
-    (Call::Begin, Answer::Done, None),
-    (Call::Put(1 << 52, 1 << 52), Answer::Done, None),
-    (Call::Put(2, 2), Answer::Done, None),
-    (Call::Put(5, 5), Answer::Done, None),
-    (Call::Put(3, 3), Answer::Done, None),
-    (Call::Take(3), Answer::Value(3), Some(0xc000_0000_0000_0000)),
-    (Call::Take(2), Answer::Value(2), Some(0x4000_0000_0000_0000)),
-    (Call::Take(5), Answer::Value(5), Some(0xa000_0000_0000_0000)),
-    (Call::Take(1 << 52), Answer::Value(1 << 52), Some(0)),
-    (
-        Call::Sweep,
-        Answer::Swept(SweepOutcome::Swept),
-        Some(0xa000_0000_0000_0000),
-    ),
-    (Call::Begin, Answer::Done, None),
-    (Call::Put(HALF + 2, HALF + 2), Answer::Done, None),
-    (Call::Put(2, 2), Answer::Done, None),
-    (Call::Node(0), Answer::Dummy, None),
-    (Call::Node(1), Answer::Regular(2, false), None),
-    (Call::Node(2), Answer::Regular(HALF + 2, false), None),
-    (Call::Node(3), Answer::End, None),
-    (Call::Take(2), Answer::Value(2), Some(0x4000_0000_0000_0000)),
-    (Call::Put(2, 2), Answer::Done, None),
-    (Call::Write(2, 20), Answer::Value(2), None),
-    (
-        Call::Take(HALF + 2),
-        Answer::Value(HALF + 2),
-        Some(0x4000_0000_0000_0000),
-    ),
-    (Call::Look(HALF + 2), Answer::IsSo(true), None),
-    (
-        Call::Take(2),
-        Answer::Value(20),
-        Some(0x4000_0000_0000_0000),
-    ),
-];
-
-/// The split key at which the marked nodes of a list begin.
-fn marks_begin(list: &NodeList) -> Option<u64> {
-    list.marks_begin()
+/// Writes values of keys, at a cursor and at a node.
+fn put_and_write(rt: &impl Abort, list: &mut NodeList) -> Result<(), Fail> {
+    put(list, 3, 30)?;
+    assert!(rt; write(list, 3, 31)? == 30);
+    assert!(rt; write_there(list, 3, 32)? == 31);
+    assert!(rt; take(list, 3)? == 32);
+    Ok(())
 }
 
 /// A list without keys.
@@ -458,19 +263,10 @@ fn new_list(rt: &impl Abort, alloc: Global) -> NodeList {
     NodeList::new(alloc, 0).expect(rt, "a list")
 }
 
-/// Makes each call of `CALLS`. Compares its answer, and the split key at which the marked nodes
-/// then begin, with the wanted ones.
-fn make_all(rt: &impl Abort, alloc: Global, list: &mut NodeList) -> Result<(), Fail> {
-    for (row, (call, answer, begin)) in CALLS.iter().enumerate() {
-        assert!(rt; make(alloc, list, *call)? == *answer, "row {row}");
-        assert!(rt; marks_begin(list) == *begin, "row {row}");
-    }
-    Ok(())
-}
-
 #[test]
 fn list_steps_in_order(rt: HostRuntime) -> Result<(), Fail> {
-    make_all(&rt, rt.alloc(), &mut new_list(&rt, rt.alloc()))?;
+    put_and_sweep(&rt, rt.alloc(), &mut new_list(&rt, rt.alloc()))?;
+    put_and_write(&rt, &mut new_list(&rt, rt.alloc()))?;
     let words = format!(in rt.alloc(); "{Again}")?;
     assert!(rt; words.as_str() == "the list is not as the cursor noted it");
     Ok(())

@@ -1,12 +1,10 @@
 //! Tests of `map_ops`. This file has the table calls that several of the modules share. The module
-//! `runs` has worked runs, `split_keys` has keys that share a split key, and `refused` has refused
-//! allocations. The contracts allow a call to fail for lack of memory even while memory is free.
+//! `runs` has worked runs, and `refused` has refused allocations. The contracts allow a call to fail for lack of memory even while memory is free.
 ghost use Rattle.std.specs.Prelude.{IfOk, IfSome};
 ghost use Rattle.map_ops.specs.Changes.{OwnsIf, ShowsAfter};
 
 mod refused;
 mod runs;
-mod split_keys;
 
 use map_ops::{Act, MapJob, Pending, Table};
 use std::alloc::{AllocError, Global};

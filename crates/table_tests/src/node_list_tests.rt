@@ -83,47 +83,14 @@ fn is_vacant(list: &NodeList, place: NodeRef) -> Result<(), Fail> {
     Ok(())
 }
 
-/// The visible state of a list of at most two nodes.
-#[derive(Clone, Copy, PartialEq, Eq)]
-struct Seen {
-    count: u64,
-    marked: u64,
-    changes: u64,
-    marks_begin: Option<u64>,
-    second: Option<Entry>,
-}
-
-/// The visible state of a node.
-#[derive(Clone, Copy, PartialEq, Eq)]
-struct Entry {
-    key: u64,
-    value: u64,
-    stamp: u64,
-    kind: Kind,
-    marked: bool,
-}
+/// The counts of unmarked and of marked nodes, the change number, and the key, the value and the
+/// mark of the second node.
+type Seen = ((u64, u64, u64), Option<(u64, u64, bool)>);
 
 /// The visible state of the second node.
-fn entry_of_second(list: &NodeList) -> Option<Entry> {
+fn entry_of_second(list: &NodeList) -> Option<(u64, u64, bool)> {
     let node = list.linked_node(second(list)?)?;
-    Some(Entry {
-        key: node.at.key(),
-        value: node.value,
-        stamp: node.stamp,
-        kind: node.kind,
-        marked: node.marked,
-    })
-}
-
-/// The visible state of a list.
-fn look(list: &NodeList) -> Seen {
-    Seen {
-        count: list.count(),
-        marked: list.marked_count(),
-        changes: list.changes(),
-        marks_begin: list.marks_begin(),
-        second: entry_of_second(list),
-    }
+    Some((node.at.key(), node.value, node.marked))
 }
 
 /// Writes the value of a node.
@@ -178,82 +145,22 @@ fn make(list: &mut NodeList, call: Call) -> Result<(), Fail> {
     }
 }
 
-/// The node of key 3 after it was linked.
-const LINKED: Entry = Entry {
-    key: 3,
-    value: 30,
-    stamp: 7,
-    kind: Kind::Regular,
-    marked: false,
-};
-
-/// The node of key 3 after its value was written.
-const WRITTEN: Entry = Entry {
-    key: 3,
-    value: 31,
-    stamp: 7,
-    kind: Kind::Regular,
-    marked: false,
-};
-
-/// The node of key 3 after its value was written and the node was marked.
-const MARKED: Entry = Entry {
-    key: 3,
-    value: 31,
-    stamp: 7,
-    kind: Kind::Regular,
-    marked: true,
-};
-
 /// Each row has a call, and the visible state of the list after it.
 const CALLS: [(Call, Seen); 4] = [
-    (
-        Call::Link(3, 30),
-        Seen {
-            count: 1,
-            marked: 0,
-            changes: 1,
-            marks_begin: None,
-            second: Some(LINKED),
-        },
-    ),
-    (
-        Call::Write(31),
-        Seen {
-            count: 1,
-            marked: 0,
-            changes: 2,
-            marks_begin: None,
-            second: Some(WRITTEN),
-        },
-    ),
-    (
-        Call::Mark,
-        Seen {
-            count: 0,
-            marked: 1,
-            changes: 3,
-            marks_begin: Some(0xc000_0000_0000_0000),
-            second: Some(MARKED),
-        },
-    ),
-    (
-        Call::Unlink,
-        Seen {
-            count: 0,
-            marked: 0,
-            changes: 4,
-            marks_begin: None,
-            second: None,
-        },
-    ),
+    (Call::Link(3, 30), ((1, 0, 1), Some((3, 30, false)))),
+    (Call::Write(31), ((1, 0, 2), Some((3, 31, false)))),
+    (Call::Mark, ((0, 1, 3), Some((3, 31, true)))),
+    (Call::Unlink, ((0, 0, 4), None)),
 ];
 
 /// Makes the calls of `CALLS`, and compares the list's state after each call with the wanted one.
 fn make_all(rt: &impl Abort, list: &mut NodeList) -> Result<(), Fail> {
     for (row, (call, wanted)) in CALLS.iter().enumerate() {
         make(list, *call)?;
-        assert!(rt; look(list) == *wanted, "row {row}");
+        assert!(rt;
+            (figures(list), entry_of_second(list)) == *wanted,
+            "row {row}"
+        );
     }
     assert!(rt; stamp_given_back(list)? == 8);
     assert!(rt; stamp_of_spare(list)? == 9);

@@ -1,13 +1,13 @@
-//! Tests of `probe_map`: drawn calls that are compared with a plain list, keys that share a home,
+//! Tests of `ProbeMap`: drawn calls that are compared with a plain list, keys that share a home,
 //! growth, removed keys, and refused allocations. The contracts allow the map to refuse room even
 //! while memory is free. The slots are private, so no test can look at a slot. A key's home is the
 //! slot at which a probe for the key begins. To test the first and the last slot, the tests use
 //! keys whose homes are these slots.
 use crate::draws::{Draws, draw};
-use probe_map::ProbeMap;
 use std::alloc::{AllocError, Global};
 use std::process::Abort;
 use std::test::Fail;
+use stripe_part::ProbeMap;
 
 /// The product of this key and the map's multiplier is 1, modulo 2^64. So the home of a small
 /// multiple of this key is the first slot, and the home of the negative of a small multiple is the
@@ -162,59 +162,6 @@ fn drawn_calls_beside_a_plain_list(rt: HostRuntime) -> Result<(), Fail> {
         }
     }
     Ok(())
-}
-
-/// Puts a key that is not there, replaces its value, takes the key, and puts it again.
-fn put_anew(rt: &impl Abort, map: &mut ProbeMap, key: u64) -> Result<(), Fail> {
-    let first = put(rt, map, key, 7)?;
-    let second = put(rt, map, key, key)?;
-    let taken = take(map, key);
-    let absent = (map.get(key), take(map, key));
-    let again = put(rt, map, key, 9)?;
-    assert!(rt; first == None && second == Some(7) && taken == Some(key));
-    assert!(rt; absent == (None, None) && again == None);
-    Ok(())
-}
-
-/// Checks the pairs of a map, and their number.
-fn has_rows(
-    rt: &impl Abort,
-    alloc: Global,
-    map: &ProbeMap,
-    wanted: &[(u64, u64)],
-) -> Result<(), Fail> {
-    assert!(rt; map.len() == wanted.len());
-    assert!(rt; rows_of(alloc, map)?.as_slice() == wanted);
-    Ok(())
-}
-
-/// Puts the lowest key, the highest key and a key in the middle.
-fn put_outermost(rt: &impl Abort, alloc: Global, map: &mut ProbeMap) -> Result<(), Fail> {
-    for (count, key) in [(1, 0), (2, 1 << 63), (3, u64::MAX)] {
-        put_anew(rt, map, key)?;
-        assert!(rt; map.len() == count);
-    }
-    let wanted = [(0, 9), (1 << 63, 9), (u64::MAX, 9)];
-    has_rows(rt, alloc, map, wanted.as_slice())
-}
-
-/// The lowest key, the highest key and a key in the middle are put, replaced, taken, and put again.
-#[test]
-fn outermost_keys(rt: HostRuntime) -> Result<(), Fail> {
-    put_outermost(&rt, rt.alloc(), &mut ProbeMap::new(rt.alloc()))
-}
-
-/// Looks for keys in an empty map.
-fn look_in_empty(rt: &impl Abort, alloc: Global, map: &mut ProbeMap) -> Result<(), Fail> {
-    let taken = take(map, 0);
-    assert!(rt; taken == None && map.get(u64::MAX) == None);
-    has_rows(rt, alloc, map, &[])
-}
-
-/// An empty map takes no memory, and has no key.
-#[test]
-fn empty(rt: HostRuntime) -> Result<(), Fail> {
-    look_in_empty(&rt, rt.alloc(), &mut ProbeMap::new(rt.alloc()))
 }
 
 /// Puts a hundred keys and takes the first fifty.

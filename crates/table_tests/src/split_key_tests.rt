@@ -74,7 +74,7 @@ fn bucket_at_split(split: u64, size: u32) -> Result<u32, Fail> {
 }
 
 /// Each row has a call and its answer.
-const ANSWERS: [(Call, Option<u64>); 46] = [
+const ANSWERS: [(Call, Option<u64>); 38] = [
     (Call::Dummy(0), Some(0x0000_0000_0000_0000)),
     (Call::Dummy(2), Some(0x4000_0000_0000_0000)),
     (Call::Dummy(1), Some(0x8000_0000_0000_0000)),
@@ -104,7 +104,6 @@ const ANSWERS: [(Call, Option<u64>); 46] = [
         Call::Regular(0xffff_ffff_ffff_ffff),
         Some(0xffff_ffff_ffff_ffff),
     ),
-    (Call::Half(0), Some(0)),
     (
         Call::Half(0x7fff_ffff_ffff_ffff),
         Some(0x7fff_ffff_ffff_ffff),
@@ -118,20 +117,13 @@ const ANSWERS: [(Call, Option<u64>); 46] = [
     (Call::Parent(5), Some(1)),
     (Call::Parent(6), Some(2)),
     (Call::Parent(7), Some(3)),
-    (Call::BucketOf(14, 2), Some(0)),
-    (Call::BucketOf(14, 4), Some(2)),
     (Call::BucketOf(14, 8), Some(6)),
     (Call::BucketOf(14, 0x8000_0000), Some(14)),
-    (Call::BucketAt(0x0000_0000_0000_0000, 8), Some(0)),
     (Call::BucketAt(0x1fff_ffff_ffff_ffff, 8), Some(0)),
     (Call::BucketAt(0x2000_0000_0000_0000, 8), Some(4)),
-    (Call::BucketAt(0x3fff_ffff_ffff_ffff, 8), Some(4)),
-    (Call::BucketAt(0x4000_0000_0000_0001, 8), Some(2)),
     (Call::BucketAt(0x7fff_ffff_ffff_ffff, 8), Some(6)),
-    (Call::BucketAt(0x8000_0000_0000_0000, 8), Some(1)),
     (Call::BucketAt(0xdfff_ffff_ffff_ffff, 8), Some(3)),
     (Call::BucketAt(0xffff_ffff_ffff_ffff, 8), Some(7)),
-    (Call::BucketAt(0xffff_ffff_ffff_ffff, 1), Some(0)),
     (Call::BucketAt(0xffff_ffff_ffff_ffff, 2), Some(1)),
     (
         Call::BucketAt(0xffff_ffff_ffff_ffff, 0x8000_0000),

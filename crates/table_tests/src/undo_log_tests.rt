@@ -4,7 +4,7 @@
 //! has more than nine jobs. The values were worked out by hand.
 ghost use Rattle.std.specs.Prelude.{◌≡◌, length};
 
-use std::alloc::{AllocError, Global};
+use std::alloc::Global;
 use std::process::Abort;
 use std::test::Fail;
 use undo_log::{Side, SideJob, SideValue, UndoJob, UndoLog};
@@ -208,43 +208,6 @@ fn save_and_return(rt: &impl Abort, alloc: Global, log: &mut UndoLog<Raised>) ->
     }
     assert!(rt; is_pushed(rt, log, 2));
     return_to_1(rt, log)
-}
-
-/// Reserves room for a savepoint in a log without jobs, and makes the savepoint. Returns its
-/// number.
-fn first_savepoint(alloc: Global) -> Result<usize, AllocError> {
-    let mut log = UndoLog::<Raised>::new(alloc);
-    if log.save_room().is_err() {
-        log.save_room()?;
-    }
-    log.save()
-}
-
-/// Reserves room for a savepoint of a side value without changes, and makes the savepoint. Returns
-/// its number.
-fn first_savepoint_of_side(alloc: Global) -> Result<usize, AllocError> {
-    let mut side = SideValue::new(alloc, a_register([0, 0, 0, 0]));
-    if side.save_room().is_err() {
-        side.save_room()?;
-    }
-    side.save()
-}
-
-/// The numbers of jobs in three logs, after one job was pushed to the second log.
-fn jobs_of_three(rt: &impl Abort, alloc: Global) -> [usize; 3] {
-    let first = empty_log(alloc);
-    let mut second = empty_log(alloc);
-    let third = empty_log(alloc);
-    assert!(rt; is_pushed(rt, &mut second, 1));
-    [first.len(), second.len(), third.len()]
-}
-
-#[test]
-fn room_and_logs_of_their_own(rt: HostRuntime) -> Result<(), Fail> {
-    assert!(rt; first_savepoint(rt.alloc())? == 1);
-    assert!(rt; first_savepoint_of_side(rt.alloc())? == 1);
-    assert!(rt; jobs_of_three(&rt, rt.alloc()) == [0, 1, 0]);
-    Ok(())
 }
 
 /// The tests' side value: four words.

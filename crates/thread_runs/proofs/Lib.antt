@@ -1,9 +1,8 @@
 pub mod Vocabulary
 pub mod Rounds
-pub mod Adding
 pub mod Seating
 pub mod Lists
 pub mod ScriptEnds
 pub mod Reports
 pub mod Ordering
-pub mod Growing
+pub mod Adding

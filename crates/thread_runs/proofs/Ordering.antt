@@ -1,6 +1,7 @@
 -- Merges rows into one list by taking one element from each row in turn. Each row is in reverse:
 -- its last element comes first.
-use Rattle.std.proofs.Common.{◌≡◌, ℕ, ◌+◌, ◌*◌, ◌/◌, ◌%◌, ◌<◌, List, [], ◌∷◌, ◌++◌, append_assoc, length, length-append, reverse, set, Some, refl, sym, ap, ◌∙◌, inl, inr, arith, slice_get, slice_index_or, append-nil, length-set}
+use Rattle.std.proofs.Common.{◌≡◌, ℕ, ◌+◌, ◌*◌, ◌/◌, ◌%◌, ◌<◌, List, [], ◌∷◌, ◌++◌, append_assoc, length, length-append, reverse, set, Some}
+use Rattle.std.proofs.Common.{refl, sym, ap, ◌∙◌, inl, inr, arith, slice_get, slice_index_or, append-nil, length-set}
 use Rattle.thread_runs.proofs.Vocabulary.{Each, every-fewer, every-hit, every-length, every-miss, get_within, number_at, one_remainder}
 use Rattle.script_worker.proofs.Vocabulary.{cases_eq, every, length-reverse, nil_from_length, reverse-append, slice_get_read}
 use Rattle.script_worker.proofs.Vocabulary.{slice_get_within}

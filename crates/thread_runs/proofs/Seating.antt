@@ -1,6 +1,7 @@
 -- The phase of a caller's seat after each call of a script, unless the call is refused. If a call
 -- adds entries, the last of them decides the phase.
-use Rattle.std.proofs.Common.{◌≡◌, ℕ, ◌+◌, take, slice_index, ◌==◌, ◌&&◌, Bool, true, false, cond, List, [], ◌∷◌, ◌++◌, append_assoc, Option, Some, None, is_some, refl, sym, ap, ◌∙◌, option_and_then, append-nil}
+use Rattle.std.proofs.Common.{◌≡◌, ℕ, ◌+◌, take, slice_index, ◌==◌, ◌&&◌, Bool, true, false, cond, List, [], ◌∷◌, ◌++◌, append_assoc}
+use Rattle.std.proofs.Common.{Option, Some, None, is_some, refl, sym, ap, ◌∙◌, option_and_then, append-nil}
 use Rattle.thread_runs.proofs.Vocabulary.{HasPhase, Phase}
 use Rattle.script_worker.proofs.Vocabulary.{Aborted, Answer, Asked, Began, Busy, Call, Closed, closed_seat, Committed, Did, End, Entry}
 use Rattle.script_worker.proofs.Vocabulary.{false≢true, IsMade, Leave, LeavingTo, LeavingToEnd, Opened, Returned, row, Saved, Seat}

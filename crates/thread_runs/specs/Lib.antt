@@ -1,4 +1,2 @@
-pub mod Accounts
-pub mod Each
 pub mod Possible
 pub mod Runs

@@ -23,17 +23,22 @@ use Rattle.txn_drive.specs.Made.{IsMade, IsQuiet}
 use Rattle.script_worker.specs.declared.attempt.Stage.{Stage}
 use Rattle.script_worker.specs.declared.attempt.Stage.TheVariants.{Beginning}
 use Rattle.locked_map.specs.Calls.{Ended}
-use Rattle.core_tokens.specs.Suits.{may_refuse}
-use Rattle.core_tokens.specs.Tokens.{Token}
+use Rattle.locked_map.specs.Suits.{may_refuse}
+use Rattle.locked_map.specs.Tokens.{Token}
 use Rattle.script_worker.specs.Chunks.{Heard, heard_at}
 use Rattle.script_worker.specs.Accounts as accounts
-use Rattle.script_worker.specs.Accounts.{Outcome, IsAccount, AreAccounts, AreAllTrue, every, tolds_of}
+pub use Rattle.script_worker.specs.Accounts.{Outcome}
+use Rattle.script_worker.specs.Accounts.{IsAccount, AreAccounts, AreAllTrue, every, tolds_of}
 use Rattle.thread_runs.specs.Possible.{MayCome}
 use Rattle.thread_runs.specs.declared.outcome.Outcome as codes
 use Rattle.thread_runs.specs.declared.outcome.Outcome.TheVariants as outcomes
 use Rattle.thread_runs.specs.declared.ran.Ran.{Ran}
 use Rattle.thread_runs.specs.declared.run_script.Heard as kept
 use Rattle.thread_runs.specs.declared.worker.WorkerReport.{WorkerReport}
+
+-- A statement that is true for each element of a list and its position.
+abbrev pub Each : {X : Type 0} → (ℕ → X → Type 0) → List X → Type 0
+Each {X} P xs = (i : ℕ) (x : X) → slice_get xs i ≡ Some x → P i x
 
 -- The phase of a caller's seat at a stage of an attempt.
 abbrev pub phase_at : Stage → Phase

@@ -5,8 +5,8 @@
 ghost use Rattle.std.specs.Prelude.{◌≡◌, IfSome, None};
 ghost use Rattle.txn_words.specs.declared.answer.Answer.{Answer};
 ghost use Rattle.txn_drive.specs.declared.«end».End.{End};
-ghost use Rattle.core_tokens.specs.Holds.{is_out};
-ghost use Rattle.core_tokens.specs.Tokens.{IsSameCaller};
+ghost use Rattle.locked_map.specs.Holds.{is_out};
+ghost use Rattle.locked_map.specs.Tokens.{IsSameCaller};
 ghost use Rattle.thread_runs.specs.Runs.{IsAfterHelp};
 
 use boost_core::{Call, End};

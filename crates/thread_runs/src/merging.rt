@@ -4,7 +4,7 @@
 //! time and without a copy.
 ghost use Rattle.std.specs.Prelude.{◌≡◌, ◌<◌, IfOk, length, reverse};
 ghost use Rattle.script_worker.specs.Accounts.{every};
-ghost use Rattle.thread_runs.specs.Each.{Each};
+ghost use Rattle.thread_runs.specs.Runs.{Each};
 
 use crate::outcome::Outcome;
 use std::alloc::{AllocError, Global};

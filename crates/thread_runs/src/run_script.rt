@@ -6,8 +6,8 @@ ghost use Rattle.std.specs.Prelude.{◌≡◌, ◌-◌, true, false, is_some, ve
 ghost use Rattle.txn_words.specs.declared.refusal.Refusal.{Refusal};
 ghost use Rattle.txn_words.specs.declared.seat.Phase.{Phase};
 ghost use Rattle.txn_words.specs.Shape.{seat_after};
-ghost use Rattle.core_tokens.specs.Suits.{may_refuse};
-ghost use Rattle.core_tokens.specs.Tokens.{IsSameCaller};
+ghost use Rattle.locked_map.specs.Suits.{may_refuse};
+ghost use Rattle.locked_map.specs.Tokens.{IsSameCaller};
 ghost use Rattle.thread_runs.specs.Possible.{MayCome};
 ghost use Rattle.script_worker.specs.Chunks.{first_heard, heard_then, outcome_by};
 ghost use Rattle.thread_runs.specs.Runs.{Adds, HasEnded, IsIn, HasRoomAt, HasRoomFor, HasRunTo};

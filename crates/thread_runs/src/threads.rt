@@ -3,8 +3,8 @@
 //! cannot be started, the threads that were started finish before the run returns. Each thread has
 //! a stack of 256 KiB.
 ghost use Rattle.std.specs.Prelude.{◌≡◌, IfOk, IfErr, length, map};
-ghost use Rattle.core_tokens.specs.Tokens.{AreTickets};
-ghost use Rattle.thread_runs.specs.Each.{Each};
+ghost use Rattle.locked_map.specs.Tokens.{AreTickets};
+ghost use Rattle.thread_runs.specs.Runs.{Each};
 ghost use Rattle.thread_runs.specs.Runs.{HasReported, IsRunRefusal};
 
 use crate::gate::Gate;

@@ -3,7 +3,7 @@
 //! gate with the others. Room for an outcome is made before its script runs, so each script that
 //! runs can keep its outcome.
 ghost use Rattle.std.specs.Prelude.{◌≡◌, ◌<◌, ◌^◌, [], IfOk, map};
-ghost use Rattle.core_tokens.specs.Tokens.{IsSameCaller};
+ghost use Rattle.locked_map.specs.Tokens.{IsSameCaller};
 ghost use Rattle.thread_runs.specs.Runs.{HasReported, HasRunAll, outcome_told};
 
 use crate::gate::Gate;

@@ -171,42 +171,6 @@ fn one_worker_is_heard(rt: HostRuntime) -> Result<(), Fail> {
     Ok(())
 }
 
-/// Two workers have two scripts each. The calls of each worker are compared with its own table.
-#[test]
-fn two_workers_are_heard(rt: HostRuntime) -> Result<(), Fail> {
-    let puts = [[put(1, 10)], [put(2, 20)], [put(3, 30)], [put(4, 40)]];
-    let lists = [
-        puts[0].as_slice(),
-        puts[1].as_slice(),
-        puts[2].as_slice(),
-        puts[3].as_slice(),
-    ];
-    let scripts = scripts_of(rt.alloc(), lists.as_slice())?;
-    let heard = heard_of(&rt, rt.alloc(), scripts.as_slice(), 2, 0)?;
-    for worker in 0..2 {
-        let second = worker + 2;
-        let wanted = [
-            (Heard::Freed(worker), 1),
-            (Heard::Before(worker, worker, 0), 1),
-            (Heard::Freed(worker), 3),
-            (Heard::Before(worker, worker, 1), 1),
-            (Heard::Freed(worker), 1),
-            (Heard::Done(worker), 1),
-            (Heard::Freed(worker), 1),
-            (Heard::Before(worker, second, 0), 1),
-            (Heard::Freed(worker), 3),
-            (Heard::Before(worker, second, 1), 1),
-            (Heard::Freed(worker), 1),
-            (Heard::Done(second), 1),
-        ];
-        assert!(&rt;
-            is_own(rt.alloc(), heard.as_slice(), worker, wanted.as_slice())?,
-            "worker {worker}"
-        );
-    }
-    Ok(())
-}
-
 /// Worker 0 holds the stripe of key 1 until worker 1 has given up. An operation that finds a stripe
 /// held also takes three holds of the lock: the question, a seek that finds no change to take back,
 /// and the abort. The gate gets `Done` once for each script, after the last try of the script.

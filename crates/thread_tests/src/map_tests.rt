@@ -8,6 +8,5 @@ mod register;
 mod releases;
 mod rows;
 mod side;
-mod step_between;
 mod texts;
 mod threads;

@@ -107,24 +107,19 @@ fn seats_of(alloc: Global, stripes: usize, count: usize) -> Result<Vec<Seated>, 
     Ok(all)
 }
 
-/// The callers with the seats of `fresh_seats`, in the order of their numbers.
-fn callers_of(alloc: Global, stripes: usize, count: usize) -> Result<Vec<Keeping>, Fail> {
-    let mut all = Vec::new(alloc);
-    for fresh in fresh_seats(alloc, stripes, count)? {
-        let Fresh {
-            words,
-            stripes,
-            number: _,
-            seat,
-        } = fresh;
-        all.push(Keeping {
-            words,
-            stripes,
-            rights: Rights::new(alloc, seat),
-        })?;
+/// The caller with this seat.
+fn keeper_of(alloc: Global, fresh: Fresh) -> Keeping {
+    let Fresh {
+        words,
+        stripes,
+        number: _,
+        seat,
+    } = fresh;
+    Keeping {
+        words,
+        stripes,
+        rights: Rights::new(alloc, seat),
     }
-    all.reverse();
-    Ok(all)
 }
 
 /// Takes a stripe, and keeps the right if the stripe is granted. Returns the word that was found,
@@ -186,22 +181,9 @@ fn words_of_stripes(rt: HostRuntime) -> Result<(), Fail> {
     Ok(())
 }
 
-/// The turn of a caller.
-#[derive(Clone, Copy, Debug)]
-enum Turn {
-    /// The caller takes a stripe, and must get this answer.
-    Take(usize, Tried),
-    /// The caller gives back all its rights.
-    GiveBack,
-}
-
-/// Plays a turn. Returns false if a take does not get the answer in the turn. If this answer is the
+/// Takes a stripe. Returns false if the answer is another one than `wanted`. If the answer is the
 /// position of a right, also returns false if the right at that position is for another stripe.
-fn is_answered(caller: &mut Keeping, turn: Turn) -> Result<bool, AllocError> {
-    let Turn::Take(stripe, wanted) = turn else {
-        caller.rights.give_back(&*caller.words);
-        return Ok(true);
-    };
+fn is_answered(caller: &mut Keeping, stripe: usize, wanted: Tried) -> Result<bool, AllocError> {
     if stripe >= caller.stripes {
         return Ok(false);
     }
@@ -212,30 +194,52 @@ fn is_answered(caller: &mut Keeping, turn: Turn) -> Result<bool, AllocError> {
     })
 }
 
+/// The caller takes each of these stripes, and must get its answer.
+fn take_each<R: Abort>(
+    rt: &R,
+    caller: &mut Keeping,
+    rows: &[(usize, Tried)],
+) -> Result<(), AllocError> {
+    for &(stripe, wanted) in rows {
+        assert!(rt; is_answered(caller, stripe, wanted)?, "stripe {stripe}");
+    }
+    Ok(())
+}
+
+/// Gives back all rights of a caller.
+fn give_back(caller: &mut Keeping) {
+    caller.rights.give_back(&*caller.words);
+}
+
 /// If the caller already has the stripe, a take returns the position of the right. If the stripe is
 /// free, it returns the next position. If the other caller has the stripe, it returns that caller's
 /// number plus 1.
 #[test]
 fn rights_of_two_callers(rt: HostRuntime) -> Result<(), Fail> {
-    let mut callers = callers_of(rt.alloc(), 8, 2)?;
-    for (number, turn) in [
-        (0, Turn::Take(3, Tried::Mine(0))),
-        (0, Turn::Take(5, Tried::Mine(1))),
-        (0, Turn::Take(3, Tried::Mine(0))),
-        (0, Turn::Take(6, Tried::Mine(2))),
-        (1, Turn::Take(3, Tried::Another(1))),
-        (1, Turn::Take(4, Tried::Mine(0))),
-        (0, Turn::Take(4, Tried::Another(2))),
-        (0, Turn::GiveBack),
-        (1, Turn::Take(3, Tried::Mine(1))),
-        (1, Turn::Take(5, Tried::Mine(2))),
-        (0, Turn::Take(5, Tried::Another(2))),
-        (1, Turn::GiveBack),
-        (0, Turn::Take(5, Tried::Mine(0))),
-    ] {
-        let caller = callers.get_mut(number).ok_or("a caller")?;
-        assert!(rt; is_answered(caller, turn)?, "caller {number}: {turn:?}");
-    }
+    let mut seats = fresh_seats(rt.alloc(), 8, 2)?;
+    let mut one = keeper_of(rt.alloc(), seats.pop().ok_or("seat 0")?);
+    let mut other = keeper_of(rt.alloc(), seats.pop().ok_or("seat 1")?);
+    take_each(
+        &rt,
+        &mut one,
+        &[
+            (3, Tried::Mine(0)),
+            (5, Tried::Mine(1)),
+            (3, Tried::Mine(0)),
+        ],
+    )?;
+    take_each(
+        &rt,
+        &mut other,
+        &[(3, Tried::Another(1)), (4, Tried::Mine(0))],
+    )?;
+    give_back(&mut one);
+    take_each(&rt, &mut other, &[(3, Tried::Mine(1))])?;
+    take_each(
+        &rt,
+        &mut one,
+        &[(4, Tried::Another(2)), (5, Tried::Mine(0))],
+    )?;
     Ok(())
 }
 

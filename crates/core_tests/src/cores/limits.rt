@@ -100,25 +100,6 @@ fn every_limit(rt: HostRuntime) -> Result<(), Fail> {
     sizes_work(&rt, rt.alloc(), &SIZES)
 }
 
-/// Calls that use the last of 4,096 stripes and the last of 64 callers.
-const LAST_STRIPE: [(Call, Answer); 8] = [
-    (Call::Step(Step::Begin(0)), Answer::Began(1)),
-    (Call::Step(Step::Begin(63)), Answer::Began(2)),
-    (Call::Op(63, Op::Put(4_095, 1)), Answer::Done(None)),
-    (Call::Op(0, Op::Put(4_094, 1)), Answer::Done(None)),
-    (Call::Op(0, Op::Get(8_191)), Answer::Busy(63)),
-    (Call::Abort(0), Answer::Aborted),
-    (Call::Op(63, Op::Get(8_190)), Answer::Done(None)),
-    (Call::Run(Step::Commit(63)), Answer::Committed(1)),
-];
-
-#[test]
-fn last_stripe(rt: HostRuntime) -> Result<(), Fail> {
-    let limits = limits_of(&rt, 64, 4_096, 8);
-    let mut core = core_with(&rt, rt.alloc(), limits);
-    play_calls(&rt, rt.alloc(), &mut core, &LAST_STRIPE)
-}
-
 /// Caller 0 makes this number of savepoints, and puts one key before each.
 fn save_all(rt: &impl Abort, core: &mut Core, levels: u64) -> Result<(), Fail> {
     let mut level: u64 = 0;
@@ -265,13 +246,11 @@ fn largest_table(rt: HostRuntime) -> Result<(), Fail> {
 }
 
 /// A call that asks for room for more entries than memory can hold is refused. A call that asks for
-/// less room succeeds. The core works as usual after both calls.
+/// less room succeeds.
 #[test]
 fn room_for_entries(rt: HostRuntime) -> Result<(), Fail> {
     let alloc = rt.alloc();
-    let mut core = small_core(&rt, alloc);
-    makes_room(&rt, &mut core)?;
-    fill_and_count(&rt, &mut core)
+    makes_room(&rt, &mut small_core(&rt, alloc))
 }
 
 /// Asks for no room, for some room and for too much room, before a transaction and in it.
@@ -288,14 +267,4 @@ fn has_room(rt: &impl Abort, core: &mut Core) {
     assert!(rt; core.reserve(0).is_ok());
     assert!(rt; core.reserve(1_000).is_ok());
     assert!(rt; core.reserve(usize::MAX).is_err());
-}
-
-/// Puts a key and commits. The history then has four entries: one for the begin, two for the put,
-/// and one for the commit.
-fn fill_and_count(rt: &impl Abort, core: &mut Core) -> Result<(), Fail> {
-    let answer = operate(core, 0, Op::Put(7, 70))?;
-    assert_eq!(rt; answer, Answer::Done(None));
-    step_is(rt, core, Step::Commit(0), Answer::Committed(1))?;
-    assert_eq!(rt; core.trace().len(), 4);
-    Ok(())
 }

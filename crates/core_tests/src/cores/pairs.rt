@@ -1,5 +1,5 @@
-//! Pairs of keys that share a split key: a key below 2^63, and the same key plus 2^63. Two callers
-//! take their steps in every order. Each answer is compared with the answer of a plain map that has
+//! Two keys that share a split key: a key below 2^63, and the same key plus 2^63. Two callers take
+//! their steps in every order. Each answer is compared with the answer of a plain map that has
 //! its own undo. Two lists of seven steps have 3,432 orders, which are too many for a table, so no
 //! answer here was worked out by hand.
 use super::plain_map::{PlainMap, Stage};
@@ -10,14 +10,16 @@ use std::process::Abort;
 use std::test::Fail;
 use txn_words::{Answer, Op, Step};
 
-/// The number of key pairs. Each order of steps is tried on the next of these pairs, in turn.
-const PAIRS: u64 = 24;
+/// The two keys.
+const LOWER: u64 = 401;
+
+const UPPER: u64 = LOWER | 1 << 63;
 
 /// A number below `ORDERS` with seven bits set stands for one order of two lists of seven steps.
 /// Each of its 14 bits, beginning with the lowest, says which caller takes the next step.
 const ORDERS: u32 = 1 << 14;
 
-/// What a caller does with its own key of a pair, or with both keys.
+/// What a caller does with its own key, or with both keys.
 #[derive(Clone, Copy)]
 enum Plan {
     PutAborted,
@@ -151,17 +153,16 @@ fn prepare_key(
     take(rt, core, compared, 0, Step::Act(0))
 }
 
-/// Caller 0 puts both keys of a pair if `are_there` is true, and takes them otherwise.
+/// Caller 0 puts both keys if `are_there` is true, and takes them otherwise.
 fn prepare(
     rt: &impl Abort,
     core: &mut Core,
     compared: &mut Compared,
-    pair: u64,
     are_there: bool,
 ) -> Result<(), Fail> {
     take(rt, core, compared, 0, Step::Begin(0))?;
-    prepare_key(rt, core, compared, lower_of(pair), are_there)?;
-    prepare_key(rt, core, compared, upper_of(pair), are_there)?;
+    prepare_key(rt, core, compared, LOWER, are_there)?;
+    prepare_key(rt, core, compared, UPPER, are_there)?;
     take(rt, core, compared, 0, Step::Commit(0))
 }
 
@@ -204,75 +205,34 @@ fn play(
     end(rt, core, compared, 1)
 }
 
-/// Doubles the table to 32 buckets.
-fn double(rt: &impl Abort, core: &mut Core) -> Result<(), Fail> {
-    for (size, doubled) in &[(2, 4), (4, 8), (8, 16), (16, 32)] {
-        step_is(rt, core, Step::Double(*size), Answer::Doubled(*doubled))?;
-    }
-    Ok(())
-}
-
-/// Initialises the buckets, so that no seek walks far.
-fn initialise(rt: &impl Abort, core: &mut Core) -> Result<(), Fail> {
-    for bucket in 1..32 {
-        step_is(rt, core, Step::InitSeek(0, bucket), Answer::Placed)?;
-        step_is(rt, core, Step::InitLink(0), Answer::Linked)?;
-        step_is(rt, core, Step::InitStore(0), Answer::Stored)?;
-    }
-    Ok(())
-}
-
-/// The lower key of a pair, below 2^63.
-fn lower_of(pair: u64) -> u64 {
-    (pair % PAIRS).wrapping_mul(401)
-}
-
-/// The upper key of a pair: the lower key plus 2^63.
-fn upper_of(pair: u64) -> u64 {
-    lower_of(pair) | 1 << 63
-}
-
-/// Puts all pairs, and lets the table grow.
-fn prepare_all(rt: &impl Abort, core: &mut Core, compared: &mut Compared) -> Result<(), Fail> {
-    for pair in 0..PAIRS {
-        prepare(rt, core, compared, pair, true)?;
-    }
-    double(rt, core)?;
-    initialise(rt, core)
-}
-
-/// A case has the number of stripes, whether the keys of a pair are present at first, and the plan
-/// of each caller.
+/// A case has the number of stripes, whether the keys are present at first, and the plan of each
+/// caller.
 type Case = (u64, bool, Plan, Plan);
 
-/// Plays the two plans of a case on this pair, in this order.
+/// Plays the two plans of a case in this order.
 fn in_order(
     rt: &impl Abort,
     core: &mut Core,
     compared: &mut Compared,
     case: &Case,
-    pair: u64,
     order: u32,
 ) -> Result<(), Fail> {
     let (_, are_there, first, second) = *case;
-    prepare(rt, core, compared, pair, are_there)?;
-    let (lower, upper) = (lower_of(pair), upper_of(pair));
-    let steps = [first.steps(0, lower, upper), second.steps(1, upper, lower)];
+    prepare(rt, core, compared, are_there)?;
+    let steps = [first.steps(0, LOWER, UPPER), second.steps(1, UPPER, LOWER)];
     play(rt, core, compared, order, &steps)
 }
 
-/// Plays the two plans of a case in every order. Each order is played on the next pair.
+/// Plays the two plans of a case in every order.
 fn in_every_order(
     rt: &impl Abort,
     core: &mut Core,
     compared: &mut Compared,
     case: &Case,
 ) -> Result<(), Fail> {
-    let mut pair: u64 = 0;
     for order in 0..ORDERS {
         if order.count_ones() == 7 {
-            pair = pair.wrapping_add(1);
-            in_order(rt, core, compared, case, pair, order)?;
+            in_order(rt, core, compared, case, order)?;
         }
     }
     Ok(())
@@ -286,7 +246,7 @@ fn plain_of(alloc: Global, case: &Case) -> Compared {
     }
 }
 
-/// All pairs are put, the plans are tried in every order, and then the pairs are compared.
+/// The plans are tried in every order, and then the pairs are compared.
 fn compare_case(
     rt: &impl Abort,
     alloc: Global,
@@ -294,7 +254,6 @@ fn compare_case(
     compared: &mut Compared,
     case: &Case,
 ) -> Result<(), Fail> {
-    prepare_all(rt, core, compared)?;
     in_every_order(rt, core, compared, case)?;
     compare(rt, alloc, core, compared)
 }
@@ -307,13 +266,13 @@ fn try_beside(rt: &impl Abort, alloc: Global, core: &mut Core, case: &Case) -> R
 
 /// Tries a case on a new core.
 fn try_case(rt: &impl Abort, alloc: Global, case: &Case) -> Result<(), Fail> {
-    let limits = limits_of(rt, 2, case.0, 32);
+    let limits = limits_of(rt, 2, case.0, 2);
     try_beside(rt, alloc, &mut core_with(rt, alloc, limits), case)
 }
 
-/// With 7 stripes the two keys of a pair have different stripes, so a caller can be busy only in a
-/// case with `PutBoth`. With 8 stripes both keys have the same stripe. A caller that asks while the
-/// other caller holds this stripe is busy.
+/// With 7 stripes the two keys have different stripes, so a caller can be busy only in a case with
+/// `PutBoth`. With 8 stripes both keys have the same stripe. A caller that asks while the other
+/// caller holds this stripe is busy.
 static CASES: [Case; 8] = [
     (7, false, Plan::PutAborted, Plan::PutAborted),
     (7, false, Plan::PutAndTake, Plan::PutAborted),

@@ -1,22 +1,18 @@
 //! Operations on a core whose stripes are words. The step `Ask` is not allowed on it, so this module
 //! asks with the right to a stripe or with the stripe's word. The answers and the history were
 //! worked out by hand.
-use crate::devices::{core_of, is_history, limits_of, take_step};
+use crate::devices::{is_history, limits_of, take_step};
+use crate::histories::entries_of;
 use boost_core::Core;
 use key_locks::StripeRight;
 use std::alloc::{AllocError, Global};
 use std::process::Abort;
 use std::test::Fail;
-use txn_words::{Answer, Entry, Op, Refusal, Step};
+use txn_words::{Answer, Op, Refusal, Step};
 
 /// A core for 3 callers, with 8 stripes that are words.
 fn core_with_words(rt: &impl Abort, alloc: Global) -> Core {
     Core::with_words(alloc, limits_of(rt, 3, 8, 8)).expect(rt, "a core")
-}
-
-/// Returns true if the stripes of this core are words.
-fn has_words(core: &Core) -> bool {
-    core.words()
 }
 
 /// Asks for an operation with the right to its stripe, on a core with eight stripes.
@@ -86,15 +82,8 @@ static ASKS: [(Ask, Answer); 11] = [
     (Ask::Step(Step::Commit(0)), Answer::Committed(1)),
 ];
 
-static HISTORY_OF_ASKS: [Entry; 7] = [
-    Entry::Began(0, 1),
-    Entry::Asked(0, Op::Put(1, 10)),
-    Entry::Did(0, None),
-    Entry::Began(1, 2),
-    Entry::Busy(1, Op::Get(9), 0),
-    Entry::Aborted(1),
-    Entry::Committed(0, 1),
-];
+const HISTORY_OF_ASKS: &str = r#"["began",0,1],["asked",0,"put",1,10],["did",0,null],
+    ["began",1,2],["busy",1,"get",9,0],["aborted",1],["committed",0,1]"#;
 
 fn asks_are(
     rt: &impl Abort,
@@ -123,18 +112,13 @@ fn ask_all(rt: &impl Abort, alloc: Global, core: &mut Core) -> Result<(), Fail> 
 
 fn play(rt: &impl Abort, alloc: Global, core: &mut Core) -> Result<(), Fail> {
     ask_all(rt, alloc, core)?;
-    assert!(rt; is_history(core, HISTORY_OF_ASKS.as_slice()));
+    let history = entries_of(alloc, HISTORY_OF_ASKS)?;
+    assert!(rt; is_history(core, &history));
     Ok(())
-}
-
-/// Checks that the stripes of a core made by `Core::new` are not words.
-fn is_ordinary(rt: &impl Abort, alloc: Global) {
-    assert!(rt; !has_words(&core_of(rt, alloc, 3)));
 }
 
 #[test]
 fn rights_and_words(rt: HostRuntime) -> Result<(), Fail> {
     let alloc = rt.alloc();
-    is_ordinary(&rt, alloc);
     play(&rt, alloc, &mut core_with_words(&rt, alloc))
 }

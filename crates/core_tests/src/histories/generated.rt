@@ -1,9 +1,9 @@
-//! Draws histories from a seed, and spoils a history at one place. The module `histories` judges
-//! them, and this module has no tests. The module `plain`, and not `history_check`, says which
-//! entries a caller may add, so `history_check` is never compared with itself.
+//! Draws histories from a seed, and spoils a history at one place. The modules `histories` and
+//! `orders` judge them, and this module has no tests. The module `plain`, and not `history_check`,
+//! says which entries a caller may add, so `history_check` is never compared with itself.
 use super::plain::{self, Place};
 use std::alloc::{AllocError, Global};
-use txn_words::{Entry, Holder, Op};
+use txn_words::{Entry, Holder, Op, Reply};
 
 /// The numbers of callers. A history has one to four callers, which have the first numbers of this
 /// list.
@@ -46,18 +46,27 @@ impl Draws {
     }
 }
 
-/// A legal history of this number of entries. Its Busy entries name callers that `holder` allows.
-pub(super) fn legal_history(
+/// The store whose history is drawn.
+#[derive(Clone, Copy)]
+pub(super) enum Way {
+    /// It has so many stripes. A Busy entry names a caller that the rule allows.
+    Locked(u64, Holder),
+    /// It has no locks: a transaction reads what is committed when it asks. One of so many replies
+    /// is a lie; if the number is 0, none is.
+    Unlocked(u64),
+}
+
+/// A history of this number of entries. It has the right shape, and is legal if there are locks.
+pub(super) fn history(
     alloc: Global,
     draws: &mut Draws,
-    stripes: u64,
+    way: Way,
     length: u64,
-    holder: Holder,
 ) -> Result<Vec<Entry>, AllocError> {
     let callers = draws.below(4).wrapping_add(1);
     let mut history = Vec::new(alloc);
     for _ in 0..length {
-        add_entry(alloc, draws, &mut history, callers, stripes, holder)?;
+        add_entry(alloc, draws, &mut history, callers, way)?;
     }
     Ok(history)
 }
@@ -68,11 +77,10 @@ fn add_entry(
     draws: &mut Draws,
     history: &mut Vec<Entry>,
     callers: u64,
-    stripes: u64,
-    holder: Holder,
+    way: Way,
 ) -> Result<(), AllocError> {
     let caller = draws.caller(callers);
-    let entry = next_entry(alloc, draws, history, caller, stripes, holder)?;
+    let entry = next_entry(alloc, draws, history, caller, way)?;
     history.push(entry)?;
     Ok(())
 }
@@ -83,8 +91,7 @@ fn next_entry(
     draws: &mut Draws,
     history: &[Entry],
     caller: u64,
-    stripes: u64,
-    holder: Holder,
+    way: Way,
 ) -> Result<Entry, AllocError> {
     let entries = plain::last_of(alloc, caller, history)?;
     let kept = plain::standing_at_levels(alloc, &entries)?;
@@ -95,29 +102,33 @@ fn next_entry(
             Entry::Began(caller, began.saturating_add(1))
         }
         Place::Asked if draws.below(10) == 0 => Entry::Leave(caller, None),
-        Place::Asked => Entry::Did(caller, plain::reply_alone(alloc, history, caller)?),
+        Place::Asked => Entry::Did(caller, next_reply(alloc, draws, history, caller, way)?),
         Place::LeavingTo(level) => match kept.get(level as usize) {
             Some(kept) if standing <= *kept => Entry::Returned(caller, level),
             _ => Entry::Undone(caller),
         },
         Place::LeavingToEnd if standing == 0 => Entry::Aborted(caller),
         Place::LeavingToEnd => Entry::Undone(caller),
-        Place::Open => {
-            let levels = kept.len() as u64;
-            next_in_open(draws, history, caller, stripes, holder, levels)
-        }
+        Place::Open => next_in_open(draws, history, caller, way, kept.len() as u64),
     })
 }
 
-/// An entry that the caller may add in an open transaction with this number of levels.
-fn next_in_open(
+/// The reply to the operation that the caller has asked for, or a lie.
+fn next_reply(
+    alloc: Global,
     draws: &mut Draws,
     history: &[Entry],
     caller: u64,
-    stripes: u64,
-    holder: Holder,
-    levels: u64,
-) -> Entry {
+    way: Way,
+) -> Result<Reply, AllocError> {
+    match way {
+        Way::Unlocked(lies) if 0 < lies && draws.below(lies) == 0 => Ok(Some(draws.below(6))),
+        _ => plain::reply_alone(alloc, history, caller),
+    }
+}
+
+/// An entry that the caller may add in an open transaction with this number of levels.
+fn next_in_open(draws: &mut Draws, history: &[Entry], caller: u64, way: Way, levels: u64) -> Entry {
     match draws.below(12) {
         0 | 1 => Entry::Saved(caller),
         2 => Entry::Leave(caller, None),
@@ -126,10 +137,13 @@ fn next_in_open(
             let committed = plain::counts_of(history).committed;
             Entry::Committed(caller, committed.saturating_add(1))
         }
-        _ => {
-            let is_early = holder == Holder::Begun && draws.below(4) == 0;
-            next_operation(history, caller, draws.op(), stripes, is_early)
-        }
+        _ => match way {
+            Way::Unlocked(_) => Entry::Asked(caller, draws.op()),
+            Way::Locked(stripes, holder) => {
+                let is_early = holder == Holder::Begun && draws.below(4) == 0;
+                next_operation(history, caller, draws.op(), stripes, is_early)
+            }
+        },
     }
 }
 

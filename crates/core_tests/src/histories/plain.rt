@@ -10,7 +10,7 @@ use std::alloc::{AllocError, Global};
 use std::collections::BTreeMap;
 use txn_words::{Entry, Holder, Op, Reply};
 
-type Values = BTreeMap<u64, u64>;
+pub(super) type Values = BTreeMap<u64, u64>;
 
 /// The phase of a caller, as the rule of shape defines it.
 #[derive(Clone, Copy, PartialEq, Eq)]
@@ -340,7 +340,7 @@ impl Running {
 
 /// Runs a transaction alone on these values. Returns its last map, or `None` if an entry does not
 /// fit this run.
-fn run_alone(
+pub(super) fn run_alone(
     start: &Values,
     entries: &[Entry],
     alloc: Global,

@@ -1,21 +1,13 @@
 //! Tests of histories whose text is longer than one of the pieces in which `mix` writes it. The
-//! expected text is made by a rule. One script puts 1 at key 0, gets four keys that have no value,
-//! and then puts 1 at key 0 again and again. So the reply to each put but the first is 1.
+//! expected text is made by a rule. One script puts 1 at key 0 again and again. So the reply to each
+//! put but the first is 1.
 
 use boostmap_engine::{Fault, mix};
 use std::alloc::{AllocError, Global};
-use std::fmt::Write as _;
 use std::io;
 use std::io::Write;
 use std::process::Abort;
 use std::test::Fail;
-
-/// Each row has a number of puts, and the least and the greatest `digits` for `key`. In the first
-/// row, the last entry ends at most 10 bytes before or after the place at which a piece is full. So
-/// the end of the line is in the same piece or in the next one. In the second row, each further
-/// digit moves the entries by one byte. So the place at which a piece is full falls on each byte of
-/// an entry in turn.
-const LENGTHS: [(u64, u32, u32); 2] = [(1916, 36, 56), (1930, 0, 36)];
 
 /// A number of puts whose history fills two pieces and a part of a third.
 const MANY: u64 = 4000;
@@ -64,22 +56,12 @@ impl Write for Expecting<'_> {
     }
 }
 
-/// The key of a get: a power of ten. Together the keys of the four gets have `digits` + 4 digits.
-fn key(get: u32, digits: u32) -> u64 {
-    let more = digits.saturating_sub(get.saturating_mul(18)).min(18);
-    10u64.checked_pow(more).unwrap_or(0)
-}
-
-/// The file with one script that makes these puts and the four gets.
-fn script_file(alloc: Global, puts: u64, digits: u32) -> Result<String, AllocError> {
+/// The file with one script that makes `MANY` puts.
+fn script_file(alloc: Global) -> Result<String, AllocError> {
     let mut text = String::new(alloc);
     text.push_str("{\"version\":1,\"workers\":1,\"stripes\":8,\"buckets\":8,\"tries\":0,")?;
     text.push_str("\"scripts\":[[[\"put\",0,1]")?;
-    for get in 0..4 {
-        let key = key(get, digits);
-        write!(text, ",[\"get\",{key}]")?;
-    }
-    for _ in 1..puts {
+    for _ in 1..MANY {
         text.push_str(",[\"put\",0,1]")?;
     }
     text.push_str("]]}")?;
@@ -87,14 +69,10 @@ fn script_file(alloc: Global, puts: u64, digits: u32) -> Result<String, AllocErr
 }
 
 /// The line that `mix` prints for the file that `script_file` makes.
-fn history_line(alloc: Global, puts: u64, digits: u32) -> Result<String, AllocError> {
+fn history_line(alloc: Global) -> Result<String, AllocError> {
     let mut text = String::new(alloc);
     text.push_str("{\"entries\":[[\"began\",0,1],[\"asked\",0,\"put\",0,1],[\"did\",0,null]")?;
-    for get in 0..4 {
-        let key = key(get, digits);
-        write!(text, ",[\"asked\",0,\"get\",{key}],[\"did\",0,null]")?;
-    }
-    for _ in 1..puts {
+    for _ in 1..MANY {
         text.push_str(",[\"asked\",0,\"put\",0,1],[\"did\",0,1]")?;
     }
     text.push_str(",[\"committed\",0,1]],\"stripes\":8,\"version\":1}\n")?;
@@ -131,22 +109,10 @@ fn compare_failed(rt: &impl Abort, alloc: Global, file: &str, line: &str, fails_
 }
 
 #[test]
-fn long_lines_are_whole(rt: HostRuntime) -> Result<(), Fail> {
-    for (puts, least, most) in LENGTHS {
-        for digits in least..=most {
-            let file = script_file(rt.alloc(), puts, digits)?;
-            let line = history_line(rt.alloc(), puts, digits)?;
-            compare_whole(&rt, rt.alloc(), &file, &line, usize::MAX);
-        }
-    }
-    Ok(())
-}
-
-#[test]
 fn long_lines_in_small_writes(rt: HostRuntime) -> Result<(), Fail> {
-    let file = script_file(rt.alloc(), MANY, 0)?;
-    let line = history_line(rt.alloc(), MANY, 0)?;
-    for most in [1, 10_000, 65_375] {
+    let file = script_file(rt.alloc())?;
+    let line = history_line(rt.alloc())?;
+    for most in [1, 10_000, 65_375, usize::MAX] {
         compare_whole(&rt, rt.alloc(), &file, &line, most);
     }
     for fails_at in 0..line.len() / 10_000 {

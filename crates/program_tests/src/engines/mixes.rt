@@ -30,79 +30,44 @@ pub const EMPTY_SCRIPT: &str =
 pub const SHORT_HISTORY: &str =
     "{\"entries\":[[\"began\",0,1],[\"committed\",0,1]],\"stripes\":8,\"version\":1}\n";
 
-pub const HISTORY_OF_VERSION_2: &str =
-    "{\"entries\":[[\"began\",0,1],[\"asked\",0,\"put_if\",9223372036854775808,null,5],[\"did\",0,\
-    null],[\"committed\",0,1]],\"stripes\":8,\"version\":2}\n";
-
 /// A script file with one worker and one script. The first action of the script is a gap.
 pub const BAD_KEY: &str =
     r#"{"version":1,"workers":1,"stripes":8,"buckets":8,"tries":0,"scripts":[[#,["put",1,1]]]}"#;
 
-/// A file with gaps for its workers and its scripts.
-pub const WORKERS_OF: &str =
-    r#"{"version":1,"workers":@,"stripes":8,"buckets":8,"tries":0,"scripts":#}"#;
+/// A script file of version 2, which may have the key 2^63 and the action `put_if`.
+pub const WIDE_SCRIPT: &str =
+    "{\"version\":2,\"workers\":1,\"stripes\":8,\"buckets\":8,\"tries\":0,\"scripts\":[[[\"put_if\",\
+    9223372036854775808,null,5],[\"help\",9223372036854775808]]]}";
 
-/// Each row has similar script files, and the output of `mix` for them.
+/// Each row has similar script files, and the output of `mix` for them. `tests/files.tsv` has files
+/// that are refused.
 pub const FILES: &[Files] = &[
-    // A script file of version 2 may have the key 2^63 and the action `put_if`. Its history also
-    // has version 2.
-    Files {
-        command: Command::Mix(7),
-        frame: "#",
-        pieces: "{\"version\":2,\"workers\":1,\"stripes\":8,\"buckets\":8,\"tries\":0,\
-            \"scripts\":[[[\"put_if\",9223372036854775808,null,5],\
-            [\"help\",9223372036854775808]]]}",
-        fillings: "",
-        printed: HISTORY_OF_VERSION_2,
-        status: 0,
-    },
+    // The history of a script file of version 2 also has version 2.
+    (
+        WIDE_SCRIPT,
+        "",
+        "",
+        (
+            "{\"entries\":[[\"began\",0,1],[\"asked\",0,\"put_if\",9223372036854775808,null,5],\
+                [\"did\",0,null],[\"committed\",0,1]],\"stripes\":8,\"version\":2}\n",
+            0,
+        ),
+    ),
     // A `help` for the key 2^63 is refused before it takes a step. A `get` of this key is also
     // refused, and so is a return to a level that does not exist. After each of these refusals, the
     // transaction aborts.
-    Files {
-        command: Command::Mix(3),
-        frame: BAD_KEY,
-        pieces: r#"["help",9223372036854775808]
+    (
+        BAD_KEY,
+        r#"["help",9223372036854775808]
 ["get",9223372036854775808]
 ["back",1]"#,
-        fillings: "",
-        printed: "{\"entries\":[[\"began\",0,1],[\"leave\",0,null],[\"aborted\",0]],\"stripes\":8,\
-            \"version\":1}\n",
-        status: 0,
-    },
-    // Bad input.
-    Files {
-        command: Command::Mix(0),
-        frame: "#",
-        pieces: r#"{"version":1,"workers":1,"stripes":8,"buckets":8,"tries":0,""#,
-        fillings: "",
-        printed: "refused 20\n",
-        status: 3,
-    },
-    Files {
-        command: Command::Mix(0),
-        frame: "#",
-        pieces: "[]",
-        fillings: "",
-        printed: "refused 21\n",
-        status: 3,
-    },
-    Files {
-        command: Command::Mix(0),
-        frame: WORKERS_OF,
-        pieces: r#"[[],[["put",1]]]"#,
-        fillings: "1",
-        printed: "refused 21 script 1\n",
-        status: 3,
-    },
-    Files {
-        command: Command::Mix(0),
-        frame: WORKERS_OF,
-        pieces: "[]",
-        fillings: "65",
-        printed: "refused 22\n",
-        status: 3,
-    },
+        "",
+        (
+            "{\"entries\":[[\"began\",0,1],[\"leave\",0,null],[\"aborted\",0]],\"stripes\":8,\
+                \"version\":1}\n",
+            0,
+        ),
+    ),
 ];
 
 /// A script file with three workers, whose scripts use the same two stripes.

@@ -1,10 +1,9 @@
 //! Step files, each with the report of `replay` for it. Each line of a run has steps, followed by
 //! the answers to these steps. The file and the report are both made from these lines. The answers
-//! were worked out by hand. One test puts 129 keys. Its lines and the pairs of its report are made
-//! by rules.
+//! were worked out by hand.
 
 use super::{Command, Files, run_on};
-use crate::devices::{Ended, Narrow, compare_ended};
+use crate::devices::{Narrow, compare_ended};
 use std::alloc::Global;
 use std::process::Abort;
 use std::sync::Wait;
@@ -33,145 +32,56 @@ const MEMBERS_OF: &str =
 pub const FIRST_REPORT: &str =
     "began 1\nasked\nplaced\ndone none\ncommitted 1\nsize 2 count 1\n1 10\n";
 
-/// A file with gaps for its version and for a step before the others.
-const PUT_IF: &str =
-    "{\"version\":@,\"callers\":1,\"stripes\":8,\"buckets\":8,\"steps\":[#[\"begin\",0],[\"ask\",0,\
-    \"put_if\",1,null,5]]}";
-
-/// Each row has similar step files, and the output of `replay` for them.
+/// Each row has similar step files, and the output of `replay` for them. `tests/files.tsv` has more
+/// files that are refused.
 pub const FILES: &[Files] = &[
-    // Files without steps. The last one has too many callers.
-    Files {
-        command: Command::Replay,
-        frame: EMPTY_FILE,
-        pieces: "",
-        fillings: "1 2",
-        printed: "size 2 count 0\n",
-        status: 0,
-    },
-    Files {
-        command: Command::Replay,
-        frame: EMPTY_FILE,
-        pieces: "",
-        fillings: "65",
-        printed: "refused 22\n",
-        status: 3,
-    },
-    // The steps of `examples/first_commit.json`.
-    Files {
-        command: Command::Replay,
-        frame: FIRST_COMMIT_OF,
-        pieces: "",
-        fillings: "1 2",
-        printed: FIRST_REPORT,
-        status: 0,
-    },
+    // Files without steps, and the steps of `examples/first_commit.json`.
+    (EMPTY_FILE, "", "1 2", ("size 2 count 0\n", 0)),
+    (FIRST_COMMIT_OF, "", "1 2", (FIRST_REPORT, 0)),
     // Bad input: a file that ends too early, a step with a text instead of a number, too many
-    // callers or none, and a text instead of the number of callers.
-    Files {
-        command: Command::Replay,
-        frame: "#",
-        pieces: r#"{"version":1,"callers":1,"stripes":8,"buckets":8,"steps":[["begin",0],
-{"version":1,"callers":2,"stripes":8,"buckets":8,"steps":[["begin",0],"#,
-        fillings: "",
-        printed: "refused 20\n",
-        status: 3,
-    },
-    Files {
-        command: Command::Replay,
-        frame: FIRST_COMMIT_OF,
-        pieces: r#"["ask",0,"put","1",10],"#,
-        fillings: "1 2",
-        printed: "refused 21 step 4\n",
-        status: 3,
-    },
-    Files {
-        command: Command::Replay,
-        frame: FIRST_COMMIT_OF,
-        pieces: "",
-        fillings: "65 0",
-        printed: "refused 22\n",
-        status: 3,
-    },
-    Files {
-        command: Command::Replay,
-        frame: FIRST_COMMIT_OF,
-        pieces: "",
-        fillings: r#""1""#,
-        printed: "refused 21\n",
-        status: 3,
-    },
+    // callers or none.
+    (
+        "#",
+        r#"{"version":1,"callers":2,"stripes":8,"buckets":8,"steps":[["begin",0],"#,
+        "",
+        ("refused 20\n", 3),
+    ),
+    (
+        FIRST_COMMIT_OF,
+        r#"["ask",0,"put","1",10],"#,
+        "1 2",
+        ("refused 21 step 4\n", 3),
+    ),
+    (FIRST_COMMIT_OF, "", "65 0", ("refused 22\n", 3)),
     // Wrong shapes: wrong numbers, a missing member, and an unknown version. If a file has both a
     // wrong step and too many callers, the fault is the wrong step. A member that does not belong
     // in a step file is skipped.
-    Files {
-        command: Command::Replay,
-        frame: MEMBERS_OF,
-        pieces: r#""version":1,"callers":-1
+    (
+        MEMBERS_OF,
+        r#""version":1,"callers":-1
 "version":1,"callers":2.0
 "callers":2"#,
-        fillings: "",
-        printed: "refused 21\n",
-        status: 3,
-    },
-    Files {
-        command: Command::Replay,
-        frame: MEMBERS_OF,
-        pieces: r#""version":7,"callers":2"#,
-        fillings: "",
-        printed: "refused 22\n",
-        status: 3,
-    },
-    Files {
-        command: Command::Replay,
-        frame: MEMBERS_OF,
-        pieces: r#""version":1,"callers":65"#,
-        fillings: r#"["sweep",0],"#,
-        printed: "refused 21 step 1\n",
-        status: 3,
-    },
-    Files {
-        command: Command::Replay,
-        frame: MEMBERS_OF,
-        pieces: r#""version":1,"callers":2,"note":null"#,
-        fillings: "",
-        printed: FIRST_REPORT,
-        status: 0,
-    },
-    // A step that only version 2 allows. If there is a bad step before it, the fault is the bad
-    // step.
-    Files {
-        command: Command::Replay,
-        frame: PUT_IF,
-        pieces: "",
-        fillings: "1",
-        printed: "refused 21 step 1\n",
-        status: 3,
-    },
-    Files {
-        command: Command::Replay,
-        frame: PUT_IF,
-        pieces: r#"["begin"],"#,
-        fillings: "1 2 3",
-        printed: "refused 21 step 0\n",
-        status: 3,
-    },
-    Files {
-        command: Command::Replay,
-        frame: PUT_IF,
-        pieces: "",
-        fillings: "2",
-        printed: "began 1\nasked\nsize 2 count 0\n",
-        status: 0,
-    },
-    Files {
-        command: Command::Replay,
-        frame: PUT_IF,
-        pieces: "",
-        fillings: "3 9",
-        printed: "refused 22\n",
-        status: 3,
-    },
+        "",
+        ("refused 21\n", 3),
+    ),
+    (
+        MEMBERS_OF,
+        r#""version":7,"callers":2"#,
+        "",
+        ("refused 22\n", 3),
+    ),
+    (
+        MEMBERS_OF,
+        r#""version":1,"callers":65"#,
+        r#"["sweep",0],"#,
+        ("refused 21 step 1\n", 3),
+    ),
+    (
+        MEMBERS_OF,
+        r#""version":1,"callers":2,"note":null"#,
+        "",
+        (FIRST_REPORT, 0),
+    ),
 ];
 
 /// Steps that put five keys. Before the fifth key is put, the step `double` gets the answer
@@ -311,9 +221,8 @@ const INITIALISATION: &str = r#"["commit",0] = committed 1
 ["init_store",1] = stored
 ["init_seek",1,3] = ready"#;
 
-/// Each of five callers changes its own key three times. Then the callers take all changes back in
-/// turn.
-const FIVE_CALLERS_UNDONE: &str = r#"["begin",0] = began 1
+/// Each of five callers changes its own key three times. Then all callers leave.
+const FIVE_CALLERS: &str = r#"["begin",0] = began 1
 ["ask",0,"put",1,10],["seek",0],["act",0] = asked, placed, done none
 ["begin",1] = began 2
 ["ask",1,"put",2,10],["seek",1],["act",1] = asked, placed, done none
@@ -333,155 +242,114 @@ const FIVE_CALLERS_UNDONE: &str = r#"["begin",0] = began 1
 ["ask",3,"take",4],["seek",3],["act",3] = asked, placed, done 20
 ["ask",4,"put",5,20],["seek",4],["act",4] = asked, placed, done 10
 ["ask",4,"take",5],["seek",4],["act",4] = asked, placed, done 20
-["abort",0] = leaving
-["abort",1] = leaving
-["abort",2] = leaving
-["abort",3] = leaving
-["abort",4] = leaving
-["seek",0],["act",0] = placed, undone
+["abort",0],["abort",1] = leaving, leaving
+["abort",2],["abort",3],["abort",4] = leaving, leaving, leaving"#;
+
+/// Each of five callers takes one change back.
+const FIVE_UNDONE: &str = r#"["seek",0],["act",0] = placed, undone
 ["seek",1],["act",1] = placed, undone
 ["seek",2],["act",2] = placed, undone
 ["seek",3],["act",3] = placed, undone
-["seek",4],["act",4] = placed, undone
-["seek",0],["act",0] = placed, undone
-["seek",1],["act",1] = placed, undone
-["seek",2],["act",2] = placed, undone
-["seek",3],["act",3] = placed, undone
-["seek",4],["act",4] = placed, undone
-["seek",0],["act",0] = placed, undone
-["seek",1],["act",1] = placed, undone
-["seek",2],["act",2] = placed, undone
-["seek",3],["act",3] = placed, undone
-["seek",4],["act",4] = placed, undone
-["act",0] = aborted
-["act",1] = aborted
-["act",2] = aborted
-["act",3] = aborted
-["act",4] = aborted"#;
+["seek",4],["act",4] = placed, undone"#;
+
+const FIVE_ABORTED: &str = r#"["act",0],["act",1] = aborted, aborted
+["act",2],["act",3],["act",4] = aborted, aborted, aborted"#;
 
 /// The commit of caller 0, which is the first commit.
 const COMMIT: &str = r#"["commit",0] = committed 1"#;
 
 const FIVE_KEYS_REPORT: &str = "size 4 count 5\n4 40\n2 20\n1 10\n5 50\n3 30\n";
 
-/// A step file with its name and its report. Each line of its parts has steps, then ` = `, and then
+/// A step file: its name; its version and its numbers of callers and of buckets; its parts; and the
+/// part of its report that follows the answers. Each line of a part has steps, then ` = `, and then
 /// the answers to these steps.
-#[derive(Clone, Copy)]
-struct Run {
-    name: &'static str,
-    version: u64,
-    callers: u64,
-    buckets: u64,
-    parts: &'static [&'static str],
-    /// The part of the report that follows the answers.
-    rest: &'static str,
-}
+type Run = (
+    &'static str,
+    [u64; 3],
+    &'static [&'static str],
+    &'static str,
+);
 
 const RUNS: &[Run] = &[
-    Run {
-        name: "keys_of_64_bits",
-        version: 2,
-        callers: 1,
-        buckets: 8,
-        parts: &[KEYS_OF_64_BITS, COMMIT],
-        rest: "size 2 count 4\n2 20\n1 12\n9223372036854775809 11\n18446744073709551615 7\n",
-    },
-    Run {
-        name: "keys_of_64_bits",
-        version: 2,
-        callers: 1,
-        buckets: 8,
-        parts: &[KEYS_OF_64_BITS, FIVE_TAKEN_BACK],
-        rest: "size 2 count 0\n",
-    },
-    Run {
-        name: "doubling_after_five",
-        version: 1,
-        callers: 2,
-        buckets: 8,
-        parts: &[FIVE_KEYS, COMMIT],
-        rest: FIVE_KEYS_REPORT,
-    },
-    Run {
-        name: "abort_takes_back",
-        version: 1,
-        callers: 2,
-        buckets: 8,
-        parts: &[ABORT_TAKES_BACK],
-        rest: "size 2 count 0\n",
-    },
-    Run {
-        name: "busy_aborts",
-        version: 1,
-        callers: 2,
-        buckets: 8,
-        parts: &[BUSY_ABORTS],
-        rest: "size 2 count 1\n1 10\n",
-    },
-    Run {
-        name: "stale_cursor",
-        version: 1,
-        callers: 2,
-        buckets: 8,
-        parts: &[STALE_CURSOR],
-        rest: "size 2 count 2\n4 40\n2 20\n",
-    },
-    Run {
-        name: "savepoints",
-        version: 1,
-        callers: 2,
-        buckets: 8,
-        parts: &[SAVEPOINTS],
-        rest: "size 2 count 0\n",
-    },
-    Run {
-        name: "aborted_take_restores",
-        version: 1,
-        callers: 2,
-        buckets: 8,
-        parts: &[ABORTED_TAKE_RESTORES],
-        rest: "size 2 count 1\n3 30\n",
-    },
-    Run {
-        name: "half_keys",
-        version: 1,
-        callers: 2,
-        buckets: 8,
-        parts: &[HALF_KEYS],
-        rest: "size 2 count 2\n3 30\n9223372036854775807 7\n",
-    },
-    Run {
-        name: "maximum_size",
-        version: 1,
-        callers: 2,
-        buckets: 2,
-        parts: &[MAXIMUM_SIZE],
-        rest: "size 2 count 0\n",
-    },
-    Run {
-        name: "refusals_in_order",
-        version: 1,
-        callers: 2,
-        buckets: 8,
-        parts: &[REFUSALS_IN_ORDER],
-        rest: "size 2 count 0\n",
-    },
-    Run {
-        name: "bucket_initialisation",
-        version: 1,
-        callers: 2,
-        buckets: 8,
-        parts: &[FIVE_KEYS, INITIALISATION],
-        rest: FIVE_KEYS_REPORT,
-    },
-    Run {
-        name: "five_callers_undone",
-        version: 1,
-        callers: 5,
-        buckets: 8,
-        parts: &[FIVE_CALLERS_UNDONE],
-        rest: "size 2 count 0\n",
-    },
+    (
+        "keys_of_64_bits",
+        [2, 1, 8],
+        &[KEYS_OF_64_BITS, COMMIT],
+        "size 2 count 4\n2 20\n1 12\n9223372036854775809 11\n18446744073709551615 7\n",
+    ),
+    (
+        "taken_back",
+        [2, 1, 8],
+        &[KEYS_OF_64_BITS, FIVE_TAKEN_BACK],
+        "size 2 count 0\n",
+    ),
+    (
+        "doubling_after_five",
+        [1, 2, 8],
+        &[FIVE_KEYS, COMMIT],
+        FIVE_KEYS_REPORT,
+    ),
+    (
+        "abort_takes_back",
+        [1, 2, 8],
+        &[ABORT_TAKES_BACK],
+        "size 2 count 0\n",
+    ),
+    (
+        "busy_aborts",
+        [1, 2, 8],
+        &[BUSY_ABORTS],
+        "size 2 count 1\n1 10\n",
+    ),
+    (
+        "stale_cursor",
+        [1, 2, 8],
+        &[STALE_CURSOR],
+        "size 2 count 2\n4 40\n2 20\n",
+    ),
+    ("savepoints", [1, 2, 8], &[SAVEPOINTS], "size 2 count 0\n"),
+    (
+        "aborted_take_restores",
+        [1, 2, 8],
+        &[ABORTED_TAKE_RESTORES],
+        "size 2 count 1\n3 30\n",
+    ),
+    (
+        "half_keys",
+        [1, 2, 8],
+        &[HALF_KEYS],
+        "size 2 count 2\n3 30\n9223372036854775807 7\n",
+    ),
+    (
+        "maximum_size",
+        [1, 2, 2],
+        &[MAXIMUM_SIZE],
+        "size 2 count 0\n",
+    ),
+    (
+        "refusals_in_order",
+        [1, 2, 8],
+        &[REFUSALS_IN_ORDER],
+        "size 2 count 0\n",
+    ),
+    (
+        "bucket_initialisation",
+        [1, 2, 8],
+        &[FIVE_KEYS, INITIALISATION],
+        FIVE_KEYS_REPORT,
+    ),
+    (
+        "five_callers_undone",
+        [1, 5, 8],
+        &[
+            FIVE_CALLERS,
+            FIVE_UNDONE,
+            FIVE_UNDONE,
+            FIVE_UNDONE,
+            FIVE_ABORTED,
+        ],
+        "size 2 count 0\n",
+    ),
 ];
 
 /// Adds the steps of a part to `steps`, with a comma after those of each line. Adds the answers to
@@ -505,30 +373,19 @@ fn add_all(steps: &mut String, report: &mut String, parts: &[&str]) -> Result<()
     Ok(())
 }
 
-/// The text of a file with these steps.
-fn file_with(alloc: Global, run: Run, steps: &str) -> Result<String, Fail> {
-    Ok(format!(in alloc;
-        "{{\"version\":{},\"callers\":{},\"stripes\":8,\"buckets\":{},\"steps\":[{}]}}",
-        run.version,
-        run.callers,
-        run.buckets,
-        steps.trim_end_matches(',')
-    )?)
-}
-
-/// Makes the file of a run from these parts, and the report that `replay` must print for it.
-fn texts_of(alloc: Global, run: Run, parts: &[&str]) -> Result<(String, String), Fail> {
+/// Makes the file of a run, and the report that `replay` must print for it.
+fn texts_of(alloc: Global, run: Run) -> Result<(String, String), Fail> {
+    let (_, [version, callers, buckets], parts, rest) = run;
     let mut steps = String::new(alloc);
     let mut report = String::new(alloc);
     add_all(&mut steps, &mut report, parts)?;
-    report.push_str(run.rest)?;
-    Ok((file_with(alloc, run, &steps)?, report))
-}
-
-/// Runs `replay` on a file with this text.
-fn replayed<T: Threads + Wait + Sync>(rt: &T, alloc: Global, text: &str) -> Ended {
-    let input = &mut text.as_bytes();
-    run_on(rt, alloc, Command::Replay, input, Narrow::whole())
+    report.push_str(rest)?;
+    let steps = steps.trim_end_matches(',');
+    let file = format!(in alloc;
+        "{{\"version\":{version},\"callers\":{callers},\"stripes\":8,\"buckets\":{buckets},\
+        \"steps\":[{steps}]}}"
+    )?;
+    Ok((file, report))
 }
 
 /// Runs `replay` on the file of a run, and compares the output with the run's report.
@@ -537,9 +394,10 @@ fn compare_report<T: Abort + Threads + Wait + Sync>(
     alloc: Global,
     run: Run,
 ) -> Result<(), Fail> {
-    let (text, report) = texts_of(alloc, run, run.parts)?;
-    let ended = replayed(rt, alloc, &text);
-    compare_ended(rt, &ended, (&report, "", 0), run.name);
+    let (text, report) = texts_of(alloc, run)?;
+    let input = &mut text.as_bytes();
+    let ended = run_on(rt, alloc, Command::Replay, input, Narrow::whole());
+    compare_ended(rt, &ended, (&report, "", 0), run.0);
     Ok(())
 }
 
@@ -548,82 +406,5 @@ fn reports(rt: HostRuntime) -> Result<(), Fail> {
     for run in RUNS {
         compare_report(&rt, rt.alloc(), *run)?;
     }
-    Ok(())
-}
-
-/// Adds a line with the three steps that put a key, and their answers.
-fn add_put(part: &mut String, key: u64) -> Result<(), Fail> {
-    write!(
-        part,
-        "[\"ask\",0,\"put\",{key},{key}],[\"seek\",0],[\"act\",0]"
-    )?;
-    part.push_str(" = asked, placed, done none\n")?;
-    Ok(())
-}
-
-/// Adds lines for a caller that begins and puts `count` keys.
-fn add_puts(part: &mut String, count: u64) -> Result<(), Fail> {
-    part.push_str("[\"begin\",0] = began 1\n")?;
-    for key in 0..count {
-        add_put(part, key)?;
-    }
-    Ok(())
-}
-
-/// Steps that double a table with 129 keys until it has 128 buckets. Then bucket 64 is initialised,
-/// which is the first bucket of the second segment.
-const SEGMENTS: &str = r#"["double",2] = doubled 4
-["double",4] = doubled 8
-["double",8] = doubled 16
-["double",16] = doubled 32
-["double",32] = doubled 64
-["double",64] = doubled 128
-["double",128] = at limit
-["init_seek",0,96] = refused 11
-["init_seek",0,64] = placed
-["init_link",0] = linked
-["init_store",0] = stored
-["init_seek",0,64] = ready
-["commit",0] = committed 1
-["sweep"] = clean"#;
-
-/// A file with one caller and at most 128 buckets. `rest` has the line of its report that is
-/// followed by the pairs.
-const OF_SEGMENTS: Run = Run {
-    name: "segments",
-    version: 1,
-    callers: 1,
-    buckets: 128,
-    parts: &[],
-    rest: "size 128 count 129\n",
-};
-
-/// Adds a line for the pair of each key below `count`, which is at most 256. The list has these
-/// keys in rising order of their eight bits read backwards: 0, 128, 64, 192, 32 and so on.
-fn add_pairs(report: &mut String, count: u64) -> Result<(), Fail> {
-    for backwards in 0..256_u64 {
-        let key = backwards.reverse_bits() >> 56;
-        if key < count {
-            writeln!(report, "{key} {key}")?;
-        }
-    }
-    Ok(())
-}
-
-/// Makes a file with 129 puts, followed by the steps of `SEGMENTS`. Returns the file and its
-/// report.
-fn texts_of_segments(alloc: Global) -> Result<(String, String), Fail> {
-    let mut puts = String::new(alloc);
-    add_puts(&mut puts, 129)?;
-    let (text, mut report) = texts_of(alloc, OF_SEGMENTS, &[&puts, SEGMENTS])?;
-    add_pairs(&mut report, 129)?;
-    Ok((text, report))
-}
-
-#[test]
-fn segments(rt: HostRuntime) -> Result<(), Fail> {
-    let (text, report) = texts_of_segments(rt.alloc())?;
-    let ended = replayed(&rt, rt.alloc(), &text);
-    compare_ended(&rt, &ended, (&report, "", 0), OF_SEGMENTS.name);
     Ok(())
 }

@@ -3,7 +3,7 @@
 //! transaction open at its end. It must also have entries, although the contract allows an empty
 //! history.
 
-use super::mixes::{BAD_KEY, ONE_WORKER, WORKERS_OF, judge};
+use super::mixes::{BAD_KEY, ONE_WORKER, WIDE_SCRIPT, judge};
 use super::{Command, Files, run_on};
 use crate::devices::Narrow;
 use std::alloc::Global;
@@ -21,74 +21,41 @@ pub const NO_ENTRIES: &str = "{\"entries\":[],\"stripes\":8,\"version\":3}\n";
 /// Each row has similar script files, and the output of `run` for them.
 pub const FILES: &[Files] = &[
     // The history of one worker is the one that `mix` prints, but with version 3.
-    Files {
-        command: Command::Run,
-        frame: ONE_WORKER,
-        pieces: "",
-        fillings: "",
-        printed: "{\"entries\":[[\"began\",0,1],[\"asked\",0,\"put\",1,10],[\"did\",0,null],\
-            [\"saved\",0],[\"asked\",0,\"take\",1],[\"did\",0,10],[\"leave\",0,1],[\"undone\",0],\
-            [\"returned\",0,1],[\"committed\",0,1],[\"began\",0,2],[\"asked\",0,\"get\",1],\
-            [\"did\",0,10],[\"leave\",0,null],[\"aborted\",0]],\"stripes\":8,\"version\":3}\n",
-        status: 0,
-    },
+    (
+        ONE_WORKER,
+        "",
+        "",
+        (
+            "{\"entries\":[[\"began\",0,1],[\"asked\",0,\"put\",1,10],[\"did\",0,null],\
+                [\"saved\",0],[\"asked\",0,\"take\",1],[\"did\",0,10],[\"leave\",0,1],[\"undone\",0],\
+                [\"returned\",0,1],[\"committed\",0,1],[\"began\",0,2],[\"asked\",0,\"get\",1],\
+                [\"did\",0,10],[\"leave\",0,null],[\"aborted\",0]],\"stripes\":8,\"version\":3}\n",
+            0,
+        ),
+    ),
     // In a script file of version 2, every number may be a key. For such a file, `run` also prints
     // a history of version 3.
-    Files {
-        command: Command::Run,
-        frame: "#",
-        pieces: "{\"version\":2,\"workers\":1,\"stripes\":8,\"buckets\":8,\"tries\":0,\
-            \"scripts\":[[[\"put_if\",9223372036854775808,null,5],\
-            [\"help\",9223372036854775808]]]}",
-        fillings: "",
-        printed: "{\"entries\":[[\"began\",0,1],\
-            [\"asked\",0,\"put_if\",9223372036854775808,null,5],[\"did\",0,null],\
-            [\"committed\",0,1]],\"stripes\":8,\"version\":3}\n",
-        status: 0,
-    },
+    (
+        WIDE_SCRIPT,
+        "",
+        "",
+        (
+            "{\"entries\":[[\"began\",0,1],[\"asked\",0,\"put_if\",9223372036854775808,null,5],\
+                [\"did\",0,null],[\"committed\",0,1]],\"stripes\":8,\"version\":3}\n",
+            0,
+        ),
+    ),
     // A `help` for the key 2^63 is refused before it takes a step. Then the transaction aborts.
-    Files {
-        command: Command::Run,
-        frame: BAD_KEY,
-        pieces: r#"["help",9223372036854775808]"#,
-        fillings: "",
-        printed: "{\"entries\":[[\"began\",0,1],[\"leave\",0,null],[\"aborted\",0]],\"stripes\":8,\
-            \"version\":3}\n",
-        status: 0,
-    },
-    // Bad input.
-    Files {
-        command: Command::Run,
-        frame: "#",
-        pieces: r#"{"version":1,"workers":1,"stripes":8,"buckets":8,"tries":0,""#,
-        fillings: "",
-        printed: "refused 20\n",
-        status: 3,
-    },
-    Files {
-        command: Command::Run,
-        frame: "#",
-        pieces: "[]",
-        fillings: "",
-        printed: "refused 21\n",
-        status: 3,
-    },
-    Files {
-        command: Command::Run,
-        frame: WORKERS_OF,
-        pieces: r#"[[],[["put",1]]]"#,
-        fillings: "1",
-        printed: "refused 21 script 1\n",
-        status: 3,
-    },
-    Files {
-        command: Command::Run,
-        frame: WORKERS_OF,
-        pieces: "[]",
-        fillings: "65",
-        printed: "refused 22\n",
-        status: 3,
-    },
+    (
+        BAD_KEY,
+        r#"["help",9223372036854775808]"#,
+        "",
+        (
+            "{\"entries\":[[\"began\",0,1],[\"leave\",0,null],[\"aborted\",0]],\"stripes\":8,\
+                \"version\":3}\n",
+            0,
+        ),
+    ),
 ];
 
 /// A script file whose scripts use the same two stripes. It has a gap for the number of workers.
@@ -120,7 +87,7 @@ fn run_workers<T: Threads + Wait + Sync>(
 /// is open at its end.
 #[test]
 fn run_any_workers(rt: HostRuntime) -> Result<(), Fail> {
-    for workers in "1 2 3 4 5 6".split(' ') {
+    for workers in "1 2 3 4 5 6 2 3 4 5 6 2 3 4 5 6 2 3 4 5 6".split(' ') {
         let history = run_workers(&rt, rt.alloc(), workers)?;
         judge(&rt, rt.alloc(), history.text());
         assert!(rt;

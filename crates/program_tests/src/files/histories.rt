@@ -2,7 +2,7 @@
 //! that is refused. Only history files are also written, so one table tests both reading and
 //! writing. The files and their entries were made by hand.
 
-use super::{Files, Kind};
+use super::Files;
 use std::alloc::Global;
 use std::process::Abort;
 use std::test::Fail;
@@ -44,15 +44,6 @@ const EVERY_KIND: &str =
     [\"committed\",0,1],[\"busy\",63,\"put\",1,20,0],[\"busy\",1,\"take\",7,63],[\"busy\",1,\
     \"get\",0,2],[\"leave\",5,null],[\"aborted\",5]],\"stripes\":4096,\"version\":1}";
 
-/// The history `EVERY_KIND`, with its members in another order.
-const EVERY_KIND_READ: &str =
-    "{\"version\":1,\"stripes\":4096,\"entries\":[[\"began\",0,1],[\"saved\",0],\
-    [\"asked\",0,\"put\",1,10],[\"did\",0,null],[\"asked\",0,\"take\",2],\
-    [\"did\",0,18446744073709551615],[\"asked\",0,\"get\",9223372036854775808],[\"did\",0,0],\
-    [\"leave\",0,1],[\"undone\",0],[\"returned\",0,1],[\"committed\",0,1],\
-    [\"busy\",63,\"put\",1,20,0],[\"busy\",1,\"take\",7,63],[\"busy\",1,\"get\",0,2],\
-    [\"leave\",5,null],[\"aborted\",5]]}";
-
 /// A file that has white space, members in another order, an additional member, and a member that
 /// is given twice.
 const ANY_ORDER: &str =
@@ -88,25 +79,11 @@ const READ: &[Read] = &[
         entries: EVERY_ENTRY,
     },
     Read {
-        text: EVERY_KIND_READ,
-        is_written: false,
-        version: 1,
-        stripes: 4096,
-        entries: EVERY_ENTRY,
-    },
-    Read {
         text: ANY_ORDER,
         is_written: false,
         version: 1,
         stripes: 1,
         entries: &[Entry::Undone(3)],
-    },
-    Read {
-        text: r#"{"entries":[["began",0,1]],"stripes":8,"version":1}"#,
-        is_written: true,
-        version: 1,
-        stripes: 8,
-        entries: &[Entry::Began(0, 1)],
     },
     Read {
         text: r#"{"entries":[],"stripes":1,"version":1}"#,
@@ -171,58 +148,58 @@ fn contents_of_histories(rt: HostRuntime) -> Result<(), Fail> {
     Ok(())
 }
 
+/// Entries of each kind with a gap for a caller, and one with a gap for a holder.
+const OF_CALLERS: &str = r#"["began",@,1]
+["asked",@,"get",1]
+["did",@,null]
+["saved",@]
+["leave",@,null]
+["undone",@]
+["returned",@,0]
+["committed",@,1]
+["busy",@,"get",1,0]
+["busy",0,"get",1,@]
+["aborted",@]"#;
+
 /// Groups of history files. The files of a group have the same fault, or no fault.
+/// `tests/files.tsv` has more files that are refused.
 pub const FILES: &[Files] = &[
-    Files {
-        kind: Kind::History,
-        frame: "#",
-        pieces: r#"
+    (
+        "#",
+        r#"
 {"version":1,"stripes":8,"entries":[]"#,
-        fillings: "",
-        fault: Some(FileFault::NotJson),
-    },
-    Files {
-        kind: Kind::History,
-        frame: "#",
-        pieces: r#"[]
-{}
-{"stripes":8,"entries":[]}
-{"version":1,"entries":[]}
-{"version":1,"stripes":8}
+        "",
+        Some(FileFault::NotJson),
+    ),
+    (
+        "#",
+        r#"{}
 {"version":1,"stripes":8,"steps":[]}
 {"version":null,"stripes":8,"entries":[]}
 {"version":1,"stripes":8.0,"entries":[]}
-{"version":1,"stripes":"8","entries":[]}
 {"version":1,"stripes":8,"entries":{}}
 {"version":7,"stripes":0,"entries":null}
 {"version":1,"stripes":-8,"entries":[0]}"#,
-        fillings: "",
-        fault: Some(FileFault::Member),
-    },
-    Files {
-        kind: Kind::History,
-        frame: "#",
-        pieces: r#"{"version":0,"stripes":8,"entries":[]}
-{"version":4,"stripes":8,"entries":[]}
-{"version":1,"stripes":0,"entries":[]}
-{"version":1,"stripes":4097,"entries":[]}
+        "",
+        Some(FileFault::Member),
+    ),
+    (
+        "#",
+        r#"{"version":0,"stripes":8,"entries":[]}
 {"version":1,"stripes":4294967297,"entries":[]}"#,
-        fillings: "",
-        fault: Some(FileFault::Limit),
-    },
+        "",
+        Some(FileFault::Limit),
+    ),
     // The entry with index 1 is wrong. The caller of the first entry is also out of range, and so
     // is the number of stripes if the filling is 0. But ranges are checked only after all entries
     // are read, so the fault is that of the wrong entry.
-    Files {
-        kind: Kind::History,
-        frame: BETWEEN_ENTRIES,
-        pieces: r#"0
+    (
+        BETWEEN_ENTRIES,
+        r#"0
 null
 "saved"
 {"saved":0}
-[]
 [0]
-["saved"]
 [0,"saved"]
 ["saved",null]
 ["saved",-1]
@@ -230,32 +207,21 @@ null
 ["saved",18446744073709551616]
 ["saved",0,0]
 ["Saved",0]
-["begin",0]
-["began",0]
-["began",0,null]
 ["began",0,1,1]
 ["asked",0]
-["asked",0,"put",1]
 ["asked",0,"put",1,null]
 ["asked",0,"put",1,10,0]
 ["asked",0,"take"]
-["asked",0,"take",1,1]
 ["asked",0,"get",null]
 ["asked",0,"save",1]
 ["asked",0,["get",1]]
-["did",0]
-["did",0,false]
 ["did",0,-1]
 ["did",0,null,null]
 ["did",null,0]
-["leave",0]
 ["leave",0,"1"]
 ["leave",0,1,1]
-["undone",0,1]
 ["returned",0]
-["returned",0,null]
 ["returned",0,1,1]
-["committed",0]
 ["committed",0,null]
 ["committed",0,1,1]
 ["busy",0,1]
@@ -264,76 +230,37 @@ null
 ["busy",0,"put",1,10,1,1]
 ["busy",0,"take",1]
 ["busy",0,"take",1,1,1]
-["busy",0,"get",1,null]
 ["busy",0,"abort",1,1]
 ["aborted"]
 ["aborted",0,null]"#,
-        fillings: "8 0",
-        fault: Some(FileFault::Piece(Part::Entry, 1)),
-    },
+        "8 0",
+        Some(FileFault::Piece(Part::Entry, 1)),
+    ),
     // The numbers of callers and of holders must be below 64.
-    Files {
-        kind: Kind::History,
-        frame: BEHIND_A_BEGIN,
-        pieces: r#"["began",@,1]
-["asked",@,"get",1]
-["did",@,null]
-["saved",@]
-["leave",@,null]
-["undone",@]
-["returned",@,0]
-["committed",@,1]
-["busy",@,"get",1,0]
-["busy",0,"get",1,@]
-["aborted",@]"#,
-        fillings: "63",
-        fault: None,
-    },
-    Files {
-        kind: Kind::History,
-        frame: BEHIND_A_BEGIN,
-        pieces: r#"["began",@,1]
-["asked",@,"get",1]
-["did",@,null]
-["saved",@]
-["leave",@,null]
-["undone",@]
-["returned",@,0]
-["committed",@,1]
-["busy",@,"get",1,0]
-["busy",0,"get",1,@]
-["aborted",@]"#,
-        fillings: "64 18446744073709551615",
-        fault: Some(FileFault::Limit),
-    },
+    (BEHIND_A_BEGIN, OF_CALLERS, "63", None),
+    (
+        BEHIND_A_BEGIN,
+        OF_CALLERS,
+        "64 18446744073709551615",
+        Some(FileFault::Limit),
+    ),
     // A number too large for a float makes the file not JSON, wherever the number is.
-    Files {
-        kind: Kind::History,
-        frame: "#",
-        pieces: r#"{"version":1e999,"stripes":8,"entries":[]}
+    (
+        "#",
+        r#"{"version":1e999,"stripes":8,"entries":[]}
 {"version":1,"stripes":1e999,"entries":[]}
 {"version":1,"stripes":8,"entries":1e999}
 {"version":1,"stripes":8,"entries":[1e999]}
 {"version":1,"stripes":8,"entries":[["began",0,1e999]]}
 {"version":1,"stripes":8,"entries":[["began",0,1]],"x":[-1e999]}"#,
-        fillings: "",
-        fault: Some(FileFault::NotJson),
-    },
+        "",
+        Some(FileFault::NotJson),
+    ),
     // Version 1 has no `put_if`.
-    Files {
-        kind: Kind::History,
-        frame: "#",
-        pieces: "{\"entries\":[[\"asked\",0,\"put_if\",1,null,5],\
-            [\"asked\",0,\"put_if\",18446744073709551615,4,6],[\"busy\",1,\"put_if\",1,0,7,0],\
-            [\"busy\",1,\"put_if\",2,null,8,63]],\"stripes\":8,\"version\":1}",
-        fillings: "",
-        fault: Some(FileFault::Piece(Part::Entry, 0)),
-    },
-    Files {
-        kind: Kind::History,
-        frame: BEHIND_A_BEGIN,
-        pieces: r#"["busy",1,"put_if",2,null,8,63]"#,
-        fillings: "",
-        fault: Some(FileFault::Piece(Part::Entry, 1)),
-    },
+    (
+        BEHIND_A_BEGIN,
+        r#"["busy",1,"put_if",2,null,8,63]"#,
+        "",
+        Some(FileFault::Piece(Part::Entry, 1)),
+    ),
 ];

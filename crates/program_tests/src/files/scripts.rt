@@ -3,7 +3,7 @@
 //! memory is refused. The tests check that the definition `scripts_of` is what `docs/FORMATS.md`
 //! describes.
 
-use super::{Files, Kind};
+use super::Files;
 use std::alloc::Global;
 use std::process::Abort;
 use std::test::Fail;
@@ -12,10 +12,6 @@ use txn_words::{Action, Op, PackedAction};
 
 /// Four members of a script file.
 const SIZES: &str = r#""version":1,"workers":1,"stripes":8,"buckets":8"#;
-
-/// A file with gaps for its version and its scripts.
-const SCRIPTS_IN_VERSION: &str =
-    r#"{"version":@,"workers":1,"stripes":2,"buckets":8,"tries":3,"scripts":#}"#;
 
 /// A file with one gap for its version and one for a script. Good scripts come before the second
 /// gap, and a wrong script comes after it.
@@ -160,22 +156,11 @@ fn contents_of_script_files(rt: HostRuntime) -> Result<(), Fail> {
 }
 
 /// Groups of script files. The files of a group have the same fault, or no fault.
+/// `tests/files.tsv` has more files that are refused.
 pub const FILES: &[Files] = &[
-    Files {
-        kind: Kind::Scripts,
-        frame: "#",
-        pieces: r#"
-{@,"tries":0,"scripts":[]"#,
-        fillings: SIZES,
-        fault: Some(FileFault::NotJson),
-    },
-    Files {
-        kind: Kind::Scripts,
-        frame: "#",
-        pieces: r#"[]
-{}
-{@,"tries":0}
-{@,"scripts":[]}
+    (
+        "#",
+        r#"{}
 {@,"tries":null,"scripts":[]}
 {@,"tries":-1,"scripts":[]}
 {@,"tries":0.5,"scripts":[]}
@@ -186,109 +171,64 @@ pub const FILES: &[Files] = &[
 {@,"tries":0,"scripts":[],"buckets":8.0}
 {@,"tries":0,"scripts":[],"version":true}
 {@,"tries":1001,"scripts":null}"#,
-        fillings: SIZES,
-        fault: Some(FileFault::Member),
-    },
-    Files {
-        kind: Kind::Scripts,
-        frame: "#",
-        pieces: r#"{@,"tries":1001,"scripts":[]}
-{@,"tries":0,"scripts":[],"version":0}
-{@,"tries":0,"scripts":[],"version":3}
-{@,"tries":0,"scripts":[],"workers":0}
-{@,"tries":0,"scripts":[],"workers":65}
+        SIZES,
+        Some(FileFault::Member),
+    ),
+    (
+        "#",
+        r#"{@,"tries":0,"scripts":[],"version":0}
 {@,"tries":0,"scripts":[],"stripes":0}
-{@,"tries":0,"scripts":[],"stripes":4097}
-{@,"tries":0,"scripts":[],"buckets":1}
-{@,"tries":0,"scripts":[],"buckets":12}"#,
-        fillings: SIZES,
-        fault: Some(FileFault::Limit),
-    },
-    Files {
-        kind: Kind::Scripts,
-        frame: "#",
-        pieces: r#"{@,"note":null,"tries":0,"scripts":[]}
+{@,"tries":0,"scripts":[],"buckets":1}"#,
+        SIZES,
+        Some(FileFault::Limit),
+    ),
+    (
+        "#",
+        r#"{@,"note":null,"tries":0,"scripts":[]}
 {@,"note":null,"tries":1000,"scripts":[]}"#,
-        fillings: SIZES,
-        fault: None,
-    },
+        SIZES,
+        None,
+    ),
     // A version that is out of range is found only after the scripts are read.
-    Files {
-        kind: Kind::Scripts,
-        frame: BETWEEN_SCRIPTS,
-        pieces: r#"0
-null
+    (
+        BETWEEN_SCRIPTS,
+        r#"null
 "save"
 {}
 ["save"]
-[0]
 [null]
-[[]]
 [[0]]
 [["Save"]]
-[["save",0]]
 [["save",null]]
-[["back"]]
 [["back",null]]
 [["back",-1]]
 [["back",1,1]]
-[["help"]]
 [["help","1"]]
 [["help",1,1]]
-[["abort",0]]
 [["begin"]]
-[["commit"]]
-[["put",1]]
 [["put",1,null]]
-[["put",1,10,1]]
 [["put",0,"put",1,10]]
-[["take"]]
 [["take",1,1]]
-[["get",1.0]]
 [["get",18446744073709551616]]
 [["save"],["get",1],["get"]]
 [["save"],["abort"],0]"#,
-        fillings: "1 7",
-        fault: Some(FileFault::Piece(Part::Script, 2)),
-    },
-    // Version 1 has no `put_if`.
-    Files {
-        kind: Kind::Scripts,
-        frame: SCRIPTS_IN_VERSION,
-        pieces: r#"[[["save"]],[["put_if",1,null,10],["put_if",18446744073709551615,10,12]]]"#,
-        fillings: "0 3",
-        fault: Some(FileFault::Limit),
-    },
-    Files {
-        kind: Kind::Scripts,
-        frame: SCRIPTS_IN_VERSION,
-        pieces: r#"[[["save"]],[["put_if",1,null,10],["put_if",18446744073709551615,10,12]]]"#,
-        fillings: "1",
-        fault: Some(FileFault::Piece(Part::Script, 1)),
-    },
-    Files {
-        kind: Kind::Scripts,
-        frame: SCRIPTS_IN_VERSION,
-        pieces: r#"[[["save"]],[["put_if",1,null,10],["put_if",18446744073709551615,10,12]]]"#,
-        fillings: "2",
-        fault: None,
-    },
+        "1 7",
+        Some(FileFault::Piece(Part::Script, 2)),
+    ),
     // A number too large for a float makes the file not JSON, wherever the number is.
-    Files {
-        kind: Kind::Scripts,
-        frame: "#",
-        pieces: r#"{"version":1,"workers":1e999,"stripes":8,"buckets":8,"tries":0,"scripts":[]}"#,
-        fillings: "",
-        fault: Some(FileFault::NotJson),
-    },
-    Files {
-        kind: Kind::Scripts,
-        frame: r#"{@,"tries":0,"scripts":#}"#,
-        pieces: r#"1e999
+    (
+        "#",
+        r#"{"version":1,"workers":1e999,"stripes":8,"buckets":8,"tries":0,"scripts":[]}"#,
+        "",
+        Some(FileFault::NotJson),
+    ),
+    (
+        r#"{@,"tries":0,"scripts":#}"#,
+        r#"1e999
 [[1e999]]
 [[["put",1e999,1]]]
 [[["save"]]],"x":{"y":1e999}"#,
-        fillings: SIZES,
-        fault: Some(FileFault::NotJson),
-    },
+        SIZES,
+        Some(FileFault::NotJson),
+    ),
 ];

@@ -2,7 +2,7 @@
 //! The contract of `read_steps` says that it returns `file_of` of the bytes, unless memory is
 //! refused. The tests check that the definition `file_of` is what `docs/FORMATS.md` describes.
 
-use super::{Files, Kind};
+use super::Files;
 use std::alloc::Global;
 use std::process::Abort;
 use std::test::Fail;
@@ -30,8 +30,6 @@ const VERSION_2: &str =
 
 /// Files with a gap for their steps.
 const STEPS_OF_ONE: &str = r#"{"version":1,"callers":1,"stripes":8,"buckets":8,"steps":#}"#;
-
-const STEPS_OF_TWO: &str = r#"{"version":1,"callers":2,"stripes":8,"buckets":8,"steps":#}"#;
 
 const STEPS_IN_VERSION: &str = r#"{"callers":1,"stripes":8,"buckets":8,"steps":#,"version":@}"#;
 
@@ -190,270 +188,155 @@ fn contents_of_step_files(rt: HostRuntime) -> Result<(), Fail> {
 }
 
 /// Groups of step files. The files of a group have the same fault, or no fault.
+/// `tests/files.tsv` has more files that are refused.
 pub const FILES: &[Files] = &[
     // Members.
-    Files {
-        kind: Kind::Steps,
-        frame: "#",
-        pieces: r#"{{}}
+    (
+        "#",
+        r#"{{}}
 {"version":1e999}"#,
-        fillings: r#""stripes":8,"buckets":8,"steps":[]"#,
-        fault: Some(FileFault::NotJson),
-    },
-    Files {
-        kind: Kind::Steps,
-        frame: "#",
-        pieces: r#"[]
-null
-7
+        r#""stripes":8,"buckets":8,"steps":[]"#,
+        Some(FileFault::NotJson),
+    ),
+    (
+        "#",
+        r#"null
 "steps"
-{}
-{"callers":1,@}
-{"version":1,@}
 {"version":null,"callers":1,@}
 {"version":1.0,"callers":1,@}
 {"version":-1,"callers":1,@}
 {"version":1e0,"callers":1,@}
 {"version":-0,"callers":1,@}
 {"version":18446744073709551616,"callers":1,@}
-{"version":1,"callers":"1",@}
 {"version":1,"callers":-1,@}
 {"version":1,"callers":2.0,@}
 {"version":1,"callers":[1],@}
 {"version":1,"callers":1,@,"stripes":true}
 {"version":1,"callers":1,@,"buckets":{}}
-{"version":1,"callers":1,@,"steps":{}}
 {"version":1,"callers":1,@,"steps":0}
 {"version":7,"callers":1,@,"steps":null}"#,
-        fillings: r#""stripes":8,"buckets":8,"steps":[]"#,
-        fault: Some(FileFault::Member),
-    },
-    Files {
-        kind: Kind::Steps,
-        frame: "#",
-        pieces: r#"{"version":7,"callers":1,@}
-{"version":0,"callers":1,@}
-{"version":1,"callers":0,@}
-{"version":1,"callers":65,@}
-{"version":1,"callers":1,@,"stripes":0}
-{"version":1,"callers":1,@,"stripes":4097}
-{"version":1,"callers":1,@,"buckets":1}
-{"version":1,"callers":1,@,"buckets":12}
-{"version":1,"callers":1,@,"buckets":131072}"#,
-        fillings: r#""stripes":8,"buckets":8,"steps":[]"#,
-        fault: Some(FileFault::Limit),
-    },
-    // The empty file, and files that lack a member or have a wrong one.
-    Files {
-        kind: Kind::Steps,
-        frame: "#",
-        pieces: "",
-        fillings: "",
-        fault: Some(FileFault::NotJson),
-    },
-    Files {
-        kind: Kind::Steps,
-        frame: "#",
-        pieces: r#"{"version":1,"callers":2,"buckets":8,"steps":[]}
-{"version":1,"callers":2,"stripes":8,"buckets":8,"steps":{}}"#,
-        fillings: "",
-        fault: Some(FileFault::Member),
-    },
+        r#""stripes":8,"buckets":8,"steps":[]"#,
+        Some(FileFault::Member),
+    ),
     // A number too large for a float makes the file not JSON, wherever the number is.
-    Files {
-        kind: Kind::Steps,
-        frame: "#",
-        pieces: r#"{"version":1,"callers":1,"stripes":8,"buckets":-1e999,"steps":[]}
+    (
+        "#",
+        r#"{"version":1,"callers":1,"stripes":8,"buckets":-1e999,"steps":[]}
 {"version":1,"callers":1,"stripes":8,"buckets":8,"steps":1e999}
 {"version":1,"callers":1,"stripes":8,"buckets":8,"steps":[1e999]}
 {"version":1,"callers":1,"stripes":8,"buckets":8,"steps":[["begin",0],["begin",1e999]]}"#,
-        fillings: "",
-        fault: Some(FileFault::NotJson),
-    },
-    // Wrong steps.
-    Files {
-        kind: Kind::Steps,
-        frame: STEPS_OF_TWO,
-        pieces: r#"[["begin",-1]]
-[["begin",0.5]]
-[["begin",1e1]]
-[["begin",18446744073709551616]]
-[["begin","0"]]
-[["begin",0,0]]
-[["start",0]]"#,
-        fillings: "",
-        fault: Some(FileFault::Piece(Part::Step, 0)),
-    },
-    // If there are too many callers, this is found only after the steps are read.
-    Files {
-        kind: Kind::Steps,
-        frame: BETWEEN_STEPS,
-        pieces: r#"0
+        "",
+        Some(FileFault::NotJson),
+    ),
+    // Wrong steps. If there are too many callers, this is found only after the steps are read.
+    (
+        BETWEEN_STEPS,
+        r#"0
 null
 "begin"
 {"begin":0}
-[]
 [0]
-["begin"]
 [0,"begin"]
-["begin",-1]
-["begin",0.0]
-["begin",1e2]
-["begin",-0]
-["begin",18446744073709551616]
-["begin","0"]
-["begin",null]
-["begin",0,0]
-["Begin",0]
-["sweep",0]
 ["sweep",[]]
 ["save"]
-["back",0]
 ["back",0,1,2]
-["back",0,null]
-["init_seek",0]
 ["init_link",0,3]
 ["init_store"]
 ["double",2,4]
 ["double","2"]
-["ask",0]
-["ask",0,"put",1]
-["ask",0,"put","1",10]
 ["ask",0,"put",1,10,1]
-["ask",0,"take",1,10]
 ["ask",0,"take"]
 ["ask",0,"get",[1]]
-["ask",0,"update",1]
-["ask",0,["get",1]]
-["ask","get",1]
-["seek",0,0]
-["act"]
-["commit",true]
-["abort",0,null]"#,
-        fillings: "1 65",
-        fault: Some(FileFault::Piece(Part::Step, 1)),
-    },
+["ask",0,["get",1]]"#,
+        "1 65",
+        Some(FileFault::Piece(Part::Step, 1)),
+    ),
     // A step with more elements than any step has, and steps with elements of a kind that no step
     // has.
-    Files {
-        kind: Kind::Steps,
-        frame: BEHIND_A_SWEEP,
-        pieces: r#"["ask",0,"put",1,10,1,1,1,1]
+    (
+        BEHIND_A_SWEEP,
+        r#"["ask",0,"put",1,10,1,1,1,1]
 ["ask",0,"put",1,[10]]
 ["ask",0,"put",1,{"":10}]
 ["ask",true,"put",1,10]
 [["sweep"]]"#,
-        fillings: "",
-        fault: Some(FileFault::Piece(Part::Step, 1)),
-    },
+        "",
+        Some(FileFault::Piece(Part::Step, 1)),
+    ),
     // Text that is not JSON is the first fault, even if it comes after a wrong step.
-    Files {
-        kind: Kind::Steps,
-        frame: STEPS_OF_ONE,
-        pieces: r#"[[0],["act",1e999]]"#,
-        fillings: "",
-        fault: Some(FileFault::NotJson),
-    },
-    // The first rows have wrong forms of `put_if`, which no version allows. The last row has a good
-    // `put_if`, which version 1 does not allow.
-    Files {
-        kind: Kind::Steps,
-        frame: STEPS_IN_VERSION,
-        pieces: r#"[["ask",0,"put_if",1]]
-[["ask",0,"put_if",1,12]]
-[["ask",0,"put_if",1,10,null]]
-[["ask",0,"put_if",null,10,12]]
-[["ask",0,"put_if",1,"none",12]]
+    (
+        STEPS_OF_ONE,
+        r#"[[0],["act",1e999]]"#,
+        "",
+        Some(FileFault::NotJson),
+    ),
+    // Wrong forms of `put_if`, which no version allows. Then a good `put_if`, which version 1 does
+    // not allow, beside another wrong step.
+    (
+        STEPS_IN_VERSION,
+        r#"[["ask",0,"put_if",1]]
 [["ask",0,"put_if",1,true,12]]
 [["ask",0,"put_if",1,-1,12]]
 [["ask",0,"put_if",1,10,12,13]]
 [["put_if",1,10,12]]"#,
-        fillings: "1 2 3",
-        fault: Some(FileFault::Piece(Part::Step, 0)),
-    },
-    Files {
-        kind: Kind::Steps,
-        frame: STEPS_IN_VERSION,
-        pieces: r#"[["begin",0],["ask",0,"put_if",1,null,12],["commit",0]]"#,
-        fillings: "0 3 9",
-        fault: Some(FileFault::Limit),
-    },
-    Files {
-        kind: Kind::Steps,
-        frame: STEPS_IN_VERSION,
-        pieces: r#"[["begin",0],["ask",0,"put_if",1,null,12],["commit",0]]"#,
-        fillings: "1",
-        fault: Some(FileFault::Piece(Part::Step, 1)),
-    },
-    Files {
-        kind: Kind::Steps,
-        frame: STEPS_IN_VERSION,
-        pieces: r#"[["begin",0],["ask",0,"put_if",1,null,12],["commit",0]]"#,
-        fillings: "2",
-        fault: None,
-    },
-    Files {
-        kind: Kind::Steps,
-        frame: STEPS_IN_VERSION,
-        pieces: r#"[["begin",0],["ask",0,"put_if",1,null,12],["start",0]]
+        "1 2 3",
+        Some(FileFault::Piece(Part::Step, 0)),
+    ),
+    (
+        STEPS_IN_VERSION,
+        r#"[["begin",0],["ask",0,"put_if",1,null,12],["start",0]]
 [["begin",0],["start",0],["ask",0,"put_if",1,null,12]]"#,
-        fillings: "1",
-        fault: Some(FileFault::Piece(Part::Step, 1)),
-    },
-    Files {
-        kind: Kind::Steps,
-        frame: STEPS_IN_VERSION,
-        pieces: r#"[["begin",0],["ask",0,"put_if",1,null,12],["start",0]]"#,
-        fillings: "3",
-        fault: Some(FileFault::Piece(Part::Step, 2)),
-    },
+        "1",
+        Some(FileFault::Piece(Part::Step, 1)),
+    ),
+    (
+        STEPS_IN_VERSION,
+        r#"[["begin",0],["ask",0,"put_if",1,null,12],["start",0]]"#,
+        "3",
+        Some(FileFault::Piece(Part::Step, 2)),
+    ),
     // If two members have the same name, the last one counts.
-    Files {
-        kind: Kind::Steps,
-        frame: BEFORE_MEMBERS,
-        pieces: r#""steps":0,
+    (
+        BEFORE_MEMBERS,
+        r#""steps":0,
 "steps":[["begin"]],
 "version":7,"callers":null,"stripes":{},"buckets":1.5,"#,
-        fillings: "",
-        fault: None,
-    },
-    Files {
-        kind: Kind::Steps,
-        frame: BEYOND_MEMBERS,
-        pieces: r#","steps":0
+        "",
+        None,
+    ),
+    (
+        BEYOND_MEMBERS,
+        r#","steps":0
 ,"version":null
 ,"callers":null
 ,"stripes":"8"
 ,"buckets":[8]
 ,"\u0073teps":0"#,
-        fillings: "",
-        fault: Some(FileFault::Member),
-    },
-    Files {
-        kind: Kind::Steps,
-        frame: BEYOND_MEMBERS,
-        pieces: r#","steps":[["sweep"],["begin"]]"#,
-        fillings: "",
-        fault: Some(FileFault::Piece(Part::Step, 1)),
-    },
-    Files {
-        kind: Kind::Steps,
-        frame: BEYOND_MEMBERS,
-        pieces: r#","version":7"#,
-        fillings: "",
-        fault: Some(FileFault::Limit),
-    },
+        "",
+        Some(FileFault::Member),
+    ),
+    (
+        BEYOND_MEMBERS,
+        r#","steps":[["sweep"],["begin"]]"#,
+        "",
+        Some(FileFault::Piece(Part::Step, 1)),
+    ),
+    (
+        BEYOND_MEMBERS,
+        r#","version":7"#,
+        "",
+        Some(FileFault::Limit),
+    ),
     // A skipped value must be JSON too.
-    Files {
-        kind: Kind::Steps,
-        frame: BEYOND_STEPS,
-        pieces: r#"1e999
+    (
+        BEYOND_STEPS,
+        r#"1e999
 [1,-1e999]
 {"y":[1e999]}
 01
 [1,]
 "\ud800""#,
-        fillings: "",
-        fault: Some(FileFault::NotJson),
-    },
+        "",
+        Some(FileFault::NotJson),
+    ),
 ];

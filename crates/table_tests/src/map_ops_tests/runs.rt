@@ -9,9 +9,9 @@ ghost use Rattle.map_ops.specs.Changes.{OwnsIf};
 ghost use Rattle.map_ops.specs.TableAt.{Follows, KeepsSpares};
 
 use super::{
-    apply, do_at_once, figures, finish, has_pairs, new_table, pairs_of, small_table, there_and_back,
+    apply, do_at_once, figures, finish, has_pairs, new_table, small_table, there_and_back,
 };
-use map_ops::{Act, Double, InitLink, InitSeek, MapJob, SweepOutcome, Table, Undo};
+use map_ops::{Act, Double, MapJob, SweepOutcome, Table, Undo};
 use std::alloc::Global;
 use std::process::Abort;
 use std::test::Fail;
@@ -48,9 +48,6 @@ enum Step {
     Withdraw(Op),
     Sweep,
     Double(u64),
-    Seek(u64, u64),
-    Link(u64),
-    Store(u64),
     /// Puts a value at a key, and keeps the job.
     Put(u64, u64),
     /// Takes back the newest of the puts whose jobs are kept.
@@ -62,8 +59,8 @@ enum Step {
     PutLate(u64, u64),
     /// Looks at the newest of the jobs that are kept.
     Newest,
-    /// Looks at the pair with this rank.
-    Pair(usize),
+    /// Looks at the pairs.
+    Pairs,
     /// Reads the size, the count and the change number.
     Read,
 }
@@ -91,11 +88,8 @@ enum Answer {
     Job(Inverse),
     Swept(SweepOutcome),
     Double(Double),
-    Seek(Result<InitSeek, Refusal>),
-    Link(Result<InitLink, Refusal>),
-    Store(Result<(), Refusal>),
-    Pair(u64, u64),
-    End,
+    /// True if the pairs are as wanted.
+    Pairs(&'static [(u64, u64)]),
     Figures(u32, u64, u64),
 }
 
@@ -135,16 +129,11 @@ fn withdrawn(table: &mut Table, op: Op) -> Result<Answer, Fail> {
     Ok(Answer::Withdrawn(op, key))
 }
 
-/// The pair with this rank in the table's list of pairs. Fails if the table's content or count does
-/// not agree with that list.
-fn pair_of_rank(alloc: Global, table: &Table, rank: usize) -> Result<Answer, Fail> {
-    let pairs = pairs_of(alloc, table)?;
-    if !has_pairs(alloc, table, &pairs)? {
-        return Err("the content is not as the list".into());
-    }
-    Ok(match pairs.get(rank) {
-        Some((key, value)) => Answer::Pair(*key, *value),
-        None => Answer::End,
+/// Returns true if the table's pairs, its content and its count are those of `wanted`.
+fn has_answer(alloc: Global, table: &Table, wanted: Answer) -> Result<bool, Fail> {
+    Ok(match wanted {
+        Answer::Pairs(pairs) => has_pairs(alloc, table, pairs)?,
+        _ => false,
     })
 }
 
@@ -274,9 +263,6 @@ fn put_late(
 fn take_bucket_step(table: &mut Table, step: Step) -> Result<Answer, Fail> {
     Ok(match step {
         Step::Double(seen) => Answer::Double(table.double(seen)),
-        Step::Seek(helper, bucket) => Answer::Seek(table.init_seek(helper, bucket)),
-        Step::Link(helper) => Answer::Link(table.init_link(helper)),
-        Step::Store(helper) => Answer::Store(table.init_store(helper)),
         Step::Sweep => Answer::Swept(table.sweep()),
         Step::Read => {
             let (size, count, changes) = figures(table);
@@ -306,165 +292,62 @@ fn take_step(
         Step::TakeThereAndBack(key) => take_there_and_back(alloc, table, key),
         Step::PutLate(key, value) => put_late(table, jobs, key, value),
         Step::Newest => newest_of(jobs),
-        Step::Pair(rank) => pair_of_rank(alloc, table, rank),
         other => take_bucket_step(table, other),
     }
 }
 
 /// Each row has a step and its answer. The steps `Begin` and `BeginSmall` begin a run on a new
 /// table.
-const STEPS: [(Step, Answer); 118] = [
-    // Operations are done and taken back.
-    (Step::Begin, Answer::Done),
-    (Step::Do(Op::Put(1, 10)), Answer::Reply(None)),
-    (Step::Return(Op::Put(1, 11)), Answer::Reply(Some(10))),
-    (Step::Pair(0), Answer::Pair(1, 10)),
-    (Step::Pair(1), Answer::End),
-    (Step::Return(Op::Put(3, 30)), Answer::Reply(None)),
-    (Step::Pair(0), Answer::Pair(1, 10)),
-    (Step::Pair(1), Answer::End),
-    (Step::Return(Op::Take(1)), Answer::Reply(Some(10))),
-    (Step::Pair(0), Answer::Pair(1, 10)),
-    (Step::Pair(1), Answer::End),
-    (Step::Return(Op::Take(5)), Answer::Reply(None)),
-    (Step::Pair(0), Answer::Pair(1, 10)),
-    (Step::Pair(1), Answer::End),
-    (Step::Return(Op::Get(1)), Answer::Reply(Some(10))),
-    (Step::Pair(0), Answer::Pair(1, 10)),
-    (Step::Pair(1), Answer::End),
-    (
-        Step::Return(Op::PutIf(1, Some(10), 12)),
-        Answer::Reply(Some(10)),
-    ),
-    (Step::Pair(0), Answer::Pair(1, 10)),
-    (Step::Pair(1), Answer::End),
-    (
-        Step::Return(Op::PutIf(1, None, 12)),
-        Answer::Reply(Some(10)),
-    ),
-    (Step::Pair(0), Answer::Pair(1, 10)),
-    (Step::Pair(1), Answer::End),
-    (Step::Return(Op::PutIf(3, None, 30)), Answer::Reply(None)),
-    (Step::Pair(0), Answer::Pair(1, 10)),
-    (Step::Pair(1), Answer::End),
-    (Step::Return(Op::PutIf(3, Some(5), 6)), Answer::Reply(None)),
-    (Step::Pair(0), Answer::Pair(1, 10)),
-    (Step::Pair(1), Answer::End),
-    // Keys are ordered by their split keys.
-    (Step::Begin, Answer::Done),
-    (Step::Do(Op::Put(1, 10)), Answer::Reply(None)),
-    (Step::Do(Op::Put(2, 20)), Answer::Reply(None)),
-    (Step::Do(Op::Put(3, 30)), Answer::Reply(None)),
-    (Step::Do(Op::Put(4, 40)), Answer::Reply(None)),
-    (Step::Double(2), Answer::Double(Double::Light)),
-    (Step::Do(Op::Put(5, 50)), Answer::Reply(None)),
-    (Step::Pair(0), Answer::Pair(4, 40)),
-    (Step::Pair(1), Answer::Pair(2, 20)),
-    (Step::Pair(2), Answer::Pair(1, 10)),
-    (Step::Pair(3), Answer::Pair(5, 50)),
-    (Step::Pair(4), Answer::Pair(3, 30)),
-    (Step::Pair(5), Answer::End),
-    // Buckets are initialised after their parents.
-    (Step::Double(2), Answer::Double(Double::Doubled(4))),
-    (Step::Double(2), Answer::Double(Double::Moved(4))),
-    (Step::Double(4), Answer::Double(Double::Light)),
-    (Step::Seek(0, 3), Answer::Seek(Err(Refusal::ParentMissing))),
-    (Step::Seek(0, 4), Answer::Seek(Err(Refusal::NoSuchBucket))),
-    (Step::Seek(2, 3), Answer::Seek(Err(Refusal::NoSuchHelper))),
-    (Step::Link(0), Answer::Link(Err(Refusal::HelperOutOfOrder))),
-    (Step::Seek(0, 1), Answer::Seek(Ok(InitSeek::Placed))),
-    (Step::Link(0), Answer::Link(Ok(InitLink::Linked))),
-    (Step::Store(0), Answer::Store(Ok(()))),
-    (Step::Seek(0, 3), Answer::Seek(Ok(InitSeek::Placed))),
-    (Step::Seek(1, 3), Answer::Seek(Ok(InitSeek::Placed))),
-    (Step::Link(0), Answer::Link(Ok(InitLink::Linked))),
-    (Step::Link(1), Answer::Link(Ok(InitLink::Again))),
-    (Step::Seek(1, 3), Answer::Seek(Ok(InitSeek::Placed))),
-    (Step::Link(1), Answer::Link(Ok(InitLink::Present))),
-    (Step::Store(0), Answer::Store(Ok(()))),
-    (Step::Store(1), Answer::Store(Ok(()))),
-    (Step::Seek(1, 3), Answer::Seek(Ok(InitSeek::Ready))),
-    (Step::Read, Answer::Figures(4, 5, 7)),
-    (Step::Pair(0), Answer::Pair(4, 40)),
-    (Step::Pair(1), Answer::Pair(2, 20)),
-    (Step::Pair(2), Answer::Pair(1, 10)),
-    (Step::Pair(3), Answer::Pair(5, 50)),
-    (Step::Pair(4), Answer::Pair(3, 30)),
-    (Step::Pair(5), Answer::End),
-    // The table of two buckets cannot grow, so the second doubling returns `AtLimit`.
-    (Step::BeginSmall, Answer::Done),
-    (Step::Double(4), Answer::Double(Double::Moved(2))),
-    (Step::Double(2), Answer::Double(Double::AtLimit)),
-    // Keys of 64 bits.
-    (Step::Begin, Answer::Done),
-    (
-        Step::Do(Op::Put(9223372036854775809, 11)),
-        Answer::Reply(None),
-    ),
-    (Step::Do(Op::Put(1, 10)), Answer::Reply(None)),
-    (Step::Do(Op::PutIf(1, None, 12)), Answer::Reply(Some(10))),
-    (
-        Step::Do(Op::PutIf(1, Some(10), 12)),
-        Answer::Reply(Some(10)),
-    ),
-    (Step::Do(Op::PutIf(2, None, 20)), Answer::Reply(None)),
-    (Step::Do(Op::PutIf(3, Some(5), 6)), Answer::Reply(None)),
-    (
-        Step::Do(Op::Put(18446744073709551615, 7)),
-        Answer::Reply(None),
-    ),
-    (Step::Read, Answer::Figures(2, 4, 5)),
-    (Step::Pair(0), Answer::Pair(2, 20)),
-    (Step::Pair(1), Answer::Pair(1, 12)),
-    (Step::Pair(2), Answer::Pair(9223372036854775809, 11)),
-    (Step::Pair(3), Answer::Pair(18446744073709551615, 7)),
-    (Step::Pair(4), Answer::End),
-    // A sweep unlinks the node that was taken.
-    (Step::Begin, Answer::Done),
-    (Step::Return(Op::Put(1, 10)), Answer::Reply(None)),
-    (Step::Read, Answer::Figures(2, 0, 2)),
-    (Step::Sweep, Answer::Swept(SweepOutcome::Swept)),
-    (Step::Sweep, Answer::Swept(SweepOutcome::Clean)),
-    (Step::Read, Answer::Figures(2, 0, 3)),
-    (Step::Pair(0), Answer::End),
-    // The nodes are in the order 2, 1, 3. Keys 3 and 2 are put and taken back, which marks their
-    // nodes. The seek for key 2 stops before the node of key 1, so the node of key 3 stays linked.
-    (Step::Begin, Answer::Done),
+const STEPS: [(Step, Answer); 29] = [
+    // Operations are done and taken back. The nodes are in the order 2, 1, 3. Keys 3 and 2 are put
+    // and taken back, which marks their nodes. The seek for key 2 stops before the node of key 1,
+    // so the node of key 3 stays linked until it is swept.
     (Step::Do(Op::Put(1, 10)), Answer::Reply(None)),
     (Step::Return(Op::Put(3, 30)), Answer::Reply(None)),
     (Step::Return(Op::Put(2, 20)), Answer::Reply(None)),
     (Step::Read, Answer::Figures(2, 1, 5)),
     (Step::Sweep, Answer::Swept(SweepOutcome::Swept)),
-    (Step::Read, Answer::Figures(2, 1, 6)),
     (Step::Sweep, Answer::Swept(SweepOutcome::Swept)),
-    (Step::Read, Answer::Figures(2, 1, 7)),
     (Step::Sweep, Answer::Swept(SweepOutcome::Clean)),
     (Step::Read, Answer::Figures(2, 1, 7)),
+    (Step::Return(Op::Put(1, 11)), Answer::Reply(Some(10))),
+    (Step::Return(Op::Take(1)), Answer::Reply(Some(10))),
+    (
+        Step::Return(Op::PutIf(1, Some(10), 12)),
+        Answer::Reply(Some(10)),
+    ),
+    (
+        Step::Return(Op::PutIf(1, None, 12)),
+        Answer::Reply(Some(10)),
+    ),
+    (Step::Pairs, Answer::Pairs(&[(1, 10)])),
     // A withdrawn operation changes nothing. A change remains if its job is discarded.
     (
         Step::Withdraw(Op::Put(2, 20)),
         Answer::Withdrawn(Op::Put(2, 20), 2),
     ),
-    (Step::Pair(0), Answer::Pair(1, 10)),
-    (Step::Pair(1), Answer::End),
+    (Step::Pairs, Answer::Pairs(&[(1, 10)])),
     (Step::Discard(Op::Take(1)), Answer::Reply(Some(10))),
-    (Step::Pair(0), Answer::End),
+    (Step::Pairs, Answer::Pairs(&[])),
     // A job is run at a cursor.
-    (Step::Begin, Answer::Done),
     (Step::ReturnAt(Op::Put(2, 20)), Answer::Reply(None)),
-    (Step::Pair(0), Answer::End),
+    (Step::Pairs, Answer::Pairs(&[])),
     // The cursor of key 3 still fits: its position is after key 1, and key 4 is put before key 1.
     (Step::Begin, Answer::Done),
     (Step::Do(Op::Put(1, 10)), Answer::Reply(None)),
     (Step::PutLate(3, 30), Answer::Late(false, None, None, None)),
-    (Step::Pair(0), Answer::Pair(4, 40)),
-    (Step::Pair(1), Answer::Pair(1, 10)),
-    (Step::Pair(2), Answer::Pair(3, 30)),
-    (Step::Pair(3), Answer::End),
+    (Step::Pairs, Answer::Pairs(&[(4, 40), (1, 10), (3, 30)])),
+    // A table doubles only with more than two keys for each bucket, and only up to its limit.
+    (Step::Double(2), Answer::Double(Double::Light)),
+    (Step::Do(Op::Put(2, 20)), Answer::Reply(None)),
+    (Step::Do(Op::Put(5, 50)), Answer::Reply(None)),
+    (Step::Double(2), Answer::Double(Double::Doubled(4))),
+    (Step::BeginSmall, Answer::Done),
+    (Step::Double(2), Answer::Double(Double::AtLimit)),
 ];
 
 /// Three changes of one key, which are taken back newest first.
-const APPLY_THEN_TAKE_BACK: [(Step, Answer); 12] = [
+const APPLY_THEN_TAKE_BACK: [(Step, Answer); 10] = [
     (Step::Put(2, 20), Answer::Reply(None)),
     (Step::Newest, Answer::Job(Inverse::Unput(2))),
     (Step::Put(2, 21), Answer::Reply(Some(20))),
@@ -473,28 +356,23 @@ const APPLY_THEN_TAKE_BACK: [(Step, Answer); 12] = [
         Step::TakeThereAndBack(2),
         Answer::Taken(Some(21), Inverse::Relink(2, 21)),
     ),
-    (Step::Pair(0), Answer::Pair(2, 21)),
-    (Step::Pair(1), Answer::End),
+    (Step::Pairs, Answer::Pairs(&[(2, 21)])),
     (Step::TakeBack, Answer::Done),
-    (Step::Pair(0), Answer::Pair(2, 20)),
-    (Step::Pair(1), Answer::End),
+    (Step::Pairs, Answer::Pairs(&[(2, 20)])),
     (Step::TakeBack, Answer::Done),
-    (Step::Pair(0), Answer::End),
+    (Step::Pairs, Answer::Pairs(&[])),
 ];
 
 /// Key 4 is put at the position of key 2's cursor, so this cursor no longer fits.
-const STALE_PENDING: [(Step, Answer); 11] = [
+const STALE_PENDING: [(Step, Answer); 8] = [
     (Step::PutLate(2, 20), Answer::Late(true, None, None, None)),
-    (Step::Pair(0), Answer::Pair(4, 40)),
-    (Step::Pair(1), Answer::Pair(2, 20)),
-    (Step::Pair(2), Answer::End),
+    (Step::Pairs, Answer::Pairs(&[(4, 40), (2, 20)])),
     (Step::Newest, Answer::Job(Inverse::Unput(4))),
     (Step::TakeBack, Answer::Done),
-    (Step::Pair(0), Answer::Pair(2, 20)),
-    (Step::Pair(1), Answer::End),
+    (Step::Pairs, Answer::Pairs(&[(2, 20)])),
     (Step::Newest, Answer::Job(Inverse::Unput(2))),
     (Step::TakeBack, Answer::Done),
-    (Step::Pair(0), Answer::End),
+    (Step::Pairs, Answer::Pairs(&[])),
 ];
 
 /// Takes these steps, and compares the answer to each step with the wanted one.
@@ -506,8 +384,11 @@ fn take_each(
     steps: &[(Step, Answer)],
 ) -> Result<(), Fail> {
     for (row, (step, answer)) in steps.iter().enumerate() {
-        let found = take_step(alloc, table, jobs, *step)?;
-        assert!(rt; found == *answer, "row {row}");
+        let is_right = match step {
+            Step::Pairs => has_answer(alloc, table, *answer)?,
+            _ => take_step(alloc, table, jobs, *step)? == *answer,
+        };
+        assert!(rt; is_right, "row {row}");
     }
     Ok(())
 }

@@ -1,18 +1,17 @@
 //! These tests drive calls by hand, one hold of the lock at a time. `into_booked` takes the core
-//! out of its lock. Each hold is then a call of the method `hold`, and a test can replace the core.
-//! The ends of the calls and the entries were worked out by hand.
+//! out of its lock. Each hold is then a call of the method `hold`. The ends of the calls and the entries were worked out by hand.
 ghost use Rattle.std.specs.Prelude.{◌≡◌};
-ghost use Rattle.core_tokens.specs.Tokens.{HasTried};
+ghost use Rattle.locked_map.specs.Tokens.{HasTried};
 
 use crate::devices::{Play, Shared, callers_in, has_seen, play_with};
-use boost_core::{Call, Core, Drive, End};
+use boost_core::{Call, Drive, End};
 use locked_map::{Booked, Caller, NoSide, Pass};
 use std::alloc::Global;
 use std::process::Abort;
 use std::sync::Wait;
 use std::sync::ledger::Ledger;
 use std::test::Fail;
-use txn_words::{Answer, Entry, Limits, Op, Refusal};
+use txn_words::{Answer, Entry, Op, Refusal};
 
 /// Makes the holds of a call until the call has ended. Returns `None` if it has not ended after
 /// nine holds.
@@ -28,16 +27,13 @@ fn drive<L: Ledger>(booked: &mut Booked<L>, me: &mut Caller<L, NoSide>, call: Ca
     None
 }
 
-/// Makes a call with `drive`, and returns the call's end. If the call is an operation, first tries
-/// the word of the operation's stripe.
+/// Makes a call with `drive`, and returns the call's end. First makes the token ready.
 fn end_of<L: Ledger>(
     booked: &mut Booked<L>,
     me: &mut Caller<L, NoSide>,
     call: Call,
 ) -> Result<Option<End>, Refusal> {
-    if let Call::Op(op) = call {
-        me.try_word(op)?;
-    }
+    me.make_ready(call)?;
     Ok(drive(booked, me, call))
 }
 
@@ -106,60 +102,4 @@ impl Play for ByTurns {
 #[test]
 fn calls_by_hand(rt: HostRuntime) -> Result<(), Fail> {
     play_with(&rt, rt.alloc(), 2, &ByTurns)
-}
-
-/// Makes a core with this number of stripes. The stripes are words.
-fn core_with_words(alloc: Global, stripes: u64) -> Result<Core, Refusal> {
-    Ok(Core::with_words(alloc, Limits::new(2, stripes, 8)?)?)
-}
-
-/// Replaces the core with another one, whose stripes are words. Neither core has a history.
-fn lay_core<L: Ledger>(rt: &impl Abort, booked: &mut Booked<L>, core: Core) {
-    assert!(rt; booked.core.trace().is_empty());
-    booked.core = core;
-    assert!(rt; booked.core.words() && booked.core.trace().is_empty());
-}
-
-/// Tries to begin a transaction on another core with 4 stripes, and then on one with 8 stripes.
-/// Both begins are refused.
-fn begin_with_others<L: Ledger, R: Abort>(
-    rt: &R,
-    alloc: Global,
-    booked: &mut Booked<L>,
-    me: &mut Caller<L, NoSide>,
-) -> Result<(), Fail> {
-    for stripes in [4, 8] {
-        lay_core(rt, booked, core_with_words(alloc, stripes)?);
-        let end = end_of(booked, me, Call::Begin)?;
-        assert!(rt; end == Some(End::Refused(Refusal::OutOfStep)));
-        assert!(rt; booked.core.trace().is_empty());
-    }
-    assert!(rt; me.seen().is_empty());
-    Ok(())
-}
-
-/// The map has 8 words. If a caller's token meets a core with 4 stripes, the token becomes
-/// unusable. It takes no step on this core, and no step on a later core with 8 stripes.
-struct OtherStripes;
-
-impl Play for OtherStripes {
-    fn play<L: Ledger, R: Wait + Abort>(
-        &self,
-        rt: &R,
-        alloc: Global,
-        shared: Shared<L>,
-        passes: Vec<Pass<L>>,
-    ) -> Result<(), Fail> {
-        let mut callers = callers_in(rt, alloc, passes);
-        let mut booked = shared.map.into_booked();
-        match callers.first_mut() {
-            Some(me) => begin_with_others(rt, alloc, &mut booked, me),
-            None => Err("caller 0".into()),
-        }
-    }
-}
-
-#[test]
-fn core_of_other_stripes(rt: HostRuntime) -> Result<(), Fail> {
-    play_with(&rt, rt.alloc(), 2, &OtherStripes)
 }

@@ -5,7 +5,7 @@
 use super::rows::{Row, play_rows};
 use crate::devices::{Play, Shared, Told, callers_in, closed_of, play_with};
 use boost_core::{Call, Core};
-use locked_map::{Caller, NoSide, Pass};
+use locked_map::Pass;
 use std::alloc::Global;
 use std::process::Abort;
 use std::sync::Wait;
@@ -114,46 +114,4 @@ impl Play for Marked {
 #[test]
 fn marked_node_at_close(rt: HostRuntime) -> Result<(), Fail> {
     play_with(&rt, rt.alloc(), 1, &Marked)
-}
-
-/// Caller 1 puts a key.
-static PUT_BY_1: [Row; 2] = [
-    (1, Call::Begin, Ok(Told::Number(1))),
-    (1, Call::Op(Op::Put(1, 10)), Ok(Told::Replied(None))),
-];
-
-/// `try_word` is refused for caller 0, which has no transaction. Then caller 1 puts the key.
-fn try_idly<L: Ledger, R: Wait + Abort>(
-    rt: &R,
-    shared: &Shared<L>,
-    callers: &mut [Caller<L, NoSide>],
-) -> Result<(), Fail> {
-    let me = callers.first_mut().ok_or("caller 0")?;
-    assert_eq!(rt; me.try_word(Op::Get(1)), Err(Refusal::NotOpen));
-    play_rows(rt, shared, callers, PUT_BY_1.as_slice());
-    let idle = callers.iter().map(|me| me.is_idle());
-    assert!(rt; idle.eq([true, false]));
-    Ok(())
-}
-
-/// The token of a caller without a transaction does not try a stripe's word, so another caller
-/// finds the stripe free.
-struct Idle;
-
-impl Play for Idle {
-    fn play<L: Ledger, R: Wait + Abort>(
-        &self,
-        rt: &R,
-        alloc: Global,
-        shared: Shared<L>,
-        passes: Vec<Pass<L>>,
-    ) -> Result<(), Fail> {
-        let mut callers = callers_in(rt, alloc, passes);
-        try_idly(rt, &shared, callers.as_mut_slice())
-    }
-}
-
-#[test]
-fn idle_token(rt: HostRuntime) -> Result<(), Fail> {
-    play_with(&rt, rt.alloc(), 2, &Idle)
 }

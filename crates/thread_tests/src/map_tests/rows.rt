@@ -1,7 +1,6 @@
 //! Calls that are made in the order of a table. Each call must get the answer in the table. No
 //! contract says that a call gets memory as long as memory is free, or that `help` grows the table
-//! of the map. The answers were worked out by hand. `cores`, `threads` and `step_between` also play
-//! rows.
+//! of the map. The answers were worked out by hand. `cores` and `threads` also play rows.
 use super::cores::step;
 use crate::devices::{
     Play, Shared, Told, callers_in, close, close_or_miss, closed_of, has_seen, is_history,

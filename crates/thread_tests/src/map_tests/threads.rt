@@ -4,7 +4,7 @@
 //! depends on the threads. The checker then only judges it.
 ghost use Rattle.std.specs.Prelude.{◌≡◌};
 
-use super::rows::{Row, play_row};
+use super::rows::play_row;
 use crate::devices::{
     Shared, Told, callers_in, closed_of, has_seen, is_history, is_settled, make, number_of, open,
 };
@@ -22,26 +22,45 @@ use txn_words::{Entry, Limits, Op};
 
 /// The work of a map's callers in their threads.
 #[derive(Clone, Copy)]
-enum Plan<'a> {
-    /// Each caller makes the calls of its own rows only. A caller's thread begins when the thread
-    /// of the previous caller has ended.
-    InTurn(&'a [Row]),
+enum Plan {
+    /// Each caller makes its calls of `TWO_IN_TURN`. A caller's thread begins when the thread of
+    /// the previous caller has ended.
+    InTurn,
     /// All callers make calls at the same time: calls that look random, made from this seed.
     AtOnce(u64),
 }
 
-/// Makes the calls of those rows that name this caller.
+/// The calls of `two_threads_in_turn`: those of caller 0, then those of caller 1.
+static TWO_IN_TURN: [[(Call, Told); 3]; 2] = [
+    [
+        (Call::Begin, Told::Number(1)),
+        (Call::Op(Op::Put(6, 60)), Told::Replied(None)),
+        (Call::Commit, Told::Committed(1, 1)),
+    ],
+    [
+        (Call::Begin, Told::Number(2)),
+        (Call::Op(Op::Get(6)), Told::Replied(Some(60))),
+        (Call::Commit, Told::Committed(2, 2)),
+    ],
+];
+
+/// The calls of the caller with this number.
+fn calls_of(number: u64) -> &'static [(Call, Told)] {
+    match number {
+        0 => &TWO_IN_TURN[0],
+        _ => &TWO_IN_TURN[1],
+    }
+}
+
+/// Makes these calls. Each must get its answer.
 fn play_own<L: Ledger, R: Wait + Abort>(
     rt: &R,
     shared: &Shared<L>,
     me: &mut Caller<L, NoSide>,
-    rows: &[Row],
+    calls: &[(Call, Told)],
 ) {
-    let own = number_of(me);
-    for &(place, call, wanted) in rows {
-        if place as u64 == own {
-            play_row(rt, shared, me, call, wanted);
-        }
+    for &(call, wanted) in calls {
+        play_row(rt, shared, me, call, Ok(wanted));
     }
 }
 
@@ -50,11 +69,11 @@ fn work_in_turn<L: Ledger + Send + Sync, R: Threads + Wait + Abort + Sync>(
     rt: &R,
     shared: &Shared<L>,
     callers: &mut [Caller<L, NoSide>],
-    rows: &[Row],
 ) {
     for me in callers {
+        let calls = calls_of(number_of(me));
         thread::scope(thread::scope_env(), rt, |scope| {
-            let started = scope.spawn(move || play_own(rt, shared, me, rows));
+            let started = scope.spawn(move || play_own(rt, shared, me, calls));
             assert!(rt; started.is_ok(), "a thread");
         });
     }
@@ -174,7 +193,7 @@ fn work_and_close<L: Ledger + Send + Sync, R: Threads + Wait + Abort + Sync>(
     what: Plan,
 ) -> Result<(), Fail> {
     match what {
-        Plan::InTurn(rows) => work_in_turn(rt, &shared, callers.as_mut_slice(), rows),
+        Plan::InTurn => work_in_turn(rt, &shared, callers.as_mut_slice()),
         Plan::AtOnce(seed) => work_at_once(rt, &shared, callers.as_mut_slice(), seed),
     }
     looks_so(rt, alloc, &closed_of(rt, shared, callers), what)
@@ -189,7 +208,7 @@ fn looks_so<L: Ledger, R: Abort>(
 ) -> Result<(), Fail> {
     assert!(rt; is_settled(alloc, closed.core.trace(), 8)?);
     match what {
-        Plan::InTurn(_) => in_turn(rt, closed),
+        Plan::InTurn => in_turn(rt, closed),
         Plan::AtOnce(_) => {}
     }
     Ok(())
@@ -227,20 +246,10 @@ fn in_turn<L: Ledger, R: Abort>(rt: &R, closed: &Closed<L, NoSide>) {
     assert!(rt; has_seen(callers, 1, &IN_TURN[4..]));
 }
 
-/// The calls of `two_threads_in_turn`.
-static TWO_IN_TURN: [Row; 6] = [
-    (0, Call::Begin, Ok(Told::Number(1))),
-    (0, Call::Op(Op::Put(6, 60)), Ok(Told::Replied(None))),
-    (0, Call::Commit, Ok(Told::Committed(1, 1))),
-    (1, Call::Begin, Ok(Told::Number(2))),
-    (1, Call::Op(Op::Get(6)), Ok(Told::Replied(Some(60)))),
-    (1, Call::Commit, Ok(Told::Committed(2, 2))),
-];
-
 /// Caller 0 puts 60 at key 6. Then caller 1 gets this value.
 #[test]
 fn two_threads_in_turn(rt: HostRuntime) -> Result<(), Fail> {
-    play(&rt, rt.alloc(), 2, Plan::InTurn(TWO_IN_TURN.as_slice()))
+    play(&rt, rt.alloc(), 2, Plan::InTurn)
 }
 
 /// The seed of each run determines the number of callers, which is 2 to 8.

@@ -11,4 +11,4 @@ pub returns : goal.returns
 returns c =
     let edges = c.args.edges.now in
     let first = c.from_at.ensures ∙ first_is edges 0 in
-    on_ok_weaker c.put_edges.result (joined (string_bytes c.args.text.now) (class_line edges) (each_edge (edge_dots c.args.entries.now) edges (first_from edges 0)) (string_bytes c.writeln.new.self) (string_bytes c.put_edges.new.text) (rw c.class_of.ensures at c.in_ok-writeln.ensures.bytes)) (rw first at c.put_edges.ensures)
+    on_ok_weaker c.put_edges.result (joined (string_bytes c.args.text.now) (class_line edges) (each_edge (edge_dots c.args.entries.now) edges (first_from edges 0)) (string_bytes c.writeln.new.self) (string_bytes c.put_edges.new.text) (rw (c.class_of.ensures, c.has_time.ensures) at c.in_ok-writeln.ensures.bytes)) (rw first at c.put_edges.ensures)

@@ -6,10 +6,10 @@ use Rattle.judge_program.proofs.Calls.{check_is, why_is, watch_is, outcomes_are,
 use Rattle.judge_program.proofs.words.call_named.Goals as goal
 
 pub returns-in_err-file-in-check-clause-call : goal.returns-in_err-file-in-check-clause-call
-returns-in_err-file-in-check-clause-call c = ap (option_map asked_of) c.from_residual.ensures ∙ check_is c.args.name.now (found_of c.args.found.now) c.has_flag-by_commits.result c.has_flag-is_serializable.result c.has_flag-shows_order.result None c.in-check.is c.has_flag-by_commits.ensures c.has_flag-is_serializable.ensures c.has_flag-shows_order.ensures c.in_err-file-in-check.ensures
+returns-in_err-file-in-check-clause-call c = ap (option_map asked_of) c.from_residual.ensures ∙ check_is c.args.name.now (found_of c.args.found.now) c.has_flag-by_commits.result c.has_flag-is_serializable.result c.has_flag-real_time.result c.has_flag-shows_order.result _ None c.in-check.is c.has_flag-by_commits.ensures c.has_flag-is_serializable.ensures c.has_flag-real_time.ensures c.has_flag-shows_order.ensures c.get_str-branches.ensures c.in_err-file-in-check.ensures
 
 pub returns-in_ok-file-in-check-clause-call : goal.returns-in_ok-file-in-check-clause-call
-returns-in_ok-file-in-check-clause-call c = c.check_of.ensures.call ∙ check_is c.args.name.now (found_of c.args.found.now) c.has_flag-by_commits.result c.has_flag-is_serializable.result c.has_flag-shows_order.result (Some c.in_ok-file-in-check.file.now) c.in-check.is c.has_flag-by_commits.ensures c.has_flag-is_serializable.ensures c.has_flag-shows_order.ensures c.in_ok-file-in-check.ensures
+returns-in_ok-file-in-check-clause-call c = c.check_of.ensures.call ∙ check_is c.args.name.now (found_of c.args.found.now) c.has_flag-by_commits.result c.has_flag-is_serializable.result c.has_flag-real_time.result c.has_flag-shows_order.result _ (Some c.in_ok-file-in-check.file.now) c.in-check.is c.has_flag-by_commits.ensures c.has_flag-is_serializable.ensures c.has_flag-real_time.ensures c.has_flag-shows_order.ensures c.get_str-branches.ensures c.in_ok-file-in-check.ensures
 
 pub returns-in_err-scripts-in-outcomes-clause-call : goal.returns-in_err-scripts-in-outcomes-clause-call
 returns-in_err-scripts-in-outcomes-clause-call c = ap (option_map asked_of) c.from_residual-in_err-scripts-in-outcomes.ensures ∙ none_found c.args.name.now (found_of c.args.found.now) c.in-outcomes.is c.in_err-scripts-in-outcomes.ensures
@@ -27,7 +27,7 @@ pub returns-in_ok-basis-in-watch-clause-call : goal.returns-in_ok-basis-in-watch
 returns-in_ok-basis-in-watch-clause-call c = ap (option_map Watch) c.in_ok-basis-in-watch.ensures.basis ∙ watch_is c.args.name.now (found_of c.args.found.now) c.has_flag-by_commits.result _ c.in-watch.is c.has_flag-by_commits.ensures c.get_str-in-watch.ensures
 
 pub returns-in_err-file-in-why-clause-call : goal.returns-in_err-file-in-why-clause-call
-returns-in_err-file-in-why-clause-call c = ap (option_map asked_of) c.from_residual-in_err-file-in-why.ensures ∙ why_is c.args.name.now (found_of c.args.found.now) c.has_flag-by_commits.result c.has_flag-is_serializable.result c.has_flag-as_graph.result None c.in-why.is c.has_flag-by_commits.ensures c.has_flag-is_serializable.ensures c.has_flag-as_graph.ensures c.in_err-file-in-why.ensures
+returns-in_err-file-in-why-clause-call c = ap (option_map asked_of) c.from_residual-in_err-file-in-why.ensures ∙ why_is c.args.name.now (found_of c.args.found.now) c.has_flag-by_commits.result c.has_flag-is_serializable.result c.has_flag-real_time.result c.has_flag-as_graph.result _ None c.in-why.is c.has_flag-by_commits.ensures c.has_flag-is_serializable.ensures c.has_flag-real_time.ensures c.has_flag-as_graph.ensures c.get_str-branches.ensures c.in_err-file-in-why.ensures
 
 pub returns-in_ok-file-in-why-clause-call : goal.returns-in_ok-file-in-why-clause-call
-returns-in_ok-file-in-why-clause-call c = c.why_of.ensures.call ∙ why_is c.args.name.now (found_of c.args.found.now) c.has_flag-by_commits.result c.has_flag-is_serializable.result c.has_flag-as_graph.result (Some c.in_ok-file-in-why.file.now) c.in-why.is c.has_flag-by_commits.ensures c.has_flag-is_serializable.ensures c.has_flag-as_graph.ensures c.in_ok-file-in-why.ensures
+returns-in_ok-file-in-why-clause-call c = c.why_of.ensures.call ∙ why_is c.args.name.now (found_of c.args.found.now) c.has_flag-by_commits.result c.has_flag-is_serializable.result c.has_flag-real_time.result c.has_flag-as_graph.result _ (Some c.in_ok-file-in-why.file.now) c.in-why.is c.has_flag-by_commits.ensures c.has_flag-is_serializable.ensures c.has_flag-real_time.ensures c.has_flag-as_graph.ensures c.get_str-branches.ensures c.in_ok-file-in-why.ensures

@@ -1,7 +1,6 @@
 use Rattle.std.proofs.Common.{ℕ, ◌∙◌, ap, refl, subst, Some, false}
-use Rattle.node_list.specs.declared.node.Kind.TheVariants.{Regular}
-use Rattle.node_list.specs.Nodes.{NodeAt, SpareAt, filled}
-use Rattle.split_key.specs.declared.sort.SortKey.{SortKey}
+use Rattle.map_ops.specs.Vocabulary.{NodeAt, Regular, SortKey, SpareAt}
+use Rattle.node_list.specs.Nodes.{filled}
 use Rattle.map_ops.specs.TableAt.{table_of}
 use Rattle.map_ops.specs.Steps.{Sets}
 use Rattle.map_ops.proofs.ChangeLemmas.{links_sets, links_node, links_belong}

@@ -1,5 +1,5 @@
 use Rattle.std.proofs.Common.{◌∙◌, ap}
-use Rattle.node_list.specs.Nodes.{node_of}
+use Rattle.map_ops.specs.Vocabulary.{node_of}
 use Rattle.map_ops.proofs.ChangeLemmas.{had, marks_sets, marks_node, marks_belong}
 use Rattle.map_ops.proofs.change.mark_key.Goals as goal
 

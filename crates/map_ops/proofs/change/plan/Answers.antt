@@ -1,5 +1,5 @@
 use Rattle.std.proofs.Common.{◌∙◌, ap}
-use Rattle.std.proofs.lemmas.Result.{err_from_is_err_and}
+use Rattle.map_ops.proofs.Vocabulary.{err_from_is_err_and}
 use Rattle.map_ops.specs.Jobs.{takes_node}
 use Rattle.map_ops.specs.TableAt.{table_of}
 use Rattle.map_ops.proofs.PlanLemmas.{refused, prepares_put, prepares_put_if, prepares_take}

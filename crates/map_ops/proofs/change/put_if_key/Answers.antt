@@ -1,8 +1,6 @@
 use Rattle.std.proofs.Common.{◌≡◌, ◌∙◌, ℕ, Option, true, sym, ap, subst}
 use Rattle.std.specs.Prelude.{nat_eq}
-use Rattle.std.specs.Option.{option_eq}
-use Rattle.list_steps.specs.Content.{pairs}
-use Rattle.txn_words.specs.Map.{get}
+use Rattle.map_ops.specs.Vocabulary.{get, option_eq, pairs}
 use Rattle.map_ops.specs.TableAt.{map_of}
 use Rattle.map_ops.specs.Sound.{Belong}
 use Rattle.map_ops.proofs.Laws.{no_buckets}

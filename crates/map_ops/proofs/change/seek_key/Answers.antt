@@ -1,7 +1,5 @@
 use Rattle.std.proofs.Common.{ℕ, ◌%◌, ◌∙◌, ap, sym, subst}
-use Rattle.split_key.specs.declared.sort.SortKey.{SortKey}
-use Rattle.list_steps.specs.Seek.{sought}
-use Rattle.bucket_table.specs.Directory.{IsNearest}
+use Rattle.map_ops.specs.Vocabulary.{IsNearest, SortKey, sought}
 use Rattle.map_ops.specs.Sound.{Belong}
 use Rattle.map_ops.proofs.BelongLemmas.{belong_sought}
 use Rattle.map_ops.proofs.DoesLemmas.{places}

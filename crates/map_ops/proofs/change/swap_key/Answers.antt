@@ -1,5 +1,5 @@
 use Rattle.std.proofs.Common.{◌∙◌, ap}
-use Rattle.node_list.specs.Nodes.{node_of}
+use Rattle.map_ops.specs.Vocabulary.{node_of}
 use Rattle.map_ops.proofs.ChangeLemmas.{had, swaps_sets, swaps_node, swaps_belong}
 use Rattle.map_ops.proofs.change.swap_key.Goals as goal
 

@@ -1,5 +1,5 @@
 use Rattle.std.proofs.Common.{sym, ap, ◌∙◌}
-use Rattle.txn_words.specs.Ordered.{ordered}
+use Rattle.map_ops.specs.Vocabulary.{ordered}
 use Rattle.map_ops.proofs.EitherOrder.{either-content, either-spares, either_due}
 use Rattle.map_ops.proofs.law.either_order.Goals as goal
 

@@ -1,5 +1,5 @@
 use Rattle.std.proofs.Common.{sym, ap, ◌∙◌}
-use Rattle.txn_words.specs.Ordered.{ordered}
+use Rattle.map_ops.specs.Vocabulary.{ordered}
 use Rattle.map_ops.proofs.Laws.{content-there_and_back, content-no_job}
 use Rattle.map_ops.proofs.law.there_and_back.Goals as goal
 

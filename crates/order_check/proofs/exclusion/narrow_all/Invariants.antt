@@ -4,4 +4,4 @@ use Rattle.order_check.specs.Outcomes.{ArePlain}
 use Rattle.order_check.proofs.exclusion.narrow_all.Given as goal
 
 abbrev pub invariant-loop-access : goal.invariant-loop-access
-invariant-loop-access l = (n : ℕ) → ArePlain n l.accesses → AreKnown n l.accesses l.initial.known → AreKnown n l.accesses l.known
+invariant-loop-access l = (n : ℕ) (since : ℕ → ℕ) → ArePlain n l.accesses → AreKnown n since l.accesses l.initial.known → AreKnown n since l.accesses l.known

@@ -5,5 +5,5 @@ use Rattle.order_check.specs.Known.{AreKnown}
 use Rattle.order_check.proofs.exclusion.sources_left.Given as goal
 
 abbrev pub invariant-loop-change : goal.invariant-loop-change
-invariant-loop-change l = (n : ℕ) (accesses : List Access) → AreKnown n accesses l.known → AreChanges accesses l.access.key l.changes
-    → IsNarrowed n accesses l.access (take l.change-index l.changes) l.left
+invariant-loop-change l = (n : ℕ) (since : ℕ → ℕ) (accesses : List Access) → AreKnown n since accesses l.known → AreChanges accesses l.access.key l.changes
+    → IsNarrowed n since accesses l.access (take l.change-index l.changes) l.left

@@ -1,6 +1,5 @@
 use Rattle.std.proofs.Common.{ℕ, ◌<◌, get_or}
-use Rattle.txn_words.specs.declared.entry.Entry.{Entry}
-use Rattle.txn_words.specs.Kinds.{caller_of}
+use Rattle.samples.specs.Vocabulary.{Entry, caller_of}
 use Rattle.samples.proofs.audit.is_legal.Given as goal
 
 abbrev pub invariant-loop-entry : goal.invariant-loop-entry

@@ -1,9 +1,8 @@
 use Rattle.std.proofs.Common.{ap, ◌∙◌, arith}
-use Rattle.txn_words.specs.Map.{insert}
-use Rattle.txn_trace.specs.Now.{now}
+use Rattle.samples.specs.Vocabulary.{insert, now}
 use Rattle.samples.specs.Transfers.{balance}
 use Rattle.owned_map.proofs.Calls.{keeps_on}
-use Rattle.samples.proofs.Sums.{transferred}
+use Rattle.samples.proofs.Works.{transferred}
 use Rattle.samples.proofs.bank.move_sum.Goals as goal
 
 pub returns-clause-moved : goal.returns-clause-moved

@@ -1,12 +1,11 @@
 use Rattle.std.proofs.Common.{rules, subst, sym, inl, inr}
-use Rattle.txn_trace.specs.Now.{now}
+use Rattle.samples.specs.Vocabulary.{OnlyWorked, now}
+use Rattle.samples.proofs.Vocabulary.{after}
 use Rattle.samples.specs.Transfers.{IsTransfer}
 use Rattle.samples.specs.OwnedTransfers.{IsWhy}
-use Rattle.samples.proofs.Sums.{on_ok}
+use Rattle.samples.proofs.Works.{on_ok}
 use Rattle.samples.proofs.Whys.{on_err, at_begin, at_commit, in_work}
-use Rattle.owned_map.proofs.Only.{after}
 use Rattle.owned_map.specs.Keeps.{Keeps}
-use Rattle.owned_map.specs.Within.{OnlyWorked}
 use Rattle.samples.proofs.bank.transfer.Goals as goal
 
 pub returns-clause-moved : goal.returns-clause-moved

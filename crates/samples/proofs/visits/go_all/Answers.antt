@@ -1,5 +1,5 @@
 use Rattle.std.proofs.Common.{rules, ◌≡◌, slice_index_or, subst, sym, ◌∙◌}
-use Rattle.std.proofs.lemmas.Option.{get_or_from_slice_get, slice_get_within}
+use Rattle.samples.proofs.Vocabulary.{get_or_from_slice_get, slice_get_within}
 use Rattle.samples.specs.declared.visits.Visited.{Visited}
 use Rattle.samples.specs.declared.visits.Visitor.{Visitor}
 use Rattle.samples.specs.Visits.{HasMade}

@@ -1,6 +1,7 @@
 use Rattle.std.proofs.Common.{ℕ, List, slice_get, ap, subst, ◌∙◌, arith}
-use Rattle.txn_words.specs.declared.entry.Entry.{Entry}
+use Rattle.samples.specs.Vocabulary.{Entry}
 use Rattle.striped_map.specs.Hosts.{IsNoHistory}
+use Rattle.striped_map.proofs.Collecting.{none_left}
 use Rattle.samples.proofs.visits.hand_out.Goals as goal
 
 pub unreachable-requires-in-Err-Missing : goal.unreachable-requires-in-Err-Missing
@@ -9,4 +10,4 @@ unreachable-requires-in-Err-Missing c =
     let missing = subst (IsNoHistory c.history.new.self) why.field-0-is e.err in
     let same = e.whole c.requires.whole in
     let merged = c.requires.whole.all why.field-0-0 missing.1 (let less = missing.2 in omega arith) in
-    missing.3 merged.0 merged.1 (ap (λ (rs : List (ℕ × List Entry)). slice_get rs merged.0) e.taken ∙ merged.2) merged.3
+    missing.3 merged.0 merged.1 (ap (λ (rs : List (ℕ × List Entry)). slice_get rs merged.0) (none_left _ _ _ e.collects c.requires.whole) ∙ merged.2) merged.3

@@ -1,6 +1,5 @@
 use Rattle.std.specs.Prelude.{◌≡◌, ◌∷◌, false, map}
-use Rattle.std.specs.List.{fold}
-use Rattle.striped_map.specs.Hosts.{have_made, numbers, seen_by, taken}
+use Rattle.samples.specs.Vocabulary.{fold, have_made, numbers, seen_by, taken}
 use Rattle.samples.specs.Visits.{ended}
 use Rattle.samples.proofs.visits.merge_all.Given as goal
 

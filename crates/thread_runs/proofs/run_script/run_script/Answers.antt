@@ -1,6 +1,6 @@
 use Rattle.std.proofs.Common.{◌∙◌, rules, refl, sym, ap, subst}
 use Rattle.script_worker.proofs.Vocabulary.{Heard, Sizes}
-use Rattle.thread_runs.proofs.{ScriptEnds.over_may, Growing.IsBefore, Growing.before_first, Growing.called, Growing.fell_out}
+use Rattle.thread_runs.proofs.{ScriptEnds.over_may, Adding.IsBefore, Adding.before_first, Adding.called, Adding.fell_out}
 use Rattle.thread_runs.proofs.run_script.run_script.Goals as goal
 
 pub loop-init : goal.loop-init

@@ -1,5 +1,5 @@
 use Rattle.thread_runs.proofs.Vocabulary.{heard_of, IsSameCaller}
-use Rattle.thread_runs.proofs.Growing.{IsBefore}
+use Rattle.thread_runs.proofs.Adding.{IsBefore}
 use Rattle.thread_runs.proofs.run_script.run_script.Given as goal
 
 abbrev pub invariant-loop : goal.invariant-loop

@@ -1,6 +1,6 @@
 use Rattle.std.proofs.Common.{◌∙◌, All, refl, sym, subst}
-use Rattle.std.proofs.lemmas.Bool.{false≢true}
-use Rattle.core_tokens.specs.Tokens.{AreCounted}
+use Rattle.locked_map.proofs.Vocabulary.{false≢true}
+use Rattle.locked_map.specs.Tokens.{AreCounted}
 use Rattle.locked_map.specs.Closes.{IsAllHere, IsOwn}
 use Rattle.locked_map.proofs.shared_map.SharedMap.close.Goals as goal
 

@@ -1,6 +1,6 @@
 use Rattle.std.proofs.Common.{refl, subst, ◌∙◌}
-use Rattle.core_tokens.specs.Holds.{GoesTo}
-use Rattle.locked_map.proofs.Driving.{starts, holds_on, is_held}
+use Rattle.locked_map.specs.Holds.{GoesTo}
+use Rattle.locked_map.proofs.Calling.{starts, holds_on, is_held}
 use Rattle.locked_map.proofs.shared_map.SharedMap.drive.Goals as goal
 
 pub loop-init : goal.loop-init

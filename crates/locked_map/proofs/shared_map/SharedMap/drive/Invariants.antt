@@ -1,5 +1,5 @@
 use Rattle.std.specs.Prelude.{◌≡◌}
-use Rattle.core_tokens.specs.Holds.{IsGoing}
+use Rattle.locked_map.specs.Holds.{IsGoing}
 use Rattle.locked_map.specs.Calls.{IsHolding}
 use Rattle.locked_map.proofs.shared_map.SharedMap.drive.Given as goal
 

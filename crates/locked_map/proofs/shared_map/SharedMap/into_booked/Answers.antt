@@ -1,6 +1,5 @@
 use Rattle.std.proofs.Common.{subst}
-use Rattle.txn_trace.specs.Legal.{IsLegal}
-use Rattle.boost_core.specs.State.{holder_by}
+use Rattle.locked_map.specs.Vocabulary.{IsLegal, holder_by}
 use Rattle.locked_map.proofs.shared_map.SharedMap.into_booked.Goals as goal
 
 pub returns-clause-legal : goal.returns-clause-legal

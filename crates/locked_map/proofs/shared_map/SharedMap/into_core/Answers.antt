@@ -1,10 +1,8 @@
 use Rattle.std.proofs.Common.{◌≡◌, ◌↔◌, Bool, All, IsTrue, List, sym, subst}
-use Rattle.boost_core.specs.State.{State}
+use Rattle.locked_map.specs.Vocabulary.{IsLegal, Sizes, State}
 use Rattle.txn_words.specs.declared.holder.Holder.TheVariants.{Begun}
-use Rattle.txn_trace.specs.Legal.{IsLegal}
-use Rattle.txn_words.specs.Sizes.{Sizes}
 use Rattle.locked_map.specs.Closes.{IsOwn}
-use Rattle.core_tokens.specs.Tokens.{Token}
+use Rattle.locked_map.specs.Tokens.{Token}
 use Rattle.locked_map.proofs.shared_map.SharedMap.into_core.Goals as goal
 
 seen_at : {S : Type 0} (b : Bool) (m n : State) (lim sizes : Sizes) (ks : List (Token S)) → n ≡ m → lim ≡ sizes → (IsTrue b ↔ ((m.limits ≡ lim) × All (λ k. IsOwn m.history k) ks)) → IsTrue b ↔ ((n.limits ≡ sizes) × All (λ k. IsOwn n.history k) ks)

@@ -1,5 +1,5 @@
 use Rattle.std.proofs.Common.{◌∙◌}
-use Rattle.list_steps.specs.Content.{pairs}
+use Rattle.map_ops.specs.Vocabulary.{pairs}
 use Rattle.map_ops.proofs.MadeLemmas.{made}
 use Rattle.map_ops.proofs.table.Table.content.Goals as goal
 

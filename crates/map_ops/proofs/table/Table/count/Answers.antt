@@ -1,5 +1,5 @@
 use Rattle.std.proofs.Common.{◌∙◌, sym}
-use Rattle.list_steps.specs.Content.{pairs}
+use Rattle.map_ops.specs.Vocabulary.{pairs}
 use Rattle.map_ops.proofs.ContentLemmas.{count_of-map_of, length-pairs, rises-pairs}
 use Rattle.map_ops.proofs.table.Table.count.Goals as goal
 

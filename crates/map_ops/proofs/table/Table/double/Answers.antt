@@ -1,7 +1,6 @@
 use Rattle.std.proofs.Common.{ℕ, ◌∙◌, ap, sym}
-use Rattle.list_steps.specs.Content.{pairs}
+use Rattle.map_ops.specs.Vocabulary.{limit_of, pairs}
 use Rattle.bucket_table.specs.Answers as buckets
-use Rattle.bucket_table.specs.Directory.{limit_of}
 use Rattle.map_ops.proofs.ContentLemmas.{count_of-map_of, length-pairs, rises-pairs}
 use Rattle.map_ops.proofs.table.Table.double.Goals as goal
 

@@ -1,5 +1,5 @@
 use Rattle.std.proofs.Common.{◌∙◌, ap, sym, map}
-use Rattle.std.specs.List.{slice_get}
+use Rattle.map_ops.specs.Vocabulary.{slice_get}
 use Rattle.map_ops.specs.TableAt.{help_of, linked_of, table_of}
 use Rattle.map_ops.specs.Buckets.{answer_for, helper_fits}
 use Rattle.map_ops.proofs.BucketAnswers.{link_answers, helper_still_fits, fits_not_again, no_memory_alone}

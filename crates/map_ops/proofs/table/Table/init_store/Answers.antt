@@ -1,5 +1,5 @@
 use Rattle.std.proofs.Common.{◌∙◌, ap, sym}
-use Rattle.std.proofs.lemmas.Option.{slice_get-map}
+use Rattle.map_ops.proofs.Vocabulary.{slice_get-map}
 use Rattle.map_ops.specs.TableAt.{help_of}
 use Rattle.map_ops.specs.Buckets.{answer_for}
 use Rattle.map_ops.proofs.BucketAnswers.{store_answers, no_memory_alone, lacks_segment}

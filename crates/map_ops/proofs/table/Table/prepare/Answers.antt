@@ -1,4 +1,4 @@
-use Rattle.std.proofs.lemmas.Result.{err_from_is_err_and}
+use Rattle.map_ops.proofs.Vocabulary.{err_from_is_err_and}
 use Rattle.map_ops.proofs.Laws.{no_buckets}
 use Rattle.map_ops.proofs.SoundLemmas.{sound_with_nodes}
 use Rattle.map_ops.proofs.KeepLemmas.{follows}

@@ -1,7 +1,6 @@
 use Rattle.std.proofs.Common.{◌≡◌, ◌∙◌}
+use Rattle.map_ops.specs.Vocabulary.{ordered, pairs}
 use Rattle.std.proofs.lemmas.Result.{IfOk-weaker}
-use Rattle.list_steps.specs.Content.{pairs}
-use Rattle.txn_words.specs.Ordered.{ordered}
 use Rattle.map_ops.specs.TableAt.{map_of}
 use Rattle.map_ops.proofs.ContentLemmas.{ordered-map_of, rises-pairs}
 use Rattle.map_ops.proofs.table.Table.regular_list.Goals as goal

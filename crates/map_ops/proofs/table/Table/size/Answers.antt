@@ -1,4 +1,4 @@
-use Rattle.list_steps.specs.Content.{pairs}
+use Rattle.map_ops.specs.Vocabulary.{pairs}
 use Rattle.map_ops.proofs.ContentLemmas.{ordered-map_of, rises-pairs}
 use Rattle.map_ops.proofs.table.Table.size.Goals as goal
 

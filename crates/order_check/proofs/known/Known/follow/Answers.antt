@@ -5,11 +5,11 @@ use Rattle.order_check.proofs.known.Known.follow.Goals as goal
 use Rattle.order_check.proofs.known.Known.follow.Goals.{then-is_before, else-is_before}
 
 pub loop-second-preserved : goal.loop-second-preserved
-loop-second-preserved c n accesses were =
-    let now = c.loop-second.invariant n accesses were in
+loop-second-preserved c n since accesses were =
+    let now = c.loop-second.invariant n since accesses were in
     elim c.if-is_before.branch [
       | then-is_before w ↦
-          subst (AreKnown n accesses) (sym w.self-is)
-          (w.learn.ensures n accesses now (precedes_over n accesses c.args.first c.args.middle c.loop-second.second (were c.args.first c.args.middle c.requires) (now c.args.middle c.loop-second.second (sym c.is_before.ensures ∙ w.if-is_before.true))))
-      | else-is_before w ↦ subst (AreKnown n accesses) (sym w.self-is) now
+          subst (AreKnown n since accesses) (sym w.self-is)
+          (w.learn.ensures n since accesses now (precedes_over n since accesses c.args.first c.args.middle c.loop-second.second (were c.args.first c.args.middle c.requires) (now c.args.middle c.loop-second.second (sym c.is_before.ensures ∙ w.if-is_before.true))))
+      | else-is_before w ↦ subst (AreKnown n since accesses) (sym w.self-is) now
     ]

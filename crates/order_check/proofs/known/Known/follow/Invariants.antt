@@ -4,4 +4,4 @@ use Rattle.order_check.specs.Known.{AreKnown}
 use Rattle.order_check.proofs.known.Known.follow.Given as goal
 
 abbrev pub invariant-loop-second : goal.invariant-loop-second
-invariant-loop-second l = (n : ℕ) (accesses : List Access) → AreKnown n accesses l.initial.self → AreKnown n accesses l.self
+invariant-loop-second l = (n : ℕ) (since : ℕ → ℕ) (accesses : List Access) → AreKnown n since accesses l.initial.self → AreKnown n since accesses l.self

@@ -1,4 +1,4 @@
-use Rattle.std.proofs.Common.{refl, ◌≡◌, ◌^◌, ◌≤◌, ℕ, ◌∙◌, ap, sym, subst, arith}
+use Rattle.std.proofs.Common.{refl, ◌≡◌, ◌^◌, ℕ, ◌∙◌, ap, sym, subst, arith}
 use Rattle.txn_words.specs.declared.entry.Entry.TheVariants.{Aborted}
 use Rattle.striped_map.specs.Records.{spread}
 use Rattle.striped_map.specs.Hosts.{kept_by}

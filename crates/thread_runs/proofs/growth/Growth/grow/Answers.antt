@@ -1,4 +1,4 @@
-use Rattle.thread_runs.proofs.Growing.{grown_by}
+use Rattle.thread_runs.proofs.Adding.{grown_by}
 use Rattle.thread_runs.proofs.growth.Growth.grow.Goals as goal
 
 pub returns-clause-grown : goal.returns-clause-grown

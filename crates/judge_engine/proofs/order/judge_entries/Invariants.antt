@@ -1,6 +1,0 @@
-use Rattle.std.proofs.Common.{take}
-use Rattle.order_check.specs.Fed.{IsFed}
-use Rattle.judge_engine.proofs.order.judge_entries.Given as goal
-
-abbrev pub invariant-loop-entry : goal.invariant-loop-entry
-invariant-loop-entry l = IsFed (take l.entry-index l.entries) l.checker

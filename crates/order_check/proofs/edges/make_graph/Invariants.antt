@@ -1,0 +1,13 @@
+use Rattle.std.proofs.Common.{◌≡◌, length, take}
+use Rattle.order_check.specs.declared.access.Access.{Access}
+use Rattle.order_check.specs.Joined.{AreMeant, IsJoined}
+use Rattle.order_check.specs.Tables.{IsAmong}
+use Rattle.order_check.specs.Timing.{since_in}
+use Rattle.order_check.proofs.edges.make_graph.Given as goal
+
+abbrev pub invariant-loop-access : goal.invariant-loop-access
+invariant-loop-access l = record {
+  len : length l.graph.items ≡ l.count;
+  meant : AreMeant l.accesses (since_in l.since) l.graph.items;
+  joined : (a : Access) → IsAmong a (take l.access-index l.accesses) → IsJoined l.tables.replacers l.graph.items a;
+}

@@ -1,0 +1,8 @@
+use Rattle.std.proofs.Common.{ℕ, List}
+use Rattle.order_check.specs.declared.access.Access.{Access}
+use Rattle.order_check.specs.Known.{AreKnown}
+use Rattle.order_check.specs.Timing.{since_in}
+use Rattle.order_check.proofs.known.Known.learn_times.Given as goal
+
+abbrev pub invariant-loop-second : goal.invariant-loop-second
+invariant-loop-second l = (n : ℕ) (accesses : List Access) → AreKnown n (since_in l.since) accesses l.initial.self → AreKnown n (since_in l.since) accesses l.self

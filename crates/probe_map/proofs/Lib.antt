@@ -1,5 +1,0 @@
-pub mod Lookups
-pub mod Pairs
-pub mod Passes
-pub mod Rounds
-pub mod Tables

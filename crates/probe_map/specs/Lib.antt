@@ -1,3 +1,0 @@
-pub mod MapAt
-pub mod Probes
-pub mod Slots
