@@ -9,7 +9,7 @@
 source "$(dirname "${BASH_SOURCE[0]}")/common.sh"
 puts=${1:-100000}
 rounds=${2:-9}
-build_on_maps rising ": txn_trace map_answers boost_core owned_map striped_map anyhow" owned small 10
+build_on_maps rising ": txn_words txn_trace boost_core owned_map striped_map anyhow" owned small 10
 
 # Runs the program with a map, a table, and maybe `whole`, and writes a line of words; the last of them is `puts` or `whole`.
 run_one() {

@@ -13,7 +13,7 @@ use Rattle.txn_words.specs.declared.refusal.Refusal.TheVariants.{NoMemory}
 use Rattle.txn_words.specs.Sizes.{Sizes, limits_of}
 use Rattle.txn_words.specs.Map.{count_of}
 use Rattle.txn_trace.specs.Now.{now}
-use Rattle.map_answers.specs.declared.stop.Stop.{Stop}
+use Rattle.txn_words.specs.declared.stop.Stop.{Stop}
 use Rattle.boost_core.specs.Machine.{State, Happens, start}
 use Rattle.boost_core.specs.Plain as plain
 use Rattle.owned_map.specs.Effects.{HasOperated, IsStopped}

@@ -1,9 +1,9 @@
 -- How a caller's member counts the ends of its transactions.
 use Rattle.std.specs.Prelude.{◌+◌, ◌%◌, ◌^◌, Result, Ok, Err}
-use Rattle.map_answers.specs.declared.stop.Stop.{Stop}
+use Rattle.txn_words.specs.declared.stop.Stop.{Stop}
 use Rattle.striped_map.specs.declared.runs.RunEnd.{RunEnd}
 use Rattle.striped_map.specs.declared.runs.RunEnd.TheVariants.{Committed, Missed}
-use Rattle.map_answers.specs.declared.stop.Stop.TheVariants.{Busy, Refused}
+use Rattle.txn_words.specs.declared.stop.Stop.TheVariants.{Busy, Refused}
 use Rattle.boostmap_c.specs.declared.counts.Counts.{Counts}
 
 -- No transaction has ended.

@@ -6,7 +6,7 @@ use Rattle.std.specs.Prelude.{◌≡◌, ℕ, ◌&&◌, nat_eq, nat_le, is_some,
 use Rattle.txn_words.specs.declared.refusal.Refusal.{Refusal}
 use Rattle.txn_words.specs.declared.refusal.Refusal.TheVariants.{NoMemory, NoSuchCaller, Limit}
 use Rattle.striped_map.specs.declared.caller.Caller.{Caller}
-use Rattle.map_answers.specs.declared.stop.Stop.{Stop}
+use Rattle.txn_words.specs.declared.stop.Stop.{Stop}
 use Rattle.striped_map.specs.declared.host.Host.{Host}
 use Rattle.striped_map.specs.declared.keep.Keep.{Keep}
 use Rattle.striped_map.specs.declared.keep.Keep.TheVariants.{Nothing, Commits as KeepCommits, Entries as KeepEntries}

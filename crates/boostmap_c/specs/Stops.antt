@@ -1,7 +1,7 @@
 -- How the result of a map's call is reported to C: by a status, and for some results also by a word.
 use Rattle.std.specs.Prelude.{ℕ, Option, Some, None, Result, Ok, Err}
-use Rattle.map_answers.specs.declared.stop.Stop.{Stop}
-use Rattle.map_answers.specs.declared.stop.Stop.TheVariants.{Busy, Refused}
+use Rattle.txn_words.specs.declared.stop.Stop.{Stop}
+use Rattle.txn_words.specs.declared.stop.Stop.TheVariants.{Busy, Refused}
 use Rattle.striped_map.specs.declared.runs.RunEnd.{RunEnd}
 use Rattle.striped_map.specs.declared.runs.RunEnd.TheVariants.{Committed, Missed}
 use Rattle.boostmap_c.specs.Replies.{done, absent, busy, missed, refused}

@@ -7,8 +7,8 @@ use Rattle.txn_words.specs.declared.entry.Entry.TheVariants.{Began, Asked, Did, 
 use Rattle.txn_words.specs.declared.op.Op.{Op}
 use Rattle.txn_words.specs.declared.refusal.Refusal.TheVariants.{NoMemory, NotOpen}
 use Rattle.striped_map.specs.declared.caller.Caller.{Caller}
-use Rattle.map_answers.specs.declared.stop.Stop.{Stop}
-use Rattle.map_answers.specs.declared.stop.Stop.TheVariants.{Refused}
+use Rattle.txn_words.specs.declared.stop.Stop.{Stop}
+use Rattle.txn_words.specs.declared.stop.Stop.TheVariants.{Refused}
 use Rattle.striped_map.specs.Callers.{number, seen, keeps, levels, changes_made, changes_above, IsNotBack, IsNotBegun, IsStep, IsStopped}
 use Rattle.striped_map.specs.Lone.{RunsAlone}
 use Rattle.striped_map.specs.Steps.{told_of, undoing}

@@ -5,7 +5,7 @@ use Rattle.std.specs.Prelude.{◌≡◌, ◌⊎◌, ℕ, List, [], true, Option,
 use Rattle.txn_words.specs.Map.{count_of}
 use Rattle.txn_trace.specs.Now.{now}
 use Rattle.striped_map.specs.declared.caller.Caller.{Caller}
-use Rattle.map_answers.specs.declared.stop.Stop.{Stop}
+use Rattle.txn_words.specs.declared.stop.Stop.{Stop}
 use Rattle.txn_words.specs.declared.op.Op.TheVariants.{Get}
 use Rattle.striped_map.specs.Callers.{seen, stripes_in, HoldsEvery, HoldsStripe, IsCut, IsStep, IsStopped, TakesAtMost}
 use Rattle.striped_map.specs.Contents.{rows_with}

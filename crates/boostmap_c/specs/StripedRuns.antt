@@ -2,7 +2,7 @@
 -- How a caller runs a whole transaction for C.
 use Rattle.std.specs.Prelude.{◌≡◌, ◌⊎◌, ◌<◌, ℕ, Bool, not, nat_eq, true, List, [], length, map, take, drop, Option, Some, None, Result, Ok, Err}
 use Rattle.txn_words.specs.declared.op.Op.{Op}
-use Rattle.map_answers.specs.declared.stop.Stop.{Stop}
+use Rattle.txn_words.specs.declared.stop.Stop.{Stop}
 use Rattle.striped_map.specs.declared.caller.Caller.{Caller}
 use Rattle.striped_map.specs.declared.runs.RunEnd.{RunEnd}
 use Rattle.striped_map.specs.Runs.{IsNotRun, IsRunTo}

@@ -10,7 +10,7 @@ use Rattle.txn_files.specs.HistoryText.{text_of_history}
 use Rattle.txn_files.specs.ScriptFile.{scripts_of}
 use Rattle.txn_words.specs.Work.{Work}
 use Rattle.boost_core.specs.Machine.{State, holder_by}
-use Rattle.script_mix.specs.Crews.{IsMixed}
+use Rattle.boostmap_engine.specs.Crews.{IsMixed}
 use Rattle.boostmap_engine.specs.Mixture.{IsMixtureOf}
 use Rattle.boostmap_engine.specs.Report.{line}
 

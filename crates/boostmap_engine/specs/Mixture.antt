@@ -11,7 +11,7 @@ use Rattle.txn_files.specs.HistoryText.{text_of_history}
 use Rattle.txn_files.specs.ScriptFile.{scripts_of}
 use Rattle.txn_words.specs.Work.{Work}
 use Rattle.boost_core.specs.State.{State}
-use Rattle.script_mix.specs.Crews.{IsMixed}
+use Rattle.boostmap_engine.specs.Crews.{IsMixed}
 use Rattle.boostmap_engine.specs.Report.{line}
 
 -- There is a core on which the workers took turns in the order that this seed gives. The core's

@@ -113,7 +113,7 @@ pub fn check<R: Read, W: Write>(alloc: Global, input: &mut R, output: &mut W) ->
 ///
 /// # Cost
 ///
-/// The cost of `script_mix::mix_scripts`, and time and memory in proportion to the file and the
+/// The cost of `mix_scripts`, and time and memory in proportion to the file and the
 /// history.
 pub fn mix<R: Read, W: Write>(
     alloc: Global,

@@ -5,7 +5,8 @@
 //!   the size and the count, and the pairs of the map in list order (`specs/Report.antt`);
 //! - `check`: the line of the verdict on the file's history (`specs/Judgement.antt`);
 //! - `mix`: a legal history of the file's scripts, mixed as a seed determines, in which the
-//!   workers' committed transactions play them (`specs/Mixture.antt`).
+//!   workers' committed transactions play them (`specs/Mixture.antt`). For each turn a generator
+//!   draws one of the workers that still have a step (`mix_scripts`, `specs/Turns.antt`).
 //!
 //! The engine of `run` is in `boostmap_program`, since it starts threads. At the faults `Input`,
 //! `Read` and `NoMemory` nothing is written; at `Write`, a proper prefix of the text
@@ -21,16 +22,22 @@
 //! (`tests/program.sh`).
 #![tactic(auto)]
 
+mod crew;
+mod drawing;
 mod engine;
 mod fault;
 mod input;
 mod judgement;
+mod mix;
 mod mixture;
+mod ordinary;
 mod output;
 mod report;
+mod turn;
 
+pub use drawing::draw;
 pub use engine::{check, mix, replay};
 pub use fault::{Fault, Message};
 pub use input::{read_input, scripts_in};
+pub use mix::mix_scripts;
 pub use output::write_history;
-pub use script_mix::draw;

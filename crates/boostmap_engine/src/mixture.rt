@@ -10,7 +10,7 @@ ghost use Rattle.boostmap_engine.specs.Written.{HasNone};
 
 use crate::fault::Fault;
 use crate::input::scripts_in;
-use script_mix::mix_scripts;
+use crate::mix::mix_scripts;
 use std::alloc::Global;
 use txn_words::SmallEntry;
 
@@ -34,7 +34,7 @@ pub(crate) struct MixedHistory {
 ///
 /// # Cost
 ///
-/// The cost of `script_mix::mix_scripts`, and time and memory in proportion to the number of bytes.
+/// The cost of `mix_scripts`, and time and memory in proportion to the number of bytes.
 pub(crate) fn mixture(alloc: Global, seed: u64, bytes: Vec<u8>) -> Result<MixedHistory, Fault>
     ensures ok { IfOk result (λ mixture. IsMixtureOf seed bytes.items
         (line (text_of_history mixture.version mixture.stripes mixture.entries.items))) }

@@ -1,7 +1,6 @@
 //! Tests of `txn_words` (the vocabulary of transactions), `txn_drive` (drives), `script_worker`
-//! (workers), `history_check`, `serial_check` and `order_check` (the judges of histories),
-//! `script_outcomes` (what became of scripts), `boost_core` (the core), `script_mix` (mixes of
-//! scripts) and `owned_map` (transactions as values).
+//! (workers, and what became of scripts), `history_check`, `serial_check` and `order_check` (the
+//! judges of histories), `boost_core` (the core) and `owned_map` (transactions as values).
 //!
 //! Each call of a library is made in one small function without a contract. A test that uses these
 //! functions has only its own safety to prove.
@@ -17,8 +16,6 @@ mod drives;
 mod histories;
 #[cfg(test)]
 mod lines;
-#[cfg(test)]
-mod mixes;
 #[cfg(test)]
 mod outcomes;
 #[cfg(test)]

@@ -2,7 +2,7 @@
 //! outcome aborted. A row has a script file, a history file, and the outcome of each script, which
 //! was found by hand. The files are read as the program reads them.
 
-use script_outcomes::{Outcome, outcomes};
+use script_worker::{Outcome, outcomes};
 use std::alloc::{AllocError, Global};
 use std::test::Fail;
 use txn_files::{read_packed_history, read_scripts};

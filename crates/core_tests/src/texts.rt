@@ -3,12 +3,11 @@
 //! programs print it.
 use anyhow::Result;
 use history_check::{Rule, Verdict};
-use map_answers::Stop;
 use std::alloc::{AllocError, Global};
 use std::fmt::Display;
 use std::process::Abort;
 use std::test::Fail;
-use txn_words::Refusal;
+use txn_words::{Refusal, Stop};
 
 /// Checks that a value has this text.
 fn prints(

@@ -3,7 +3,7 @@ use Rattle.std.proofs.Common.{◌≡◌, ℕ, suc, ◌+◌, ◌<◌, Bool, true,
 use Rattle.std.proofs.lemmas.List.{take_more}
 use Rattle.std.proofs.lemmas.List.Elements.{filter-append}
 use Rattle.std.specs.List.{filter}
-use Rattle.script_outcomes.specs.declared.outcome.Outcome.{Outcome}
+use Rattle.script_worker.specs.declared.outcome.Outcome.{Outcome}
 use Rattle.judge_engine.specs.declared.outcomes.Kind.{Kind}
 use Rattle.judge_engine.specs.declared.outcomes.OutcomesFault.{OutcomesFault}
 use Rattle.judge_engine.specs.declared.outcomes.OutcomesFault.TheVariants.{Scripts, History, ScriptsRead, HistoryRead, NoMemory, Write}
@@ -16,7 +16,7 @@ use Rattle.txn_files.specs.ScriptFile.{scripts_of}
 use Rattle.piece_files.specs.Faults.{FailsAs}
 use Rattle.piece_files.specs.declared.file_fault.FileFault.{FileFault}
 use Rattle.piece_files.specs.declared.file_fault.FileFault.TheVariants as files
-use Rattle.script_outcomes.specs.Outcomes.{AreOutcomes}
+use Rattle.script_worker.specs.Outcomes.{AreOutcomes}
 use Rattle.txn_files.specs.Reading.{max_read}
 use Rattle.judge_engine.specs.Files.{OfFile}
 use Rattle.judge_engine.specs.Outcomes.{is_kind, how_many, outcome_line, outcome_lines, outcomes_text, IsWell, HistoryOf, FailsForScripts, FailsForHistory, LeavesOutcomes, of_scripts, of_history, TellsOutcomes}

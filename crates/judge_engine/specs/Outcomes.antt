@@ -10,10 +10,10 @@ use Rattle.txn_words.specs.declared.entry.Entry.{Entry}
 use Rattle.txn_words.specs.Work.{Work}
 use Rattle.txn_files.specs.HistoryFile.{history_of}
 use Rattle.txn_files.specs.ScriptFile.{scripts_of}
-use Rattle.script_outcomes.specs.declared.outcome.Outcome.{Outcome}
-use Rattle.script_outcomes.specs.declared.outcome.Outcome.TheVariants as outcomes
-use Rattle.script_outcomes.specs.Outcomes.{AreOutcomes}
-use Rattle.script_outcomes.specs.Texts.{outcome_words}
+use Rattle.script_worker.specs.declared.outcome.Outcome.{Outcome}
+use Rattle.script_worker.specs.declared.outcome.Outcome.TheVariants as outcomes
+use Rattle.script_worker.specs.Outcomes.{AreOutcomes}
+use Rattle.script_worker.specs.Texts.{outcome_words}
 use Rattle.judge_engine.specs.declared.outcomes.Kind.{Kind}
 use Rattle.judge_engine.specs.declared.outcomes.Kind.TheVariants as kinds
 use Rattle.judge_engine.specs.declared.outcomes.OutcomesFault.{OutcomesFault}

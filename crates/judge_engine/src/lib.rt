@@ -7,7 +7,7 @@
 //! judges nothing.
 //!
 //! Proved: the verdict is that of the definitions (`specs/Files.antt`, `specs/Watching.antt`), and
-//! the outcomes are those of `script_outcomes` (`specs/Outcomes.antt`). The lines that explain a
+//! the outcomes are those of `script_worker` (`specs/Outcomes.antt`). The lines that explain a
 //! bad entry are those of a right reason (`specs/Explained.antt`). The line of a flaw is that of
 //! the file's flaw (`specs/Whys.antt`). At a fault nothing is written, with two exceptions: `why`
 //! writes the flaw of a refused file, and a failed write may leave a proper prefix of the text.

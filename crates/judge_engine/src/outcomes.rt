@@ -10,7 +10,7 @@ ghost use Rattle.judge_engine.specs.Outcomes.{FailsForHistory, FailsForScripts, 
 
 use crate::fault::Fault;
 use crate::reading::read_file;
-use script_outcomes::{Outcome, outcomes};
+use script_worker::{Outcome, outcomes};
 use std::alloc::{AllocError, Global};
 use std::fmt;
 use std::io::{Read, Write};

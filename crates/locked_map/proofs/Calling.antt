@@ -19,7 +19,7 @@ use Rattle.locked_map.specs.Suits.{may_refuse}
 use Rattle.txn_words.specs.declared.answer.Answer.TheVariants as answers
 use Rattle.txn_drive.specs.declared.call.Call.TheVariants as calls
 use Rattle.txn_drive.specs.declared.«end».End.TheVariants as ends
-use Rattle.map_answers.specs.declared.stop.Stop.TheVariants as stops
+use Rattle.txn_words.specs.declared.stop.Stop.TheVariants as stops
 
 -- A new drive has committed nothing.
 pub new_quiet : (d : Drive) → made d ≡ [] → CommitNothing (made d)

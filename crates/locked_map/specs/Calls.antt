@@ -11,7 +11,7 @@ use Rattle.locked_map.specs.Ready.{refused_by}
 use Rattle.locked_map.specs.Ready.{MovesSide}
 use Rattle.locked_map.specs.Suits.{may_refuse}
 use Rattle.locked_map.specs.Tokens.{Token, IsSameCaller, IsSameSeen}
-use Rattle.map_answers.specs.declared.stop.Stop.TheVariants as stops
+use Rattle.txn_words.specs.declared.stop.Stop.TheVariants as stops
 
 -- A call has had this number of holds, none of which has ended the call. Each hold finds the core
 -- as it is under the lock at that time. Other callers may take steps between two holds.

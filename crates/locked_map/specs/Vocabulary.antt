@@ -12,7 +12,7 @@ pub use Rattle.key_words.specs.Rule.{Holds}
 pub use Rattle.key_words.specs.declared.rights.Rights.{Rights}
 pub use Rattle.key_words.specs.declared.taken.Tried.{Tried}
 pub use Rattle.key_words.specs.declared.taken.Tried.TheVariants.{Another, Mine}
-pub use Rattle.map_answers.specs.declared.stop.Stop.{Stop}
+pub use Rattle.txn_words.specs.declared.stop.Stop.{Stop}
 pub use Rattle.std.specs.Global.{Vec}
 pub use Rattle.std.specs.List.{AllByRecursion, fold, list_any, range_with_len}
 pub use Rattle.std.specs.Option.{option_or}

@@ -36,10 +36,10 @@ use crate::caller::Caller;
 use crate::receipt::Receipt;
 use crate::shared_map::SharedMap;
 use boost_core::{Call, End};
-use map_answers::Stop;
 use std::sync::Wait;
 use std::sync::ledger::Ledger;
 use txn_trace::{Answer, Op, Refusal, Reply};
+use txn_words::Stop;
 use undo_log::{Side, SideJob};
 
 impl<L: Ledger> SharedMap<L> {

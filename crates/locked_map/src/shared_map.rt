@@ -13,11 +13,11 @@ use crate::booked::Booked;
 use crate::caller::Caller;
 use crate::pass::Pass;
 use boost_core::{Call, Drive, End};
-use map_answers::Stop;
 use std::alloc::{AllocError, Global};
 use std::sync::ledger::{Blank, Ledger};
 use std::sync::{Mutex, Wait};
 use txn_trace::{Limits, Refusal};
+use txn_words::Stop;
 use undo_log::Side;
 
 /// A map that callers in several threads share: a core under a lock, and the words of its stripes,

@@ -7,8 +7,8 @@ use Rattle.txn_words.specs.declared.op.Op.{Op}
 use Rattle.txn_words.specs.declared.step.Step.{Step}
 use Rattle.txn_words.specs.declared.step.Step.TheVariants.{Begin, Commit}
 use Rattle.txn_trace.specs.Now.{now}
-use Rattle.map_answers.specs.declared.stop.Stop.{Stop}
-use Rattle.map_answers.specs.declared.stop.Stop.TheVariants as stops
+use Rattle.txn_words.specs.declared.stop.Stop.{Stop}
+use Rattle.txn_words.specs.declared.stop.Stop.TheVariants as stops
 use Rattle.boost_core.specs.State.{State}
 use Rattle.boost_core.specs.Machine.{Happens}
 use Rattle.boost_core.specs.Plain.{Operates, Aborts}

@@ -34,6 +34,6 @@ mod owned_map;
 mod transaction;
 mod trim;
 
-pub use map_answers::{Stop, Swapped};
 pub use owned_map::OwnedMap;
 pub use transaction::Transaction;
+pub use txn_words::{Stop, Swapped};

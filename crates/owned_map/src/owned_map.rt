@@ -20,9 +20,9 @@ ghost use Rattle.owned_map.specs.Within.{CanAbort, GoesOn, HasDone, IsBackAt, On
 
 use crate::transaction::Transaction;
 use boost_core::Core;
-use map_answers::Stop;
 use std::alloc::Global;
 use txn_trace::{Answer, Limits, Op, Refusal, Reply, Step};
+use txn_words::Stop;
 
 /// Up to this number of initialised buckets, a table has one bucket for every two keys, so that
 /// operations on a small table walk past few nodes.

@@ -15,8 +15,8 @@ ghost use Rattle.owned_map.specs.Effects.{HasAborted, HasOperated, IsNotCommitte
 ghost use Rattle.owned_map.specs.Within.{HasDone, IsBackAt, IsCommitted, IsSaved, IsTakenBack, KeepsSavepoints};
 
 use crate::owned_map::OwnedMap;
-use map_answers::{Stop, Swapped};
 use txn_trace::{Op, Reply};
+use txn_words::{Stop, Swapped};
 
 /// An open transaction of a caller. It borrows the map. If the transaction is dropped before it is
 /// committed, it is aborted: at every `?` and every early return its changes are taken back, and no

@@ -1,6 +1,6 @@
 //! Tests of the crates from files to the program: `files` tests `txn_files`, `pieces` tests
-//! `piece_files`, `engines` tests `boostmap_engine` and the engine of `run`, and `commands` tests
-//! `command_line`, `unthreaded_program` and `boostmap_program`.
+//! `piece_files`, `engines` and `mixes` test `boostmap_engine` and the engine of `run`, and
+//! `commands` tests `command_line`, `unthreaded_program` and `boostmap_program`.
 //!
 //! Each call of a tested crate is in a small function without a contract, which keeps the proofs of
 //! the tests short.
@@ -14,5 +14,7 @@ mod devices;
 mod engines;
 #[cfg(test)]
 mod files;
+#[cfg(test)]
+mod mixes;
 #[cfg(test)]
 mod pieces;

@@ -1,7 +1,7 @@
 -- Names of lower crates that several definitions and proofs use. Declares nothing.
 pub use Rattle.boost_core.specs.State.{State}
-pub use Rattle.map_answers.specs.declared.stop.Stop.{Stop}
-pub use Rattle.map_answers.specs.declared.stop.Stop.TheVariants.{Busy}
+pub use Rattle.txn_words.specs.declared.stop.Stop.{Stop}
+pub use Rattle.txn_words.specs.declared.stop.Stop.TheVariants.{Busy}
 pub use Rattle.owned_map.specs.Effects.{IsStopped}
 pub use Rattle.owned_map.specs.Within.{OnlyWorked}
 pub use Rattle.std.specs.List.{fold}

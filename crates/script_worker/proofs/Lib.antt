@@ -7,3 +7,12 @@ pub mod Telling
 pub mod WorkerSteps
 pub mod Ready
 pub mod Taking
+pub mod Parts
+pub mod Strides
+pub mod OutcomeSteps
+pub mod Starting
+pub mod Running
+pub mod Searching
+pub mod Counting
+pub mod Numbering
+pub mod Played

@@ -3,3 +3,7 @@ pub mod Attempts
 pub mod Chunks
 pub mod Workers
 pub mod Keeps
+pub mod Matches
+pub mod Outcomes
+pub mod Texts
+pub mod Ways

@@ -16,16 +16,36 @@
 //! (`specs/Keeps.antt`). That is, its entries are the accounts of its finished scripts
 //! (`specs/Accounts.antt`), one after the other, and then those of the present one. The account of
 //! a committed script ends with a transaction that plays it; any other commits nothing.
-//! `script_mix` and `thread_runs` conclude that outcomes are true.
+//! `boostmap_engine` and `thread_runs` conclude that outcomes are true.
+//!
+//! `outcomes` reads a history that such workers made, and finds each script's outcome: committed,
+//! aborted by the script's own action, or given up (`specs/Outcomes.antt`). Proved, of any history,
+//! legal or not:
+//!
+//! - If a script has the outcome committed, its worker has a Committed entry with the outcome's
+//!   index and `place`, whose transaction plays the script. In a history of the right shape this is
+//!   a committed transaction by the definitions of `txn_trace` (`laws::committed_plays`).
+//! - If a script has the outcome aborted, its worker has an Aborted entry with the outcome's index,
+//!   whose transaction did exactly the script's actions up to its own abort.
+//! - Commits are counted as `laws::commits_are_counted` says.
+//!
+//! Only tested: each script that aborts itself in a run has the outcome aborted.
 //!
 //! Invariant: a worker with a script left has a step to take. Calls take constant time and no
 //! memory unless they say otherwise.
 #![tactic(auto)]
 
+mod assigning;
 mod attempt;
+pub mod laws;
+mod matching;
+mod outcome;
 mod task;
+mod way;
 mod worker;
 
+pub use assigning::outcomes;
 pub use attempt::{Attempt, Finish, Progress, Stage};
+pub use outcome::Outcome;
 pub use task::Task;
 pub use worker::Worker;

@@ -3,8 +3,8 @@ use Rattle.std.proofs.Common.{◌≡◌, ℕ, zero, suc, true, false, [], ◌∷
 use Rattle.txn_words.specs.declared.entry.Entry.TheVariants.{Began}
 use Rattle.txn_words.specs.declared.refusal.Refusal.TheVariants.{AlreadyOpen, NoMemory}
 use Rattle.striped_map.specs.declared.caller.Caller.{Caller}
-use Rattle.map_answers.specs.declared.stop.Stop.{Stop}
-use Rattle.map_answers.specs.declared.stop.Stop.TheVariants.{Busy, Refused}
+use Rattle.txn_words.specs.declared.stop.Stop.{Stop}
+use Rattle.txn_words.specs.declared.stop.Stop.TheVariants.{Busy, Refused}
 use Rattle.striped_map.specs.Attempts.{FailsOrNot, Fails, FailsBusy, IsWhy}
 use Rattle.striped_map.specs.Callers.{number, IsNotBegun, IsSince, IsStep, IsTakenBack, IsWithin}
 use Rattle.striped_map.proofs.CallSpans.{by_cases, within_kept, since_began, since_then, within_taken_back}

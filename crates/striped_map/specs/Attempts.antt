@@ -5,8 +5,8 @@ use Rattle.std.specs.Prelude.{◌⊎◌, ◌≡◌, ℕ, zero, suc, [], ◌∷�
 use Rattle.txn_words.specs.declared.entry.Entry.TheVariants.{Began}
 use Rattle.txn_words.specs.declared.refusal.Refusal.TheVariants.{NoMemory, NotOpen}
 use Rattle.striped_map.specs.declared.caller.Caller.{Caller}
-use Rattle.map_answers.specs.declared.stop.Stop.{Stop}
-use Rattle.map_answers.specs.declared.stop.Stop.TheVariants.{Busy, Refused}
+use Rattle.txn_words.specs.declared.stop.Stop.{Stop}
+use Rattle.txn_words.specs.declared.stop.Stop.TheVariants.{Busy, Refused}
 use Rattle.striped_map.specs.Callers.{number, IsNotBegun, IsStep, IsSince, IsTakenBack}
 
 -- Turns a relation between values, each of which holds a caller, into a relation between these

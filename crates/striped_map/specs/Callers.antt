@@ -14,8 +14,8 @@ use Rattle.striped_map.specs.declared.caller.Caller.{Caller}
 use Rattle.striped_map.specs.declared.keep.Keep.{Keep}
 use Rattle.striped_map.specs.declared.keep.Keep.TheVariants.{Entries}
 use Rattle.striped_map.specs.declared.map.StripedMap.{StripedMap}
-use Rattle.map_answers.specs.declared.stop.Stop.{Stop}
-use Rattle.map_answers.specs.declared.stop.Stop.TheVariants.{Busy, Refused}
+use Rattle.txn_words.specs.declared.stop.Stop.{Stop}
+use Rattle.txn_words.specs.declared.stop.Stop.TheVariants.{Busy, Refused}
 use Rattle.striped_map.specs.Rule.{Holds, most}
 use Rattle.striped_map.specs.Additions.{due, above}
 use Rattle.striped_map.specs.Handling.{GainsAtMost, HoldsAllOf, KeepsHeld}

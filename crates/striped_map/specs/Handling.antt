@@ -10,8 +10,8 @@ use Rattle.striped_map.specs.declared.view.View.{View}
 use Rattle.striped_map.specs.Rule.{Holds}
 use Rattle.striped_map.specs.declared.addition.Addition.{Addition}
 use Rattle.striped_map.specs.declared.addition.Addition.TheVariants.{Abort, Yield}
-use Rattle.map_answers.specs.declared.stop.Stop.{Stop}
-use Rattle.map_answers.specs.declared.stop.Stop.TheVariants.{Busy, Refused}
+use Rattle.txn_words.specs.declared.stop.Stop.{Stop}
+use Rattle.txn_words.specs.declared.stop.Stop.TheVariants.{Busy, Refused}
 
 -- The same operation, but on the key `key`.
 abbrev pub under : Op → ℕ → Op

@@ -15,8 +15,8 @@ use Rattle.striped_map.specs.Handling.{KeepsHeld}
 use Rattle.striped_map.specs.Seats.{known, stripes_of}
 use Rattle.striped_map.specs.Steps.{Extends, Gathers, HasAll, IsAt, undoing}
 use Rattle.striped_map.specs.Additions.{due}
-use Rattle.map_answers.specs.declared.stop.Stop.{Stop}
-use Rattle.map_answers.specs.declared.stop.Stop.TheVariants.{Busy, Refused}
+use Rattle.txn_words.specs.declared.stop.Stop.{Stop}
+use Rattle.txn_words.specs.declared.stop.Stop.TheVariants.{Busy, Refused}
 
 -- From `a` to `b`, the hand added exactly the entries `es` to the history. Other callers may have
 -- added entries before them, but asked for no operation on a key of a stripe that `a` holds.

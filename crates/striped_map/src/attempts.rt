@@ -12,8 +12,8 @@ ghost use Rattle.striped_map.specs.Keeps.{Keeps};
 
 use crate::caller::Caller;
 use crate::transaction::Transaction;
-use map_answers::Stop;
 use std::thread;
+use txn_words::Stop;
 
 impl Caller {
     /// Begins a transaction, runs the work in it, and commits. If the work fails, the transaction

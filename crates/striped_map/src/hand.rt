@@ -32,10 +32,10 @@ use crate::keep::Keep;
 use crate::map::{StripedMap, Taken};
 use crate::record::{Record, Told, told_of};
 use crate::seat::MapSeat;
-use map_answers::Stop;
 use std::alloc::{AllocError, Global};
 use std::hint;
 use txn_trace::{Op, Refusal, Reply};
+use txn_words::Stop;
 
 /// How often a call that takes every stripe tries to take a stripe that another caller holds. Such
 /// a caller mostly gives the stripe back within a microsecond, but later if its thread was

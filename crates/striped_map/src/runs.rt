@@ -3,8 +3,8 @@ ghost use Rattle.std.specs.Prelude.{◌≡◌, ◌≤◌, [], true, false, IfOk,
 ghost use Rattle.striped_map.specs.Runs.{DoesAll, DoesToMiss, DoesUntil, IsNotRun, IsRunTo, is_miss};
 
 use crate::caller::Caller;
-use map_answers::Stop;
 use txn_trace::{Op, Refusal, Reply};
+use txn_words::Stop;
 
 /// How a run came to its end.
 #[derive(Clone, Copy, PartialEq, Eq)]

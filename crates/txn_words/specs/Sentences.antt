@@ -1,7 +1,9 @@
--- The sentence of each refusal, for a person to read.
-use Rattle.std.specs.Prelude.{ℕ, List, codes}
+-- The sentence of each refusal and of each stop, for a person to read.
+use Rattle.std.specs.Prelude.{ℕ, List, ◌++◌, codes, decimal}
 use Rattle.txn_words.specs.declared.refusal.Refusal.{Refusal}
 use Rattle.txn_words.specs.declared.refusal.Refusal.TheVariants.{BadKey, NoSuchCaller, NotOpen, AlreadyOpen, OperationUnfinished, Leaving, Unplaced, NothingToSeek, NoSuchLevel, NoSuchBucket, ParentMissing, NoSuchHelper, HelperOutOfOrder, NoMemory, OutOfStep, StampsUsedUp, CallersMissing, NoThread, StaleWord, NotJson, WrongShape, Limit}
+use Rattle.txn_words.specs.declared.stop.Stop.{Stop}
+use Rattle.txn_words.specs.declared.stop.Stop.TheVariants as stops
 
 -- The sentence of a refusal.
 abbrev pub sentence_of : Refusal → List ℕ
@@ -27,3 +29,8 @@ sentence_of StaleWord = codes "the claim to the stripe is stale"
 sentence_of NotJson = codes "the file is not JSON"
 sentence_of WrongShape = codes "an element of the file has the wrong shape"
 sentence_of Limit = codes "a size or a number is out of range"
+
+-- The sentence of a stop: it names the caller that held the stripe, or states the refusal.
+abbrev pub stop_text : Stop → List ℕ
+stop_text (stops.Busy holder) = codes "caller " ++ (decimal holder ++ codes " held the stripe of the key")
+stop_text (stops.Refused refusal) = sentence_of refusal

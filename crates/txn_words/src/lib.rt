@@ -1,5 +1,6 @@
 //! The vocabulary of transactions on a map: operations, scripts, steps and their answers, refusals,
-//! limits, the entries of a history, a caller's seat, and the finite maps that operations act on.
+//! limits, the entries of a history, a caller's seat, the finite maps that operations act on, and
+//! why a call of a transaction stopped.
 //!
 //! `txn_trace`, which uses this crate, defines what a history means. So a crate that only names
 //! operations, entries or refusals needs none of the laws of histories.
@@ -24,6 +25,8 @@ mod script;
 mod seat;
 mod small_entry;
 mod step;
+mod stop;
+mod swapped;
 
 pub use action::Action;
 pub use answer::{Answer, answer_text};
@@ -39,3 +42,5 @@ pub use script::{Script, Scripts};
 pub use seat::{Phase, Seat};
 pub use small_entry::{SmallEntry, Unpacked};
 pub use step::{Step, entry_of};
+pub use stop::Stop;
+pub use swapped::Swapped;

@@ -1,7 +1,7 @@
 use Rattle.std.proofs.Common.{◌≡◌, ℕ, ◌<◌, List, Some, true}
 use Rattle.std.specs.Prelude.{slice_get}
 use Rattle.txn_words.specs.declared.action.Action.{Action}
-use Rattle.script_outcomes.specs.declared.outcome.Outcome.TheVariants.{GivenUp}
+use Rattle.script_worker.specs.declared.outcome.Outcome.TheVariants.{GivenUp}
 use Rattle.judge_engine.specs.Outcomes.{has_abort}
 use Rattle.judge_engine.proofs.outcomes.is_well.Given as goal
 

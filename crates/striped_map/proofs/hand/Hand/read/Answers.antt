@@ -4,7 +4,7 @@ use Rattle.txn_trace.specs.Locks.{stripe_of}
 use Rattle.txn_words.specs.Map.{Map}
 use Rattle.txn_trace.specs.Now.{now}
 use Rattle.txn_words.proofs.Maps.{same_map}
-use Rattle.map_answers.specs.declared.stop.Stop.TheVariants.{Refused}
+use Rattle.txn_words.specs.declared.stop.Stop.TheVariants.{Refused}
 use Rattle.striped_map.specs.Hands.{IsCut}
 use Rattle.striped_map.specs.Rule.{HasEnded}
 use Rattle.striped_map.specs.Seats.{known}

@@ -1,9 +1,9 @@
 use Rattle.txn_words.specs.declared.refusal.Refusal.TheVariants.{NotOpen, NoSuchLevel, NoMemory}
-use Rattle.map_answers.specs.declared.stop.Stop.TheVariants.{Refused}
+use Rattle.txn_words.specs.declared.stop.Stop.TheVariants.{Refused}
 use Rattle.std.proofs.Common.{Result, Ok, Err, OnOk, IfErr, ℕ, Some, ◌∷◌, sym, subst, refl}
 use Rattle.txn_words.specs.declared.entry.Entry.TheVariants.{Leave, Returned}
 use Rattle.striped_map.specs.declared.caller.Caller.{Caller}
-use Rattle.map_answers.specs.declared.stop.Stop.{Stop}
+use Rattle.txn_words.specs.declared.stop.Stop.{Stop}
 use Rattle.striped_map.specs.Callers.{number, changes_above, IsNotBack, IsStep, IsWithin}
 use Rattle.striped_map.specs.Steps.{undoing}
 use Rattle.striped_map.proofs.CallSpans.{keeps_by, within_back, within_kept, within_same}

@@ -1,7 +1,7 @@
 use Rattle.std.proofs.Common.{Result, Ok, Err, OnOk, OnErr, ℕ, [], ◌∷◌, refl}
 use Rattle.txn_words.specs.declared.entry.Entry.TheVariants.{Saved}
 use Rattle.striped_map.specs.declared.caller.Caller.{Caller}
-use Rattle.map_answers.specs.declared.stop.Stop.{Stop}
+use Rattle.txn_words.specs.declared.stop.Stop.{Stop}
 use Rattle.striped_map.specs.Callers.{number, IsStep, IsWithin}
 use Rattle.striped_map.proofs.CallSpans.{keeps_by, within_saved, within_none}
 use Rattle.striped_map.proofs.transaction.Transaction.save.Goals as goal

@@ -1,3 +1,0 @@
-pub mod Vocabulary
-pub mod Lives
-pub mod Turns

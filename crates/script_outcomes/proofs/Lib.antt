@@ -1,9 +1,0 @@
-pub mod Parts
-pub mod Strides
-pub mod OutcomeSteps
-pub mod Starting
-pub mod Running
-pub mod Searching
-pub mod Counting
-pub mod Numbering
-pub mod Played

@@ -1,5 +1,0 @@
-use Rattle.script_outcomes.proofs.Numbering.{commit_plays}
-use Rattle.script_outcomes.proofs.laws.committed_plays.Goals as goal
-
-pub returns : goal.returns
-returns c caller place entry script h shape commits = commit_plays caller place entry script h shape commits

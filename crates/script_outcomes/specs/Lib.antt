@@ -1,4 +1,0 @@
-pub mod Matches
-pub mod Outcomes
-pub mod Texts
-pub mod Ways
