@@ -8,12 +8,11 @@
 //! has kept the room for the caller.
 ghost use Rattle.std.specs.Prelude.{◌≡◌, ◌≤◌, IfOk, IfErr, OnOk, OnErr, length, vec_len};
 
-use crate::c_entry::CEntry;
 use crate::counts::Counts;
-use crate::striped_run::read_operations;
+use crate::striped_run::Named;
 use std::alloc::Global;
 use striped_map::{Caller, Host, Opening, RunEnd, Stop};
-use txn_trace::{Op, Reply};
+use txn_trace::Reply;
 
 /// What a member has besides its caller.
 #[derive(Drop)]
@@ -27,7 +26,7 @@ pub struct Group {
 }
 
 /// A caller of a striped map, the counts of its transactions, and its group. It keeps the room for
-/// the operations and the replies of a run for the next run.
+/// the replies of a run for the next run.
 ///
 /// Every call writes to the caller. So no other thread may write to the same line of the cache, or
 /// each of its writes would slow the call down. Processors fetch lines of 64 bytes in pairs, so two
@@ -41,16 +40,14 @@ pub struct Member {
     before: [u64; 16],
     pub(crate) caller: Caller,
     pub(crate) counts: Counts,
-    ops: Vec<Op>,
     pub(crate) replies: Vec<Reply>,
     pub(crate) group: Group,
     behind: [u64; 16],
 }
 
 impl Member {
-    ghost use Rattle.boostmap_c.specs.Counting.{none_ended};
-    ghost use Rattle.boostmap_c.specs.Entries.{op_of, IsUnreadable};
-    ghost use Rattle.boostmap_c.specs.StripedRuns.{RunsOn};
+    ghost use Rattle.boostmap_c.specs.Counting.{counted_run, none_ended};
+    ghost use Rattle.boostmap_c.specs.StripedRuns.{Runs, ops_in};
 
     /// A member with this caller and this group.
     pub(crate) fn new(alloc: Global, caller: Caller, group: Group) -> Member
@@ -62,7 +59,6 @@ impl Member {
             before: [0; 16],
             caller,
             counts: Counts::none(),
-            ops: Vec::new(alloc),
             replies: Vec::new(alloc),
             group,
             behind: [0; 16],
@@ -70,25 +66,18 @@ impl Member {
     }
 
     /// Has the caller run a transaction of these operations, and counts its end. The replies are
-    /// then in the member's list. If the operations cannot be read, returns the status for that.
-    pub(crate) fn run(
-        &mut self,
-        operations: &[CEntry],
-        strict: bool,
-    ) -> Result<Result<RunEnd, Stop>, u32>
+    /// then in the member's list.
+    pub(crate) fn run(&mut self, ops: &Named<'_>, strict: bool) -> Result<RunEnd, Stop>
         ensures group { self.new.group ≡ self.old.group }
-        ensures ok { IfOk result (λ answer. RunsOn operations.now strict self.new.replies.items
-            self.old.caller self.old.counts answer self.new.caller self.new.counts) }
-        ensures few { OnOk result (vec_len self.new.replies ≤ length operations.now) }
-        ensures err { IfErr result (IsUnreadable op_of operations.now) }
-        ensures unchanged { OnErr result ((self.new.caller ≡ self.old.caller)
-            × (self.new.counts ≡ self.old.counts)) }
+        ensures runs { Runs strict (ops_in ops.now.entries.now) self.new.replies.items
+            self.old.caller result self.new.caller }
+        ensures few { vec_len self.new.replies ≤ length (ops_in ops.now.entries.now) }
+        ensures counts { self.new.counts ≡ counted_run self.old.counts result }
     {
-        read_operations(operations, &mut self.ops)?;
         self.replies.clear();
-        let answer = self.caller.run(&self.ops, strict, &mut self.replies);
+        let answer = self.caller.run_each(ops, strict, &mut self.replies);
         self.counts.see_run(&answer);
-        Ok(answer)
+        answer
     }
 
     /// The caller, without the group and the room.
@@ -99,7 +88,6 @@ impl Member {
             before: _,
             caller,
             counts: _,
-            ops: _,
             replies: _,
             group: _,
             behind: _,

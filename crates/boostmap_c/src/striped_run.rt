@@ -1,14 +1,15 @@
 //! Runs a whole transaction of a striped map's caller by one call. C passes the operations as
 //! entries, as the judge reads them, and gets the replies.
-ghost use Rattle.std.specs.Prelude.{◌≡◌, ◌≤◌, Some, IfErr, OnOk, length, map, vec_len};
-ghost use Rattle.boostmap_c.specs.Entries.{op_of, IsUnreadable};
-ghost use Rattle.boostmap_c.specs.StripedRuns.{LieReplies, TellsRun, c_reply_of};
+ghost use Rattle.std.specs.Prelude.{◌≡◌, ◌≤◌, Some, None, IfSome, length, map};
+ghost use Rattle.boostmap_c.specs.Entries.{op_of};
+ghost use Rattle.boostmap_c.specs.StripedRuns.{IsUnnamed, LieReplies, TellsRun, c_reply_of, ops_in};
 
 use crate::c_entry::CEntry;
 use crate::member_handle::CallerHandle;
-use crate::status::{EMPTY, NO_ENTRY, SHORT, refused};
+use crate::status::{EMPTY, NO_ENTRY, SHORT};
 use crate::stops::tell_run;
-use txn_trace::{Op, Refusal, Reply};
+use striped_map::Operations;
+use txn_trace::{Op, Reply};
 
 /// The reply to an operation.
 #[repr(C)]
@@ -32,24 +33,36 @@ impl CReply {
     }
 }
 
-/// Puts the operations that these entries name into the list, in place of what it has. On an error,
-/// returns the status.
-pub(crate) fn read_operations(entries: &[CEntry], ops: &mut Vec<Op>) -> Result<(), u32>
-    ensures ok { OnOk result (map Some ops.new.items ≡ map op_of entries.now) }
-    ensures len { OnOk result (vec_len ops.new ≡ length entries.now) }
-    ensures err { IfErr result (IsUnreadable op_of entries.now) }
+/// Entries that each name an operation.
+#[derive(Drop)]
+pub(crate) struct Named<'a> {
+    entries: &'a [CEntry],
+    ghost all: { map Some (ops_in entries.now) ≡ map op_of entries.now },
+}
+
+impl Operations for Named<'_> {
+    ghost use Rattle.boostmap_c.specs.StripedRuns.{ops_in};
+
+    ghost ops_of = { λ named. ops_in named.entries.now };
+
+    fn count(&self) -> usize {
+        self.entries.len()
+    }
+
+    fn at(&self, place: usize) -> Op {
+        self.entries[place].op().unwrap_or(Op::Get(0))
+    }
+}
+
+/// The entries, if each names an operation.
+fn named(entries: &[CEntry]) -> Option<Named<'_>>
+    ensures some { IfSome result (λ named. named.entries.now ≡ entries.now) }
+    ensures none { result ≡ None → IsUnnamed entries.now }
 {
-    ops.clear();
-    if ops.reserve(entries.len()).is_err() {
-        return Err(refused(Refusal::NoMemory));
+    'tests: for i in 0..entries.len() {
+        entries[i].op()?;
     }
-    'reads: for i in 0..entries.len() {
-        match entries[i].op() {
-            Some(op) => ops.push_reserved(op),
-            None => return Err(NO_ENTRY),
-        }
-    }
-    Ok(())
+    Some(Named { entries })
 }
 
 /// Writes replies to the front of an array that has room for them.
@@ -83,7 +96,7 @@ fn lay(listed: &[Reply], replies: &mut [CReply])
 /// # Cost
 ///
 /// The cost of `striped_map::Caller::run`, and a step for each operation. Takes memory for the
-/// operations and the replies, which the caller keeps for its next runs.
+/// replies, which the caller keeps for its next runs.
 #[unsafe(no_mangle)]
 pub extern "C" fn boostmap_striped_run(
     caller: &mut CallerHandle,
@@ -103,13 +116,12 @@ pub extern "C" fn boostmap_striped_run(
     if replies.len() < operations.len() {
         return SHORT;
     }
+    let Some(ops) = named(operations) else {
+        return NO_ENTRY;
+    };
     let member = caller.held.get_mut();
-    match member.run(operations, strict != 0) {
-        Ok(answer) => {
-            *done = member.replies.len() as u64;
-            lay(&member.replies, replies);
-            tell_run(answer, word)
-        }
-        Err(status) => status,
-    }
+    let answer = member.run(&ops, strict != 0);
+    *done = member.replies.len() as u64;
+    lay(&member.replies, replies);
+    tell_run(answer, word)
 }
