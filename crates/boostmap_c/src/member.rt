@@ -28,16 +28,11 @@ pub struct Group {
 /// A caller of a striped map, the counts of its transactions, and its group. It keeps the room for
 /// the replies of a run for the next run.
 ///
-/// Every call writes to the caller. So no other thread may write to the same line of the cache, or
-/// each of its writes would slow the call down. Processors fetch lines of 64 bytes in pairs, so two
-/// such writes should be 128 bytes apart. An allocator aligns a block only to 16 bytes, and puts
-/// blocks that are taken one after another side by side. Therefore 128 bytes lie on each side of
-/// the caller, which no call reads or writes after the member is made. `#[repr(C)]` keeps the
-/// fields in this order.
+/// A call also writes to the counts and the replies. In front of them lies the caller, whose own
+/// fields lie apart from all others. Behind them lie 128 bytes that no call reads or writes.
 #[repr(C)]
 #[derive(Drop)]
 pub struct Member {
-    before: [u64; 16],
     pub(crate) caller: Caller,
     pub(crate) counts: Counts,
     pub(crate) replies: Vec<Reply>,
@@ -56,7 +51,6 @@ impl Member {
         ensures counts { result.counts ≡ none_ended }
     {
         Member {
-            before: [0; 16],
             caller,
             counts: Counts::none(),
             replies: Vec::new(alloc),
@@ -85,7 +79,6 @@ impl Member {
         ensures { result ≡ self.caller }
     {
         let Member {
-            before: _,
             caller,
             counts: _,
             replies: _,

@@ -66,14 +66,7 @@ pub extern "C" fn boostmap_striped_get(caller: &mut CallerHandle, key: u64, word
 ///
 /// # Errors
 ///
-/// The status is one of these:
-///
-/// - 3 if the handle has no caller.
-/// - 2 if another caller held the key's stripe. The word is that caller's number. The transaction
-///   is then aborted, and all its changes are taken back.
-/// - 19 (`NotOpen`) if the caller has no transaction.
-/// - 30 (`NoMemory`) if memory is refused. The transaction is then unchanged, but it may hold the
-///   key's stripe.
+/// Those of `boostmap_striped_get`.
 ///
 /// # Cost
 ///
@@ -101,14 +94,7 @@ pub extern "C" fn boostmap_striped_put(
 ///
 /// # Errors
 ///
-/// The status is one of these:
-///
-/// - 3 if the handle has no caller.
-/// - 2 if another caller held the key's stripe. The word is that caller's number. The transaction
-///   is then aborted, and all its changes are taken back.
-/// - 19 (`NotOpen`) if the caller has no transaction.
-/// - 30 (`NoMemory`) if memory is refused. The transaction is then unchanged, but it may hold the
-///   key's stripe.
+/// Those of `boostmap_striped_get`.
 ///
 /// # Cost
 ///
@@ -132,14 +118,7 @@ pub extern "C" fn boostmap_striped_take(caller: &mut CallerHandle, key: u64, wor
 ///
 /// # Errors
 ///
-/// The status is one of these:
-///
-/// - 3 if the handle has no caller.
-/// - 2 if another caller held the key's stripe. The word is that caller's number. The transaction
-///   is then aborted, and all its changes are taken back.
-/// - 19 (`NotOpen`) if the caller has no transaction.
-/// - 30 (`NoMemory`) if memory is refused. The transaction is then unchanged, but it may hold the
-///   key's stripe.
+/// Those of `boostmap_striped_get`.
 ///
 /// # Cost
 ///
@@ -168,14 +147,7 @@ pub extern "C" fn boostmap_striped_put_if_absent(
 ///
 /// # Errors
 ///
-/// The status is one of these:
-///
-/// - 3 if the handle has no caller.
-/// - 2 if another caller held the key's stripe. The word is that caller's number. The transaction
-///   is then aborted, and all its changes are taken back.
-/// - 19 (`NotOpen`) if the caller has no transaction.
-/// - 30 (`NoMemory`) if memory is refused. The transaction is then unchanged, but it may hold the
-///   key's stripe.
+/// Those of `boostmap_striped_get`.
 ///
 /// # Cost
 ///
