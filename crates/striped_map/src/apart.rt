@@ -5,7 +5,7 @@
 //! pairs, so two such writes should be 128 bytes apart. An allocator aligns a block only to 16
 //! bytes, and puts blocks that are taken one after another side by side. Therefore a list leaves
 //! 128 bytes at each end of its memory, which nobody reads or writes after the memory is taken.
-ghost use Rattle.std.specs.Prelude.{◌≡◌, ℕ, ◌+◌, ◌-◌, ◌<◌, ◌≤◌, ◌^◌, ◌↔◌, [], ◌∷◌, ◌++◌, Some, IsSome, IsTrue, OnOk, OnErr, length, replicate, take, slice_get, slice_set};
+ghost use Rattle.std.specs.Prelude.{◌≡◌, ℕ, ◌+◌, ◌-◌, ◌<◌, ◌≤◌, ◌^◌, ◌↔◌, [], ◌∷◌, ◌++◌, Some, IfNone, IsTrue, OnOk, OnErr, length, replicate, take, slice_get, slice_set};
 ghost use Rattle.std.specs.Option.{option_to_list};
 
 use std::alloc::{AllocError, Global};
@@ -47,7 +47,8 @@ impl<T: Copy, const PAD: usize> Apart<T, PAD> {
     /// How many items there are.
     #[inline(always)]
     pub(crate) fn len(&self) -> usize
-        ensures { result ≡ length self.now.items }
+        ensures value { result ≡ length self.now.items }
+        ensures small { result < 2 ^ 63 }
     {
         self.places.len().saturating_sub(PAD)
     }
@@ -133,14 +134,17 @@ impl<T: Copy, const PAD: usize> Apart<T, PAD> {
         self.places.reserve(more + PAD)
     }
 
-    /// Adds an item. There must be room for it.
+    /// Adds an item at the end, and returns its place. There must be room for it.
     #[inline(always)]
-    pub(crate) fn push_reserved(&mut self, item: T)
+    pub(crate) fn push_reserved(&mut self, item: T) -> usize
         requires { 0 < self.old.room }
+        ensures place { result ≡ length self.old.items }
         ensures items { self.new.items ≡ self.old.items ++ item ∷ [] }
         ensures room { self.new.room + 1 ≡ self.old.room }
     {
+        let place = self.places.len() - PAD;
         self.places.push_reserved(item);
+        place
     }
 
     /// Takes the last item off, if there is one.
@@ -149,7 +153,7 @@ impl<T: Copy, const PAD: usize> Apart<T, PAD> {
         ensures items { self.old.items ≡ self.new.items ++ option_to_list result }
         ensures len { length self.new.items + length (option_to_list result)
             ≡ length self.old.items }
-        ensures variant { IsSome result ↔ 0 < length self.old.items }
+        ensures none { IfNone result (self.old.items ≡ []) }
     {
         if self.places.len() <= PAD {
             return None;
@@ -180,8 +184,9 @@ impl<T: Copy, const PAD: usize> Apart<T, PAD> {
     /// changes.
     pub(crate) fn fill(&mut self, len: usize, item: T) -> Result<(), AllocError>
         requires { len ≤ 4096 }
-        ensures items { OnOk result (self.new.items ≡ self.old.items
-            ++ replicate (len - length self.old.items) item) }
+        ensures items { self.new.items ≡ self.old.items
+            ++ replicate (length self.new.items - length self.old.items) item }
+        ensures long { OnOk result (len ≤ length self.new.items) }
         ensures err { OnErr result (self.new ≡ self.old) }
     {
         let more = len.saturating_sub(self.len());
