@@ -12,11 +12,10 @@ use Rattle.striped_map.specs.Sound.{IsIndexed}
 use Rattle.striped_map.proofs.Hands.{push_at}
 
 -- If a list is made longer at its end, each of its elements keeps its place.
-pub resized_at : (xs ys : List ℕ) (n i a : ℕ) → length xs ≤ n → slice_get xs i ≡ Some a → slice_get (take n xs ++ ys) i ≡ Some a
-resized_at [] ys n i a le e = absurd (none-some a e)
-resized_at (x ∷ xs) ys zero i a le e = absurd (omega arith)
-resized_at (x ∷ xs) ys (suc n) zero a le e = e
-resized_at (x ∷ xs) ys (suc n) (suc i) a le e = resized_at xs ys n i a (omega arith) e
+pub appended_at : (xs ys : List ℕ) (i a : ℕ) → slice_get xs i ≡ Some a → slice_get (xs ++ ys) i ≡ Some a
+appended_at [] ys i a e = absurd (none-some a e)
+appended_at (x ∷ xs) ys zero a e = e
+appended_at (x ∷ xs) ys (suc i) a e = appended_at xs ys i a e
 
 set_here : (xs : List ℕ) (i a : ℕ) → i < length xs → slice_get (set xs i a) i ≡ Some a
 set_here [] i a lt = absurd (omega arith)

@@ -10,12 +10,13 @@ ghost use Rattle.striped_map.specs.Rule.{Holds};
 ghost use Rattle.striped_map.specs.Seats.{HoldsAll, IsOf, known, part_in, stripes_of};
 ghost use Rattle.striped_map.specs.Sound.{held_parts, with_part};
 
+use crate::hand::Numbers;
 use crate::map::StripedMap;
 use crate::seat::MapSeat;
 use std::alloc::{AllocError, Global};
 
 /// How many pairs the parts of the held stripes have, or `None` if 64 bits cannot count them.
-pub(crate) fn count_of(map: &StripedMap, seat: &mut MapSeat, held: &Vec<usize>) -> Option<u64>
+pub(crate) fn count_of(map: &StripedMap, seat: &mut MapSeat, held: &Numbers) -> Option<u64>
     requires seat { IsOf seat.old map.now }
     requires held { HoldsAll (known seat.old) held.now.items }
     ensures seat { IsOf seat.new map.now }
@@ -26,7 +27,7 @@ pub(crate) fn count_of(map: &StripedMap, seat: &mut MapSeat, held: &Vec<usize>) 
 {
     let mut count: u64 = 0;
     for place in 0..held.len() {
-        count = count.checked_add(map.count(seat, held[place]))?;
+        count = count.checked_add(map.count(seat, held.at(place)))?;
     }
     Some(count)
 }
@@ -71,7 +72,7 @@ pub(crate) fn pairs_of(
     alloc: Global,
     map: &StripedMap,
     seat: &mut MapSeat,
-    held: &Vec<usize>,
+    held: &Numbers,
 ) -> Result<Vec<(u64, u64)>, AllocError>
     requires seat { IsOf seat.old map.now }
     requires held { HoldsAll (known seat.old) held.now.items }
@@ -83,7 +84,7 @@ pub(crate) fn pairs_of(
 {
     let mut pairs = Vec::new(alloc);
     for place in 0..held.len() {
-        add_pairs(alloc, map, seat, held[place], &mut pairs)?;
+        add_pairs(alloc, map, seat, held.at(place), &mut pairs)?;
     }
     Ok(pairs)
 }

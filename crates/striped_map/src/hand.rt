@@ -2,7 +2,7 @@
 //!
 //! The parts of the stripes that the hand holds stay in their slots. A method may be called only in
 //! the right phase of a transaction, which the hand does not test.
-ghost use Rattle.std.specs.Prelude.{◌≡◌, ◌≢◌, ℕ, ◌+◌, ◌-◌, ◌/◌, ◌<◌, ◌≤◌, ◌%◌, ◌^◌, [], ◌∷◌, IfOk, IfErr, IfSome, OnOk, OnErr, None, Some, true, slice_get, slice_index, length, take, drop, vec_len, vec_capacity};
+ghost use Rattle.std.specs.Prelude.{◌≡◌, ◌≢◌, ℕ, ◌+◌, ◌-◌, ◌/◌, ◌<◌, ◌≤◌, ◌%◌, ◌^◌, [], ◌∷◌, IfOk, IfErr, IfSome, OnOk, OnErr, None, Some, true, slice_get, slice_index, length, take, drop};
 ghost use mathlib.Core.List.{IsPrefix};
 ghost use Rattle.txn_words.specs.declared.entry.Entry.TheVariants.{Began, Asked, Did, Saved, Leave, Returned, Committed};
 ghost use Rattle.txn_words.specs.declared.seat.Phase.TheVariants.{Closed, Opened};
@@ -27,6 +27,7 @@ ghost use Rattle.striped_map.specs.Sound.{AreHeld, AreLogged, IsIndexed, IsSound
 ghost use Rattle.striped_map.specs.Steps.{AreMade, Gathers, IsAt, SeesIn, counting, renumbered, seat_of, taken_in, told_of, rolled_back, undoing};
 
 use crate::addition::Addition;
+use crate::apart::Apart;
 use crate::contents;
 use crate::keep::Keep;
 use crate::map::{StripedMap, Taken};
@@ -46,14 +47,26 @@ const TRIES: usize = 1_000_000;
 /// sub-key, and the value before the change.
 type Change = (usize, u64, Option<u64>);
 
+/// A value for places without a change.
+const NO_CHANGE: Change = (0, 0, None);
+
+/// A list of stripes, or of numbers of changes. A number takes 8 bytes.
+pub(crate) type Numbers = Apart<usize, 16>;
+
+/// For each stripe, a place. It takes 2 bytes.
+type Index = Apart<u16, 64>;
+
+/// The changes, the newest last. Each takes 32 bytes.
+type Order = Apart<Change, 4>;
+
 /// A seat, the stripes that it holds, and the changes that can be taken back. A hand may be dropped
 /// only if it holds no stripe.
 pub(crate) struct Hand {
     pub(crate) seat: MapSeat,
-    held: Vec<usize>,
-    index: Vec<u16>,
-    order: Vec<Change>,
-    levels: Vec<usize>,
+    held: Numbers,
+    index: Index,
+    order: Order,
+    levels: Numbers,
     ghost sound: { IsSound seat.seat.table_id.slots (known seat) (held_parts seat held.items)
         order.items levels.items },
     ghost indexed: { IsIndexed held.items index.items },
@@ -63,54 +76,29 @@ pub(crate) struct Hand {
 /// place for a stripe that is not held, so the function also tests that the list has the stripe at
 /// this place.
 #[inline(always)]
-fn place_of(held: &Vec<usize>, index: &Vec<u16>, stripe: usize) -> Option<usize>
-    requires { IsIndexed held.now.items index.now.items }
+fn place_of(held: &Numbers, index: &Index, stripe: usize) -> Option<usize>
+    requires indexed { IsIndexed held.now.items index.now.items }
+    requires small { stripe < 2 ^ 63 }
     ensures some { IfSome result (λ place. slice_get held.now.items place ≡ Some stripe) }
     ensures none { result ≡ None → (place : ℕ)
         → slice_get held.now.items place ≢ Some stripe }
 {
     let found = index.get(stripe)?;
-    let place = usize::from(*found);
-    if *held.get(place)? == stripe {
+    let place = usize::from(found);
+    if held.get(place)? == stripe {
         Some(place)
     } else {
         None
     }
 }
 
-/// Makes the index long enough for all stripes. Takes memory only if the index is too short.
-#[tactic(auto, using(crate::proofs::Index::resized_at))]
-fn widen(index: &mut Vec<u16>, stripes: usize) -> Result<(), AllocError>
-    ensures long { OnOk result (stripes ≤ vec_len index.new) }
-    ensures keeps { (stripe place : ℕ) → slice_get index.old.items stripe ≡ Some place
-        → slice_get index.new.items stripe ≡ Some place }
-    ensures err { OnErr result (index.new.items ≡ index.old.items) }
-{
-    if index.len() < stripes {
-        index.resize(stripes, 0)?;
-    }
-    Ok(())
-}
-
-/// Makes room for one more change. Tests first whether there is room, since `reserve` is a call.
-#[inline(always)]
-fn room_for_one(order: &mut Vec<Change>) -> Result<(), AllocError>
-    ensures items { order.new.items ≡ order.old.items }
-    ensures room { OnOk result (vec_len order.new < vec_capacity order.new) }
-{
-    if order.len() < order.capacity() {
-        return Ok(());
-    }
-    order.reserve(1)
-}
-
 /// How many changes the transaction had when the savepoint of this level was set. For level 0 this
 /// is 0.
-fn mark_of(levels: &Vec<usize>, level: usize) -> usize
-    requires { level ≤ vec_len levels.now }
+fn mark_of(levels: &Numbers, level: usize) -> usize
+    requires { level ≤ length levels.now.items }
     ensures { result ≡ slice_index (0 ∷ levels.now.items) level }
 {
-    if level == 0 { 0 } else { levels[level - 1] }
+    if level == 0 { 0 } else { levels.at(level - 1) }
 }
 
 /// The same operation on another key.
@@ -128,15 +116,9 @@ fn under(op: Op, key: u64) -> Op
 
 /// Takes changes back in the parts of the held stripes, the newest change first, until `mark`
 /// changes remain. Takes no memory.
-fn take_back(
-    map: &StripedMap,
-    seat: &mut MapSeat,
-    held: &Vec<usize>,
-    order: &mut Vec<Change>,
-    mark: usize,
-)
+fn take_back(map: &StripedMap, seat: &mut MapSeat, held: &Numbers, order: &mut Order, mark: usize)
     requires map { IsOf seat.old map.now }
-    requires mark { mark ≤ vec_len order.old }
+    requires mark { mark ≤ length order.old.items }
     requires parts { AreHeld (stripes_of map.now) (known seat.old)
         (held_parts seat.old held.now.items) (now (known seat.old).seen) }
     requires logged { AreLogged (stripes_of map.now) (held_parts seat.old held.now.items)
@@ -145,22 +127,22 @@ fn take_back(
     ensures known { known seat.new ≡ known seat.old }
     ensures parts { AreHeld (stripes_of map.now) (known seat.old)
         (held_parts seat.new held.now.items) (rolled_back (now (known seat.old).seen)
-        (take (vec_len order.old - mark) (due (known seat.old)))) }
+        (take (length order.old.items - mark) (due (known seat.old)))) }
     ensures logged { AreLogged (stripes_of map.now) (held_parts seat.new held.now.items)
-        order.new.items (drop (vec_len order.old - mark) (due (known seat.old))) }
-    ensures len { vec_len order.new ≡ mark }
+        order.new.items (drop (length order.old.items - mark) (due (known seat.old))) }
+    ensures len { length order.new.items ≡ mark }
     ensures room { HasRoom seat.old → HasRoom seat.new }
 {
     while mark < order.len() {
         let Some((place, key, before)) = order.pop() else {
             unreachable!()
         };
-        map.take_back(seat, held[place], key, before);
+        map.take_back(seat, held.at(place), key, before);
     }
 }
 
 /// Gives all stripes back. The transaction must be over.
-fn give_all(map: &StripedMap, seat: &mut MapSeat, held: &mut Vec<usize>)
+fn give_all(map: &StripedMap, seat: &mut MapSeat, held: &mut Numbers)
     requires map { IsOf seat.old map.now }
     requires over { IsAt Closed (known seat.old) }
     requires parts { AreHeld (stripes_of map.now) (known seat.old)
@@ -186,10 +168,10 @@ impl Hand {
     {
         Hand {
             seat,
-            held: Vec::new(alloc),
-            index: Vec::new(alloc),
-            order: Vec::new(alloc),
-            levels: Vec::new(alloc),
+            held: Apart::new(alloc),
+            index: Apart::new(alloc),
+            order: Apart::new(alloc),
+            levels: Apart::new(alloc),
         }
     }
 
@@ -236,7 +218,7 @@ impl Hand {
         if let Some(place) = place_of(&self.held, &self.index, stripe) {
             return Ok(place);
         }
-        if self.held.len() < self.held.capacity() && map.stripes() <= self.index.len() {
+        if self.held.has_room() && self.index.has(stripe) {
             return self.take(map, stripe);
         }
         self.take_with_room(map, stripe)
@@ -259,10 +241,10 @@ impl Hand {
         ensures levels { self.new.levels ≡ self.old.levels }
         ensures miss { IfErr result (IsMiss (known self.new.seat)) }
     {
-        if self.held.reserve(1).is_err() {
+        if self.held.reserve(1, 0).is_err() {
             return Err(Stop::Refused(Refusal::NoMemory));
         }
-        let Ok(()) = widen(&mut self.index, map.stripes()) else {
+        let Ok(()) = self.index.fill(map.stripes(), 0) else {
             return Err(Stop::Refused(Refusal::NoMemory));
         };
         self.take(map, stripe)
@@ -276,8 +258,8 @@ impl Hand {
         requires open { IsAt Opened (known self.old.seat) }
         requires stripe { stripe < stripes_of map.now }
         requires away { (place : ℕ) → slice_get self.old.held.items place ≢ Some stripe }
-        requires room { vec_len self.old.held < vec_capacity self.old.held }
-        requires index { stripe < vec_len self.old.index }
+        requires room { 0 < self.old.held.room }
+        requires index { stripe < length self.old.index.items }
         ensures map { IsOf self.new.seat map.now }
         ensures open { IsAt Opened (known self.new.seat) }
         ensures goes_on { GoesOn map.now self.old self.new }
@@ -289,10 +271,9 @@ impl Hand {
     {
         match map.take(&mut self.seat, stripe) {
             Taken::Granted => {
-                let place = self.held.len();
-                self.held.push_reserved(stripe);
+                let place = self.held.push_reserved(stripe);
                 // A map has at most 4,096 stripes, so a place is below 4,096.
-                self.index[stripe] = place as u16;
+                self.index.set(stripe, place as u16);
                 Ok(place)
             }
             Taken::Denied(holder) => Err(Stop::Busy { holder }),
@@ -547,7 +528,7 @@ impl Hand {
             ≡ Some (stripe_of (stripes_of map.now) (key_of op)) }
         requires sub_key { sub_key ≡ key_of op / stripes_of map.now }
         requires room { may_change op ≡ true
-            → vec_len self.old.order < vec_capacity self.old.order }
+            → 0 < self.old.order.room }
         requires records { HasRoom self.old.seat }
         ensures map { IsOf self.new.seat map.now }
         ensures open { IsAt Opened (known self.new.seat) }
@@ -559,7 +540,7 @@ impl Hand {
         ensures unmoved { OnErr result (MovesHand map.now self.old [] self.new) }
         ensures still { (known self.new.seat).held ≡ (known self.old.seat).held }
     {
-        let stripe = self.held[place];
+        let stripe = self.held.at(place);
         let reply = map.apply(&mut self.seat, stripe, under(op, sub_key))?;
         map.add(
             &mut self.seat,
@@ -589,7 +570,7 @@ impl Hand {
             ≡ Some (stripe_of (stripes_of map.now) (key_of op)) }
         requires sub_key { sub_key ≡ key_of op / stripes_of map.now }
         requires room { may_change op ≡ true
-            → vec_len self.old.order < vec_capacity self.old.order }
+            → 0 < self.old.order.room }
         ensures map { IsOf self.new.seat map.now }
         ensures open { IsAt Opened (known self.new.seat) }
         ensures levels { self.new.levels ≡ self.old.levels }
@@ -630,7 +611,7 @@ impl Hand {
             (known self.new.seat).held }
         ensures err { IfErr result (IsStopped map.now self.old op self.new) }
     {
-        if op.may_change() && room_for_one(&mut self.order).is_err() {
+        if op.may_change() && self.order.reserve(1, NO_CHANGE).is_err() {
             return Err(Stop::Refused(Refusal::NoMemory));
         }
         let stripes = map.stripes() as u64;
@@ -656,7 +637,7 @@ impl Hand {
         requires open { IsAt Opened (known self.old.seat) }
         ensures map { IsOf self.new.seat map.now }
         ensures open { IsAt Opened (known self.new.seat) }
-        ensures levels { OnOk result (vec_len self.new.levels ≡ vec_len self.old.levels + 1) }
+        ensures levels { OnOk result (length self.new.levels.items ≡ length self.old.levels.items + 1) }
         ensures ok { IfOk result (λ level. (level + 1 ≡ length (seat_of (known self.new.seat)).kept)
             × MovesHand map.now self.old (Saved (known self.old.seat).number ∷ []) self.new) }
         ensures refused { IfErr result (λ refusal. refusal ≡ NoMemory) }
@@ -675,14 +656,14 @@ impl Hand {
         requires records { HasRoom self.old.seat }
         ensures map { IsOf self.new.seat map.now }
         ensures open { IsAt Opened (known self.new.seat) }
-        ensures levels { OnOk result (vec_len self.new.levels ≡ vec_len self.old.levels + 1) }
+        ensures levels { OnOk result (length self.new.levels.items ≡ length self.old.levels.items + 1) }
         ensures ok { IfOk result (λ level. (level + 1 ≡ length (seat_of (known self.new.seat)).kept)
             × MovesHand map.now self.old (Saved (known self.old.seat).number ∷ []) self.new) }
         ensures refused { IfErr result (λ refusal. refusal ≡ NoMemory) }
         ensures still { (known self.new.seat).held ≡ (known self.old.seat).held }
         ensures unchanged { OnErr result (self.new.seat ≡ self.old.seat) }
     {
-        self.levels.reserve(1)?;
+        self.levels.reserve(1, 0)?;
         let keep = self.seat.keep;
         map.add(
             &mut self.seat,
@@ -710,7 +691,7 @@ impl Hand {
         requires level { level < length (seat_of (known self.old.seat)).kept }
         ensures map { IsOf self.new.seat map.now }
         ensures open { IsAt Opened (known self.new.seat) }
-        ensures levels { OnOk result (vec_len self.new.levels ≡ level) }
+        ensures levels { OnOk result (length self.new.levels.items ≡ level) }
         ensures still { (known self.new.seat).held ≡ (known self.old.seat).held }
         ensures moves { OnOk result (MovesHand map.now self.old
             (Leave (known self.old.seat).number (Some level) ∷ undoing (known self.old.seat).number
@@ -733,7 +714,7 @@ impl Hand {
         requires records { HasRoom self.old.seat }
         ensures map { IsOf self.new.seat map.now }
         ensures open { IsAt Opened (known self.new.seat) }
-        ensures levels { vec_len self.new.levels ≡ level }
+        ensures levels { length self.new.levels.items ≡ level }
         ensures still { (known self.new.seat).held ≡ (known self.old.seat).held }
         ensures moves { MovesHand map.now self.old
             (Leave (known self.old.seat).number (Some level) ∷ undoing (known self.old.seat).number

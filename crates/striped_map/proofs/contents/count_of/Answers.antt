@@ -4,14 +4,12 @@ use Rattle.txn_words.specs.Map.{count_of}
 use Rattle.striped_map.specs.Contents.{count_at}
 use Rattle.striped_map.specs.Seats.{part_in}
 use Rattle.striped_map.specs.Sound.{held_parts}
-use Rattle.striped_map.proofs.Hands.{read_at}
 use Rattle.striped_map.proofs.PartPairs.{sum_drop}
 use Rattle.striped_map.proofs.contents.count_of.Goals as goal
 
 pub loop-place-preserved : goal.loop-place-preserved
-loop-place-preserved c = let inv = c.loop-place.invariant in let a = c.args.seat.now in let ks = c.args.held.now.items in let place = c.loop-place.place in let k : ℕ = c.index.result.now in
-    let t = c.loop-place-test.true in let l = c.len-place-end.ensures in let o = c.args.held.now.ok.0 in
-    let at : slice_get ks place ≡ Some k = read_at ks place k (omega arith) c.index.ensures in
+loop-place-preserved c = let inv = c.loop-place.invariant in let a = c.args.seat.now in let ks = c.args.held.now.items in let place = c.loop-place.place in let k : ℕ = c.at.result in
+    let at : slice_get ks place ≡ Some k = c.at.ensures in
     let found : c.count.result ≡ count_of (part_in a k).content = c.count.ensures.count ∙ ap (λ (f : ℕ → PartAt). count_of (f k).content) inv.parts in
     let sum : c.in_ok-count.count ≡ c.loop-place.count + c.count.result = search rules in
     let left = sum_drop (part_in a) ks place k at in

@@ -3,14 +3,12 @@ use Rattle.stripe_part.specs.PartAt.{PartAt}
 use Rattle.striped_map.specs.Contents.{pairs_at, pairs_in}
 use Rattle.striped_map.specs.Seats.{part_in}
 use Rattle.striped_map.specs.Sound.{held_parts, with_part}
-use Rattle.striped_map.proofs.Hands.{read_at}
 use Rattle.striped_map.proofs.PartPairs.{pairs_take}
 use Rattle.striped_map.proofs.contents.pairs_of.Goals as goal
 
 pub loop-place-preserved : goal.loop-place-preserved
-loop-place-preserved c = let inv = c.loop-place.invariant in let n = c.args.map.now.table.shared.table_id.slots in let a = c.args.seat.now in let ks = c.args.held.now.items in let place = c.loop-place.place in let k : ℕ = c.index.result.now in
-    let t = c.loop-place-test.true in let l = c.len-place-end.ensures in let o = c.args.held.now.ok.0 in
-    let at : slice_get ks place ≡ Some k = read_at ks place k (omega arith) c.index.ensures in
+loop-place-preserved c = let inv = c.loop-place.invariant in let n = c.args.map.now.table.shared.table_id.slots in let a = c.args.seat.now in let ks = c.args.held.now.items in let place = c.loop-place.place in let k : ℕ = c.at.result in
+    let at : slice_get ks place ≡ Some k = c.at.ensures in
     let next : pairs_in n (held_parts a (take (suc place) ks)) ≡ pairs_in n (held_parts a (take (place + 1) ks)) = (let one : suc place ≡ place + 1 = omega arith in ap (λ (i : ℕ). pairs_in n (held_parts a (take i ks))) one) in
     record {
       seat = c.add_pairs.ensures.seat;

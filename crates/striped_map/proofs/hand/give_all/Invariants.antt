@@ -1,4 +1,4 @@
-use Rattle.std.specs.Prelude.{◌≡◌, vec_len}
+use Rattle.std.specs.Prelude.{◌≡◌, length}
 use Rattle.txn_trace.specs.Now.{now}
 use Rattle.txn_words.specs.declared.seat.Phase.TheVariants.{Closed}
 use Rattle.striped_map.specs.Handling.{idle}
@@ -16,4 +16,4 @@ invariant-loop-stripe l = record {
 }
 
 abbrev pub decreases-loop-stripe : goal.decreases-loop-stripe
-decreases-loop-stripe l = vec_len l.held
+decreases-loop-stripe l = length l.held.items

@@ -1,5 +1,4 @@
-use Rattle.std.specs.Prelude.{vec_len}
-use Rattle.std.proofs.Common.{◌≡◌, ℕ, suc, ◌-◌, ◌/◌, ◌<◌, List, [], ◌∷◌, ◌++◌, Some, slice_get, length, sym, refl, ap, subst, ◌∙◌, arith}
+use Rattle.std.proofs.Common.{◌≡◌, ℕ, suc, ◌-◌, ◌/◌, ◌<◌, List, [], ◌∷◌, ◌++◌, Some, slice_get, length, sym, refl, ap, subst, ◌∙◌, arith, lit<}
 use Rattle.std.proofs.lemmas.Option.{same_Some, slice_get_within}
 use Rattle.txn_trace.specs.Locks.{stripe_of}
 use Rattle.txn_trace.specs.Now.{now}
@@ -10,20 +9,20 @@ use Rattle.striped_map.specs.Additions.{due}
 use Rattle.striped_map.specs.Rule.{Holds}
 use Rattle.striped_map.specs.Seats.{known, part_in}
 use Rattle.striped_map.specs.Sound.{AreHeld, AreLogged, Change, HeldPart, held_parts, with_part}
-use Rattle.striped_map.proofs.Hands.{Job, newest, newest_owed, holds_in, read_at, stripes_with, with_at, parts_back, logged_back, parts_worked, back_step, back_done}
+use Rattle.striped_map.proofs.Hands.{Job, newest, newest_owed, holds_in, stripes_with, with_at, parts_back, logged_back, parts_worked, back_step, back_done}
 use Rattle.striped_map.proofs.hand.take_back.Goals as goal
 
 pub loop-order-init : goal.loop-order-init
 loop-order-init c = let v = known c.args.seat.now in let m = c.requires.mark in
-    (now v.seen, due v, vec_len c.args.order.now - c.args.mark, omega arith, c.requires.parts, c.requires.logged, refl, refl, c.requires.map, refl, λ room. room)
+    (now v.seen, due v, length c.args.order.now.items - c.args.mark, omega arith, c.requires.parts, c.requires.logged, refl, refl, c.requires.map, refl, λ room. room)
 
-pub index-requires : goal.index-requires
-index-requires c = let inv = c.loop-order.invariant in let n = c.args.map.now.table.shared.table_id.slots in let v = known c.args.seat.now in let a = c.loop-order.seat in let ks = c.args.held.now.items in
+pub at-requires : goal.at-requires
+at-requires c = let inv = c.loop-order.invariant in let n = c.args.map.now.table.shared.table_id.slots in let v = known c.args.seat.now in let a = c.loop-order.seat in let ks = c.args.held.now.items in
     let place = c.in-Some.place in let change : Change = (place, c.in-Some.key, c.in-Some.before) in let rest = c.pop.new.self.items in
     let logged : AreLogged n (held_parts a ks) (rest ++ change ∷ []) inv.1 = subst (λ (l : List Change). AreLogged n (held_parts a ks) l inv.1) c.in-Some.ensures.items inv.5 in
     let first = newest n (held_parts a ks) rest change inv.1 logged in
     let there : slice_get ks place ≡ Some (stripe_of n first.job.0) = ap (λ (l : List ℕ). slice_get l place) (sym (stripes_with (part_in a) ks)) ∙ first.place_is in
-    let within : place < length ks = slice_get_within ks place _ there in let o = c.args.held.now.ok.0 in omega arith
+    (lit< tt, slice_get_within ks place _ there)
 
 pub take_back-requires-clause-held : goal.take_back-requires-clause-held
 take_back-requires-clause-held c = let inv = c.loop-order.invariant in let n = c.args.map.now.table.shared.table_id.slots in let v = known c.args.seat.now in let a = c.loop-order.seat in let ks = c.args.held.now.items in
@@ -31,8 +30,8 @@ take_back-requires-clause-held c = let inv = c.loop-order.invariant in let n = c
     let logged : AreLogged n (held_parts a ks) (rest ++ change ∷ []) inv.1 = subst (λ (l : List Change). AreLogged n (held_parts a ks) l inv.1) c.in-Some.ensures.items inv.5 in
     let first = newest n (held_parts a ks) rest change inv.1 logged in
     let there : slice_get ks place ≡ Some (stripe_of n first.job.0) = ap (λ (l : List ℕ). slice_get l place) (sym (stripes_with (part_in a) ks)) ∙ first.place_is in
-    let k : ℕ = c.index.result.now in
-    let at_k : slice_get ks place ≡ Some k = read_at ks place k (slice_get_within ks place _ there) c.index.ensures in
+    let k : ℕ = c.at.result in
+    let at_k : slice_get ks place ≡ Some k = c.at.ensures in
     subst (λ (u : View). Holds u k) (sym inv.9) (holds_in n v a ks inv.0 inv.4 place k at_k)
 
 pub take_back-requires-clause-some : goal.take_back-requires-clause-some
@@ -41,8 +40,8 @@ take_back-requires-clause-some c = let inv = c.loop-order.invariant in let n = c
     let logged : AreLogged n (held_parts a ks) (rest ++ change ∷ []) inv.1 = subst (λ (l : List Change). AreLogged n (held_parts a ks) l inv.1) c.in-Some.ensures.items inv.5 in
     let first = newest n (held_parts a ks) rest change inv.1 logged in
     let there : slice_get ks place ≡ Some (stripe_of n first.job.0) = ap (λ (l : List ℕ). slice_get l place) (sym (stripes_with (part_in a) ks)) ∙ first.place_is in
-    let k : ℕ = c.index.result.now in
-    let at_k : slice_get ks place ≡ Some k = read_at ks place k (slice_get_within ks place _ there) c.index.ensures in
+    let k : ℕ = c.at.result in
+    let at_k : slice_get ks place ≡ Some k = c.at.ensures in
     let at : slice_get (held_parts a ks) place ≡ Some (with_part (part_in a) k) = with_at (part_in a) ks place k at_k in
     let owed = newest_owed n (held_parts a ks) rest change inv.1 logged (with_part (part_in a) k) at in
     omega arith
@@ -53,8 +52,8 @@ loop-order-preserved c = let inv = c.loop-order.invariant in let n = c.args.map.
     let logged : AreLogged n (held_parts a ks) (rest ++ change ∷ []) inv.1 = subst (λ (l : List Change). AreLogged n (held_parts a ks) l inv.1) c.in-Some.ensures.items inv.5 in
     let first = newest n (held_parts a ks) rest change inv.1 logged in
     let there : slice_get ks place ≡ Some (stripe_of n first.job.0) = ap (λ (l : List ℕ). slice_get l place) (sym (stripes_with (part_in a) ks)) ∙ first.place_is in
-    let k : ℕ = c.index.result.now in
-    let at_k : slice_get ks place ≡ Some k = read_at ks place k (slice_get_within ks place _ there) c.index.ensures in
+    let k : ℕ = c.at.result in
+    let at_k : slice_get ks place ≡ Some k = c.at.ensures in
     let at : slice_get (held_parts a ks) place ≡ Some (with_part (part_in a) k) = with_at (part_in a) ks place k at_k in
     let owed = newest_owed n (held_parts a ks) rest change inv.1 logged (with_part (part_in a) k) at in
     let b = c.take_back.new.seat in
@@ -62,7 +61,7 @@ loop-order-preserved c = let inv = c.loop-order.invariant in let n = c.args.map.
     let back : TakesBack (part_in a k) (part_in b k) (first.job.0 / n) first.job.1 = subst (λ (j : Job). TakesBack (part_in a k) (part_in b k) j.0 j.1) first.what_is c.take_back.ensures.back in
     let less_owed = back.owed_is in
     let worked = sym (parts_worked n v a b ks inv.0 inv.4 place k at_k c.take_back.ensures.others) in
-    let is = inv.3 in let t = c.loop-order-test.true in let l = c.len.ensures in let some = c.in-Some.ensures.len in
+    let is = inv.3 in let t = c.loop-order-test.true in let l = c.len.ensures.value in let some = c.in-Some.ensures.len in
     let less : inv.2 ≡ suc (inv.2 - 1) = omega arith in
     let step = back_step inv.0 inv.2 (inv.2 - 1) inv.1 first.older first.job less first.jobs_are in (
       set_at inv.0 first.job.0 first.job.1,
@@ -79,14 +78,14 @@ loop-order-preserved c = let inv = c.loop-order.invariant in let n = c.args.map.
     )
 
 pub returns-clause-parts : goal.returns-clause-parts
-returns-clause-parts c = let inv = c.loop-order.invariant in let is = inv.3 in let t = c.loop-order-test.false in let l = c.len.ensures in
+returns-clause-parts c = let inv = c.loop-order.invariant in let is = inv.3 in let t = c.loop-order-test.false in let l = c.len.ensures.value in
     let done = back_done inv.0 inv.2 inv.1 (omega arith) in
     subst (AreHeld c.args.map.now.table.shared.table_id.slots (known c.args.seat.now) (held_parts c.loop-order.seat c.args.held.now.items)) (sym done.0 ∙ inv.6) inv.4
 
 pub returns-clause-logged : goal.returns-clause-logged
-returns-clause-logged c = let inv = c.loop-order.invariant in let is = inv.3 in let t = c.loop-order-test.false in let l = c.len.ensures in
+returns-clause-logged c = let inv = c.loop-order.invariant in let is = inv.3 in let t = c.loop-order-test.false in let l = c.len.ensures.value in
     let done = back_done inv.0 inv.2 inv.1 (omega arith) in
     subst (AreLogged c.args.map.now.table.shared.table_id.slots (held_parts c.loop-order.seat c.args.held.now.items) c.loop-order.order.items) (sym done.1 ∙ inv.7) inv.5
 
 pub returns-clause-len : goal.returns-clause-len
-returns-clause-len c = let inv = c.loop-order.invariant in let is = inv.3 in let t = c.loop-order-test.false in let l = c.len.ensures in omega arith
+returns-clause-len c = let inv = c.loop-order.invariant in let is = inv.3 in let t = c.loop-order-test.false in let l = c.len.ensures.value in omega arith

@@ -1,5 +1,5 @@
 use Rattle.std.proofs.Common.{◌≡◌, ℕ, ◌/◌, Bool, true, false, cond, List, [], ◌∷◌, ◌++◌, Some, slice_get, set, sym, ap, subst, ◌∙◌}
-use Rattle.std.proofs.lemmas.Option.{same_Some, slice_get_within}
+use Rattle.std.proofs.lemmas.Option.{same_Some}
 use Rattle.txn_words.specs.declared.op.Op.{Op}
 use Rattle.txn_trace.specs.Locks.{stripe_of}
 use Rattle.txn_words.specs.Map.{key_of}
@@ -15,14 +15,14 @@ use Rattle.striped_map.specs.Rule.{Holds}
 use Rattle.striped_map.specs.Seats.{known, part_in}
 use Rattle.striped_map.specs.Sound.{HeldPart, Change, IsSound, held_parts, with_part}
 use Rattle.striped_map.specs.Steps.{noting, seat_of}
-use Rattle.striped_map.proofs.Hands.{read_at, with_at, holds_in, reply_right, parts_noted, logged_noted, parts_worked}
+use Rattle.striped_map.proofs.Hands.{with_at, holds_in, reply_right, parts_noted, logged_noted, parts_worked}
 use Rattle.striped_map.proofs.AdditionLemmas.{may_note}
 use Rattle.striped_map.proofs.HandSoundness.{added_as, sound_added, sound_parts, sound_same}
 use Rattle.striped_map.proofs.hand.Hand.apply.Goals as goal
 
 pub apply-requires-clause-held : goal.apply-requires-clause-held
-apply-requires-clause-held c = let me = c.args.self.now in let ks = me.held.items in let place = c.args.place in let k : ℕ = c.index-stripe.result.now in
-    let at_k : slice_get ks place ≡ Some k = read_at ks place k (slice_get_within ks place _ c.requires.place) c.index-stripe.ensures in
+apply-requires-clause-held c = let me = c.args.self.now in let ks = me.held.items in let place = c.args.place in let k : ℕ = c.at-stripe.result in
+    let at_k : slice_get ks place ≡ Some k = c.at-stripe.ensures in
     holds_in _ _ me.seat ks _ me.sound.parts place k at_k
 
 -- The operation was refused.
@@ -33,8 +33,8 @@ invariant_of-self c = let me = c.args.self.now in
 pub add-requires-clause-may : goal.add-requires-clause-may
 add-requires-clause-may c = let me = c.args.self.now in let n = c.args.map.now.table.shared.table_id.slots in let a = me.seat in let b = c.apply.new.seat in let v = known a in let ks = me.held.items in let place = c.args.place in let op = c.args.op in let reply = c.in_ok-reply.reply in
     let s : IsSound n v (held_parts a ks) me.order.items me.levels.items = subst (λ z. IsSound z.slots v (held_parts a ks) me.order.items me.levels.items) c.requires.map me.sound in
-    let k : ℕ = c.index-stripe.result.now in
-    let at_k : slice_get ks place ≡ Some k = read_at ks place k (slice_get_within ks place _ c.requires.place) c.index-stripe.ensures in
+    let k : ℕ = c.at-stripe.result in
+    let at_k : slice_get ks place ≡ Some k = c.at-stripe.ensures in
     let at : slice_get (held_parts a ks) place ≡ Some (with_part (part_in a) k) = with_at (part_in a) ks place k at_k in
     let in_k : k ≡ stripe_of n (key_of op) = same_Some _ _ (sym at_k ∙ c.requires.place) in
     let sub = c.under.ensures ∙ ap (under op) c.requires.sub_key in
@@ -47,8 +47,8 @@ add-requires-clause-may c = let me = c.args.self.now in let n = c.args.map.now.t
 pub invariant_of-self-then-changes : goal.invariant_of-self-then-changes
 invariant_of-self-then-changes c = let me = c.args.self.now in let n = c.args.map.now.table.shared.table_id.slots in let a = me.seat in let b = c.apply.new.seat in let v = known a in let ks = me.held.items in let place = c.args.place in let op = c.args.op in let reply = c.in_ok-reply.reply in
     let s : IsSound n v (held_parts a ks) me.order.items me.levels.items = subst (λ z. IsSound z.slots v (held_parts a ks) me.order.items me.levels.items) c.requires.map me.sound in
-    let k : ℕ = c.index-stripe.result.now in
-    let at_k : slice_get ks place ≡ Some k = read_at ks place k (slice_get_within ks place _ c.requires.place) c.index-stripe.ensures in
+    let k : ℕ = c.at-stripe.result in
+    let at_k : slice_get ks place ≡ Some k = c.at-stripe.ensures in
     let at : slice_get (held_parts a ks) place ≡ Some (with_part (part_in a) k) = with_at (part_in a) ks place k at_k in
     let in_k : k ≡ stripe_of n (key_of op) = same_Some _ _ (sym at_k ∙ c.requires.place) in
     let sub = c.under.ensures ∙ ap (under op) c.requires.sub_key in
@@ -75,8 +75,8 @@ invariant_of-self-then-changes c = let me = c.args.self.now in let n = c.args.ma
 pub invariant_of-self-else-changes : goal.invariant_of-self-else-changes
 invariant_of-self-else-changes c = let me = c.args.self.now in let n = c.args.map.now.table.shared.table_id.slots in let a = me.seat in let b = c.apply.new.seat in let v = known a in let ks = me.held.items in let place = c.args.place in let op = c.args.op in let reply = c.in_ok-reply.reply in
     let s : IsSound n v (held_parts a ks) me.order.items me.levels.items = subst (λ z. IsSound z.slots v (held_parts a ks) me.order.items me.levels.items) c.requires.map me.sound in
-    let k : ℕ = c.index-stripe.result.now in
-    let at_k : slice_get ks place ≡ Some k = read_at ks place k (slice_get_within ks place _ c.requires.place) c.index-stripe.ensures in
+    let k : ℕ = c.at-stripe.result in
+    let at_k : slice_get ks place ≡ Some k = c.at-stripe.ensures in
     let at : slice_get (held_parts a ks) place ≡ Some (with_part (part_in a) k) = with_at (part_in a) ks place k at_k in
     let in_k : k ≡ stripe_of n (key_of op) = same_Some _ _ (sym at_k ∙ c.requires.place) in
     let sub = c.under.ensures ∙ ap (under op) c.requires.sub_key in

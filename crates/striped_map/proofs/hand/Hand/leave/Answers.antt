@@ -1,4 +1,3 @@
-use Rattle.std.specs.Prelude.{vec_len}
 use Rattle.std.proofs.Common.{◌≡◌, ℕ, ◌^◌, ◌<◌, ◌∙◌, length, ◌-◌, List, map, take, sym, ap, subst, arith}
 use Rattle.txn_words.specs.declared.seat.Phase.TheVariants.{Closed, Opened}
 use Rattle.txn_trace.specs.Now.{now}
@@ -33,8 +32,7 @@ pub give_all-requires-clause-parts : goal.give_all-requires-clause-parts
 give_all-requires-clause-parts c = let me = c.args.self.now in let n = c.args.map.now.table.shared.table_id.slots in let v = known me.seat in let w = known c.add.new.seat in let ks = me.held.items in
     let a = added_as n v (known c.take_back.new.seat) w c.args.what c.take_back.ensures.known c.add.ensures.added in
     let many = order_length n (held_parts me.seat ks) me.order.items (due v) (subst (λ z. IsSound z.slots v (held_parts me.seat ks) me.order.items me.levels.items) c.requires.map me.sound).logged in
-    let o = me.order.ok.0 in
-    let all : take (vec_len me.order - 0) (due v) ≡ due v = take_all (vec_len me.order - 0) (due v) (omega arith) in
+    let all : take (length me.order.items - 0) (due v) ≡ due v = take_all (length me.order.items - 0) (due v) (omega arith) in
     let held = held_parts c.take_back.new.seat ks in
     let back : AreHeld n v held (rolled_back (now v.seen) (due v)) = subst (λ (jobs : List Job). AreHeld n v held (rolled_back (now v.seen) jobs)) all c.take_back.ensures.parts in
     let left : AddsIn n v (entries_of v c.args.what) (at_end (rolled_back (now v.seen) (due v))) w = subst (λ (l : StateAfter). AddsIn n v (entries_of v c.args.what) l w) (left_end v c.args.what c.requires.may) a in
@@ -65,14 +63,14 @@ returns-clause-moves c = let n = c.args.map.now.table.shared.table_id.slots in
 
 pub add-requires-clause-told : goal.add-requires-clause-told
 add-requires-clause-told c all = let me = c.args.self.now in let v = known me.seat in let b = c.take_back.new.seat in
-    let many = order_length _ (held_parts me.seat me.held.items) me.order.items (due v) me.sound.logged in let o = me.order.ok.0 in let l = c.len.ensures in
+    let many = order_length _ (held_parts me.seat me.held.items) me.order.items (due v) me.sound.logged in let l = c.len.ensures.value in
     subst (λ (t : Told). entries_of (known b) c.args.what ≡ told_by b.number t) (sym c.told_of-told.ensures)
     (end_told (known b) c.args.what b.number c.len.result (subst (λ (u : View). IsEnd u c.args.what) (sym c.take_back.ensures.known) c.requires.may) b.numbered
     (ap (λ (u : View). length (due u)) c.take_back.ensures.known ∙ (omega arith)))
 
 pub add-requires-clause-few : goal.add-requires-clause-few
-add-requires-clause-few c = let me = c.args.self.now in let l = c.len.ensures in
-    subst (λ (t : Told). length (told_by 0 t) < 2 ^ 64) (sym c.told_of-told.ensures) (end_few c.args.what c.len.result (let o = me.order.ok in let s = me.order.small in omega (arith, o.0, o.1)))
+add-requires-clause-few c =
+    subst (λ (t : Told). length (told_by 0 t) < 2 ^ 64) (sym c.told_of-told.ensures) (end_few c.args.what c.len.result (let s = c.len.ensures.small in omega arith))
 
 pub add-requires-clause-open : goal.add-requires-clause-open
 add-requires-clause-open c = subst (IsAt Opened) (sym c.take_back.ensures.known) c.requires.open

@@ -13,7 +13,7 @@ add-requires-clause-may c = let seat = c.args.self.now.seat in let at = c.requir
 pub invariant_of-self-2 : goal.invariant_of-self-2
 invariant_of-self-2 c = let me = c.args.self.now in let n = c.args.map.now.table.shared.table_id.slots in let a = me.seat in let b = c.add.new.seat in let v = known a in let w = known b in let ks = me.held.items in
     let s : IsSound n v (held_parts a ks) me.order.items me.levels.items = subst (λ z. IsSound z.slots v (held_parts a ks) me.order.items me.levels.items) c.requires.map me.sound in
-    let many : (seat_of v).standing ≡ c.len.result = (let l = c.len.ensures in let o = me.order.ok.0 in let st = standing_is v s.seat_is in let ol = order_length n (held_parts a ks) me.order.items (due v) s.logged in omega arith) in
+    let many : (seat_of v).standing ≡ c.len.result = (let l = c.len.ensures.value in let st = standing_is v s.seat_is in let ol = order_length n (held_parts a ks) me.order.items (due v) s.logged in omega arith) in
     let levels : c.push_reserved.new.self.items ≡ me.levels.items ++ c.len.result ∷ [] = c.push_reserved.ensures.items ∙ ap (λ (l : List ℕ). l ++ c.len.result ∷ []) c.reserve.ensures.items in
     let kept = ap (λ (l : List ℕ). l ++ (seat_of v).standing ∷ []) s.levelled ∙ ap (λ (x : ℕ). (0 ∷ me.levels.items) ++ x ∷ []) many ∙ ap (λ (l : List ℕ). 0 ∷ l) (sym levels) in
     record {

@@ -15,7 +15,7 @@ take-requires-clause-free c = let me = c.args.self.now in let n = me.seat.seat.t
 pub overflow_cast-place : goal.overflow_cast-place
 overflow_cast-place c = let me = c.args.self.now in let n = c.args.map.now.table.shared.table_id.slots in let v = known me.seat in let ks = me.held.items in
     let parts : AreHeld n v (held_parts me.seat ks) (now v.seen) = subst (λ z. AreHeld z.slots v (held_parts me.seat ks) (now v.seen)) c.requires.map me.sound.parts in
-    let long : c.len-place.result ≡ length ks = (let l = c.len-place.ensures in let o = me.held.ok.0 in omega arith) in
+    let long : c.push_reserved-place.result ≡ length ks = c.push_reserved-place.ensures.place in
     let within : length ks ≤ n = few n ks (apart_in n v me.seat ks (now v.seen) parts)
     (λ i stripe at. subst (λ z. stripe < z.slots) c.requires.map (me.seat.inside stripe (holds_in n v me.seat ks (now v.seen) parts i stripe at))) in
     let most = c.args.map.now.few in omega arith
@@ -24,15 +24,16 @@ pub invariant_of-self : goal.invariant_of-self
 invariant_of-self c = let me = c.args.self.now in let n = c.args.map.now.table.shared.table_id.slots in let a = me.seat in let b = c.take.new.seat in let v = known a in let w = known b in let k = c.args.stripe in let ks = me.held.items in
     let none : (i : ℕ) → slice_get ks i ≢ Some k = c.requires.away in
     let s : IsSound n v (held_parts a ks) me.order.items me.levels.items = subst (λ z. IsSound z.slots v (held_parts a ks) me.order.items me.levels.items) c.requires.map me.sound in
-    let items : c.push_reserved.new.self.items ≡ ks ++ k ∷ [] = c.push_reserved.ensures.items in
-    let long : c.len-place.result ≡ length ks = (let l = c.len-place.ensures in let o = me.held.ok.0 in omega arith) in
+    let items : c.push_reserved-place.new.self.items ≡ ks ++ k ∷ [] = c.push_reserved-place.ensures.items in
+    let long : c.push_reserved-place.result ≡ length ks = c.push_reserved-place.ensures.place in
     let held = ap (held_parts b) items ∙ parts_pushed a b ks k none c.in-Granted.ensures.taken.1 in
     record {
-      sound = subst (λ z. IsSound z.slots w (held_parts b c.push_reserved.new.self.items) me.order.items me.levels.items) (sym c.take.ensures.seat)
+      sound = subst (λ z. IsSound z.slots w (held_parts b c.push_reserved-place.new.self.items) me.order.items me.levels.items) (sym c.take.ensures.seat)
           (subst (λ (l : List HeldPart). IsSound n w l me.order.items me.levels.items) (sym held)
           (sound_taken n k v w (held_parts a ks) me.order.items me.levels.items (part_in b k) s (none_in a ks k none) c.in-Granted.ensures.taken.0));
-      indexed = subst (λ (l : List ℕ). IsIndexed l (set me.index.items k c.len-place.result)) (sym items)
-          (indexed_taken ks me.index.items k c.len-place.result none (let lt = c.requires.index in let o = me.index.ok.0 in omega arith) long me.indexed);
+      indexed = subst (λ (l : List ℕ). IsIndexed c.push_reserved-place.new.self.items l) (sym c.set.ensures.items)
+          (subst (λ (l : List ℕ). IsIndexed l (set me.index.items k c.push_reserved-place.result)) (sym items)
+          (indexed_taken ks me.index.items k c.push_reserved-place.result none c.requires.index long me.indexed));
     }
 
 pub invariant_of-self-in-Denied-1 : goal.invariant_of-self-in-Denied-1
@@ -47,7 +48,7 @@ invariant_of-self-in-Denied-1 c = let me = c.args.self.now in let n = c.args.map
 
 pub returns-in-Granted-clause-held : goal.returns-in-Granted-clause-held
 returns-in-Granted-clause-held c = let ks = c.args.self.now.held.items in let k = c.args.stripe in
-    let items : c.push_reserved.new.self.items ≡ ks ++ k ∷ [] = c.push_reserved.ensures.items in
-    let long : length ks ≡ c.len-place.result = (let l = c.len-place.ensures in let o = c.args.self.now.held.ok.0 in omega arith) in
-    subst (λ (l : List ℕ). slice_get l c.len-place.result ≡ Some k) (sym items)
+    let items : c.push_reserved-place.new.self.items ≡ ks ++ k ∷ [] = c.push_reserved-place.ensures.items in
+    let long : length ks ≡ c.push_reserved-place.result = sym c.push_reserved-place.ensures.place in
+    subst (λ (l : List ℕ). slice_get l c.push_reserved-place.result ≡ Some k) (sym items)
     (subst (λ (i : ℕ). slice_get (ks ++ k ∷ []) i ≡ Some k) long (push_last ks k))
