@@ -31,7 +31,7 @@ use crate::apart::Apart;
 use crate::contents;
 use crate::keep::Keep;
 use crate::map::{StripedMap, Taken};
-use crate::record::{Record, Told, told_of};
+use crate::record::{Records, Told, told_of};
 use crate::seat::MapSeat;
 use std::alloc::{AllocError, Global};
 use std::hint;
@@ -459,7 +459,7 @@ impl Hand {
 
     /// Merges another seat, which holds no stripe, into this hand's seat. The other seat then acts
     /// no more. Returns its records.
-    pub(crate) fn take_in(&mut self, map: &StripedMap, other: MapSeat) -> Vec<Record>
+    pub(crate) fn take_in(&mut self, map: &StripedMap, other: MapSeat) -> Records
         requires map { IsOf self.old.seat map.now }
         requires other { IsOf other map.now }
         requires first { (known self.old.seat).number ≡ 0 }
