@@ -1,9 +1,10 @@
 -- The records that a host has.
-use Rattle.std.proofs.Common.{◌≡◌, ◌≢◌, ℕ, zero, suc, ◌+◌, ◌-◌, ◌<◌, List, [], ◌∷◌, Vec, Global, Option, None, Some, slice_get, get_or, set, length, replicate, sym, refl, ap, subst, ◌∙◌, arith, true, cond, eq-eqb, ne_eqb, get_or-set_same, get_or-set_other}
+use Rattle.std.proofs.Common.{◌≡◌, ◌≢◌, ℕ, zero, suc, ◌+◌, ◌-◌, ◌<◌, List, [], ◌∷◌, Option, None, Some, slice_get, get_or, set, length, replicate, sym, refl, ap, subst, ◌∙◌, arith, true, cond, eq-eqb, ne_eqb, get_or-set_same, get_or-set_other}
 use Rattle.std.proofs.lemmas.Option.{same_Some}
 use mathlib.Core.Logic.{dite}
 use native.Mathlib.Decide.{ℕ_discrete}
 use Rattle.txn_words.specs.declared.entry.Entry.{Entry}
+use Rattle.striped_map.specs.Apart.{Listed}
 use Rattle.striped_map.specs.declared.record.Record.{Record}
 use Rattle.striped_map.specs.Steps.{marks}
 use Rattle.striped_map.specs.Records.{spread}
@@ -12,7 +13,7 @@ use Rattle.striped_map.proofs.RuleSteps.{nothing_at}
 use Rattle.striped_map.proofs.Merging.{Parts}
 
 abbrev Part : Type 0
-Part = Option (Vec Record Global)
+Part = Option (Listed Record)
 
 empty_at : (n c : ℕ) → get_or (replicate n (let p : Part = None in p)) c None ≡ None
 empty_at zero c = refl
@@ -26,7 +27,7 @@ none_merged n parts is =
     record { kept = λ j r has. absurd (nothing_at j r has); marked = λ j r has. absurd (nothing_at j r has); made = λ c some. absurd (some (none c)) }
 
 -- One more caller is merged, with the number `number`.
-module _ (retired : List (ℕ × List Entry)) (parts : Parts) (number : ℕ) (seen : List Entry) (records : Vec Record Global) (some : 0 < number) (room : number - 1 < length parts) where
+module _ (retired : List (ℕ × List Entry)) (parts : Parts) (number : ℕ) (seen : List Entry) (records : Listed Record) (some : 0 < number) (room : number - 1 < length parts) where
   abbrev after : Parts
   after = set parts (number - 1) (Some records)
 
@@ -42,10 +43,10 @@ module _ (retired : List (ℕ × List Entry)) (parts : Parts) (number : ℕ) (se
       has.kept j r at (sym (there (r.0 - 1) (λ e. ne (omega arith))) ∙ none)
 
   now_marked : ((j : ℕ) (r : ℕ × List Entry) → slice_get retired j ≡ Some r → (r.0 ≢ number) × (0 < r.0)) → marks number 0 seen ≡ spread number records.items → HasParts retired parts
-      → (j : ℕ) (r : ℕ × List Entry) → slice_get ((number, seen) ∷ retired) j ≡ Some r → (rs : Vec Record Global) → get_or after (r.0 - 1) None ≡ Some rs → marks r.0 0 r.1 ≡ spread r.0 rs.items
+      → (j : ℕ) (r : ℕ × List Entry) → slice_get ((number, seen) ∷ retired) j ≡ Some r → (rs : Listed Record) → get_or after (r.0 - 1) None ≡ Some rs → marks r.0 0 r.1 ≡ spread r.0 rs.items
   now_marked apart marked has zero r at rs is =
       let one = same_Some _ r at in let same : records ≡ rs = same_Some records rs (sym here ∙ ap (λ (x : ℕ × List Entry). get_or after (x.0 - 1) None) one ∙ is) in
-      subst (λ (x : ℕ × List Entry). marks x.0 0 x.1 ≡ spread x.0 rs.items) one (marked ∙ ap (λ (v : Vec Record Global). spread number v.items) same)
+      subst (λ (x : ℕ × List Entry). marks x.0 0 x.1 ≡ spread x.0 rs.items) one (marked ∙ ap (λ (v : Listed Record). spread number v.items) same)
   now_marked apart marked has (suc j) r at rs is = let a = apart j r at in let ne : r.0 ≢ number = a.0 in let pos : 0 < r.0 = a.1 in
       has.marked j r at rs (sym (there (r.0 - 1) (λ e. ne (omega arith))) ∙ is)
 

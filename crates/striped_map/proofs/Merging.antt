@@ -1,5 +1,5 @@
 -- If the records of all callers stand for their entries in a history, they are the history.
-use Rattle.std.proofs.Common.{◌≡◌, ℕ, zero, suc, ◌+◌, ◌-◌, ◌^◌, ◌<◌, ◌≤◌, List, [], ◌∷◌, ◌++◌, Vec, Global, Option, None, Some, slice_get, get_or, take, take-suc, length, replicate, sym, refl, ap, subst, ◌∙◌, arith, length-append, true, cond, ne_eqb}
+use Rattle.std.proofs.Common.{◌≡◌, ℕ, zero, suc, ◌+◌, ◌-◌, ◌^◌, ◌<◌, ◌≤◌, List, [], ◌∷◌, ◌++◌, Option, None, Some, slice_get, get_or, take, take-suc, length, replicate, sym, refl, ap, subst, ◌∙◌, arith, length-append, true, cond, ne_eqb}
 use Rattle.std.proofs.lemmas.Bool.{false≢true}
 use mathlib.Core.Logic.{dite}
 use native.Mathlib.Decide.{dec_le, ℕ_discrete}
@@ -8,6 +8,7 @@ use Rattle.txn_words.specs.declared.entry.Entry.{Entry}
 use Rattle.txn_words.specs.declared.holder.Holder.TheVariants.{Begun}
 use Rattle.txn_words.specs.Shape.{own, IsShaped}
 use Rattle.txn_trace.specs.Legal.{IsLegal}
+use Rattle.striped_map.specs.Apart.{Listed}
 use Rattle.striped_map.specs.declared.record.Record.{Record}
 use Rattle.striped_map.specs.declared.view.View.{View}
 use Rattle.striped_map.specs.Steps.{HasAll, HasNoOther, IsMerged, marks, placed}
@@ -19,7 +20,7 @@ use Rattle.striped_map.proofs.MergedHistory.{gathered_all}
 use Rattle.striped_map.proofs.Recording.{length-placed, length-told, parts_more, written_more}
 
 abbrev pub Parts : Type 0
-Parts = List (Option (Vec Record Global))
+Parts = List (Option (Listed Record))
 
 -- The records at each place of a list stand for the entries that the caller with this number has in
 -- the history.
@@ -76,8 +77,8 @@ taken_at c (r ∷ rs) is = dite (ℕ_discrete r.0 c)
 
 -- If the host has merged each caller and then looks at the history, the records of all callers,
 -- merged by their positions, are the history.
-module _ (v : View) (mine : Vec Record Global) (parts : Parts) (has : HasParts v.retired parts) (all : HasAll v v.seen) where
-  part_marked : (c : ℕ) (part : Option (Vec Record Global)) → get_or parts c None ≡ part → (part ≡ None → own (c + 1) v.seen ≡ []) → marks (c + 1) 0 v.seen ≡ spread (c + 1) (records_of part)
+module _ (v : View) (mine : Listed Record) (parts : Parts) (has : HasParts v.retired parts) (all : HasAll v v.seen) where
+  part_marked : (c : ℕ) (part : Option (Listed Record)) → get_or parts c None ≡ part → (part ≡ None → own (c + 1) v.seen ≡ []) → marks (c + 1) 0 v.seen ≡ spread (c + 1) (records_of part)
   part_marked c None is none = marks_seen (c + 1) [] v.seen (none refl)
   part_marked c (Some rs) is none =
       let one = taken_at (c + 1) v.retired (has.made c (λ none. absurd (cc (sym is ∙ none)))) in let r = one.1 in

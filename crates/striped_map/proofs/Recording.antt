@@ -1,8 +1,9 @@
 -- A caller's records stand for its entries in the history that it has seen.
-use Rattle.std.proofs.Common.{◌≡◌, ℕ, zero, suc, ◌+◌, ◌%◌, ◌^◌, ◌<◌, set, take, None, Some, List, [], ◌∷◌, ◌++◌, Option, length, sym, refl, ap, subst, ◌∙◌, arith, append-nil, append_assoc, length-append, Vec, Global}
+use Rattle.std.proofs.Common.{◌≡◌, ℕ, zero, suc, ◌+◌, ◌%◌, ◌^◌, ◌<◌, set, take, None, Some, List, [], ◌∷◌, ◌++◌, Option, length, sym, refl, ap, subst, ◌∙◌, arith, append-nil, append_assoc, length-append, Global}
 use Rattle.txn_words.specs.declared.entry.Entry.{Entry}
 use Rattle.txn_words.specs.declared.entry.Entry.TheVariants.{Leave, Busy, Returned, Undone, Aborted}
 use Rattle.txn_words.specs.declared.op.Op.{Op}
+use Rattle.striped_map.specs.Apart.{Listed}
 use Rattle.striped_map.specs.declared.view.View.{View}
 use Rattle.striped_map.specs.declared.addition.Addition.{Addition}
 use Rattle.striped_map.specs.declared.addition.Addition.TheVariants.{Note, Save, Back, Abort, Yield}
@@ -104,12 +105,12 @@ count_more rs r count more before is =
     omega arith
 
 -- How many entries the records of one more caller add.
-pub parts_more : (parts : List (Option (Vec Record Global))) (part : Option (Vec Record Global)) → entries_in (parts ++ part ∷ []) ≡ entries_in parts + length (spread 0 (records_of part))
+pub parts_more : (parts : List (Option (Listed Record))) (part : Option (Listed Record)) → entries_in (parts ++ part ∷ []) ≡ entries_in parts + length (spread 0 (records_of part))
 parts_more [] part = omega arith
 parts_more (p ∷ parts) part = let more = parts_more parts part in omega arith
 
 -- The records of one more caller are written.
-pub written_more : (c : ℕ) (t : List Entry) (parts : List (Option (Vec Record Global))) (part : Option (Vec Record Global)) → written_from c t (parts ++ part ∷ []) ≡ written (written_from c t parts) (spread (c + length parts) (records_of part))
+pub written_more : (c : ℕ) (t : List Entry) (parts : List (Option (Listed Record))) (part : Option (Listed Record)) → written_from c t (parts ++ part ∷ []) ≡ written (written_from c t parts) (spread (c + length parts) (records_of part))
 written_more c t [] part = ap (λ (k : ℕ). written t (spread k (records_of part))) (omega arith)
 written_more c t (p ∷ parts) part = written_more (c + 1) (written t (spread c (records_of p))) parts part ∙ ap (λ (k : ℕ). written (written_from (c + 1) (written t (spread c (records_of p))) parts) (spread k (records_of part))) (omega arith)
 

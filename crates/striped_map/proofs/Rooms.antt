@@ -1,5 +1,5 @@
 -- A seat in a transaction has memory for one more record.
-use Rattle.std.proofs.Common.{◌≡◌, ℕ, ◌+◌, ◌≤◌, vec_len, vec_capacity, List, [], Some, None, sym, refl, ap, ◌∙◌}
+use Rattle.std.proofs.Common.{◌≡◌, ℕ, ◌+◌, ◌≤◌, List, [], Some, None, sym, refl, ap, ◌∙◌}
 use Rattle.std.proofs.lemmas.Bool.{false≢true}
 use Rattle.std.proofs.lemmas.Option.{same_Some}
 use Rattle.txn_words.specs.declared.entry.Entry.{Entry}
@@ -39,7 +39,7 @@ not_open v seat is closed at =
     false≢true (ap runs (sym closed ∙ ap (λ (s : Seat). s.phase) same ∙ at.phase_is))
 
 -- If an addition does not end the transaction, there is memory for one more record behind its own.
-pub room_after : (n : ℕ) (what : Addition) (seat : MapSeat) (w : View) → AddsIn n (known seat) (entries_of (known seat) what) (left_of (known seat) what) w → HasRoomFor what seat → seat.keep ≡ Entries → IsAt Opened w → vec_len seat.records + 2 ≤ vec_capacity seat.records
+pub room_after : (n : ℕ) (what : Addition) (seat : MapSeat) (w : View) → AddsIn n (known seat) (entries_of (known seat) what) (left_of (known seat) what) w → HasRoomFor what seat → seat.keep ≡ Entries → IsAt Opened w → 2 ≤ seat.records.room
 room_after n Abort seat w adds room all at = absurd (not_open w closed_seat (ap (λ (v : View). seat_after (own v.number w.seen)) adds.view_is ∙ adds.seat_is) refl at)
 room_after n (Yield op holder) seat w adds room all at = absurd (not_open w closed_seat (ap (λ (v : View). seat_after (own v.number w.seen)) adds.view_is ∙ adds.seat_is) refl at)
 room_after n (Note op reply) seat w adds room all at = room all

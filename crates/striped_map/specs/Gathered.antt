@@ -1,8 +1,8 @@
 -- How the entries of all callers, each with its position, make up the history.
-use Rattle.std.specs.Prelude.{Bool, true, false, cond, ◌==◌, ◌-◌, ◌≡◌, ◌≢◌, slice_index_or as get_or, slice_get, Option, None, Some, Vec, replicate, ℕ, zero, suc, ◌+◌, List, [], ◌∷◌, slice_set, length}
-use Rattle.std.specs.Global.{Global}
+use Rattle.std.specs.Prelude.{Bool, true, false, cond, ◌==◌, ◌-◌, ◌≡◌, ◌≢◌, slice_index_or as get_or, slice_get, Option, None, Some, replicate, ℕ, zero, suc, ◌+◌, List, [], ◌∷◌, slice_set, length}
 use Rattle.txn_words.specs.declared.entry.Entry.{Entry}
 use Rattle.txn_words.specs.declared.entry.Entry.TheVariants.{Began, Committed}
+use Rattle.striped_map.specs.Apart.{Listed}
 use Rattle.striped_map.specs.declared.record.Record.{Record}
 use Rattle.striped_map.specs.Records.{spread}
 use Rattle.striped_map.specs.Steps.{marks}
@@ -31,22 +31,22 @@ numbered t p (Committed c n ∷ es) = Committed c (p + 1) ∷ numbered t (p + 1)
 numbered t p (e ∷ es) = e ∷ numbered t p es
 
 -- The records of a caller, or none if the caller was not merged.
-abbrev pub records_of : Option (Vec Record Global) → List Record
+abbrev pub records_of : Option (Listed Record) → List Record
 records_of None = []
 records_of (Some rs) = rs.items
 
 -- The list, with the entries of the records of the callers from `c` on at their positions.
-abbrev pub written_from : ℕ → List Entry → List (Option (Vec Record Global)) → List Entry
+abbrev pub written_from : ℕ → List Entry → List (Option (Listed Record)) → List Entry
 written_from c t [] = t
 written_from c t (part ∷ parts) = written_from (c + 1) (written t (spread c (records_of part))) parts
 
 -- How many entries these records stand for.
-abbrev pub entries_in : List (Option (Vec Record Global)) → ℕ
+abbrev pub entries_in : List (Option (Listed Record)) → ℕ
 entries_in [] = 0
 entries_in (part ∷ parts) = length (spread 0 (records_of part)) + entries_in parts
 
 -- The entries that the records of all callers stand for, in order and numbered.
-abbrev pub merged : Entry → List (Option (Vec Record Global)) → List Entry
+abbrev pub merged : Entry → List (Option (Listed Record)) → List Entry
 merged blank parts = numbered 0 0 (written_from 0 (replicate (entries_in parts) blank) parts)
 
 -- Whether a caller with this number was merged.
@@ -56,11 +56,11 @@ is_taken c (r ∷ rs) = cond (r.0 == c) true (is_taken c rs)
 
 -- The list has the records of exactly the merged callers, each at the place that is one less than
 -- the caller's number. The records stand for the caller's entries in the history that it had seen.
-pub record HasParts (retired : List (ℕ × List Entry)) (parts : List (Option (Vec Record Global)))
+pub record HasParts (retired : List (ℕ × List Entry)) (parts : List (Option (Listed Record)))
     : Type 0 where
   pub kept : (j : ℕ) (r : ℕ × List Entry) → slice_get retired j ≡ Some r
       → get_or parts (r.0 - 1) None ≢ None
   pub marked : (j : ℕ) (r : ℕ × List Entry) → slice_get retired j ≡ Some r
-      → (rs : Vec Record Global) → get_or parts (r.0 - 1) None ≡ Some rs
+      → (rs : Listed Record) → get_or parts (r.0 - 1) None ≡ Some rs
       → marks r.0 0 r.1 ≡ spread r.0 rs.items
   pub made : (c : ℕ) → get_or parts c None ≢ None → is_taken (c + 1) retired ≡ true

@@ -17,7 +17,7 @@ use std::marker::Model;
 /// Contracts see the `items`, and the `room`: how many more items can be added before more memory
 /// is needed.
 #[derive(Drop)]
-pub struct Apart<T: Copy, const PAD: usize> {
+pub(crate) struct Apart<T: Copy, const PAD: usize> {
     // The first `PAD` places are blank.
     places: Vec<T>,
 }

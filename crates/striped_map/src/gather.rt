@@ -7,7 +7,7 @@ ghost use Rattle.striped_map.specs.Gathered.{entries_in, merged, numbered, writt
 ghost use Rattle.striped_map.specs.Records.{spread, told_by, undone};
 ghost use Rattle.striped_map.specs.Steps.{bare, placed};
 
-use crate::record::{Record, Told};
+use crate::record::{Record, Records, Told};
 use std::alloc::{AllocError, Global};
 use txn_trace::Entry;
 
@@ -74,17 +74,17 @@ fn put_record(table: &mut Vec<Entry>, number: u64, at: u64, what: Told)
 }
 
 /// Writes the entries of a caller's records.
-fn put_records(table: &mut Vec<Entry>, number: u64, records: &Vec<Record>)
+fn put_records(table: &mut Vec<Entry>, number: u64, records: &Records)
     ensures { table.new.items ≡ written table.old.items (spread number records.now.items) }
 {
     for place in 0..records.len() {
-        let Record { at, what } = records[place];
+        let Record { at, what } = records.at(place);
         put_record(table, number, at, what);
     }
 }
 
 /// How many entries the records of all callers stand for, or `None` if 64 bits cannot count them.
-fn count_all(parts: &Vec<Option<Vec<Record>>>) -> Option<usize>
+fn count_all(parts: &Vec<Option<Records>>) -> Option<usize>
     ensures { IfSome result (λ count. count ≡ entries_in parts.now.items) }
 {
     let mut count: usize = 0;
@@ -98,12 +98,12 @@ fn count_all(parts: &Vec<Option<Vec<Record>>>) -> Option<usize>
 }
 
 /// How many entries the records stand for, or `None` if 64 bits cannot count them.
-fn count_of(records: &Vec<Record>) -> Option<usize>
+fn count_of(records: &Records) -> Option<usize>
     ensures { IfSome result (λ count. count ≡ length (spread 0 records.now.items)) }
 {
     let mut count: usize = 0;
     for place in 0..records.len() {
-        let more = records[place].what.checked_count()?;
+        let more = records.at(place).what.checked_count()?;
         count = count.checked_add(more)?;
     }
     Some(count)
@@ -134,7 +134,7 @@ fn number_all(alloc: Global, table: &Vec<Entry>) -> Result<Vec<Entry>, AllocErro
 }
 
 /// How many entries the records of the host and of all callers stand for.
-fn count_both(own: &Vec<Record>, parts: &Vec<Option<Vec<Record>>>) -> Option<usize>
+fn count_both(own: &Records, parts: &Vec<Option<Records>>) -> Option<usize>
     ensures { IfSome result (λ count. count ≡ entries_in (Some own.now ∷ parts.now.items)) }
 {
     let first = count_of(own)?;
@@ -147,8 +147,8 @@ fn count_both(own: &Vec<Record>, parts: &Vec<Option<Vec<Record>>>) -> Option<usi
 /// are one more than their places in the list.
 pub(crate) fn history_of(
     alloc: Global,
-    own: &Vec<Record>,
-    parts: &Vec<Option<Vec<Record>>>,
+    own: &Records,
+    parts: &Vec<Option<Records>>,
 ) -> Result<Vec<Entry>, AllocError>
     ensures ok { IfOk result (λ all. all.items
         ≡ merged (Aborted 0) (Some own.now ∷ parts.now.items)) }

@@ -31,7 +31,7 @@ use crate::apart::Apart;
 use crate::contents;
 use crate::keep::Keep;
 use crate::map::{StripedMap, Taken};
-use crate::record::{Record, Told, told_of};
+use crate::record::{Records, Told, told_of};
 use crate::seat::MapSeat;
 use std::alloc::{AllocError, Global};
 use std::hint;
@@ -459,7 +459,7 @@ impl Hand {
 
     /// Merges another seat, which holds no stripe, into this hand's seat. The other seat then acts
     /// no more. Returns its records.
-    pub(crate) fn take_in(&mut self, map: &StripedMap, other: MapSeat) -> Vec<Record>
+    pub(crate) fn take_in(&mut self, map: &StripedMap, other: MapSeat) -> Records
         requires map { IsOf self.old.seat map.now }
         requires other { IsOf other map.now }
         requires first { (known self.old.seat).number ≡ 0 }
@@ -527,8 +527,7 @@ impl Hand {
         requires place { slice_get self.old.held.items place
             ≡ Some (stripe_of (stripes_of map.now) (key_of op)) }
         requires sub_key { sub_key ≡ key_of op / stripes_of map.now }
-        requires room { may_change op ≡ true
-            → 0 < self.old.order.room }
+        requires room { may_change op ≡ true → 0 < self.old.order.room }
         requires records { HasRoom self.old.seat }
         ensures map { IsOf self.new.seat map.now }
         ensures open { IsAt Opened (known self.new.seat) }
@@ -569,8 +568,7 @@ impl Hand {
         requires place { slice_get self.old.held.items place
             ≡ Some (stripe_of (stripes_of map.now) (key_of op)) }
         requires sub_key { sub_key ≡ key_of op / stripes_of map.now }
-        requires room { may_change op ≡ true
-            → 0 < self.old.order.room }
+        requires room { may_change op ≡ true → 0 < self.old.order.room }
         ensures map { IsOf self.new.seat map.now }
         ensures open { IsAt Opened (known self.new.seat) }
         ensures levels { self.new.levels ≡ self.old.levels }
@@ -637,7 +635,8 @@ impl Hand {
         requires open { IsAt Opened (known self.old.seat) }
         ensures map { IsOf self.new.seat map.now }
         ensures open { IsAt Opened (known self.new.seat) }
-        ensures levels { OnOk result (length self.new.levels.items ≡ length self.old.levels.items + 1) }
+        ensures levels { OnOk result (length self.new.levels.items
+            ≡ length self.old.levels.items + 1) }
         ensures ok { IfOk result (λ level. (level + 1 ≡ length (seat_of (known self.new.seat)).kept)
             × MovesHand map.now self.old (Saved (known self.old.seat).number ∷ []) self.new) }
         ensures refused { IfErr result (λ refusal. refusal ≡ NoMemory) }
@@ -656,7 +655,8 @@ impl Hand {
         requires records { HasRoom self.old.seat }
         ensures map { IsOf self.new.seat map.now }
         ensures open { IsAt Opened (known self.new.seat) }
-        ensures levels { OnOk result (length self.new.levels.items ≡ length self.old.levels.items + 1) }
+        ensures levels { OnOk result (length self.new.levels.items
+            ≡ length self.old.levels.items + 1) }
         ensures ok { IfOk result (λ level. (level + 1 ≡ length (seat_of (known self.new.seat)).kept)
             × MovesHand map.now self.old (Saved (known self.old.seat).number ∷ []) self.new) }
         ensures refused { IfErr result (λ refusal. refusal ≡ NoMemory) }

@@ -9,7 +9,7 @@ use crate::caller::Caller;
 use crate::host::Host;
 use crate::keep::Keep;
 use crate::map::StripedMap;
-use crate::record::Record;
+use crate::record::Records;
 use crate::rule::Start;
 use std::alloc::{AllocError, Global};
 use std::sync::Arc;
@@ -49,7 +49,7 @@ fn may_open(stripes: usize, callers: usize) -> bool
 }
 
 /// `count` empty places for records.
-fn empty_parts(alloc: Global, count: usize) -> Result<Vec<Option<Vec<Record>>>, AllocError>
+fn empty_parts(alloc: Global, count: usize) -> Result<Vec<Option<Records>>, AllocError>
     ensures { IfOk result (λ parts. parts.items ≡ replicate count None) }
 {
     let mut parts = Vec::with_capacity(alloc, count)?;
@@ -60,7 +60,7 @@ fn empty_parts(alloc: Global, count: usize) -> Result<Vec<Option<Vec<Record>>>, 
 }
 
 /// A place for the records of each caller that there may ever be, if the map keeps its entries.
-fn no_parts(alloc: Global, keep: Keep) -> Result<Vec<Option<Vec<Record>>>, AllocError>
+fn no_parts(alloc: Global, keep: Keep) -> Result<Vec<Option<Records>>, AllocError>
     ensures { IfOk result (λ parts. (count : ℕ) × (parts.items ≡ replicate count None)
         × (keep ≡ Entries → count ≡ 65535)) }
 {

@@ -4,6 +4,7 @@ ghost use Rattle.std.specs.Prelude.{IfSome, ◌≡◌, length, ◌<◌, ◌^◌}
 ghost use Rattle.striped_map.specs.Records.{told_by, told_for};
 
 use crate::addition::Addition;
+use crate::apart::Apart;
 use txn_trace::{Op, Reply};
 
 /// What one atomic step of a caller added to the history.
@@ -81,3 +82,12 @@ pub(crate) struct Record {
     pub(crate) at: u64,
     pub(crate) what: Told,
 }
+
+/// The records of a caller, the newest last. Each takes 64 bytes or more.
+pub(crate) type Records = Apart<Record, 2>;
+
+/// A record for places without one.
+pub(crate) const NO_RECORD: Record = Record {
+    at: 0,
+    what: Told::TellBegin,
+};

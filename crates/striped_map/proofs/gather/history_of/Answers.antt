@@ -2,6 +2,7 @@ use Rattle.std.proofs.Common.{◌≡◌, ◌+◌, ◌<◌, ℕ, ◌∷◌, [], �
 use Rattle.std.proofs.lemmas.List.{take_more, length-take-le}
 use Rattle.txn_words.specs.declared.entry.Entry.{Entry}
 use Rattle.txn_words.specs.declared.entry.Entry.TheVariants.{Aborted}
+use Rattle.striped_map.specs.Apart.{Listed}
 use Rattle.striped_map.specs.declared.record.Record.{Record}
 use Rattle.striped_map.specs.Gathered.{entries_in, records_of, written, written_from}
 use Rattle.striped_map.specs.Records.{spread}
@@ -16,13 +17,13 @@ loop-place-preserved c = let ps : Parts = c.args.parts.now.items in let k = c.lo
     let lt : k < length ps = (let lt = c.loop-place-test.true in let e = c.len-place-end.ensures in omega arith) in
     let long = length-take-le k ps (omega arith) in
     let more : written_from 1 t (take (k + 1) ps) ≡ written (written_from 1 t (take k ps)) (spread (k + 1) (records_of part)) =
-    ap (written_from 1 t) (take_more ps k part lt ∙ ap (λ (p : Option (Vec Record Global)). take k ps ++ p ∷ []) (sym c.index.ensures)) ∙ written_more 1 t (take k ps) part
+    ap (written_from 1 t) (take_more ps k part lt ∙ ap (λ (p : Option (Listed Record)). take k ps ++ p ∷ []) (sym c.index.ensures)) ∙ written_more 1 t (take k ps) part
     ∙ ap (λ (i : ℕ). written (written_from 1 t (take k ps)) (spread i (records_of part))) (omega arith) in
     let before : c.loop-place.table.items ≡ written_from 1 t (take k ps) = c.loop-place.invariant in
     elim c.match-index.branch [
       | in-Some-index w ↦
           ap (λ (v : Vec Entry Global). v.items) w.table-is ∙ w.put_records-in-Some-index.ensures ∙ ap (λ (l : List Entry). written l (spread (k + 1) w.in-Some-index.records.items)) before
-          ∙ sym (more ∙ ap (λ (p : Option (Vec Record Global)). written (written_from 1 t (take k ps)) (spread (k + 1) (records_of p))) w.in-Some-index.is)
+          ∙ sym (more ∙ ap (λ (p : Option (Listed Record)). written (written_from 1 t (take k ps)) (spread (k + 1) (records_of p))) w.in-Some-index.is)
       | in_default-index w ↦
-          ap (λ (v : Vec Entry Global). v.items) w.table-is ∙ before ∙ sym (more ∙ ap (λ (p : Option (Vec Record Global)). written (written_from 1 t (take k ps)) (spread (k + 1) (records_of p))) w.in_default-index.is)
+          ap (λ (v : Vec Entry Global). v.items) w.table-is ∙ before ∙ sym (more ∙ ap (λ (p : Option (Listed Record)). written (written_from 1 t (take k ps)) (spread (k + 1) (records_of p))) w.in_default-index.is)
     ]

@@ -1,6 +1,7 @@
-use Rattle.std.proofs.Common.{◌≡◌, ◌≢◌, ℕ, suc, ◌-◌, ◌<◌, List, ◌∷◌, Vec, Global, Some, slice_get, set, sym, ap, subst, ◌∙◌, arith}
+use Rattle.std.proofs.Common.{◌≡◌, ◌≢◌, ℕ, suc, ◌-◌, ◌<◌, List, ◌∷◌, Some, slice_get, set, sym, ap, subst, ◌∙◌, arith}
 use Rattle.txn_words.specs.declared.entry.Entry.{Entry}
 use Rattle.txn_words.specs.declared.seat.Phase.TheVariants.{Closed}
+use Rattle.striped_map.specs.Apart.{Listed}
 use Rattle.striped_map.specs.declared.keep.Keep.TheVariants.{Entries}
 use Rattle.striped_map.specs.declared.map.StripedMap.{StripedMap}
 use Rattle.striped_map.specs.declared.host.Host.{Host}
@@ -47,7 +48,7 @@ invariant_of-self c = let me = c.args.self.now in let seat = c.args.seat in let 
     let is : u.number ≡ seat.number = seat.numbered in let long = me.sized all in let o = me.parts.ok.0 in
     let same : u.keep ≡ v.keep = alike me seat c.requires in
     let low = seat.placed (sym seat.moded ∙ same ∙ all) in
-    let marked : marks seat.number 0 u.seen ≡ spread seat.number c.take_in-records.result.items = seat.marked (sym seat.moded ∙ same ∙ all) ∙ ap (λ (rs : Vec Record Global). spread seat.number rs.items) (sym c.take_in-records.ensures.records) in
+    let marked : marks seat.number 0 u.seen ≡ spread seat.number c.take_in-records.result.items = seat.marked (sym seat.moded ∙ same ∙ all) ∙ ap (λ (rs : Listed Record). spread seat.number rs.items) (sym c.take_in-records.ensures.records) in
     let apart : (j : ℕ) (r : ℕ × List Entry) → slice_get v.retired j ≡ Some r → (r.0 ≢ seat.number) × (0 < r.0) = λ j r has. (λ twice. (new.1 j r has).0 (twice ∙ sym is), (new.1 j r has).1) in
     let has : HasParts ((seat.number, u.seen) ∷ v.retired) (set me.parts.items (seat.number - 1) (Some c.take_in-records.result)) = one_merged v.retired me.parts.items seat.number u.seen c.take_in-records.result (omega arith) (omega arith) apart marked (me.parted all) in
     record {

@@ -1,5 +1,6 @@
-use Rattle.std.proofs.Common.{◌≡◌, length, Option, None, Vec, Global, [], ◌∙◌, sym, ap, subst, arith}
+use Rattle.std.proofs.Common.{◌≡◌, length, Option, None, [], ◌∙◌, sym, ap, subst, arith}
 use Rattle.std.proofs.lemmas.List.{length-replicate}
+use Rattle.striped_map.specs.Apart.{Listed}
 use Rattle.striped_map.specs.declared.record.Record.{Record}
 use Rattle.striped_map.specs.declared.seat.MapSeat.{MapSeat}
 use Rattle.striped_map.specs.declared.view.View.{View}
@@ -26,7 +27,7 @@ invariant_of-result c = let seat = c.new.result.seat in
       first = ap (λ (v : View). v.number) is;
       closed = at_new (known seat) (ap (λ (v : View). own v.number v.seen) is);
       idle = ap (λ (v : View). v.held) is;
-      sized = λ all. (let count = parts.2 (sym (ap (λ (v : View). v.keep) is) ∙ all) in let long = ap length parts.1 ∙ length-replicate parts.0 (let p : Option (Vec Record Global) = None in p) in let o = c.args.parts.ok.0 in omega arith);
+      sized = λ all. (let count = parts.2 (sym (ap (λ (v : View). v.keep) is) ∙ all) in let long = ap length parts.1 ∙ length-replicate parts.0 (let p : Option (Listed Record) = None in p) in let o = c.args.parts.ok.0 in omega arith);
       parted = λ all. subst (λ (v : View). HasParts v.retired c.args.parts.items) (sym is) (none_merged parts.0 c.args.parts.items parts.1);
     }
 

@@ -1,4 +1,4 @@
-use Rattle.std.proofs.Common.{◌≡◌, ℕ, ◌+◌, ◌%◌, ◌^◌, ◌<◌, ◌∙◌, List, length, sym, ap, subst, arith}
+use Rattle.std.proofs.Common.{◌≡◌, ℕ, ◌+◌, ◌%◌, ◌^◌, ◌<◌, ◌∙◌, List, length, sym, ap, subst, arith, lit<}
 use Rattle.stripe_part.specs.PartAt.{PartAt}
 use Rattle.txn_words.specs.Held.{times}
 use Rattle.striped_map.specs.declared.view.View.{View}
@@ -49,11 +49,11 @@ invariant_of-seat g c = let seat = c.args.seat.now in let e = c.fetch_add-at.ens
           (now_marked seat.number seat.seat.me.0 w found _ seat.records.items (record { at = found; what = c.args.told }) seat.numbered e.2.2 (seat.marked all) (ap (placed found) (subst (λ (what : Addition). entries_of seat.seat.me.0 what ≡ told_by seat.number c.args.told) c.requires.said (c.requires.told all))));
       roomy = λ all at.
           let adds = subst (λ (what : Addition). AddsIn c.args.self.now.table.shared.table_id.slots seat.seat.me.0 (entries_of seat.seat.me.0 what) (left_of seat.seat.me.0 what) w) (sym c.requires.said) e.2.1 in
-          let r = room_after _ c.args.what seat w adds c.requires.room all at in let l = c.push_reserved.ensures.len in let k = c.push_reserved.ensures.capacity in omega arith;
+          let r = room_after _ c.args.what seat w adds c.requires.room all at in let l = c.push_reserved.ensures.room in omega arith;
       numbered = ap (λ (v : View). v.number) is ∙ seat.numbered;
       inside = λ s h. subst (λ z. s < z.slots) (sym e.0) (seat.inside s (subst (λ (v : View). Holds v s) is h));
       slotted = λ s. ap (λ (c : List (ℕ × PartAt)). times s (places c)) e.2.0 ∙ seat.slotted s ∙ ap (λ (v : View). times s v.held) (sym is);
     }
 
 pub push_reserved-requires : goal.push_reserved-requires
-push_reserved-requires g c = c.args.seat.now.roomy (sym c.requires.keep ∙ c.in-Entries.is) c.requires.open
+push_reserved-requires g c = (lit< tt, c.args.seat.now.roomy (sym c.requires.keep ∙ c.in-Entries.is) c.requires.open)
