@@ -8,3 +8,4 @@ pub mod Referees
 pub mod Feeding
 pub mod Back
 pub mod Reading
+pub mod Naming

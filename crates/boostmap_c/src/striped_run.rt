@@ -55,7 +55,7 @@ impl Operations for Named<'_> {
 }
 
 /// The entries, if each names an operation.
-fn named(entries: &[CEntry]) -> Option<Named<'_>>
+fn read_all(entries: &[CEntry]) -> Option<Named<'_>>
     ensures some { IfSome result (λ named. named.entries.now ≡ entries.now) }
     ensures none { result ≡ None → IsUnnamed entries.now }
 {
@@ -116,7 +116,7 @@ pub extern "C" fn boostmap_striped_run(
     if replies.len() < operations.len() {
         return SHORT;
     }
-    let Some(ops) = named(operations) else {
+    let Some(ops) = read_all(operations) else {
         return NO_ENTRY;
     };
     let member = caller.held.get_mut();
