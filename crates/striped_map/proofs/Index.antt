@@ -1,6 +1,6 @@
 -- Lemmas about the index, which has the place of each held stripe. They say which places it has
 -- after stripes are taken or given back.
-use Rattle.std.proofs.Common.{◌≡◌, ◌≢◌, ℕ, zero, suc, ◌<◌, ◌≤◌, true, false, ◌||◌, List, [], ◌∷◌, ◌++◌, length, set, take, None, Some, slice_get, sym, refl, ◌∙◌, ap, ⊎_elim, arith, ne_eqb}
+use Rattle.std.proofs.Common.{◌≡◌, ◌≢◌, ℕ, zero, suc, ◌<◌, ◌≤◌, true, false, ◌||◌, List, [], ◌∷◌, ◌++◌, length, set, None, Some, slice_get, sym, refl, ◌∙◌, ap, ⊎_elim, arith, ne_eqb}
 use mathlib.Core.Logic.{dite}
 use native.Mathlib.Decide.{ℕ_discrete}
 use Rattle.std.specs.List.{AllByRecursion, IsDistinct, list_any}

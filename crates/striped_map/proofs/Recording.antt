@@ -1,5 +1,5 @@
 -- A caller's records stand for its entries in the history that it has seen.
-use Rattle.std.proofs.Common.{◌≡◌, ℕ, zero, suc, ◌+◌, ◌%◌, ◌^◌, ◌<◌, set, take, None, Some, List, [], ◌∷◌, ◌++◌, Option, length, sym, refl, ap, subst, ◌∙◌, arith, append-nil, append_assoc, length-append, Global}
+use Rattle.std.proofs.Common.{◌≡◌, ℕ, zero, suc, ◌+◌, ◌%◌, ◌^◌, ◌<◌, set, take, None, Some, List, [], ◌∷◌, ◌++◌, Option, length, sym, refl, ap, subst, ◌∙◌, arith, append-nil, append_assoc, length-append}
 use Rattle.txn_words.specs.declared.entry.Entry.{Entry}
 use Rattle.txn_words.specs.declared.entry.Entry.TheVariants.{Leave, Busy, Returned, Undone, Aborted}
 use Rattle.txn_words.specs.declared.op.Op.{Op}

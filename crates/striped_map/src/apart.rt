@@ -3,22 +3,23 @@
 //! A caller writes to its lists at every call. So no other thread may write to the same line of the
 //! cache, or each of its writes would slow the call down. Processors fetch lines of 64 bytes in
 //! pairs, so two such writes should be 128 bytes apart. An allocator aligns a block only to 16
-//! bytes, and puts blocks that are taken one after another side by side. Therefore a list leaves
-//! 128 bytes at each end of its memory, which nobody reads or writes after the memory is taken.
+//! bytes, and puts blocks that are taken one after another side by side. Therefore a list does not
+//! use 128 bytes at each end of its memory. It writes to the first of them only when it takes memory.
 ghost use Rattle.std.specs.Prelude.{◌≡◌, ℕ, ◌+◌, ◌-◌, ◌<◌, ◌≤◌, ◌^◌, ◌↔◌, [], ◌∷◌, ◌++◌, Some, IfNone, IsTrue, OnOk, OnErr, length, replicate, take, slice_get, slice_set};
 ghost use Rattle.std.specs.Option.{option_to_list};
 
 use std::alloc::{AllocError, Global};
 use std::marker::Model;
 
-/// A list. Its memory has `PAD` places more at each end, which are not used: as many as take 128
-/// bytes. Takes no memory before it needs some.
+/// A list. Its memory has `PAD` places more at each end, which are not used (`IsPadded`). The user
+/// of the type chooses `PAD`, so that these places take 128 bytes. Takes no memory before it needs
+/// some.
 ///
 /// Contracts see the `items`, and the `room`: how many more items can be added before more memory
 /// is needed.
 #[derive(Drop)]
 pub(crate) struct Apart<T: Copy, const PAD: usize> {
-    // The first `PAD` places are blank.
+    // The first `PAD` places are blank, and the items lie behind them.
     places: Vec<T>,
 }
 

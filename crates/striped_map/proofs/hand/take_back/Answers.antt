@@ -1,4 +1,4 @@
-use Rattle.std.proofs.Common.{◌≡◌, ℕ, suc, ◌-◌, ◌/◌, ◌<◌, List, [], ◌∷◌, ◌++◌, Some, slice_get, length, sym, refl, ap, subst, ◌∙◌, arith, lit<}
+use Rattle.std.proofs.Common.{◌≡◌, ℕ, suc, ◌-◌, ◌/◌, List, [], ◌∷◌, ◌++◌, Some, slice_get, length, sym, refl, ap, subst, ◌∙◌, arith, lit<}
 use Rattle.std.proofs.lemmas.Option.{same_Some, slice_get_within}
 use Rattle.txn_trace.specs.Locks.{stripe_of}
 use Rattle.txn_trace.specs.Now.{now}
