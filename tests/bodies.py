@@ -319,6 +319,10 @@ def try_crate(libraries, crate, only_copies=False):
             calls = re.compile("it calls|a call of")
             again = [body for body, (what, why) in found.items() if what == "failed" and calls.search(why) and len(found) > 1]
             rounds += [round_ for body in again for round_ in rounds_of(crate, [body])]
+            # A body that does not compile leaves its whole round without a verdict.
+            if len(found) > 1 and all(why.startswith("no verdict") for _, why in found.values()):
+                tried, half = list(found), len(found) // 2
+                rounds += rounds_of(crate, tried[:half]) + rounds_of(crate, tried[half:])
     return bodies, results, number, seconds
 
 
