@@ -1,5 +1,7 @@
 //! Defines `Caller::run`, which runs a whole transaction by one call.
-ghost use Rattle.std.specs.Prelude.{◌≡◌, ◌≤◌, [], true, false, IfOk, IfErr, length, vec_len, vec_capacity, OnOk};
+ghost use Rattle.txn_words.specs.declared.entry.Entry.TheVariants.{Asked, Did};
+ghost use Rattle.striped_map.specs.Callers.{IsStep, IsStopped, number};
+ghost use Rattle.std.specs.Prelude.{◌≡◌, ◌≤◌, [], ◌∷◌, true, false, IfOk, IfErr, length, vec_len, vec_capacity, OnOk};
 ghost use Rattle.striped_map.specs.Runs.{DoesAll, DoesToMiss, DoesUntil, IsNotRun, IsRunTo, is_miss};
 
 use crate::caller::Caller;
@@ -79,6 +81,23 @@ fn make_room(replies: &mut Vec<Reply>, count: usize) -> Result<(), AllocError>
 }
 
 impl Caller {
+    /// Does an operation. There is an arm for each kind, because the compiler optimises each.
+    #[inline(always)]
+    fn operate_by_kind(&mut self, op: Op) -> Result<Reply, Stop>
+        ensures open { OnOk result ((self.old.is_open ≡ true) × (self.new.is_open ≡ true)) }
+        ensures map { self.new.map ≡ self.old.map }
+        ensures ok { IfOk result (λ reply. IsStep self.old
+            (Asked (number self.old) op ∷ Did (number self.old) reply ∷ []) self.new) }
+        ensures err { IfErr result (IsStopped self.old op self.new) }
+    {
+        match op {
+            Op::Put(key, value) => self.operate(Op::Put(key, value)),
+            Op::Take(key) => self.operate(Op::Take(key)),
+            Op::Get(key) => self.operate(Op::Get(key)),
+            Op::PutIf(key, expected, value) => self.operate(Op::PutIf(key, expected, value)),
+        }
+    }
+
     /// Does these operations in the caller's transaction, up to the first that fails or ends the
     /// run. Adds the replies to the list, which must have room for them. Returns true if no
     /// operation ends the run.
@@ -102,7 +121,7 @@ impl Caller {
     {
         for place in 0..ops.count() {
             let op = ops.at(place);
-            let reply = self.operate(op)?;
+            let reply = self.operate_by_kind(op)?;
             replies.push_reserved(reply);
             if is_miss(strict, op, reply) {
                 return Ok(false);
