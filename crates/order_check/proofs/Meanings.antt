@@ -16,6 +16,7 @@ use Rattle.order_check.specs.Footprints.{Cell}
 use Rattle.order_check.specs.Dependencies.{Needs, Writes, Replaces, ComesOnce}
 use Rattle.order_check.specs.Forces.{dependency_of, Forces, OnlyThese}
 use Rattle.order_check.specs.Graphs.{Graph, HasEdge, AreInRange, KeepsEdges, IsWay, IsCycle}
+use Rattle.order_check.specs.Timing.{Leads}
 use Rattle.order_check.specs.Orders.{KeepsTime, IsOrderOf, HasNoOrder}
 use Rattle.order_check.specs.Tables.{Version, version_eq, DoesWrite, DoesReplace, ReplacesValue, IsAmong, ToldOf, Told, AreTold, AreBelow}
 use Rattle.order_check.specs.Joined.{NeedsAt, DoesAt, SourceIs, AreDistinct, meaning_of, AreMeant, IsEdge, IsJoined}
@@ -154,28 +155,34 @@ module _ (count : ℕ) (accesses : List Access) (are : AreAccesses count accesse
       edge_forces : (l : Edge) (u : ℕ) → HasEdge graph l u → IsOnce writers l → Forces (footprints_of accesses) since l u
       edge_forces l u has once = forces_of l.kind l.from l.key l.value u (meant u l has) once
 
-      way_forces : (l : Edge) (ls : List Edge) (end : ℕ) → IsWay (HasEdge graph) l ls end → All (IsOnce writers) (l ∷ ls) → IsWay (Forces (footprints_of accesses) since) l ls end
-      way_forces l [] end way all = edge_forces l end way (All-head (IsOnce writers) l [] all)
-      way_forces l (m ∷ ms) end way all = (edge_forces l m.from way.0 (All-head (IsOnce writers) l (m ∷ ms) all), way_forces m ms end way.1 (All-tail (IsOnce writers) l (m ∷ ms) all))
+      leads_forces : (l : Edge) (u : ℕ) → Leads since graph l u → (HasEdge graph l u → IsOnce writers l) → Forces (footprints_of accesses) since l u
+      leads_forces l u leads once = elim leads [
+        | inl has ↦ edge_forces l u has (once has)
+        | inr timed ↦ subst (λ kind. dependency_of kind (footprints_of accesses) since l.from u l.key l.value) (sym timed.0) timed.1
+      ]
 
-      cycle_forces : (ls : List Edge) → IsCycle (HasEdge graph) ls → All (IsOnce writers) ls → IsCycle (Forces (footprints_of accesses) since) ls
+      way_forces : (l : Edge) (ls : List Edge) (end : ℕ) → IsWay (Leads since graph) l ls end → All (IsOnce writers) (l ∷ ls) → IsWay (Forces (footprints_of accesses) since) l ls end
+      way_forces l [] end way all = leads_forces l end way (λ has. All-head (IsOnce writers) l [] all)
+      way_forces l (m ∷ ms) end way all = (leads_forces l m.from way.0 (λ has. All-head (IsOnce writers) l (m ∷ ms) all), way_forces m ms end way.1 (All-tail (IsOnce writers) l (m ∷ ms) all))
+
+      cycle_forces : (ls : List Edge) → IsCycle (Leads since graph) ls → All (IsOnce writers) ls → IsCycle (Forces (footprints_of accesses) since) ls
       cycle_forces [] cycle all = cycle
       cycle_forces (l ∷ ls) cycle all = way_forces l ls l.from cycle all
 
-      pub cycle_found : (ls : List Edge) → IsCycle (HasEdge graph) ls → All (IsOnce writers) ls → IsCycle (Forces (footprints_of accesses) since) ls × HasNoOrder (IsTxn count) (footprints_of accesses) since
+      pub cycle_found : (ls : List Edge) → IsCycle (Leads since graph) ls → All (IsOnce writers) ls → IsCycle (Forces (footprints_of accesses) since) ls × HasNoOrder (IsTxn count) (footprints_of accesses) since
       cycle_found ls cycle all =
           let forced = cycle_forces ls cycle all in
           (forced, cycle_no_order (IsTxn count) (footprints_of accesses) since only_these ls forced)
 
-      certain_way : ((u : ℕ) (l : Edge) → HasEdge graph l u → IsOnce writers l) → (l : Edge) (ls : List Edge) (end : ℕ) → IsWay (HasEdge graph) l ls end → IsWay (Forces (footprints_of accesses) since) l ls end
-      certain_way once l [] end way = edge_forces l end way (once end l way)
-      certain_way once l (m ∷ ms) end way = (edge_forces l m.from way.0 (once m.from l way.0), certain_way once m ms end way.1)
+      certain_way : ((u : ℕ) (l : Edge) → HasEdge graph l u → IsOnce writers l) → (l : Edge) (ls : List Edge) (end : ℕ) → IsWay (Leads since graph) l ls end → IsWay (Forces (footprints_of accesses) since) l ls end
+      certain_way once l [] end way = leads_forces l end way (once end l)
+      certain_way once l (m ∷ ms) end way = (leads_forces l m.from way.0 (once m.from l), certain_way once m ms end way.1)
 
-      certain_cycle : ((u : ℕ) (l : Edge) → HasEdge graph l u → IsOnce writers l) → (ls : List Edge) → IsCycle (HasEdge graph) ls → IsCycle (Forces (footprints_of accesses) since) ls
+      certain_cycle : ((u : ℕ) (l : Edge) → HasEdge graph l u → IsOnce writers l) → (ls : List Edge) → IsCycle (Leads since graph) ls → IsCycle (Forces (footprints_of accesses) since) ls
       certain_cycle once [] cycle = cycle
       certain_cycle once (l ∷ ls) cycle = certain_way once l ls l.from cycle
 
-      pub certain_found : ((u : ℕ) (l : Edge) → HasEdge graph l u → IsOnce writers l) → (ls : List Edge) → IsCycle (HasEdge graph) ls → IsCycle (Forces (footprints_of accesses) since) ls × HasNoOrder (IsTxn count) (footprints_of accesses) since
+      pub certain_found : ((u : ℕ) (l : Edge) → HasEdge graph l u → IsOnce writers l) → (ls : List Edge) → IsCycle (Leads since graph) ls → IsCycle (Forces (footprints_of accesses) since) ls × HasNoOrder (IsTxn count) (footprints_of accesses) since
       certain_found once ls cycle =
           let forced = certain_cycle once ls cycle in
           (forced, cycle_no_order (IsTxn count) (footprints_of accesses) since only_these ls forced)

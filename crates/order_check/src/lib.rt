@@ -21,7 +21,9 @@
 //!
 //! By the law `by_commits`, a history that is legal by locks is serializable.
 //!
-//! Only tested: that few verdicts are undecided.
+//! A cycle is reported as the shortest one that walks find (`shortest`).
+//!
+//! Only tested: that few verdicts are undecided, and that no cycle is shorter than the one reported.
 #![tactic(auto)]
 
 mod access;
@@ -42,6 +44,7 @@ mod options;
 mod outcome;
 mod placing;
 mod search;
+mod shortest;
 mod table;
 mod timing;
 mod transactions;

@@ -16,7 +16,8 @@ use crate::edge::{Edge, Kind};
 use crate::edges::make_graph;
 use crate::exclusion::find_impossible;
 use crate::in_turn::run_in_turn;
-use crate::search::{Found, find_order};
+use crate::search::Found;
+use crate::shortest::find_shortest;
 use crate::table::{Tables, make_tables};
 use std::alloc::{AllocError, Global};
 
@@ -158,12 +159,12 @@ fn judge_sourced(
 {
     let tables = make_tables(alloc, accesses)?;
     let graph = make_graph(alloc, count, since, &tables, accesses)?;
-    match find_order(alloc, &graph)? {
+    match find_shortest(alloc, &graph, since)? {
         Found::Order(order) => Ok(Outcome::Order(order)),
         Found::Cycle(edges) => match first_repeated(&tables, &edges) {
             Some(edge) => {
                 let certain = keep_once(alloc, &tables, &graph)?;
-                match find_order(alloc, &certain)? {
+                match find_shortest(alloc, &certain, since)? {
                     Found::Cycle(edges) => Ok(Outcome::Cycle(edges)),
                     Found::Order(_) => Ok(Outcome::Ambiguous(edge)),
                 }
