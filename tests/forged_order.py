@@ -186,12 +186,13 @@ class Truth:
         )
 
     def is_shortest(self, edges, real_time):
-        """Whether no cycle has fewer edges that hold in all orders. If the cycle has an edge of real
-        time, none of its length may be without."""
+        """Whether no cycle has fewer edges that hold in all orders. If the cycle has an edge of
+        real time, none of its length may be without."""
         is_timed = any(edge[1] == "committed" for edge in edges)
-        untimed = plain_order_judge.shortest_cycle(self.accesses.edges([0] * len(self.commits)))
-        due = plain_order_judge.shortest_cycle(self.accesses.edges(self.lowest)) if real_time else untimed
-        return len(edges) == due and is_timed == (untimed != due)
+        least = plain_order_judge.shortest_cycle
+        without = least(self.accesses.edges([0] * len(self.commits)))
+        due = least(self.accesses.edges(self.lowest)) if real_time else without
+        return len(edges) == due and is_timed == (without != due)
 
     def allows(self, line, order, real_time):
         """Whether a verdict is right, with or without real time."""

@@ -114,8 +114,8 @@ def has_cycle(count, edges):
 
 
 def shortest_cycle(edges):
-    """The number of edges of a shortest cycle that these edges form, or None. It makes all ways of one
-    edge, of two, and so on."""
+    """The number of edges of a shortest cycle that these edges form, or None. It makes all ways of
+    one edge, of two, and so on."""
     edges = set(edges)
     ways, length = edges, 1
     while ways:

@@ -21,9 +21,9 @@
 //!
 //! By the law `by_commits`, a history that is legal by locks is serializable.
 //!
-//! A cycle is reported as the shortest one that walks find (`shortest`).
+//! The cycle that is reported is the shortest one that walks find.
 //!
-//! Only tested: that few verdicts are undecided, and that no cycle is shorter than the one reported.
+//! Only tested: that few verdicts are undecided, and that the cycle reported is a shortest one.
 #![tactic(auto)]
 
 mod access;

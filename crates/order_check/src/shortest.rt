@@ -1,12 +1,12 @@
 //! A shortest cycle, in place of the one that a search by depth found.
 //!
 //! A walk goes from a transaction to those that must come before it, the nearest ones first (Moore,
-//! "The Shortest Path through a Maze", 1959). The edge by which it comes back closes a shortest cycle
-//! through this transaction. A walk goes only as far as a cycle can still be shorter than the best
-//! one so far. The first walks begin at the cycle that was found, and the others at each transaction
-//! in turn, until all have looked at 64 times as many edges as there are.
+//! "The Shortest Path through a Maze", 1959). The edge by which it comes back closes a shortest
+//! cycle through this transaction. A walk goes only as far as a cycle can still be shorter than the
+//! best one so far. The first walks begin at the cycle that was found, and the others at each
+//! transaction in turn, until all have looked at 64 times as many edges as there are.
 //!
-//! A walk also takes the edges of real time that the graph leaves out, since they follow from others.
+//! A walk also takes the edges of real time that the graph leaves out, as they follow from others.
 //!
 //! Proved: the edges are a cycle. That it is a shortest one is only tested: the edges of each cycle
 //! are read back and tested one by one, so that no proof speaks of the walks.
@@ -65,10 +65,10 @@ struct Walks {
     left: usize,
 }
 
-/// Finds an order that keeps all edges, or a cycle of edges or of edges of real time. `since` says of
-/// each transaction how many had committed when it began. The cycle is a shortest one, if the walks
-/// may look at as many edges as that takes. It has an edge of real time only if each cycle of its
-/// length that they find has one.
+/// Finds an order that keeps all edges, or a cycle of edges, also of real time. `since` says of each
+/// transaction how many had committed when it began. The cycle is a shortest one, if the walks may
+/// look at as many edges as that takes. It has an edge of real time only if each cycle of its length
+/// that they find has one.
 ///
 /// # Errors
 ///
@@ -256,8 +256,8 @@ impl Walks {
         Ok(())
     }
 
-    /// Takes an edge that comes from a transaction, if it closes a cycle of a lesser cost, or if the
-    /// way with it has a lesser cost and a cycle may still have.
+    /// Takes an edge that comes from a transaction, if it closes a cycle of a lesser cost, or if it
+    /// is on the way to one.
     fn meet(&mut self, from: usize, cost: Cost, by: Place) -> Result<(), AllocError> {
         if from == self.start {
             if cost < self.least {
@@ -331,7 +331,8 @@ fn longer(cost: Cost, kind: Kind) -> Cost {
 
 /// The edge in this place, if there is one and it comes from this transaction.
 fn edge_at(graph: &[Vec<Edge>], since: &[usize], place: Place, from: usize) -> Option<Edge>
-    ensures { IfSome result (λ l. (l.from ≡ from) × Leads (since_in since.now) graph.now l place.to) }
+    ensures { IfSome result (λ l. (l.from ≡ from)
+        × Leads (since_in since.now) graph.now l place.to) }
 {
     match place.index {
         Some(index) => listed_edge(graph, place.to, index, from),

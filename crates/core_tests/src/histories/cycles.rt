@@ -26,8 +26,8 @@ const ELSEWHERE: &str = r#"["began",0,1],["began",1,2],["began",2,3],["asked",0,
     ["committed",0,4],["committed",1,5]"#;
 
 /// One transaction after the other, and the third one reads what the first one has replaced. The
-/// search by depth goes over the second one, since the edge of real time from the first to the third
-/// one follows from two others.
+/// search by depth goes over the second one, because the edge of real time from the first to the
+/// third one follows from two others.
 const ONE_BETWEEN: &str = r#"["began",0,1],["asked",0,"put",1,10],["did",0,null],
     ["committed",0,1],["began",0,2],["asked",0,"put",2,20],["did",0,null],["committed",0,2],
     ["began",0,3],["asked",0,"get",1],["did",0,null],["committed",0,3]"#;
