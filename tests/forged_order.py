@@ -5,16 +5,19 @@ by plain_order_judge.py.
     tests/forged_order.py PROGRAM COUNT SEED
 
 The histories are those of stores without locks, drawn from the seed: their transactions read the
-committed map or a snapshot of it, go back to savepoints and abort; the first to commit may win or not;
-each value may be put once or many times. Some are written down in another order, and in some an entry is
-forged (forged_serial.py). All orders are tried if there are at most seven commits. Each verdict must be
-right: an order must be a serial one, each edge of a cycle must hold in all orders, its class must be that
-of the edges, a value without a writer must have none, and an undecided value must come more than once, and
-the transactions that are named must be those that write it. With real time the order must keep it, and an
-edge may say that a transaction had committed when another one began. At most one verdict in a hundred may be undecided, with and without real time. A history that is
-serializable in the order of its commits must be found so. Exit status and standard error must fit. The
-plain judge's two ways must agree too. A history counts as passed if both verdicts are right. The last line
-is 'forged: N passed, M failed', and the status is 1 if M is not 0.
+committed map or a snapshot of it, go back to savepoints and abort; the first to commit may win or
+not; each value may be put once or many times. Some are written down in another order, and in some
+an entry is forged (forged_serial.py). All orders are tried if there are at most seven commits.
+Each verdict must be right: an order must be a serial one, each edge of a cycle must hold in all
+orders, no such cycle may be shorter, or as long and without the edges of real time that it has,
+its class must be that of the edges, a value without a writer must have none, and an undecided
+value must come more than once, and the transactions that are named must be those that write it.
+With real time the order must keep it, and an edge may say that a transaction had committed when
+another one began. At most one verdict in a hundred may be undecided, with and without real time. A
+history that is serializable in the order of its commits must be found so. Exit status and standard
+error must fit. The plain judge's two ways must agree too. A history counts as passed if both
+verdicts are right. The last line is 'forged: N passed, M failed', and the status is 1 if M is not
+0.
 """
 import collections
 import json
@@ -179,7 +182,17 @@ class Truth:
             and name == class_of(edges)
             and all(self.is_edge(it, real_time) for it in edges)
             and all(one[4] == other[0] for one, other in zip(edges, edges[1:] + edges[:1]))
+            and self.is_shortest(edges, real_time)
         )
+
+    def is_shortest(self, edges, real_time):
+        """Whether no cycle has fewer edges that hold in all orders. If the cycle has an edge of
+        real time, none of its length may be without."""
+        is_timed = any(edge[1] == "committed" for edge in edges)
+        least = plain_order_judge.shortest_cycle
+        without = least(self.accesses.edges([0] * len(self.commits)))
+        due = least(self.accesses.edges(self.lowest)) if real_time else without
+        return len(edges) == due and is_timed == (without != due)
 
     def allows(self, line, order, real_time):
         """Whether a verdict is right, with or without real time."""

@@ -113,6 +113,18 @@ def has_cycle(count, edges):
     return freed < count
 
 
+def shortest_cycle(edges):
+    """The number of edges of a shortest cycle that these edges form, or None. It makes all ways of
+    one edge, of two, and so on."""
+    edges = set(edges)
+    ways, length = edges, 1
+    while ways:
+        if any(i == j for i, j in ways):
+            return length
+        ways, length = {(i, k) for i, j in ways for other, k in edges if j == other}, length + 1
+    return None
+
+
 class Search:
     """A search for a serial order that places one transaction after another.
 

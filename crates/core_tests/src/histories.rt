@@ -1,7 +1,8 @@
 //! Histories that `history_check` judges, as a whole and entry by entry. The verdicts on the worked
 //! histories were found by hand. The module `generated` draws more histories from a thousand seeds.
-//! All verdicts are compared with those of the slow program in `plain`. The modules `verdicts` and
-//! `orders` test the other judges.
+//! All verdicts are compared with those of the slow program in `plain`. The modules `verdicts`,
+//! `orders` and `cycles` test the other judges.
+mod cycles;
 mod generated;
 mod orders;
 mod plain;

@@ -96,49 +96,49 @@ read_at graph visits path start k u row a l circle less at row_here a_here l_her
     let same : f.edge ≡ l = cc (sym f.there ∙ there) in
     record { from_is = ap (λ (x : Edge). x.from) (sym same) ∙ f.from_is; there = record { number = next_in visits u; there = there } }
 
--- The edges so far: from `start` to `u`.
-pub record Trail (graph : Graph) (start : ℕ) (edges : List Edge) (u : ℕ) : Type 0 where
+-- The edges so far lead from `start` to `u`.
+pub record Trail (leads : Edge → ℕ → Type 0) (start : ℕ) (edges : List Edge) (u : ℕ) : Type 0 where
   pub first : Edge
   pub others : List Edge
   pub edges_are : edges ≡ first ∷ others
   pub from_is : first.from ≡ start
-  pub way : IsWay (HasEdge graph) first others u
+  pub way : IsWay leads first others u
 
-way_push : (graph : Graph) (l : Edge) (ls : List Edge) (m : Edge) (t u : ℕ) → IsWay (HasEdge graph) l ls t → m.from ≡ t → HasEdge graph m u → IsWay (HasEdge graph) l (ls ++ m ∷ []) u
-way_push graph l [] m t u way from_is there = (subst (HasEdge graph l) (sym from_is) way, there)
-way_push graph l (n ∷ ns) m t u way from_is there = (way.0, way_push graph n ns m t u way.1 from_is there)
+way_push : (leads : Edge → ℕ → Type 0) (l : Edge) (ls : List Edge) (m : Edge) (t u : ℕ) → IsWay leads l ls t → m.from ≡ t → leads m u → IsWay leads l (ls ++ m ∷ []) u
+way_push leads l [] m t u way from_is there = (subst (leads l) (sym from_is) way, there)
+way_push leads l (n ∷ ns) m t u way from_is there = (way.0, way_push leads n ns m t u way.1 from_is there)
+
+pub trail_one : (leads : Edge → ℕ → Type 0) (start u : ℕ) (l : Edge) → l.from ≡ start → leads l u → Trail leads start (l ∷ []) u
+trail_one leads start u l from_is there = record { first = l; others = []; edges_are = refl; from_is = from_is; way = there }
+
+pub trail_push : (leads : Edge → ℕ → Type 0) (start t u : ℕ) (l : Edge) (edges : List Edge) → Trail leads start edges t → l.from ≡ t → leads l u → Trail leads start (edges ++ l ∷ []) u
+trail_push leads start t u l edges trail from_is there = record {
+  first = trail.first;
+  others = trail.others ++ l ∷ [];
+  edges_are = ap (λ ls. ls ++ l ∷ []) trail.edges_are;
+  from_is = trail.from_is;
+  way = way_push leads trail.first trail.others l t u trail.way from_is there;
+}
 
 -- What the loop has collected before the place.
 pub record Collected (graph : Graph) (start : ℕ) (path : List ℕ) (k : ℕ) (edges : List Edge) : Type 0 where
   pub none : k ≡ 0 → edges ≡ []
-  pub trail : (j : ℕ) → k ≡ suc j → Trail graph start edges (get_or (reverse path) j 0)
+  pub trail : (j : ℕ) → k ≡ suc j → Trail (HasEdge graph) start edges (get_or (reverse path) j 0)
   pub unmet : (j : ℕ) → j < k → get_or (reverse path) j 0 ≡ start → ⊥
 
 pub collected_none : (graph : Graph) (start : ℕ) (path : List ℕ) (edges : List Edge) → edges ≡ [] → Collected graph start path 0 edges
 collected_none graph start path edges none = record { none = λ is. none; trail = λ j is. absurd (omega arith); unmet = λ j less. absurd (omega arith) }
 
-pub trail_more : (graph : Graph) (start : ℕ) (path : List ℕ) (k u : ℕ) (l : Edge) (edges edges' : List Edge) → Collected graph start path k edges → Read graph start path k u l → edges' ≡ edges ++ l ∷ [] → Trail graph start edges' u
-trail_more graph start path zero u l edges edges' c r is = record {
-  first = l;
-  others = [];
-  edges_are = is ∙ ap (λ ls. ls ++ l ∷ []) (c.none refl);
-  from_is = r.from_is;
-  way = r.there;
-}
+pub trail_more : (graph : Graph) (start : ℕ) (path : List ℕ) (k u : ℕ) (l : Edge) (edges edges' : List Edge) → Collected graph start path k edges → Read graph start path k u l → edges' ≡ edges ++ l ∷ [] → Trail (HasEdge graph) start edges' u
+trail_more graph start path zero u l edges edges' c r is =
+    subst (λ ls. Trail (HasEdge graph) start ls u) (sym (is ∙ ap (λ ls. ls ++ l ∷ []) (c.none refl))) (trail_one (HasEdge graph) start u l r.from_is r.there)
 trail_more graph start path (suc j) u l edges edges' c r is =
-    let t = c.trail j refl in
-    record {
-      first = t.first;
-      others = t.others ++ l ∷ [];
-      edges_are = is ∙ ap (λ ls. ls ++ l ∷ []) t.edges_are;
-      from_is = t.from_is;
-      way = way_push graph t.first t.others l (get_or (reverse path) j 0) u t.way r.from_is r.there;
-    }
+    subst (λ ls. Trail (HasEdge graph) start ls u) (sym is) (trail_push (HasEdge graph) start (get_or (reverse path) j 0) u l edges (c.trail j refl) r.from_is r.there)
 
 pub collected_more : (graph : Graph) (start : ℕ) (path : List ℕ) (k u : ℕ) (l : Edge) (edges edges' : List Edge) → Collected graph start path k edges → Read graph start path k u l → edges' ≡ edges ++ l ∷ [] → u ≡ get_or (reverse path) k 0 → (u ≡ start → ⊥) → Collected graph start path (k + 1) edges'
 collected_more graph start path k u l edges edges' c r is at other = record {
   none = λ zero_is. absurd (omega arith);
-  trail = λ j j_is. let same : k ≡ j = omega arith in subst (Trail graph start edges') (at ∙ ap (λ n. get_or (reverse path) n 0) same) (trail_more graph start path k u l edges edges' c r is);
+  trail = λ j j_is. let same : k ≡ j = omega arith in subst (Trail (HasEdge graph) start edges') (at ∙ ap (λ n. get_or (reverse path) n 0) same) (trail_more graph start path k u l edges edges' c r is);
   unmet = λ j less here. elim (last_or k j less) [
     | inl before ↦ c.unmet j before here
     | inr last ↦ other (at ∙ ap (λ n. get_or (reverse path) n 0) (sym last) ∙ here)
@@ -152,9 +152,9 @@ collected_more graph start path k u l edges edges' c r is at other = record {
     ]
 
 -- Back at `start`.
-pub comes_round : (graph : Graph) (start : ℕ) (edges : List Edge) → Trail graph start edges start → IsCycle (HasEdge graph) edges
-comes_round graph start edges t =
-    subst (IsCycle (HasEdge graph)) (sym t.edges_are) (subst (IsWay (HasEdge graph) t.first t.others) (sym t.from_is) t.way)
+pub comes_round : (leads : Edge → ℕ → Type 0) (start : ℕ) (edges : List Edge) → Trail leads start edges start → IsCycle leads edges
+comes_round leads start edges t =
+    subst (IsCycle leads) (sym t.edges_are) (subst (IsWay leads t.first t.others) (sym t.from_is) t.way)
 
 pub at_back : (path : List ℕ) (k : ℕ) → k < length path → get_or path (length path - 1 - k) 0 ≡ get_or (reverse path) k 0
 at_back path k less = sym (get_or-reverse path k 0 less)

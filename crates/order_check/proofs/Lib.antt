@@ -10,6 +10,7 @@ pub mod ByCommits
 pub mod Work
 pub mod SearchTurns
 pub mod CycleSearch
+pub mod Shortening
 pub mod Rooting
 pub mod Noting
 pub mod Adding

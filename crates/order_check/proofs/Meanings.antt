@@ -16,8 +16,9 @@ use Rattle.order_check.specs.Footprints.{Cell}
 use Rattle.order_check.specs.Dependencies.{Needs, Writes, Replaces, ComesOnce}
 use Rattle.order_check.specs.Forces.{dependency_of, Forces, OnlyThese}
 use Rattle.order_check.specs.Graphs.{Graph, HasEdge, AreInRange, KeepsEdges, IsWay, IsCycle}
+use Rattle.order_check.specs.Timing.{Leads}
 use Rattle.order_check.specs.Orders.{KeepsTime, IsOrderOf, HasNoOrder}
-use Rattle.order_check.specs.Tables.{Version, version_eq, DoesWrite, DoesReplace, ReplacesValue, IsAmong, ToldOf, Told, AreTold, AreBelow}
+use Rattle.order_check.specs.Tables.{Version, version_eq, DoesWrite, DoesReplace, ReplacesValue, IsAmong, ToldOf, Told, AreWriters, AreReplacers, AreBelow}
 use Rattle.order_check.specs.Joined.{NeedsAt, DoesAt, SourceIs, AreDistinct, meaning_of, AreMeant, IsEdge, IsJoined}
 use Rattle.order_check.specs.Outcomes.{cell_of, footprints_of, sources_of, AreAccesses, IsTxn, comes_once, holds_always, IsOnce, IsRepeated}
 use Rattle.order_check.proofs.AccessEdges.{told_some}
@@ -116,16 +117,19 @@ module _ (count : ℕ) (accesses : List Access) (are : AreAccesses count accesse
       let f = comes_from accesses t k cell there in
       subst (IsTxn count) f.txn_is (are.below f.by f.is_among)
 
-  module _ (since : ℕ → ℕ) {S R : Type 0} (writers : HashMap Version Doer S) (replacers : HashMap Version Doer R) (told : AreTold accesses writers replacers) where
-    below_of : (does : Access → Type 0) (d : Doer) → ToldOf does accesses d → d.txn < count
-    below_of does d t = subst (IsTxn count) t.txn_is (are.below t.by t.is_among)
+  below_of : (does : Access → Type 0) (d : Doer) → ToldOf does accesses d → d.txn < count
+  below_of does d t = subst (IsTxn count) t.txn_is (are.below t.by t.is_among)
 
-    pub tables_below : (n : ℕ) → n ≡ count → AreBelow writers replacers n
-    tables_below n same = record {
-      writes = λ q d is. subst (λ m. d.txn < m) (sym same) (below_of (DoesWrite q) d (told_some (DoesWrite q) accesses (told_at version_eq writers q) d is (told.writes q)));
-      replaces = λ q d is. subst (λ m. d.txn < m) (sym same) (below_of (DoesReplace q) d (told_some (DoesReplace q) accesses (told_at version_eq replacers q) d is (told.replaces q)));
-    }
+  module _ (since : ℕ → ℕ) (graph : Graph) (meant : AreMeant accesses since graph) (early : (t u : ℕ) → t < since u → t < count) where
+    from_below : (kind : Kind) (t : ℕ) (q : Version) (u : ℕ) → meaning_of accesses since kind t q u → t < count
+    from_below Read t q u means = subst (IsTxn count) means.0.txn_is (are.below means.0.by means.0.is_among)
+    from_below Replaced t q u means = subst (IsTxn count) means.0.txn_is (are.below means.0.by means.0.is_among)
+    from_below Began t q u means = early t u means
 
+    pub in_range : length graph ≡ count → AreInRange graph
+    in_range len u l has = subst (λ n. l.from < n) (sym len) (from_below l.kind l.from (l.key, l.value) u (meant u l has))
+
+  module _ (since : ℕ → ℕ) {S : Type 0} (writers : HashMap Version Doer S) (written : AreWriters accesses writers) where
     -- A value that comes only once by the tables does so by the footprints.
     once_of : (k : ℕ) (v : Option ℕ) (o : Option Doer) → Told (DoesWrite (k, v)) accesses o → comes_once o v ≡ true → ComesOnce (footprints_of accesses) k v
     once_of k v None none once = record {
@@ -143,7 +147,7 @@ module _ (count : ℕ) (accesses : List Access) (are : AreAccesses count accesse
         }
 
     once_at : (k : ℕ) (v : Option ℕ) → comes_once (told_at version_eq writers (k, v)) v ≡ true → ComesOnce (footprints_of accesses) k v
-    once_at k v once = once_of k v (told_at version_eq writers (k, v)) (told.writes (k, v)) once
+    once_at k v once = once_of k v (told_at version_eq writers (k, v)) (written (k, v)) once
 
     forces_of : (kind : Kind) (t k : ℕ) (v : Option ℕ) (u : ℕ) → meaning_of accesses since kind t (k, v) u → holds_always kind (told_at version_eq writers (k, v)) v ≡ true → dependency_of kind (footprints_of accesses) since t u k v
     forces_of Read t k v u means once = record { once = once_at k v once; writes = writes_of t (k, v) means.0; needs = needs_of u (k, v) means.1 }
@@ -154,43 +158,69 @@ module _ (count : ℕ) (accesses : List Access) (are : AreAccesses count accesse
       edge_forces : (l : Edge) (u : ℕ) → HasEdge graph l u → IsOnce writers l → Forces (footprints_of accesses) since l u
       edge_forces l u has once = forces_of l.kind l.from l.key l.value u (meant u l has) once
 
-      way_forces : (l : Edge) (ls : List Edge) (end : ℕ) → IsWay (HasEdge graph) l ls end → All (IsOnce writers) (l ∷ ls) → IsWay (Forces (footprints_of accesses) since) l ls end
-      way_forces l [] end way all = edge_forces l end way (All-head (IsOnce writers) l [] all)
-      way_forces l (m ∷ ms) end way all = (edge_forces l m.from way.0 (All-head (IsOnce writers) l (m ∷ ms) all), way_forces m ms end way.1 (All-tail (IsOnce writers) l (m ∷ ms) all))
+      leads_forces : (l : Edge) (u : ℕ) → Leads since graph l u → (HasEdge graph l u → IsOnce writers l) → Forces (footprints_of accesses) since l u
+      leads_forces l u leads once = elim leads [
+        | inl has ↦ edge_forces l u has (once has)
+        | inr timed ↦ subst (λ kind. dependency_of kind (footprints_of accesses) since l.from u l.key l.value) (sym timed.0) timed.1
+      ]
 
-      cycle_forces : (ls : List Edge) → IsCycle (HasEdge graph) ls → All (IsOnce writers) ls → IsCycle (Forces (footprints_of accesses) since) ls
+      way_forces : (l : Edge) (ls : List Edge) (end : ℕ) → IsWay (Leads since graph) l ls end → All (IsOnce writers) (l ∷ ls) → IsWay (Forces (footprints_of accesses) since) l ls end
+      way_forces l [] end way all = leads_forces l end way (λ has. All-head (IsOnce writers) l [] all)
+      way_forces l (m ∷ ms) end way all = (leads_forces l m.from way.0 (λ has. All-head (IsOnce writers) l (m ∷ ms) all), way_forces m ms end way.1 (All-tail (IsOnce writers) l (m ∷ ms) all))
+
+      cycle_forces : (ls : List Edge) → IsCycle (Leads since graph) ls → All (IsOnce writers) ls → IsCycle (Forces (footprints_of accesses) since) ls
       cycle_forces [] cycle all = cycle
       cycle_forces (l ∷ ls) cycle all = way_forces l ls l.from cycle all
 
-      pub cycle_found : (ls : List Edge) → IsCycle (HasEdge graph) ls → All (IsOnce writers) ls → IsCycle (Forces (footprints_of accesses) since) ls × HasNoOrder (IsTxn count) (footprints_of accesses) since
+      pub cycle_found : (ls : List Edge) → IsCycle (Leads since graph) ls → All (IsOnce writers) ls → IsCycle (Forces (footprints_of accesses) since) ls × HasNoOrder (IsTxn count) (footprints_of accesses) since
       cycle_found ls cycle all =
           let forced = cycle_forces ls cycle all in
           (forced, cycle_no_order (IsTxn count) (footprints_of accesses) since only_these ls forced)
 
-      certain_way : ((u : ℕ) (l : Edge) → HasEdge graph l u → IsOnce writers l) → (l : Edge) (ls : List Edge) (end : ℕ) → IsWay (HasEdge graph) l ls end → IsWay (Forces (footprints_of accesses) since) l ls end
-      certain_way once l [] end way = edge_forces l end way (once end l way)
-      certain_way once l (m ∷ ms) end way = (edge_forces l m.from way.0 (once m.from l way.0), certain_way once m ms end way.1)
+      certain_way : ((u : ℕ) (l : Edge) → HasEdge graph l u → IsOnce writers l) → (l : Edge) (ls : List Edge) (end : ℕ) → IsWay (Leads since graph) l ls end → IsWay (Forces (footprints_of accesses) since) l ls end
+      certain_way once l [] end way = leads_forces l end way (once end l)
+      certain_way once l (m ∷ ms) end way = (leads_forces l m.from way.0 (once m.from l), certain_way once m ms end way.1)
 
-      certain_cycle : ((u : ℕ) (l : Edge) → HasEdge graph l u → IsOnce writers l) → (ls : List Edge) → IsCycle (HasEdge graph) ls → IsCycle (Forces (footprints_of accesses) since) ls
+      certain_cycle : ((u : ℕ) (l : Edge) → HasEdge graph l u → IsOnce writers l) → (ls : List Edge) → IsCycle (Leads since graph) ls → IsCycle (Forces (footprints_of accesses) since) ls
       certain_cycle once [] cycle = cycle
       certain_cycle once (l ∷ ls) cycle = certain_way once l ls l.from cycle
 
-      pub certain_found : ((u : ℕ) (l : Edge) → HasEdge graph l u → IsOnce writers l) → (ls : List Edge) → IsCycle (HasEdge graph) ls → IsCycle (Forces (footprints_of accesses) since) ls × HasNoOrder (IsTxn count) (footprints_of accesses) since
+      pub certain_found : ((u : ℕ) (l : Edge) → HasEdge graph l u → IsOnce writers l) → (ls : List Edge) → IsCycle (Leads since graph) ls → IsCycle (Forces (footprints_of accesses) since) ls × HasNoOrder (IsTxn count) (footprints_of accesses) since
       certain_found once ls cycle =
           let forced = certain_cycle once ls cycle in
           (forced, cycle_no_order (IsTxn count) (footprints_of accesses) since only_these ls forced)
 
-      module _ (early : (t u : ℕ) → t < since u → t < count) where
-        from_below : (kind : Kind) (t : ℕ) (q : Version) (u : ℕ) → meaning_of accesses since kind t q u → t < count
-        from_below Read t q u means = subst (IsTxn count) means.0.txn_is (are.below means.0.by means.0.is_among)
-        from_below Replaced t q u means = subst (IsTxn count) means.0.txn_is (are.below means.0.by means.0.is_among)
-        from_below Began t q u means = early t u means
+    -- A value that comes more than once by the tables does so.
+    pub repeated_of : (k : ℕ) (v : Option ℕ) (o : Option Doer) → Told (DoesWrite (k, v)) accesses o → comes_once o v ≡ false → IsRepeated accesses (k, v)
+    repeated_of k v None none often = absurd (false≢true (sym often))
+    repeated_of k v (Some d) known often = (
+      d.txn,
+      record { by = known.by; is_among = known.is_among; does_it = known.does_it; txn_is = known.txn_is },
+      elim (and_cases (is_some v) d.is_only often) [
+        | inl absent ↦ inl (absent_is v absent)
+        | inr second ↦ inr (known.second second)
+      ],
+    )
+      where
+        absent_is : (v : Option ℕ) → is_some v ≡ false → v ≡ None
+        absent_is None is = refl
+        absent_is (Some n) is = absurd (false≢true (sym is))
 
-        pub in_range : length graph ≡ count → AreInRange graph
-        in_range len u l has = subst (λ n. l.from < n) (sym len) (from_below l.kind l.from (l.key, l.value) u (meant u l has))
+    often_of : (kind : Kind) (o : Option Doer) (v : Option ℕ) → holds_always kind o v ≡ false → comes_once o v ≡ false
+    often_of Read o v often = often
+    often_of Replaced o v often = often
+    often_of Began o v often = absurd (false≢true (sym often))
+
+    pub repeated : (l : Edge) → holds_always l.kind (told_at version_eq writers (l.key, l.value)) l.value ≡ false → IsRepeated accesses (l.key, l.value)
+    repeated l often = repeated_of l.key l.value (told_at version_eq writers (l.key, l.value)) (written (l.key, l.value)) (often_of l.kind (told_at version_eq writers (l.key, l.value)) l.value often)
+
+  module _ {R : Type 0} (replacers : HashMap Version Doer R) (replaced : AreReplacers accesses replacers) where
+    pub tables_below : (n : ℕ) → n ≡ count → AreBelow replacers n
+    tables_below n same q d is =
+        subst (λ m. d.txn < m) (sym same) (below_of (DoesReplace q) d (told_some (DoesReplace q) accesses (told_at version_eq replacers q) d is (replaced q)))
 
     -- If all accesses have their edges, an order that keeps the edges is one of the footprints.
-    module _ (graph : Graph) (joined : (a : Access) → IsAmong a accesses → IsJoined replacers graph a) (ts : List ℕ) (keeps : KeepsEdges graph ts) where
+    module _ (since : ℕ → ℕ) (graph : Graph) (joined : (a : Access) → IsAmong a accesses → IsJoined replacers graph a) (ts : List ℕ) (keeps : KeepsEdges graph ts) where
       before : (t u : ℕ) → IsEdge graph t u → place t ts < place u ts
       before t u l = subst (λ x. place x ts < place u ts) l.from_is (keeps u l.edge l.there)
 
@@ -213,7 +243,7 @@ module _ (count : ℕ) (accesses : List Access) (are : AreAccesses count accesse
           subst (λ x. place t ts < place x ts) f.txn_is (before t f.by.txn ((joined f.by f.is_among).reads t (sym (source_at u k cell f) ∙ source_is)))
 
       kept_replaces : (t u k : ℕ) (one other : Cell) → t ≢ u → IsIn t ts → IsIn u ts → footprints_of accesses t k ≡ Some one → footprints_of accesses u k ≡ Some other → sources_of accesses t k ≡ sources_of accesses u k → other.need ≢ other.now → place t ts < place u ts
-      kept_replaces t u k one other differ in_t in_u there_t there_u same changed = at (told_at version_eq replacers (k, a.by.source)) refl (told.replaces (k, a.by.source))
+      kept_replaces t u k one other differ in_t in_u there_t there_u same changed = at (told_at version_eq replacers (k, a.by.source)) refl (replaced (k, a.by.source))
         where
           a : ComesFrom accesses t k one
           a = comes_from accesses t k one there_t
@@ -255,27 +285,3 @@ module _ (count : ℕ) (accesses : List Access) (are : AreAccesses count accesse
       order_found in_time n same each =
           let there : HasEachOnce (IsTxn count) ts = subst (λ m. HasEachOnce (λ t. t < m) ts) same each in
           record { each = there; runs = runs_by_sources (footprints_of accesses) (sources_of accesses) ts there.apart (record { gives = kept_gives; reads = kept_reads; replaces = kept_replaces }); in_time = in_time }
-
-    -- A value that comes more than once by the tables does so.
-    pub repeated_of : (k : ℕ) (v : Option ℕ) (o : Option Doer) → Told (DoesWrite (k, v)) accesses o → comes_once o v ≡ false → IsRepeated accesses (k, v)
-    repeated_of k v None none often = absurd (false≢true (sym often))
-    repeated_of k v (Some d) known often = (
-      d.txn,
-      record { by = known.by; is_among = known.is_among; does_it = known.does_it; txn_is = known.txn_is },
-      elim (and_cases (is_some v) d.is_only often) [
-        | inl absent ↦ inl (absent_is v absent)
-        | inr second ↦ inr (known.second second)
-      ],
-    )
-      where
-        absent_is : (v : Option ℕ) → is_some v ≡ false → v ≡ None
-        absent_is None is = refl
-        absent_is (Some n) is = absurd (false≢true (sym is))
-
-    often_of : (kind : Kind) (o : Option Doer) (v : Option ℕ) → holds_always kind o v ≡ false → comes_once o v ≡ false
-    often_of Read o v often = often
-    often_of Replaced o v often = often
-    often_of Began o v often = absurd (false≢true (sym often))
-
-    pub repeated : (l : Edge) → holds_always l.kind (told_at version_eq writers (l.key, l.value)) l.value ≡ false → IsRepeated accesses (l.key, l.value)
-    repeated l often = repeated_of l.key l.value (told_at version_eq writers (l.key, l.value)) (told.writes (l.key, l.value)) (often_of l.kind (told_at version_eq writers (l.key, l.value)) l.value often)

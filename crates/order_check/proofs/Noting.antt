@@ -9,7 +9,7 @@ use mathlib.Core.Logic.{◌⊎◌, inl, inr}
 use Rattle.txn_trace.proofs.Now.{same_option, same_is}
 use Rattle.order_check.specs.declared.access.Access.{Access}
 use Rattle.order_check.specs.declared.table.Doer.{Doer}
-use Rattle.order_check.specs.Tables.{Version, version_eq, noted, Notes, DoesWrite, DoesReplace, IsAmong, DoesBeside, Told, AreTold}
+use Rattle.order_check.specs.Tables.{Version, version_eq, noted, Notes, DoesWrite, DoesReplace, IsAmong, DoesBeside, Told}
 
 pub same_version : (a b : Version) → version_eq a b ≡ true → a ≡ b
 same_version a b is =
@@ -108,40 +108,48 @@ notes_told does xs x version old new notes it only told q = subst (Told (does q)
         (told_more (does version) xs x (told_at version_eq old version) it (told version))
     at false is = told_same (does q) xs x (told_at version_eq old q) (λ it. false≢true (sym is ∙ only q it)) (told q)
 
-module _ {S R : Type 0} (xs : List Access) (x : Access) (writers : HashMap Version Doer S) (replacers : HashMap Version Doer R) (told : AreTold xs writers replacers) where
-  pub tables_more : (new : HashMap Version Doer S) (newer : HashMap Version Doer R) → x.need ≢ x.left → Notes (x.key, x.left) x.txn writers new → Notes (x.key, x.source) x.txn replacers newer → AreTold (xs ++ x ∷ []) new newer
-  tables_more new newer changed notes more = record {
-    writes = notes_told DoesWrite xs x (x.key, x.left) writers new notes (refl, refl, changed) (λ q it. version_is (x.key, x.left) q it.0 it.1) told.writes;
-    replaces = notes_told DoesReplace xs x (x.key, x.source) replacers newer more (refl, refl, changed) (λ q it. version_is (x.key, x.source) q it.0 it.1) told.replaces;
-  }
-
-  pub tables_same : (x.need ≡ x.left) → AreTold (xs ++ x ∷ []) writers replacers
-  tables_same same = record {
-    writes = λ q. told_same (DoesWrite q) xs x (told_at version_eq writers q) (λ it. it.2 same) (told.writes q);
-    replaces = λ q. told_same (DoesReplace q) xs x (told_at version_eq replacers q) (λ it. it.2 same) (told.replaces q);
-  }
-
 abbrev pub no_access : Access
 no_access = record { txn = 0; key = 0; need = None; left = None; source = None }
 
--- The same, as the loop has it.
-module _ {S R : Type 0} (xs : List Access) (i : ℕ) (below : i < length xs) (writers : HashMap Version Doer S) (replacers : HashMap Version Doer R) (told : AreTold (take i xs) writers replacers) where
-  pub loop_more : (new new' : HashMap Version Doer S) (newer newer' : HashMap Version Doer R) → not (option_eq nat_eq (get_or xs i no_access).need (get_or xs i no_access).left) ≡ true
-      → Notes ((get_or xs i no_access).key, (get_or xs i no_access).left) (get_or xs i no_access).txn writers new → Notes ((get_or xs i no_access).key, (get_or xs i no_access).source) (get_or xs i no_access).txn replacers newer
-      → new' ≡ new → newer' ≡ newer → AreTold (take (i + 1) xs) new' newer'
-  loop_more new new' newer newer' changed notes more is_new is_newer =
-      let x = get_or xs i no_access in
-      let differ : x.need ≢ x.left = λ same. false≢true (sym (ap not (same_is x.need x.left same)) ∙ changed) in
-      subst (λ ys. AreTold ys new' newer') (sym (take_more xs i no_access below))
-      (subst (λ (w : HashMap Version Doer S). AreTold (take i xs ++ x ∷ []) w newer') (sym is_new)
-      (subst (λ (w : HashMap Version Doer R). AreTold (take i xs ++ x ∷ []) new w) (sym is_newer)
-      (tables_more (take i xs) x writers replacers told new newer differ notes more)))
+-- A loop notes what each access does to the version `of` it, if it changes the value.
+module _ (does : Version → Access → Type 0) (of : Access → Version) (it_does : (x : Access) → x.need ≢ x.left → does (of x) x) (only : (x : Access) (q : Version) → does q x → version_eq (of x) q ≡ true) (never : (x : Access) (q : Version) → x.need ≡ x.left → does q x → ⊥) where
+  module _ {S : Type 0} (xs : List Access) (i : ℕ) (below : i < length xs) (doers : HashMap Version Doer S) (told : (q : Version) → Told (does q) (take i xs) (told_at version_eq doers q)) where
+    pub loop_more : (new new' : HashMap Version Doer S) → not (option_eq nat_eq (get_or xs i no_access).need (get_or xs i no_access).left) ≡ true → Notes (of (get_or xs i no_access)) (get_or xs i no_access).txn doers new → new' ≡ new → (q : Version) → Told (does q) (take (i + 1) xs) (told_at version_eq new' q)
+    loop_more new new' changed notes is_new q =
+        let x = get_or xs i no_access in
+        let differ : x.need ≢ x.left = λ same. false≢true (sym (ap not (same_is x.need x.left same)) ∙ changed) in
+        subst (λ ys. Told (does q) ys (told_at version_eq new' q)) (sym (take_more xs i no_access below))
+        (subst (λ (w : HashMap Version Doer S). Told (does q) (take i xs ++ x ∷ []) (told_at version_eq w q)) (sym is_new)
+        (notes_told does (take i xs) x (of x) doers new notes (it_does x differ) (only x) told q))
 
-  pub loop_same : (new : HashMap Version Doer S) (newer : HashMap Version Doer R) → not (option_eq nat_eq (get_or xs i no_access).need (get_or xs i no_access).left) ≡ false → new ≡ writers → newer ≡ replacers → AreTold (take (i + 1) xs) new newer
-  loop_same new newer unchanged is_new is_newer =
-      let x = get_or xs i no_access in
-      let same : x.need ≡ x.left = same_option x.need x.left (not-false (option_eq nat_eq x.need x.left) unchanged) in
-      subst (λ ys. AreTold ys new newer) (sym (take_more xs i no_access below))
-      (subst (λ (w : HashMap Version Doer S). AreTold (take i xs ++ x ∷ []) w newer) (sym is_new)
-      (subst (λ (w : HashMap Version Doer R). AreTold (take i xs ++ x ∷ []) writers w) (sym is_newer)
-      (tables_same (take i xs) x writers replacers told same)))
+    pub loop_same : (new : HashMap Version Doer S) → not (option_eq nat_eq (get_or xs i no_access).need (get_or xs i no_access).left) ≡ false → new ≡ doers → (q : Version) → Told (does q) (take (i + 1) xs) (told_at version_eq new q)
+    loop_same new unchanged is_new q =
+        let x = get_or xs i no_access in
+        let same : x.need ≡ x.left = same_option x.need x.left (not-false (option_eq nat_eq x.need x.left) unchanged) in
+        subst (λ ys. Told (does q) ys (told_at version_eq new q)) (sym (take_more xs i no_access below))
+        (subst (λ (w : HashMap Version Doer S). Told (does q) (take i xs ++ x ∷ []) (told_at version_eq w q)) (sym is_new)
+        (told_same (does q) (take i xs) x (told_at version_eq doers q) (never x q same) (told q)))
+
+abbrev pub written_by : Access → Version
+written_by x = (x.key, x.left)
+
+pub writes_it : (x : Access) → x.need ≢ x.left → DoesWrite (written_by x) x
+writes_it x changed = (refl, refl, changed)
+
+pub only_written : (x : Access) (q : Version) → DoesWrite q x → version_eq (written_by x) q ≡ true
+only_written x q it = version_is (written_by x) q it.0 it.1
+
+pub never_written : (x : Access) (q : Version) → x.need ≡ x.left → DoesWrite q x → ⊥
+never_written x q same it = it.2 same
+
+abbrev pub replaced_by : Access → Version
+replaced_by x = (x.key, x.source)
+
+pub replaces_it : (x : Access) → x.need ≢ x.left → DoesReplace (replaced_by x) x
+replaces_it x changed = (refl, refl, changed)
+
+pub only_replaced : (x : Access) (q : Version) → DoesReplace q x → version_eq (replaced_by x) q ≡ true
+only_replaced x q it = version_is (replaced_by x) q it.0 it.1
+
+pub never_replaced : (x : Access) (q : Version) → x.need ≡ x.left → DoesReplace q x → ⊥
+never_replaced x q same it = it.2 same

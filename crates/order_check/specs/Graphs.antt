@@ -40,7 +40,8 @@ abbrev pub IsCycle : (Edge → ℕ → Type 0) → List Edge → Type 0
 IsCycle leads [] = ⊥
 IsCycle leads (l ∷ ls) = IsWay leads l ls l.from
 
--- An order of all transactions that keeps the edges, or a cycle of edges.
-abbrev pub IsFound : Graph → Found → Type 0
-IsFound graph (Order ts) = HasEachOnce (λ t. t < length graph) ts.items × KeepsEdges graph ts.items
-IsFound graph (Cycle ls) = IsCycle (HasEdge graph) ls.items
+-- An order of all transactions that keeps the edges, or a cycle of edges that lead so.
+abbrev pub IsFound : (Edge → ℕ → Type 0) → Graph → Found → Type 0
+IsFound leads graph (Order ts) =
+    HasEachOnce (λ t. t < length graph) ts.items × KeepsEdges graph ts.items
+IsFound leads graph (Cycle ls) = IsCycle leads ls.items

@@ -38,6 +38,10 @@ pub record AreBegun (count : ℕ) (since begun : List ℕ) : Type 0 where
 abbrev pub time_edge : ℕ → Edge
 time_edge t = record { from = t; kind = Began; key = 0; value = None }
 
+-- One of the edges of `u`, or an edge of real time to it.
+abbrev pub Leads : (ℕ → ℕ) → Graph → Edge → ℕ → Type 0
+Leads since graph l u = HasEdge graph l u ⊎ ((l.kind ≡ Began) × (l.from < since u))
+
 -- There is an edge from `t` to `u`, or a transaction between them: it began after `t` had committed,
 -- and had committed when `u` began.
 abbrev pub IsTimed : (ℕ → ℕ) → Graph → ℕ → ℕ → Type 0

@@ -1,13 +1,13 @@
 //! Chooses the source of each access, in the order of the list.
-ghost use Rattle.std.specs.Prelude.{◌≡◌, IfOk, IfSome, List};
+ghost use Rattle.std.specs.Prelude.{◌≡◌, IfOk, IfSome, IsSome, List, OnOk};
 ghost use Rattle.order_check.specs.Choices.{IsChoice, IsSourced, LatestWrite, IsSourcing};
 ghost use Rattle.order_check.specs.Joined.{SourceIs};
 ghost use Rattle.order_check.specs.declared.access.Access.{Access};
-ghost use Rattle.order_check.specs.Tables.{AreTold};
+ghost use Rattle.order_check.specs.Tables.{AreWriters};
 
 use crate::access::Access;
 use crate::forward::find_writers;
-use crate::table::{Tables, Version, make_tables};
+use crate::table::{Doer, Version, make_writers};
 use std::alloc::{AllocError, Global};
 use std::collections::HashMap;
 
@@ -36,11 +36,12 @@ pub(crate) enum Source {
 pub(crate) fn choose_sources(alloc: Global, accesses: &[Access]) -> Result<Choice, AllocError>
     ensures { IfOk result (IsChoice accesses.now) }
 {
-    let tables = make_tables(alloc, accesses)?;
+    let mut writers = None;
     let mut latest = HashMap::new(alloc);
     let mut sourced = Vec::with_capacity(alloc, accesses.len())?;
     for access in accesses {
-        let source = match source_of(&tables, &latest, access) {
+        let found = source_of(alloc, accesses, &mut writers, &latest, access)?;
+        let source = match found {
             Source::Beginning => None,
             Source::Txn(txn) => Some(txn),
             Source::Nobody => return Ok(Choice::Unwritten(*access)),
@@ -66,18 +67,42 @@ fn with_source(access: Access, source: Option<u64>) -> Access
     }
 }
 
-/// The source of an access.
-fn source_of(tables: &Tables, latest: &HashMap<Version, u64>, access: &Access) -> Source
-    ensures { (accesses : List Access) → AreTold accesses tables.now.writers tables.now.replacers
-        → LatestWrite accesses latest.now → IsSourcing accesses access.now result }
+/// The source of an access. The table of writers is made when a value is needed that is not written
+/// before it in the list: few are.
+fn source_of(
+    alloc: Global,
+    accesses: &[Access],
+    writers: &mut Option<HashMap<Version, Doer>>,
+    latest: &HashMap<Version, u64>,
+    access: &Access,
+) -> Result<Source, AllocError>
+    requires latest { LatestWrite accesses.now latest.now }
+    requires told { IfSome writers.old (AreWriters accesses.now) }
+    ensures source { IfOk result (IsSourcing accesses.now access.now) }
+    ensures told { OnOk result (IfSome writers.new (AreWriters accesses.now)) }
 {
     if let Some(txn) = latest.get(&(access.key, access.need)) {
-        return Source::Txn(*txn);
+        return Ok(Source::Txn(*txn));
     }
     if access.need.is_none() {
-        return Source::Beginning;
+        return Ok(Source::Beginning);
     }
-    match tables.writers.get(&(access.key, access.need)) {
+    let made = match writers.take() {
+        Some(made) => made,
+        None => make_writers(alloc, accesses)?,
+    };
+    let source = later_source(&made, access);
+    *writers = Some(made);
+    Ok(source)
+}
+
+/// The first transaction that writes what an access needs, if there is one.
+fn later_source(writers: &HashMap<Version, Doer>, access: &Access) -> Source
+    requires { IsSome access.now.need }
+    ensures { (accesses : List Access) → AreWriters accesses writers.now
+        → IsSourcing accesses access.now result }
+{
+    match writers.get(&(access.key, access.need)) {
         Some(doer) => Source::Txn(doer.txn as u64),
         None => Source::Nobody,
     }

@@ -3,15 +3,16 @@ ghost use Rattle.std.specs.Prelude.{◌≡◌, ◌<◌, ℕ, List, IfOk, IfSome,
 ghost use Rattle.order_check.specs.declared.access.Access.{Access};
 ghost use Rattle.order_check.specs.Joined.{EdgesOne, AreDistinct, AreSourced};
 ghost use Rattle.order_check.specs.Outcomes.{AreAccesses};
-ghost use Rattle.order_check.specs.Tables.{AreTold, AreBelow, IsAmong};
+ghost use Rattle.order_check.specs.Tables.{AreReplacers, AreBelow, IsAmong};
 ghost use Rattle.order_check.specs.Timing.{IsGraphOf, IsTiming, since_in};
 
 use crate::access::Access;
 use crate::edge::{Edge, Kind};
 use crate::graph::{add, no_edges};
-use crate::table::Tables;
+use crate::table::{Doer, Version};
 use crate::timing::add_times;
 use std::alloc::{AllocError, Global};
+use std::collections::HashMap;
 
 /// The edges of so many transactions. Those of real time come last. `since` says of each transaction
 /// how many had committed when it began.
@@ -19,31 +20,35 @@ pub(crate) fn make_graph(
     alloc: Global,
     count: usize,
     since: &[usize],
-    tables: &Tables,
+    replacers: &HashMap<Version, Doer>,
     accesses: &[Access],
 ) -> Result<Vec<Vec<Edge>>, AllocError>
     requires are { AreAccesses count accesses.now }
     requires timing { IsTiming count since.now }
-    requires told { AreTold accesses.now tables.now.writers tables.now.replacers }
+    requires told { AreReplacers accesses.now replacers.now }
     ensures { IfOk result (λ graph. IsGraphOf count (since_in since.now) accesses.now
-        tables.now.replacers graph.items) }
+        replacers.now graph.items) }
 {
     let mut graph = no_edges(alloc, count)?;
     for access in accesses {
-        add_edges(&mut graph, tables, access)?;
+        add_edges(&mut graph, replacers, access)?;
     }
     add_times(alloc, &mut graph, since)?;
     Ok(graph)
 }
 
 /// Adds the edges that an access gives.
-fn add_edges(graph: &mut Vec<Vec<Edge>>, tables: &Tables, access: &Access) -> Result<(), AllocError>
+fn add_edges(
+    graph: &mut Vec<Vec<Edge>>,
+    replacers: &HashMap<Version, Doer>,
+    access: &Access,
+) -> Result<(), AllocError>
     requires range { access.now.txn < vec_len graph.old }
-    requires doers { AreBelow tables.now.writers tables.now.replacers (vec_len graph.old) }
+    requires doers { AreBelow replacers.now (vec_len graph.old) }
     ensures { OnOk result ((accesses : List Access)
-        → AreTold accesses tables.now.writers tables.now.replacers → AreDistinct accesses
+        → AreReplacers accesses replacers.now → AreDistinct accesses
         → AreSourced accesses → IsAmong access.now accesses
-        → EdgesOne accesses tables.now.replacers access.now graph.old.items graph.new.items) }
+        → EdgesOne accesses replacers.now access.now graph.old.items graph.new.items) }
 {
     if let Some(source) = access.source {
         let edge = Edge {
@@ -54,7 +59,7 @@ fn add_edges(graph: &mut Vec<Vec<Edge>>, tables: &Tables, access: &Access) -> Re
         };
         add(graph, access.txn, edge)?;
     }
-    if let Some(first) = tables.replacers.get(&(access.key, access.source)) {
+    if let Some(first) = replacers.get(&(access.key, access.source)) {
         if first.txn != access.txn {
             let edge = Edge {
                 from: access.txn as u64,

@@ -21,7 +21,9 @@
 //!
 //! By the law `by_commits`, a history that is legal by locks is serializable.
 //!
-//! Only tested: that few verdicts are undecided.
+//! The cycle that is reported is the shortest one that walks find.
+//!
+//! Only tested: that few verdicts are undecided, and that the cycle reported is a shortest one.
 #![tactic(auto)]
 
 mod access;
@@ -42,6 +44,7 @@ mod options;
 mod outcome;
 mod placing;
 mod search;
+mod shortest;
 mod table;
 mod timing;
 mod transactions;

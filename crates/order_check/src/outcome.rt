@@ -16,9 +16,11 @@ use crate::edge::{Edge, Kind};
 use crate::edges::make_graph;
 use crate::exclusion::find_impossible;
 use crate::in_turn::run_in_turn;
-use crate::search::{Found, find_order};
-use crate::table::{Tables, make_tables};
+use crate::search::Found;
+use crate::shortest::find_shortest;
+use crate::table::{Doer, Version, make_replacers, make_writers};
 use std::alloc::{AllocError, Global};
+use std::collections::HashMap;
 
 /// What the judge found.
 #[derive(Drop)]
@@ -156,45 +158,52 @@ fn judge_sourced(
     requires timing { IsTiming count since.now }
     ensures { IfOk result (IsOutcome count (since_in since.now) accesses.now) }
 {
-    let tables = make_tables(alloc, accesses)?;
-    let graph = make_graph(alloc, count, since, &tables, accesses)?;
-    match find_order(alloc, &graph)? {
+    let replacers = make_replacers(alloc, accesses)?;
+    let graph = make_graph(alloc, count, since, &replacers, accesses)?;
+    match find_shortest(alloc, &graph, since)? {
         Found::Order(order) => Ok(Outcome::Order(order)),
-        Found::Cycle(edges) => match first_repeated(&tables, &edges) {
-            Some(edge) => {
-                let certain = keep_once(alloc, &tables, &graph)?;
-                match find_order(alloc, &certain)? {
-                    Found::Cycle(edges) => Ok(Outcome::Cycle(edges)),
-                    Found::Order(_) => Ok(Outcome::Ambiguous(edge)),
+        Found::Cycle(edges) => {
+            let writers = make_writers(alloc, accesses)?;
+            match first_repeated(&writers, &edges) {
+                Some(edge) => {
+                    let certain = keep_once(alloc, &writers, &graph)?;
+                    match find_shortest(alloc, &certain, since)? {
+                        Found::Cycle(edges) => Ok(Outcome::Cycle(edges)),
+                        Found::Order(_) => Ok(Outcome::Ambiguous(edge)),
+                    }
                 }
+                None => Ok(Outcome::Cycle(edges)),
             }
-            None => Ok(Outcome::Cycle(edges)),
-        },
+        }
     }
 }
 
 /// The edges that hold in every order.
 fn keep_once(
     alloc: Global,
-    tables: &Tables,
+    writers: &HashMap<Version, Doer>,
     graph: &[Vec<Edge>],
 ) -> Result<Vec<Vec<Edge>>, AllocError>
-    ensures { IfOk result (λ kept. AreCertain tables.now.writers graph.now kept.items) }
+    ensures { IfOk result (λ kept. AreCertain writers.now graph.now kept.items) }
 {
     let mut kept = Vec::with_capacity(alloc, graph.len())?;
     for row in graph {
-        kept.push(keep_in(alloc, tables, row)?)?;
+        kept.push(keep_in(alloc, writers, row)?)?;
     }
     Ok(kept)
 }
 
 /// The edges of one transaction that hold in every order.
-fn keep_in(alloc: Global, tables: &Tables, row: &[Edge]) -> Result<Vec<Edge>, AllocError>
-    ensures { IfOk result (λ kept. AreOnce tables.now.writers row.now kept.items) }
+fn keep_in(
+    alloc: Global,
+    writers: &HashMap<Version, Doer>,
+    row: &[Edge],
+) -> Result<Vec<Edge>, AllocError>
+    ensures { IfOk result (λ kept. AreOnce writers.now row.now kept.items) }
 {
     let mut kept = Vec::new(alloc);
     for edge in row {
-        if is_once(tables, edge) {
+        if is_once(writers, edge) {
             kept.push(*edge)?;
         }
     }
@@ -202,13 +211,13 @@ fn keep_in(alloc: Global, tables: &Tables, row: &[Edge]) -> Result<Vec<Edge>, Al
 }
 
 /// The first edge that need not hold in every order: its value comes more than once.
-fn first_repeated(tables: &Tables, edges: &[Edge]) -> Option<Edge>
-    ensures none { IsNone result → All (IsOnce tables.now.writers) edges.now }
+fn first_repeated(writers: &HashMap<Version, Doer>, edges: &[Edge]) -> Option<Edge>
+    ensures none { IsNone result → All (IsOnce writers.now) edges.now }
     ensures some { IfSome result (λ l. holds_always l.kind
-        (told_at version_eq tables.now.writers (l.key, l.value)) l.value ≡ false) }
+        (told_at version_eq writers.now (l.key, l.value)) l.value ≡ false) }
 {
     for edge in edges {
-        if !is_once(tables, edge) {
+        if !is_once(writers, edge) {
             return Some(*edge);
         }
     }
@@ -217,14 +226,14 @@ fn first_repeated(tables: &Tables, edges: &[Edge]) -> Option<Edge>
 
 /// Whether the value of an edge comes only once, or it is an edge of real time. Then it holds in every
 /// order.
-fn is_once(tables: &Tables, edge: &Edge) -> bool
+fn is_once(writers: &HashMap<Version, Doer>, edge: &Edge) -> bool
     ensures { result ≡ holds_always edge.now.kind
-        (told_at version_eq tables.now.writers (edge.now.key, edge.now.value)) edge.now.value }
+        (told_at version_eq writers.now (edge.now.key, edge.now.value)) edge.now.value }
 {
     if let Kind::Began = edge.kind {
         return true;
     }
-    match tables.writers.get(&(edge.key, edge.value)) {
+    match writers.get(&(edge.key, edge.value)) {
         Some(doer) => edge.value.is_some() && doer.is_only,
         None => true,
     }

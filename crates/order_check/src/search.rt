@@ -46,7 +46,7 @@ pub(crate) struct Visit {
 /// Time and memory in proportion to the number of transactions and edges.
 pub(crate) fn find_order(alloc: Global, graph: &[Vec<Edge>]) -> Result<Found, AllocError>
     requires { AreInRange graph.now }
-    ensures { IfOk result (IsFound graph.now) }
+    ensures { IfOk result (IsFound (HasEdge graph.now) graph.now) }
 {
     let unvisited = Visit {
         mark: Mark::New,

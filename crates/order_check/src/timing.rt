@@ -48,7 +48,7 @@ fn add_between(
 }
 
 /// An edge of real time from a transaction.
-fn time_edge(from: usize) -> Edge
+pub(crate) fn time_edge(from: usize) -> Edge
     ensures { result ≡ time_edge from }
 {
     Edge {

@@ -13,21 +13,21 @@ add-requires-then-first-access c =
       | in-Some+in_ok-add w ↦ ap (λ r. length r.items) w.graph-is ∙ w.in_ok-add.ensures.len
       | in_default w ↦ ap (λ r. length r.items) w.graph-is
     ] in
-    let below = c.requires.doers.replaces (c.args.access.now.key, c.args.access.now.source) c.in-Some-get.first.now (sym c.in-Some-get.ensures.value) in
+    let below = c.requires.doers (c.args.access.now.key, c.args.access.now.source) c.in-Some-get.first.now (sym c.in-Some-get.ensures.value) in
     omega (arith, below, same, c.match-access.graph.ok.0, c.args.graph.now.ok.0)
 
 pub returns-else-ne : goal.returns-else-ne
 returns-else-ne c accesses told distinct sourced is_in =
-    let part : Reads accesses c.args.tables.now.replacers c.args.access.now told.replaces distinct sourced is_in c.args.graph.now.items c.match-access.graph.items = elim c.match-access.branch [
-      | in-Some+in_ok-add w ↦ subst (Reads accesses c.args.tables.now.replacers c.args.access.now told.replaces distinct sourced is_in c.args.graph.now.items) (sym (ap (λ r. r.items) w.graph-is)) (reads_from accesses c.args.tables.now.replacers c.args.access.now told.replaces distinct sourced is_in c.args.graph.now.items w.add.new.graph.items w.in-Some.source w.in-Some.is w.in_ok-add.ensures)
-      | in_default w ↦ reads_nothing accesses c.args.tables.now.replacers c.args.access.now told.replaces distinct sourced is_in c.args.graph.now.items c.match-access.graph.items (ap (λ r. r.items) w.graph-is) (λ t is. w.in_default.not-Some t is)
+    let part : Reads accesses c.args.replacers.now c.args.access.now told distinct sourced is_in c.args.graph.now.items c.match-access.graph.items = elim c.match-access.branch [
+      | in-Some+in_ok-add w ↦ subst (Reads accesses c.args.replacers.now c.args.access.now told distinct sourced is_in c.args.graph.now.items) (sym (ap (λ r. r.items) w.graph-is)) (reads_from accesses c.args.replacers.now c.args.access.now told distinct sourced is_in c.args.graph.now.items w.add.new.graph.items w.in-Some.source w.in-Some.is w.in_ok-add.ensures)
+      | in_default w ↦ reads_nothing accesses c.args.replacers.now c.args.access.now told distinct sourced is_in c.args.graph.now.items c.match-access.graph.items (ap (λ r. r.items) w.graph-is) (λ t is. w.in_default.not-Some t is)
     ] in
-    other_replaces accesses c.args.tables.now.replacers c.args.access.now told.replaces distinct sourced is_in c.args.graph.now.items c.match-access.graph.items part c.in-Some-get.first.now (sym c.in-Some-get.ensures.value) c.add-then-first-access.new.graph.items c.if-first-access.true c.in_ok-add-2.ensures (same_option c.args.access.now.need c.args.access.now.left (not-false (option_eq nat_eq c.args.access.now.need c.args.access.now.left) (sym c.ne.ensures ∙ c.if-ne.false)))
+    other_replaces accesses c.args.replacers.now c.args.access.now told distinct sourced is_in c.args.graph.now.items c.match-access.graph.items part c.in-Some-get.first.now (sym c.in-Some-get.ensures.value) c.add-then-first-access.new.graph.items c.if-first-access.true c.in_ok-add-2.ensures (same_option c.args.access.now.need c.args.access.now.left (not-false (option_eq nat_eq c.args.access.now.need c.args.access.now.left) (sym c.ne.ensures ∙ c.if-ne.false)))
 
 pub returns-in_ok-add-3 : goal.returns-in_ok-add-3
 returns-in_ok-add-3 c accesses told distinct sourced is_in =
-    let part : Reads accesses c.args.tables.now.replacers c.args.access.now told.replaces distinct sourced is_in c.args.graph.now.items c.match-access.graph.items = elim c.match-access.branch [
-      | in-Some+in_ok-add w ↦ subst (Reads accesses c.args.tables.now.replacers c.args.access.now told.replaces distinct sourced is_in c.args.graph.now.items) (sym (ap (λ r. r.items) w.graph-is)) (reads_from accesses c.args.tables.now.replacers c.args.access.now told.replaces distinct sourced is_in c.args.graph.now.items w.add.new.graph.items w.in-Some.source w.in-Some.is w.in_ok-add.ensures)
-      | in_default w ↦ reads_nothing accesses c.args.tables.now.replacers c.args.access.now told.replaces distinct sourced is_in c.args.graph.now.items c.match-access.graph.items (ap (λ r. r.items) w.graph-is) (λ t is. w.in_default.not-Some t is)
+    let part : Reads accesses c.args.replacers.now c.args.access.now told distinct sourced is_in c.args.graph.now.items c.match-access.graph.items = elim c.match-access.branch [
+      | in-Some+in_ok-add w ↦ subst (Reads accesses c.args.replacers.now c.args.access.now told distinct sourced is_in c.args.graph.now.items) (sym (ap (λ r. r.items) w.graph-is)) (reads_from accesses c.args.replacers.now c.args.access.now told distinct sourced is_in c.args.graph.now.items w.add.new.graph.items w.in-Some.source w.in-Some.is w.in_ok-add.ensures)
+      | in_default w ↦ reads_nothing accesses c.args.replacers.now c.args.access.now told distinct sourced is_in c.args.graph.now.items c.match-access.graph.items (ap (λ r. r.items) w.graph-is) (λ t is. w.in_default.not-Some t is)
     ] in
-    both_replace accesses c.args.tables.now.replacers c.args.access.now told.replaces distinct sourced is_in c.args.graph.now.items c.match-access.graph.items part c.in-Some-get.first.now (sym c.in-Some-get.ensures.value) c.add-then-first-access.new.graph.items c.add-then-ne.new.graph.items c.if-first-access.true c.in_ok-add-2.ensures c.in_ok-add-3.ensures (λ same. false≢true (sym (ap not (same_is c.args.access.now.need c.args.access.now.left same)) ∙ sym c.ne.ensures ∙ c.if-ne.true))
+    both_replace accesses c.args.replacers.now c.args.access.now told distinct sourced is_in c.args.graph.now.items c.match-access.graph.items part c.in-Some-get.first.now (sym c.in-Some-get.ensures.value) c.add-then-first-access.new.graph.items c.add-then-ne.new.graph.items c.if-first-access.true c.in_ok-add-2.ensures c.in_ok-add-3.ensures (λ same. false≢true (sym (ap not (same_is c.args.access.now.need c.args.access.now.left same)) ∙ sym c.ne.ensures ∙ c.if-ne.true))

@@ -13,7 +13,7 @@ add_edges-requires-clause-range c =
 
 pub add_edges-requires-clause-doers : goal.add_edges-requires-clause-doers
 add_edges-requires-clause-doers c =
-    tables_below c.args.count c.args.accesses.now c.requires.are (since_in c.args.since.now) c.args.tables.now.writers c.args.tables.now.replacers c.requires.told (vec_len c.loop-access.graph) (c.loop-access.graph.ok.0 ∙ c.loop-access.invariant.len)
+    tables_below c.args.count c.args.accesses.now c.requires.are c.args.replacers.now c.requires.told (vec_len c.loop-access.graph) (c.loop-access.graph.ok.0 ∙ c.loop-access.invariant.len)
 
 pub loop-access-preserved : goal.loop-access-preserved
 loop-access-preserved c =
@@ -22,7 +22,7 @@ loop-access-preserved c =
     record {
       len = one.len ∙ c.loop-access.invariant.len;
       meant = one.meant (since_in c.args.since.now) c.loop-access.invariant.meant;
-      joined = all_joined c.args.tables.now.replacers c.args.accesses.now c.args.accesses.now c.loop-access.access-index c.loop-access.graph.items c.add_edges.new.graph.items below one c.loop-access.invariant.joined;
+      joined = all_joined c.args.replacers.now c.args.accesses.now c.args.accesses.now c.loop-access.access-index c.loop-access.graph.items c.add_edges.new.graph.items below one c.loop-access.invariant.joined;
     }
 
 pub add_times-requires : goal.add_times-requires
@@ -32,10 +32,10 @@ pub returns : goal.returns
 returns c =
     let end : length c.args.accesses.now ≤ c.loop-access.access-index = omega arith in
     let timed = c.in_ok-add_times.ensures in
-    let joined = at_end c.args.tables.now.replacers c.args.accesses.now c.loop-access.access-index c.loop-access.graph.items end c.loop-access.invariant.joined in
+    let joined = at_end c.args.replacers.now c.args.accesses.now c.loop-access.access-index c.loop-access.graph.items end c.loop-access.invariant.joined in
     record {
       len = timed.len ∙ c.loop-access.invariant.len;
       meant = meant_timed c.args.accesses.now (since_in c.args.since.now) c.loop-access.graph.items c.add_times.new.graph.items timed c.loop-access.invariant.meant;
-      joined = λ a is_in. joined_more c.args.tables.now.replacers c.loop-access.graph.items c.add_times.new.graph.items a timed.keeps (joined a is_in);
+      joined = λ a is_in. joined_more c.args.replacers.now c.loop-access.graph.items c.add_times.new.graph.items a timed.keeps (joined a is_in);
       timed = timed.timed;
     }

@@ -1,47 +1,47 @@
 use Rattle.std.proofs.Common.{arith, length, sym, subst, ◌∙◌, refl}
-use Rattle.order_check.specs.Graphs.{AreInRange, IsFound, IsCycle, HasEdge}
+use Rattle.order_check.specs.Graphs.{AreInRange, IsFound, IsCycle}
 use Rattle.order_check.specs.declared.search.Found.TheVariants.{Order, Cycle}
 use Rattle.std.specs.List.{All}
 use Rattle.order_check.specs.Outcomes.{IsOnce, AreCertain}
-use Rattle.order_check.specs.Timing.{since_in}
+use Rattle.order_check.specs.Timing.{Leads, since_in}
 use Rattle.order_check.proofs.Meanings.{in_range, order_found, cycle_found, certain_found, repeated}
 use Rattle.order_check.proofs.RealTimes.{timed_below}
 use Rattle.order_check.proofs.Times.{keeps_time}
 use Rattle.order_check.proofs.outcome.judge_sourced.Goals as goal
 
-pub find_order-requires : goal.find_order-requires
-find_order-requires c =
+pub find_shortest-requires : goal.find_shortest-requires
+find_shortest-requires c =
     let early = timed_below c.args.count c.args.since.now c.requires.timing in
     subst AreInRange (sym c.deref.ensures.value)
-    (in_range c.args.count c.args.accesses.now c.requires.are (since_in c.args.since.now) c.in_ok-tables.tables.writers c.in_ok-tables.tables.replacers c.in_ok-tables.ensures c.in_ok-graph.graph.items c.in_ok-graph.ensures.meant
+    (in_range c.args.count c.args.accesses.now c.requires.are (since_in c.args.since.now) c.in_ok-graph.graph.items c.in_ok-graph.ensures.meant
     (λ t u less. let parts = early t u less in let first = parts.0 in let below = parts.1 in omega arith) c.in_ok-graph.ensures.len)
 
 pub returns-in-Order : goal.returns-in-Order
 returns-in-Order c =
     let early = timed_below c.args.count c.args.since.now c.requires.timing in
-    let found : IsFound c.in_ok-graph.graph.items (Order c.in-Order.order) = subst (λ graph. IsFound graph (Order c.in-Order.order)) c.deref.ensures.value (subst (IsFound c.deref.result.now) c.in-Order.is c.in_ok-order.ensures) in
-    order_found c.args.count c.args.accesses.now c.requires.are (since_in c.args.since.now) c.in_ok-tables.tables.writers c.in_ok-tables.tables.replacers c.in_ok-tables.ensures c.in_ok-graph.graph.items c.in_ok-graph.ensures.joined c.in-Order.order.items found.1
+    let found : IsFound (Leads (since_in c.args.since.now) c.in_ok-graph.graph.items) c.in_ok-graph.graph.items (Order c.in-Order.order) = subst (λ graph. IsFound (Leads (since_in c.args.since.now) graph) graph (Order c.in-Order.order)) c.deref.ensures.value (subst (IsFound (Leads (since_in c.args.since.now) c.deref.result.now) c.deref.result.now) c.in-Order.is c.in_ok-order.ensures) in
+    order_found c.args.count c.args.accesses.now c.requires.are c.in_ok-replacers.replacers c.in_ok-replacers.ensures (since_in c.args.since.now) c.in_ok-graph.graph.items c.in_ok-graph.ensures.joined c.in-Order.order.items found.1
     (keeps_time (since_in c.args.since.now) (λ t u less. (early t u less).0) c.in_ok-graph.graph.items c.in_ok-graph.ensures.timed c.in-Order.order.items found.1) (length c.in_ok-graph.graph.items) c.in_ok-graph.ensures.len found.0
 
 pub returns : goal.returns
 returns c =
-    let found : IsCycle (HasEdge c.in_ok-graph.graph.items) c.in-Cycle.edges.items = subst (λ graph. IsFound graph (Cycle c.in-Cycle.edges)) c.deref.ensures.value (subst (IsFound c.deref.result.now) c.in-Cycle.is c.in_ok-order.ensures) in
-    cycle_found c.args.count c.args.accesses.now c.requires.are (since_in c.args.since.now) c.in_ok-tables.tables.writers c.in_ok-tables.tables.replacers c.in_ok-tables.ensures c.in_ok-graph.graph.items c.in_ok-graph.ensures.meant c.in-Cycle.edges.items found (subst (All (IsOnce c.in_ok-tables.tables.writers)) c.deref-in-Cycle.ensures.value (c.in-None.ensures.none refl))
+    let found : IsCycle (Leads (since_in c.args.since.now) c.in_ok-graph.graph.items) c.in-Cycle.edges.items = subst (λ graph. IsFound (Leads (since_in c.args.since.now) graph) graph (Cycle c.in-Cycle.edges)) c.deref.ensures.value (subst (IsFound (Leads (since_in c.args.since.now) c.deref.result.now) c.deref.result.now) c.in-Cycle.is c.in_ok-order.ensures) in
+    cycle_found c.args.count c.args.accesses.now c.requires.are (since_in c.args.since.now) c.in_ok-writers-in-Cycle.writers c.in_ok-writers-in-Cycle.ensures c.in_ok-graph.graph.items c.in_ok-graph.ensures.meant c.in-Cycle.edges.items found (subst (All (IsOnce c.in_ok-writers-in-Cycle.writers)) c.deref-in-Cycle.ensures.value (c.in-None.ensures.none refl))
 
 pub returns-in-Some : goal.returns-in-Some
-returns-in-Some c = repeated c.args.count c.args.accesses.now c.requires.are (since_in c.args.since.now) c.in_ok-tables.tables.writers c.in_ok-tables.tables.replacers c.in_ok-tables.ensures c.in-Some.edge c.in-Some.ensures.some
+returns-in-Some c = repeated c.args.count c.args.accesses.now c.requires.are (since_in c.args.since.now) c.in_ok-writers-in-Cycle.writers c.in_ok-writers-in-Cycle.ensures c.in-Some.edge c.in-Some.ensures.some
 
-pub find_order-requires-in-Some : goal.find_order-requires-in-Some
-find_order-requires-in-Some c =
-    let certain : AreCertain c.in_ok-tables.tables.writers c.in_ok-graph.graph.items c.in_ok-certain-in-Some.certain.items = subst (λ graph. AreCertain c.in_ok-tables.tables.writers graph c.in_ok-certain-in-Some.certain.items) c.deref-in-Some.ensures.value c.in_ok-certain-in-Some.ensures in
+pub find_shortest-requires-in-Some : goal.find_shortest-requires-in-Some
+find_shortest-requires-in-Some c =
+    let certain : AreCertain c.in_ok-writers-in-Cycle.writers c.in_ok-graph.graph.items c.in_ok-certain-in-Some.certain.items = subst (λ graph. AreCertain c.in_ok-writers-in-Cycle.writers graph c.in_ok-certain-in-Some.certain.items) c.deref-in-Some.ensures.value c.in_ok-certain-in-Some.ensures in
     let early = timed_below c.args.count c.args.since.now c.requires.timing in
     subst AreInRange (sym c.deref-in-Some-2.ensures.value)
-    (in_range c.args.count c.args.accesses.now c.requires.are (since_in c.args.since.now) c.in_ok-tables.tables.writers c.in_ok-tables.tables.replacers c.in_ok-tables.ensures c.in_ok-certain-in-Some.certain.items
+    (in_range c.args.count c.args.accesses.now c.requires.are (since_in c.args.since.now) c.in_ok-certain-in-Some.certain.items
     (λ u l has. c.in_ok-graph.ensures.meant u l (certain.certain u l has).0) (λ t u less. let parts = early t u less in let first = parts.0 in let below = parts.1 in omega arith) (certain.len ∙ c.in_ok-graph.ensures.len))
 
 pub returns-in-Cycle-2 : goal.returns-in-Cycle-2
 returns-in-Cycle-2 c =
-    let certain : AreCertain c.in_ok-tables.tables.writers c.in_ok-graph.graph.items c.in_ok-certain-in-Some.certain.items = subst (λ graph. AreCertain c.in_ok-tables.tables.writers graph c.in_ok-certain-in-Some.certain.items) c.deref-in-Some.ensures.value c.in_ok-certain-in-Some.ensures in
-    let found : IsCycle (HasEdge c.in_ok-certain-in-Some.certain.items) c.in-Cycle-2.edges.items = subst (λ graph. IsFound graph (Cycle c.in-Cycle-2.edges)) c.deref-in-Some-2.ensures.value (subst (IsFound c.deref-in-Some-2.result.now) c.in-Cycle-2.is c.in_ok-edges-in-Some.ensures) in
-    certain_found c.args.count c.args.accesses.now c.requires.are (since_in c.args.since.now) c.in_ok-tables.tables.writers c.in_ok-tables.tables.replacers c.in_ok-tables.ensures c.in_ok-certain-in-Some.certain.items
+    let certain : AreCertain c.in_ok-writers-in-Cycle.writers c.in_ok-graph.graph.items c.in_ok-certain-in-Some.certain.items = subst (λ graph. AreCertain c.in_ok-writers-in-Cycle.writers graph c.in_ok-certain-in-Some.certain.items) c.deref-in-Some.ensures.value c.in_ok-certain-in-Some.ensures in
+    let found : IsCycle (Leads (since_in c.args.since.now) c.in_ok-certain-in-Some.certain.items) c.in-Cycle-2.edges.items = subst (λ graph. IsFound (Leads (since_in c.args.since.now) graph) graph (Cycle c.in-Cycle-2.edges)) c.deref-in-Some-2.ensures.value (subst (IsFound (Leads (since_in c.args.since.now) c.deref-in-Some-2.result.now) c.deref-in-Some-2.result.now) c.in-Cycle-2.is c.in_ok-edges-in-Some.ensures) in
+    certain_found c.args.count c.args.accesses.now c.requires.are (since_in c.args.since.now) c.in_ok-writers-in-Cycle.writers c.in_ok-writers-in-Cycle.ensures c.in_ok-certain-in-Some.certain.items
     (λ u l has. c.in_ok-graph.ensures.meant u l (certain.certain u l has).0) (λ u l has. (certain.certain u l has).1) c.in-Cycle-2.edges.items found
