@@ -104,37 +104,6 @@ impl<T: Copy, const PAD: usize> Apart<T, PAD> {
         self.places[PAD + place] = item;
     }
 
-    /// Makes room for this many more items. If there is no memory, nothing changes. `blank` may be
-    /// any value.
-    #[inline(always)]
-    pub(crate) fn reserve(&mut self, more: usize, blank: T) -> Result<(), AllocError>
-        requires { more ≤ 4096 }
-        ensures items { self.new.items ≡ self.old.items }
-        ensures ok { OnOk result (more ≤ self.new.room) }
-        ensures err { OnErr result (self.new ≡ self.old) }
-    {
-        if self.places.len() + PAD + more <= self.places.capacity() {
-            return Ok(());
-        }
-        self.grow(more, blank)
-    }
-
-    /// Takes more memory, for this many more items.
-    #[cold]
-    #[inline(never)]
-    fn grow(&mut self, more: usize, blank: T) -> Result<(), AllocError>
-        requires { more ≤ 4096 }
-        ensures items { self.new.items ≡ self.old.items }
-        ensures ok { OnOk result (more ≤ self.new.room) }
-        ensures err { OnErr result (self.new ≡ self.old) }
-    {
-        if self.places.is_empty() {
-            self.places.reserve(PAD + more + PAD)?;
-            return self.places.resize(PAD, blank);
-        }
-        self.places.reserve(more + PAD)
-    }
-
     /// Adds an item at the end, and returns its place. There must be room for it.
     #[inline(always)]
     pub(crate) fn push_reserved(&mut self, item: T) -> usize
@@ -180,6 +149,38 @@ impl<T: Copy, const PAD: usize> Apart<T, PAD> {
     {
         self.places.truncate(PAD);
     }
+}
+
+impl<T: Copy + Default, const PAD: usize> Apart<T, PAD> {
+    /// Makes room for this many more items. If there is no memory, nothing changes.
+    #[inline(always)]
+    pub(crate) fn reserve(&mut self, more: usize) -> Result<(), AllocError>
+        requires { more ≤ 4096 }
+        ensures items { self.new.items ≡ self.old.items }
+        ensures ok { OnOk result (more ≤ self.new.room) }
+        ensures err { OnErr result (self.new ≡ self.old) }
+    {
+        if self.places.len() + PAD + more <= self.places.capacity() {
+            return Ok(());
+        }
+        self.grow(more)
+    }
+
+    /// Takes more memory, for this many more items.
+    #[cold]
+    #[inline(never)]
+    fn grow(&mut self, more: usize) -> Result<(), AllocError>
+        requires { more ≤ 4096 }
+        ensures items { self.new.items ≡ self.old.items }
+        ensures ok { OnOk result (more ≤ self.new.room) }
+        ensures err { OnErr result (self.new ≡ self.old) }
+    {
+        if self.places.is_empty() {
+            self.places.reserve(PAD + more + PAD)?;
+            return self.places.resize(PAD, T::default());
+        }
+        self.places.reserve(more + PAD)
+    }
 
     /// Adds copies of `item` until there are at least `len` items. If there is no memory, nothing
     /// changes.
@@ -191,7 +192,7 @@ impl<T: Copy, const PAD: usize> Apart<T, PAD> {
         ensures err { OnErr result (self.new ≡ self.old) }
     {
         let more = len.saturating_sub(self.len());
-        self.reserve(more, item)?;
+        self.reserve(more)?;
         for _ in 0..more {
             self.push_reserved(item);
         }

@@ -47,9 +47,6 @@ const TRIES: usize = 1_000_000;
 /// sub-key, and the value before the change.
 type Change = (usize, u64, Option<u64>);
 
-/// A value for places without a change.
-const NO_CHANGE: Change = (0, 0, None);
-
 /// A list of stripes, or of numbers of changes. A number takes 8 bytes.
 pub(crate) type Numbers = Apart<usize, 16>;
 
@@ -241,7 +238,7 @@ impl Hand {
         ensures levels { self.new.levels ≡ self.old.levels }
         ensures miss { IfErr result (IsMiss (known self.new.seat)) }
     {
-        if self.held.reserve(1, 0).is_err() {
+        if self.held.reserve(1).is_err() {
             return Err(Stop::Refused(Refusal::NoMemory));
         }
         let Ok(()) = self.index.fill(map.stripes(), 0) else {
@@ -609,7 +606,7 @@ impl Hand {
             (known self.new.seat).held }
         ensures err { IfErr result (IsStopped map.now self.old op self.new) }
     {
-        if op.may_change() && self.order.reserve(1, NO_CHANGE).is_err() {
+        if op.may_change() && self.order.reserve(1).is_err() {
             return Err(Stop::Refused(Refusal::NoMemory));
         }
         let stripes = map.stripes() as u64;
@@ -663,7 +660,7 @@ impl Hand {
         ensures still { (known self.new.seat).held ≡ (known self.old.seat).held }
         ensures unchanged { OnErr result (self.new.seat ≡ self.old.seat) }
     {
-        self.levels.reserve(1, 0)?;
+        self.levels.reserve(1)?;
         let keep = self.seat.keep;
         map.add(
             &mut self.seat,

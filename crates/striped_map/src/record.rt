@@ -83,11 +83,15 @@ pub(crate) struct Record {
     pub(crate) what: Told,
 }
 
+impl Default for Record {
+    /// A record for places without one.
+    fn default() -> Record {
+        Record {
+            at: 0,
+            what: Told::TellBegin,
+        }
+    }
+}
+
 /// The records of a caller, the newest last. Each takes 64 bytes or more.
 pub(crate) type Records = Apart<Record, 2>;
-
-/// A record for places without one.
-pub(crate) const NO_RECORD: Record = Record {
-    at: 0,
-    what: Told::TellBegin,
-};
