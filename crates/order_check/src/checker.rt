@@ -103,7 +103,8 @@ impl Checker {
     /// Time and memory in proportion to the keys of the committed transactions, each counted once
     /// for each transaction that asked for it. The time is the expected one, since the keys are
     /// hashed. With real time also in proportion to the pairs of transactions that ran at the same
-    /// time. A search for an order adds at most the time of 64 steps for each of its branches.
+    /// time. A search for an order adds at most the time of 64 steps for each of its branches, and
+    /// that for a shortest cycle at most the time in which 64 times as many edges are looked at.
     pub fn verdict(&self, alloc: Global) -> Result<Verdict, AllocError>
         ensures verdict { (b : Bool) (h : List Entry) → IsFed b h self.now →
             IfOk result (IsVerdictIf b h) }
