@@ -251,13 +251,13 @@ def outcomes_in(output):
     return found
 
 
-def outcome_of(functions, outcomes):
+def outcome_of(functions, outcomes, without):
     """The worst of the outcomes of the functions that must be refused. A function's outcome is the best of its
-    own and those of its closures."""
+    own and those of its closures. A function without any has failed, for the reason `without`."""
     rank = lambda outcome: ("refused", "by name", "failed").index(outcome[0])
     own = lambda function: [outcome for path, outcome in outcomes.items()
                             if f"::{path}".endswith(f"::{function}") or f"fn::{function}::" in path]
-    best = [min(own(function), key=rank, default=("failed", f"no line about {function}")) for function in functions]
+    best = [min(own(function), key=rank, default=("failed", f"{without} {function}")) for function in functions]
     return max(best, key=rank)
 
 
@@ -280,10 +280,12 @@ def try_round(command, crate, room, taken):
             shutil.copy(crate / file, Path(room, file))
         else:
             shutil.rmtree(Path(room, file).parent, ignore_errors=True)
+    without = "no line about"
     if not re.search(r"^only=", output, re.M):
-        print(f"{crate.name}: no verdict, status {os.waitstatus_to_exitcode(status)}: {output.strip()[-1500:]}")
+        without = f"no verdict, status {os.waitstatus_to_exitcode(status)}, {output.strip()[-300:]}; so none about"
     outcomes = outcomes_in(output.splitlines())
-    return {body: outcome_of(refused, outcomes) for body, refused in taken["bodies"].items()}, used.ru_utime + used.ru_stime
+    found = {body: outcome_of(refused, outcomes, without) for body, refused in taken["bodies"].items()}
+    return found, used.ru_utime + used.ru_stime
 
 
 def without_bodies(crate, taken):

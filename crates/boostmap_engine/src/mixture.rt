@@ -10,7 +10,7 @@ ghost use Rattle.boostmap_engine.specs.Written.{HasNone};
 
 use crate::fault::Fault;
 use crate::input::scripts_in;
-use crate::mix::mix_scripts;
+use crate::mixing::mix_scripts;
 use std::alloc::Global;
 use txn_words::SmallEntry;
 

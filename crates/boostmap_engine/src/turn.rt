@@ -1,6 +1,6 @@
 //! One turn of one worker on the core: one step or two. Each step adds only entries of this
 //! worker's caller, so the invariants of all other workers still hold. The contract of a turn
-//! therefore speaks of one worker; only the loop in `mix.rt` speaks of all workers.
+//! therefore speaks of one worker; only the loop in `mixing.rt` speaks of all workers.
 ghost use Rattle.std.specs.Prelude.{◌≡◌, is_some, true};
 ghost use Rattle.txn_words.specs.Shape.{own};
 ghost use Rattle.script_worker.specs.Workers.{step_by, IsReady};

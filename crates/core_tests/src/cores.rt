@@ -3,8 +3,6 @@
 //! for lack of memory. These runs fail in that case. The module `limits` plays its tables with the
 //! functions here.
 mod limits;
-mod pairs;
-mod plain_map;
 mod refused;
 mod words;
 

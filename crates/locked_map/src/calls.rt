@@ -128,25 +128,7 @@ impl<L: Ledger> SharedMap<L> {
     ///
     /// # Errors
     ///
-    /// `Refused` with one of the refusals below. The first five are tested before all else, in this
-    /// order. In all cases but the last, the transaction is unchanged, except that it may now hold
-    /// the key's stripe.
-    /// - `OutOfStep` if the token is broken.
-    /// - `NotOpen` if the caller has no transaction.
-    /// - `Leaving` if the caller is taking changes back.
-    /// - `OperationUnfinished` if an earlier operation has no reply yet.
-    /// - `BadKey` if the key is 2^63 or more, and the limits allow only half keys.
-    /// - `NoMemory` if memory is refused for one more right (no word was tried then) or for the
-    ///   operation.
-    /// - `StampsUsedUp` if no stamp is left.
-    /// - `StaleWord` if, by the core's record, the word of the key's stripe names no caller that
-    ///   may hold the stripe.
-    /// - `OutOfStep` if the core gives an answer that is impossible in the token's state. The token
-    ///   is then broken, and what the call did is not undone.
-    ///
-    /// `Busy` if the word of the key's stripe names another caller. The transaction is then
-    /// aborted: all its changes are taken back, all its rights are given back, and the side value
-    /// has the words that it had when the transaction began.
+    /// Those of `put`.
     ///
     /// # Cost
     ///
@@ -176,25 +158,7 @@ impl<L: Ledger> SharedMap<L> {
     ///
     /// # Errors
     ///
-    /// `Refused` with one of the refusals below. The first five are tested before all else, in this
-    /// order. In all cases but the last, the transaction is unchanged, except that it may now hold
-    /// the key's stripe.
-    /// - `OutOfStep` if the token is broken.
-    /// - `NotOpen` if the caller has no transaction.
-    /// - `Leaving` if the caller is taking changes back.
-    /// - `OperationUnfinished` if an earlier operation has no reply yet.
-    /// - `BadKey` if the key is 2^63 or more, and the limits allow only half keys.
-    /// - `NoMemory` if memory is refused for one more right (no word was tried then) or for the
-    ///   operation.
-    /// - `StampsUsedUp` if no stamp is left.
-    /// - `StaleWord` if, by the core's record, the word of the key's stripe names no caller that
-    ///   may hold the stripe.
-    /// - `OutOfStep` if the core gives an answer that is impossible in the token's state. The token
-    ///   is then broken, and what the call did is not undone.
-    ///
-    /// `Busy` if the word of the key's stripe names another caller. The transaction is then
-    /// aborted: all its changes are taken back, all its rights are given back, and the side value
-    /// has the words that it had when the transaction began.
+    /// Those of `put`.
     ///
     /// # Cost
     ///

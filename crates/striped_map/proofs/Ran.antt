@@ -1,7 +1,7 @@
 -- A transaction that is run operation by operation.
 use Rattle.std.proofs.Common.{true, false, ◌≡◌, Bool, ℕ, ◌+◌, ◌<◌, List, [], ◌∷◌, ◌++◌, Option, Some, length, slice_get, take, get_or, sym, subst, refl}
 use Rattle.std.proofs.lemmas.List.{take_more}
-use Rattle.std.proofs.lemmas.Option.{slice_get-get_or}
+use Rattle.std.proofs.lemmas.Option.{get_or_from_slice_get, slice_get_within}
 use Rattle.txn_words.specs.declared.entry.Entry.TheVariants.{Began, Asked, Did, Committed}
 use Rattle.txn_words.specs.declared.op.Op.{Op}
 use Rattle.txn_words.specs.declared.stop.Stop.{Stop}
@@ -17,20 +17,24 @@ does_then strict [] [] op reply a b c same step goes_on = (c, subst (λ (k : Cal
 does_then strict (o ∷ ops) (r ∷ replies) op reply a b c does step goes_on = (does.0, does.1, does.2, does_then strict ops replies op reply does.0 b c does.3 step goes_on)
 does_then strict _ _ op reply a b c does step goes_on = absurd does
 
+-- The first operations, with the next one.
+take_one_more : (ops : List Op) (i : ℕ) (op : Op) → slice_get ops i ≡ Some op → take (i + 1) ops ≡ take i ops ++ op ∷ []
+take_one_more ops i op at = subst (λ (o : Op). take (i + 1) ops ≡ take i ops ++ o ∷ []) (get_or_from_slice_get ops i op op at) (take_more ops i op (slice_get_within ops i op at))
+
 -- One more operation is done.
-pub does_next : (strict : Bool) (ops : List Op) (i : ℕ) (d : Op) (replies : List (Option ℕ)) (reply : Option ℕ) (a b c : Caller) → i < length ops → DoesAll strict (take i ops) replies a b
-    → IsStep b (Asked (number b) (get_or ops i d) ∷ Did (number b) reply ∷ []) c → is_miss strict (get_or ops i d) reply ≡ false → DoesAll strict (take (i + 1) ops) (replies ++ reply ∷ []) a c
-does_next strict ops i d replies reply a b c below does step goes_on = rw (take_more ops i d below) (does_then strict (take i ops) replies (get_or ops i d) reply a b c does step goes_on)
+pub does_next : (strict : Bool) (ops : List Op) (i : ℕ) (op : Op) (replies : List (Option ℕ)) (reply : Option ℕ) (a b c : Caller) → slice_get ops i ≡ Some op → DoesAll strict (take i ops) replies a b
+    → IsStep b (Asked (number b) op ∷ Did (number b) reply ∷ []) c → is_miss strict op reply ≡ false → DoesAll strict (take (i + 1) ops) (replies ++ reply ∷ []) a c
+does_next strict ops i op replies reply a b c at does step goes_on = rw (take_one_more ops i op at) (does_then strict (take i ops) replies op reply a b c does step goes_on)
 
 -- One more operation is done, and ends the run.
-pub does_to_miss : (strict : Bool) (ops : List Op) (i : ℕ) (d : Op) (before replies : List (Option ℕ)) (reply : Option ℕ) (a b c : Caller) → i < length ops → length before ≡ i → replies ≡ before ++ reply ∷ []
-    → DoesAll strict (take i ops) before a b → IsStep b (Asked (number b) (get_or ops i d) ∷ Did (number b) reply ∷ []) c → is_miss strict (get_or ops i d) reply ≡ true → DoesToMiss strict ops replies a c
-does_to_miss strict ops i d before replies reply a b c below len are does step miss = (before, reply, are, b, get_or ops i d, subst (λ (j : ℕ). DoesAll strict (take j ops) before a b) (sym len) does, subst (λ (j : ℕ). slice_get ops j ≡ Some (get_or ops i d)) (sym len) (slice_get-get_or ops i d below), miss, step)
+pub does_to_miss : (strict : Bool) (ops : List Op) (i : ℕ) (op : Op) (before replies : List (Option ℕ)) (reply : Option ℕ) (a b c : Caller) → slice_get ops i ≡ Some op → length before ≡ i → replies ≡ before ++ reply ∷ []
+    → DoesAll strict (take i ops) before a b → IsStep b (Asked (number b) op ∷ Did (number b) reply ∷ []) c → is_miss strict op reply ≡ true → DoesToMiss strict ops replies a c
+does_to_miss strict ops i op before replies reply a b c at len are does step miss = (before, reply, are, b, op, subst (λ (j : ℕ). DoesAll strict (take j ops) before a b) (sym len) does, subst (λ (j : ℕ). slice_get ops j ≡ Some op) (sym len) at, miss, step)
 
 -- The next operation fails.
-pub does_until : (strict : Bool) (ops : List Op) (i : ℕ) (d : Op) (replies : List (Option ℕ)) (a b c : Caller) (stop : Stop) → i < length ops → length replies ≡ i → DoesAll strict (take i ops) replies a b
-    → IsStopped b (get_or ops i d) c stop → DoesUntil strict ops replies a c stop
-does_until strict ops i d replies a b c stop below len does stopped = rw len (b, get_or ops i d, does, slice_get-get_or ops i d below, stopped)
+pub does_until : (strict : Bool) (ops : List Op) (i : ℕ) (op : Op) (replies : List (Option ℕ)) (a b c : Caller) (stop : Stop) → slice_get ops i ≡ Some op → length replies ≡ i → DoesAll strict (take i ops) replies a b
+    → IsStopped b op c stop → DoesUntil strict ops replies a c stop
+does_until strict ops i op replies a b c stop at len does stopped = rw len (b, op, does, at, stopped)
 
 -- All operations were done, and the transaction commits.
 pub runs_all : (strict : Bool) (a b c d : Caller) (ops : List Op) (replies : List (Option ℕ)) (txn : ℕ) (found : Option ℕ) → IsStep a (Began (number a) txn ∷ []) b → DoesAll strict ops replies b c

@@ -8,5 +8,4 @@ mod register;
 mod releases;
 mod rows;
 mod side;
-mod texts;
 mod threads;

@@ -2,8 +2,8 @@ use Rattle.std.proofs.Common.{◌≡◌, ◌∙◌, inl, inr, List, [], ◌∷�
 use Rattle.boostmap_engine.proofs.Vocabulary.{first_crew, IsAtPlace, IsCrew, live, live_from, start, State, Worker}
 use Rattle.boostmap_engine.proofs.Lives.{all_done, drawn, lives_at, kept, length-live, removed}
 use Rattle.boostmap_engine.proofs.Turns.{crew_goes, crew_plays, crew_told, member_keeps}
-use Rattle.boostmap_engine.proofs.mix.mix_scripts.Goals.{After-index_mut}
-use Rattle.boostmap_engine.proofs.mix.mix_scripts.Goals as goal
+use Rattle.boostmap_engine.proofs.mixing.mix_scripts.Goals.{After-index_mut}
+use Rattle.boostmap_engine.proofs.mixing.mix_scripts.Goals as goal
 
 pub loop-turn-init : goal.loop-turn-init
 loop-turn-init c =

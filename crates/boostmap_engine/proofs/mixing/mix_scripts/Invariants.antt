@@ -1,6 +1,6 @@
 use Rattle.std.proofs.Common.{◌≡◌, ℕ, List, length}
 use Rattle.boostmap_engine.proofs.Vocabulary.{beginning, IsCrew, live_from, TakeDrawn}
-use Rattle.boostmap_engine.proofs.mix.mix_scripts.Given as goal
+use Rattle.boostmap_engine.proofs.mixing.mix_scripts.Given as goal
 
 abbrev pub invariant-loop-turn : goal.invariant-loop-turn
 invariant-loop-turn l = record {
