@@ -4,7 +4,8 @@
 //! "The Shortest Path through a Maze", 1959). The edge by which it comes back closes a shortest
 //! cycle through this transaction. A walk goes only as far as a cycle can still be shorter than the
 //! best one so far. The first walks begin at the cycle that was found, and the others at each
-//! transaction in turn, until all have looked at 64 times as many edges as there are.
+//! transaction in turn, until all have looked at a million edges, or at four times as many as there
+//! are.
 //!
 //! A walk also takes the edges of real time that the graph leaves out, as they follow from others.
 //!
@@ -76,8 +77,8 @@ struct Walks {
 ///
 /// # Cost
 ///
-/// Time and memory in proportion to the number of transactions and edges: the walks look at no more
-/// than 64 times as many.
+/// Time and memory in proportion to the number of transactions and edges: the walks look at four
+/// times as many, or at a million.
 pub(crate) fn find_shortest(
     alloc: Global,
     graph: &[Vec<Edge>],
@@ -135,13 +136,14 @@ fn start_at(found: &[Edge], turn: usize) -> usize {
     }
 }
 
-/// The number of edges that the walks may look at: 64 times as many as one walk looks at.
+/// The number of edges that the walks may look at: four times as many as one walk looks at, or a
+/// million.
 fn most_looks(graph: &[Vec<Edge>]) -> usize {
     let mut looks: usize = 0;
     for row in graph {
         looks = looks.saturating_add(row.len().saturating_add(2));
     }
-    looks.saturating_mul(64)
+    looks.saturating_mul(4).max(1_000_000)
 }
 
 impl Walks {
