@@ -163,7 +163,7 @@ def judge_all(server, program):
         for level in LEVELS.values():
             history = run(server, level, schedule)
             found = anomaly(history["entries"])
-            wrong = fault(kind, level, found, verdict(program, history))
+            wrong = fault(kind, level, found, verdict(program, history, False))
             passed, failed = passed + (wrong is None), failed + (wrong is not None)
             if wrong is not None:
                 print(f"hermitage: {name} at {level}: {wrong}", file=sys.stderr)
