@@ -16,11 +16,9 @@ use crate::flaw::Flaw;
 use crate::found::found_of;
 use crate::place::Place;
 use crate::values::{elements_in, is_of};
+use piece_files::MAX_BYTES;
 use serde_json::Value;
 use std::alloc::{AllocError, Global};
-
-/// The length that a file may have, in bytes.
-const MAX_BYTES: usize = 16_777_216;
 
 /// Whether a value is as expected. Its range counts only if `ranged` is true.
 fn is_met(ranged: bool, expected: Expected, value: Option<&Value>) -> bool

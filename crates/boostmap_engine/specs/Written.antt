@@ -1,18 +1,12 @@
 -- PROMISES from-words-and-bytes-to-bytes: LeavesOutput
 -- What an engine reads and writes, for any kind of text.
-use Rattle.std.specs.Prelude.{◌≡◌, ℕ, List, take, Option, IfSome}
+use Rattle.std.specs.Prelude.{ℕ, List, Option}
 use Rattle.std.specs.Io.KnownBytes.{Appends, Keeps}
 use Rattle.txn_files.specs.FileFault.{FileFault}
 use Rattle.txn_files.specs.Output.{AppendsPart}
-use Rattle.txn_files.specs.Reading.{max_read}
+pub use Rattle.txn_files.specs.Reading.{IsRead}
 use Rattle.boostmap_engine.specs.declared.fault.Fault.{Fault}
 use Rattle.boostmap_engine.specs.declared.fault.Fault.TheVariants as faults
-
--- `bytes` are the first `max_read` of the bytes that the reader still had, or all of them if there
--- are fewer. A file may have at most `max_read` - 1 bytes, so `max_read` bytes are too many for a
--- file.
-abbrev pub IsRead : Option (List ℕ) → List ℕ → Type 0
-IsRead remaining bytes = IfSome remaining (λ all. bytes ≡ take max_read all)
 
 -- The output after writing a text has failed. If a write failed, the output grew by a proper prefix
 -- of the text. If memory was refused, the output is unchanged.

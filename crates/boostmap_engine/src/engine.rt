@@ -10,14 +10,13 @@ ghost use Rattle.boostmap_engine.specs.Judgement.{IsJudgement, IsJudgementOf, Is
 ghost use Rattle.boostmap_engine.specs.Mixture.{IsMixtureOf, IsNoScriptFile};
 
 use crate::fault::Fault;
-use crate::input::read_input;
-use crate::judgement::{is_legal, judge, line_of};
+use crate::judgement::judge;
 use crate::mixture::mixture;
 use crate::output::write_history;
 use crate::report::report;
 use std::alloc::Global;
 use std::io::{Read, Write};
-use txn_files::write_text;
+use txn_files::{read_bytes, write_text};
 
 /// Reads a step file to its end, runs its steps one after the other on a new core, and writes the
 /// report. First come the answers, one on each line. Then comes `size S count C`, where `S` is the
@@ -48,7 +47,7 @@ pub fn replay<R: Read, W: Write>(alloc: Global, input: &mut R, output: &mut W) -
     ensures fault { IfErr result (LeavesOutput IsReportOf IsNoStepFile (R.remaining input.old)
         (W.contents output.old) (W.contents output.new)) }
 {
-    let bytes = read_input(alloc, input)?;
+    let bytes = read_bytes(alloc, input)?;
     let text = report(alloc, bytes)?;
     write_text(output, text.as_bytes())?;
     Ok(())
@@ -81,11 +80,11 @@ pub fn check<R: Read, W: Write>(alloc: Global, input: &mut R, output: &mut W) ->
     ensures fault { IfErr result (LeavesOutput IsJudgementOf IsNoHistoryFile (R.remaining input.old)
         (W.contents output.old) (W.contents output.new)) }
 {
-    let bytes = read_input(alloc, input)?;
+    let bytes = read_bytes(alloc, input)?;
     let verdict = judge(alloc, bytes)?;
-    let line = line_of(alloc, verdict)?;
+    let line = verdict.line(alloc)?;
     write_text(output, line.as_bytes())?;
-    Ok(is_legal(verdict))
+    Ok(verdict.is_legal())
 }
 
 /// Reads a script file to its end, and runs its scripts on a new core. The seed determines how the
@@ -126,7 +125,7 @@ pub fn mix<R: Read, W: Write>(
     ensures fault { IfErr result (LeavesOutput (IsMixtureOf seed) IsNoScriptFile
         (R.remaining input.old) (W.contents output.old) (W.contents output.new)) }
 {
-    let bytes = read_input(alloc, input)?;
+    let bytes = read_bytes(alloc, input)?;
     let history = mixture(alloc, seed, bytes)?;
     write_history(
         alloc,

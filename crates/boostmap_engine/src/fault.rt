@@ -3,13 +3,13 @@
 //! and a program prints the fault's line. Contracts state each status and text
 //! (`specs/Faults.antt`). No text takes memory.
 ghost use Rattle.std.specs.Prelude.{◌≡◌};
-ghost use Rattle.boostmap_engine.specs.Faults.{status_of, message_of, of_file};
+ghost use Rattle.boostmap_engine.specs.Faults.{IsReadFault, status_of, message_of, of_file};
 ghost use Rattle.boostmap_engine.specs.declared.fault.Fault.TheVariants as faults;
 
 use std::alloc::AllocError;
 use std::fmt;
 use thiserror::Error;
-use txn_files::{FileFault, Unwritten};
+use txn_files::{FileFault, Unread, Unwritten};
 
 /// The usage text, which is printed if the command line is not valid.
 const USAGE: &str = "usage: boostmap replay FILE | boostmap run FILE
@@ -107,6 +107,17 @@ impl From<AllocError> for Fault {
 
     fn from(_error: AllocError) -> Fault {
         Fault::NoMemory
+    }
+}
+
+impl From<Unread> for Fault {
+    ghost from_gives = { λ _ fault. IsReadFault fault };
+
+    fn from(unread: Unread) -> Fault {
+        match unread {
+            Unread::Failed => Fault::Read,
+            Unread::NoMemory => Fault::NoMemory,
+        }
     }
 }
 

@@ -9,9 +9,9 @@ ghost use Rattle.boostmap_engine.specs.Report.{line};
 ghost use Rattle.boostmap_engine.specs.Written.{HasNone};
 
 use crate::fault::Fault;
-use crate::input::scripts_in;
 use crate::mixing::mix_scripts;
 use std::alloc::Global;
+use txn_files::into_scripts;
 use txn_words::SmallEntry;
 
 /// A history, with the version and the number of stripes that the history's text states too.
@@ -40,7 +40,7 @@ pub(crate) fn mixture(alloc: Global, seed: u64, bytes: Vec<u8>) -> Result<MixedH
         (line (text_of_history mixture.version mixture.stripes mixture.entries.items))) }
     ensures err { IfErr result (HasNone IsNoScriptFile bytes.items) }
 {
-    let work = scripts_in(alloc, bytes)?;
+    let work = into_scripts(alloc, bytes)?;
     let core = mix_scripts(alloc, seed, &work)?;
     let limits = work.limits();
     let version = work.version();

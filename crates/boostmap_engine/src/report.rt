@@ -17,16 +17,16 @@ use txn_trace::{Limits, PackedStep};
 /// all lines at once.
 const ANSWER: usize = 8;
 
-/// Each time the number of remaining steps is a multiple of this number, the memory of the steps
-/// already taken is freed.
-const BLOCK: usize = 16_384;
+/// Each time these bits of the number of remaining steps are 0, which is at every 16,384th step, the
+/// memory of the steps already taken is freed.
+const LOW_BITS: usize = 16_383;
 
-/// Frees the memory of the steps already taken, if the number of remaining steps is a multiple of
-/// `BLOCK`.
+/// Frees the memory of the steps already taken, if the `LOW_BITS` of the number of remaining steps
+/// are 0.
 fn give_back(steps: &mut Vec<PackedStep>)
     ensures { steps.new.items ≡ steps.old.items }
 {
-    if steps.len() % BLOCK == 0 {
+    if steps.len() & LOW_BITS == 0 {
         steps.shrink_to_fit();
     }
 }

@@ -9,12 +9,12 @@ ghost use Rattle.unthreaded_program.specs.Runs.{RunsCommand, HasExited, Runs, Te
 use crate::threaded;
 use boostmap_engine::Fault;
 use command_line::Command;
-use program_host::System;
+use program_host::{Ending, System};
 use std::alloc::Global;
 use std::io::{Read, Write};
 use std::sync::Wait;
 use std::thread::Threads;
-use unthreaded_program::{Ending, end, open};
+use unthreaded_program::{end, open};
 
 /// Runs the engine of a command on its open file. Returns false only if `check` finds that the
 /// history of the file is illegal.

@@ -8,12 +8,13 @@ ghost use Rattle.boostmap_engine.specs.Report.{line};
 ghost use Rattle.boostmap_engine.specs.Written.{WritesTextOf};
 ghost use Rattle.boostmap_program.specs.Threaded.{HasNoneThreaded, IsThreadedOf, LeavesThreaded, of_run};
 
-use boostmap_engine::{Fault, read_input, scripts_in, write_history};
+use boostmap_engine::{Fault, write_history};
 use std::alloc::Global;
 use std::io::{Read, Write};
 use std::sync::Wait;
 use std::thread::Threads;
 use thread_runs::{Open, run_scripts};
+use txn_files::{into_scripts, read_bytes};
 use txn_words::{Refusal, SmallEntry};
 
 /// The version of a history file of a run.
@@ -53,7 +54,7 @@ fn run_in_threads<R: Threads + Wait + Sync>(
         (line (text_of_history VERSION history.stripes history.entries.items))) }
     ensures err { IfErr result (HasNoneThreaded bytes.items) }
 {
-    let work = scripts_in(alloc, bytes)?;
+    let work = into_scripts(alloc, bytes)?;
     let limits = work.limits();
     let workers = limits.callers() as usize;
     let ran = match run_scripts(
@@ -124,7 +125,7 @@ pub fn run<T: Threads + Wait + Sync, R: Read, W: Write>(
     ensures fault { IfErr result (LeavesThreaded (R.remaining input.old)
         (W.contents output.old) (W.contents output.new)) }
 {
-    let bytes = read_input(alloc, input)?;
+    let bytes = read_bytes(alloc, input)?;
     let history = run_in_threads(rt, alloc, bytes)?;
     write_history(alloc, output, VERSION, history.stripes, &history.entries)
 }

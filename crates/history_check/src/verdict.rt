@@ -1,9 +1,10 @@
 //! The verdict on a history and the rule that an entry breaks, with the texts that `check` prints.
 //! The judge by locks and the judge by the order of commits both return a `Verdict`, so this module
 //! uses neither judge. Proved: each text is as `specs/Verdicts.antt` defines it.
-ghost use Rattle.std.specs.Prelude.{◌≡◌};
-ghost use Rattle.history_check.specs.Verdicts.{number_of};
+ghost use Rattle.std.specs.Prelude.{◌≡◌, IfOk, string_bytes};
+ghost use Rattle.history_check.specs.Verdicts.{number_of, says_legal, verdict_line};
 
+use std::alloc::{AllocError, Global};
 use std::error::Error;
 use std::fmt;
 
@@ -67,6 +68,36 @@ pub enum Verdict {
         /// The first rule that the entry breaks, in the order shape, replies, locks.
         rule: Rule,
     },
+}
+
+impl Verdict {
+    /// Whether the verdict says that the history is legal.
+    ///
+    /// # Cost
+    ///
+    /// Constant time; takes no memory.
+    pub fn is_legal(self) -> bool
+        ensures { result ≡ says_legal self }
+    {
+        matches!(self, Verdict::Legal { .. })
+    }
+
+    /// The line that gives the verdict: its text, and a line feed.
+    ///
+    /// # Errors
+    ///
+    /// `AllocError` if memory is refused.
+    ///
+    /// # Cost
+    ///
+    /// Time and memory in proportion to the line, which has at most 61 bytes.
+    pub fn line(self, alloc: Global) -> Result<String, AllocError>
+        ensures { IfOk result (λ line. string_bytes line ≡ verdict_line self) }
+    {
+        let mut line = String::new(alloc);
+        writeln!(line, "{self}")?;
+        Ok(line)
+    }
 }
 
 impl fmt::Display for Verdict {

@@ -11,7 +11,7 @@ use Rattle.judge_engine.specs.declared.basis.Basis.{Basis}
 use Rattle.judge_engine.specs.declared.fault.Fault.{Fault}
 use Rattle.judge_engine.specs.declared.fault.Fault.TheVariants.{Input, Line, NoMemory, Read, Write}
 use Rattle.txn_files.specs.EntryLines.{history_of_lines}
-use Rattle.txn_files.specs.Reading.{max_read}
+use Rattle.txn_files.specs.Reading.{IsRead}
 use Rattle.judge_engine.specs.Files.{FailsToCheck, IsExplainedFile, IsUnjudgedFile}
 use Rattle.judge_engine.specs.Ordered.{IsAnswered, WritesAnswer}
 use Rattle.judge_engine.specs.Outputs.{FailsToWrite, IsLineOf, LeavesOutput, LeavesText}
@@ -62,7 +62,7 @@ leaves_watch P basis remaining old Read h = keeps_all old
 leaves_watch P basis remaining old (Input fault) h = absurd h
 leaves_watch P basis remaining old Write h = absurd h
 
-pub leaves_check : (P : List ℕ → Type 0) (remaining old : Option (List ℕ)) (bytes : List ℕ) (fault : Fault) → IfSome remaining (λ all. bytes ≡ take max_read all) → IsUnjudgedFile bytes fault → LeavesText P (FailsToCheck remaining) old old fault
+pub leaves_check : (P : List ℕ → Type 0) (remaining old : Option (List ℕ)) (bytes : List ℕ) (fault : Fault) → IsRead remaining bytes → IsUnjudgedFile bytes fault → LeavesText P (FailsToCheck remaining) old old fault
 leaves_check P remaining old bytes (Input fault) known h = (keeps_all old, (bytes, known, h))
 leaves_check P remaining old bytes NoMemory known h = keeps_all old
 leaves_check P remaining old bytes Read known h = keeps_all old
@@ -80,14 +80,14 @@ leaves_answer P F old new text (Line number fault) right h = absurd h
 pub leaves_verdict : (P : Verdict → Type 0) (F : Fault → Type 0) (old new : Option (List ℕ)) (outcome : Verdict) (fault : Fault) → P outcome → FailsToWrite old new (verdict_line outcome) fault → LeavesOutput P F old new fault
 leaves_verdict P F old new outcome fault right h = leaves_answer (IsLineOf P) F old new (verdict_line outcome) fault (outcome, right, refl) h
 
-pub answer_written : (real_time : Bool) (text_of : List Entry → Found → List ℕ) (remaining old new : Option (List ℕ)) (bytes : List ℕ) (answer : Answer) (text : List ℕ) (r : Result Answer Fault) → IfSome remaining (λ all. bytes ≡ take max_read all) → IsAnswered real_time text_of bytes answer text
+pub answer_written : (real_time : Bool) (text_of : List Entry → Found → List ℕ) (remaining old new : Option (List ℕ)) (bytes : List ℕ) (answer : Answer) (text : List ℕ) (r : Result Answer Fault) → IsRead remaining bytes → IsAnswered real_time text_of bytes answer text
     → IfOk r (λ written. (written ≡ answer) × Appends old new text) → IfOk r (λ written. WritesAnswer real_time text_of remaining written old new)
 answer_written real_time text_of remaining old new bytes answer text (Ok written) known is (same, grows) = (bytes, known, (text, subst (λ (a : Answer). IsAnswered real_time text_of bytes a text) (sym same) is, grows))
 answer_written real_time text_of remaining old new bytes answer text (Err fault) known is h = tt
 
 -- ---- what `why` leaves at a fault
 
-module _ (remaining old new : Option (List ℕ)) (bytes : List ℕ) (known : IfSome remaining (λ all. bytes ≡ take max_read all)) where
+module _ (remaining old new : Option (List ℕ)) (bytes : List ℕ) (known : IsRead remaining bytes) where
   pub leaves_told : (IsText : List ℕ → List ℕ → Type 0) (fault : Fault) → Tells bytes old new fault → LeavesExplanation IsText remaining old new fault
   leaves_told IsText (Input fault) h = (bytes, known, h)
   leaves_told IsText NoMemory h = h

@@ -5,10 +5,6 @@ use Rattle.std.specs.Io.KnownBytes.{Consumes, IsAtEnd, Keeps}
 use Rattle.judge_engine.specs.Bases.{HasStripes}
 use Rattle.judge_engine.specs.Files.{basis_of}
 
-pub first_of : (known : Option (List ℕ)) (n : ℕ) (bytes : List ℕ) → IfSome (option_map (take n) known) (λ some. bytes ≡ some) → IfSome known (λ all. bytes ≡ take n all)
-first_of None n bytes h = tt
-first_of (Some all) n bytes h = h
-
 pub Consumes-none : (a : Option (List ℕ)) → Consumes a a []
 Consumes-none None = tt
 Consumes-none (Some us) = refl

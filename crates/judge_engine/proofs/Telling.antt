@@ -17,7 +17,7 @@ use Rattle.piece_files.specs.Faults.{FailsAs}
 use Rattle.piece_files.specs.declared.file_fault.FileFault.{FileFault}
 use Rattle.piece_files.specs.declared.file_fault.FileFault.TheVariants as files
 use Rattle.script_worker.specs.Outcomes.{AreOutcomes}
-use Rattle.txn_files.specs.Reading.{max_read}
+use Rattle.txn_files.specs.Reading.{IsRead}
 use Rattle.judge_engine.specs.Files.{OfFile}
 use Rattle.judge_engine.specs.Outcomes.{is_kind, how_many, outcome_line, outcome_lines, outcomes_text, IsWell, HistoryOf, FailsForScripts, FailsForHistory, LeavesOutcomes, of_scripts, of_history, TellsOutcomes}
 
@@ -64,7 +64,7 @@ grown_lines new old start workers os i d line before within =
     ∙ ap (λ m. start ++ m) (sym (lines_more workers os i d within))
 
 -- If the script file or memory was refused, `FailsForScripts` holds for the fault.
-pub fails_scripts : (left : Option (List ℕ)) (bytes : List ℕ) (fault : FileFault) → IfSome left (λ all. bytes ≡ take max_read all) → FailsAs fault (scripts_of bytes) → FailsForScripts left (of_scripts fault)
+pub fails_scripts : (left : Option (List ℕ)) (bytes : List ℕ) (fault : FileFault) → IsRead left bytes → FailsAs fault (scripts_of bytes) → FailsForScripts left (of_scripts fault)
 fails_scripts left bytes files.NoMemory known fails = tt
 fails_scripts left bytes files.NotJson known fails = (bytes, known, fails)
 fails_scripts left bytes files.Member known fails = (bytes, known, fails)
@@ -72,7 +72,7 @@ fails_scripts left bytes (files.Piece part i) known fails = (bytes, known, fails
 fails_scripts left bytes files.Limit known fails = (bytes, known, fails)
 
 -- If the history file or memory was refused, `FailsForHistory` holds for the fault.
-pub fails_history : (left : Option (List ℕ)) (bytes : List ℕ) (fault : FileFault) → IfSome left (λ all. bytes ≡ take max_read all) → FailsAs fault (history_of bytes) → FailsForHistory left (of_history fault)
+pub fails_history : (left : Option (List ℕ)) (bytes : List ℕ) (fault : FileFault) → IsRead left bytes → FailsAs fault (history_of bytes) → FailsForHistory left (of_history fault)
 fails_history left bytes files.NoMemory known fails = tt
 fails_history left bytes files.NotJson known fails = (bytes, known, fails)
 fails_history left bytes files.Member known fails = (bytes, known, fails)

@@ -3,7 +3,7 @@
 use Rattle.std.specs.Prelude.{◌≡◌, ℕ, Bool, true, false, List, take, Option, Ok, Err, IfSome}
 use Rattle.txn_words.specs.declared.entry.Entry.{Entry}
 use Rattle.txn_files.specs.HistoryFile.{history_of, holder_rule}
-pub use Rattle.txn_files.specs.Reading.{max_read}
+pub use Rattle.txn_files.specs.Reading.{IsRead, max_read}
 use Rattle.history_check.specs.declared.verdict.Verdict.{Verdict}
 use Rattle.judge_engine.specs.declared.basis.Basis.{Basis}
 use Rattle.judge_engine.specs.declared.basis.Basis.TheVariants.{Locks, Commits}
@@ -48,7 +48,7 @@ IsUnjudgedFile bytes Write = ⊥
 -- `P` holds for the bytes that were read. Reading takes all bytes that the reader had left, but at
 -- most one byte more than a file may have.
 abbrev pub OfFile : Option (List ℕ) → (List ℕ → Type 0) → Type 0
-OfFile remaining P = (bytes : List ℕ) × IfSome remaining (λ all. bytes ≡ take max_read all) × P bytes
+OfFile remaining P = (bytes : List ℕ) × IsRead remaining bytes × P bytes
 
 -- The verdict on the history file that a reader gives.
 abbrev pub Checks : Bool → Option (List ℕ) → Verdict → Type 0

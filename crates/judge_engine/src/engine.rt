@@ -23,9 +23,10 @@ use crate::fault::Fault;
 use crate::file::{explain_file, judge_file};
 use crate::order::{explain_order, order_file};
 use crate::output::{tell, write_answer, write_explained, write_verdict};
-use crate::reading::{read_file, watch_lines};
+use crate::reading::watch_lines;
 use std::alloc::Global;
 use std::io::{Read, Write};
+use txn_files::read_bytes;
 
 /// Reads entries, one per line, judges each as it is read, and writes the verdict: `legal C commits
 /// O open` at the end of the input, or `illegal entry I rule R` at the first bad entry. The verdict
@@ -34,8 +35,8 @@ use std::io::{Read, Write};
 ///
 /// Each line is an entry, written as in a history file of the newest version: as an array. Blank
 /// lines are skipped, and a last line without its line feed is read as a line. There may be any
-/// number of lines. Nothing is read after the bytes with the first bad entry. A read that failed is
-/// not tried again. A write is tried again only if it was interrupted.
+/// number of lines. Nothing is read after the bytes with the first bad entry. No call of the reader
+/// or the writer is repeated after it failed.
 ///
 /// # Errors
 ///
@@ -73,7 +74,8 @@ pub fn watch<R: Read, W: Write>(
 /// the file's stripes, and writes the verdict in the same form as `watch`. Returns whether the
 /// history is legal.
 ///
-/// At most 16,777,217 bytes are read. A read or a write is tried again only if it was interrupted.
+/// At most 16,777,217 bytes are read. No call of the reader or the writer is
+/// repeated after it failed.
 ///
 /// # Errors
 ///
@@ -92,7 +94,7 @@ pub fn watch<R: Read, W: Write>(
 pub fn check<R: Read + Drop, W: Write>(
     alloc: Global,
     by_commits: bool,
-    input: R,
+    mut input: R,
     output: &mut W,
 ) -> Result<bool, Fault>
     ensures judges { IfOk result (λ legal. WritesLine (Checks by_commits (R.remaining input)) legal
@@ -101,7 +103,7 @@ pub fn check<R: Read + Drop, W: Write>(
         (FailsToCheck (R.remaining input))
         (W.contents output.old) (W.contents output.new)) }
 {
-    let bytes = read_file(alloc, input)?;
+    let bytes = read_bytes(alloc, &mut input)?;
     let verdict = judge_file(alloc, by_commits, bytes)?;
     write_verdict(alloc, verdict, output)
 }
@@ -119,7 +121,8 @@ pub fn check<R: Read + Drop, W: Write>(
 /// `undecided`, the value named comes more than once at its key, and the transactions named are those
 /// that write it. A search for an order takes at most `most_branches` branches (`order_check`).
 ///
-/// At most 16,777,217 bytes are read. A read or a write is tried again only if it was interrupted.
+/// At most 16,777,217 bytes are read. No call of the reader or the writer is
+/// repeated after it failed.
 ///
 /// # Errors
 ///
@@ -140,7 +143,7 @@ pub fn check_serializable<R: Read + Drop, W: Write>(
     real_time: bool,
     most_branches: u64,
     shows_order: bool,
-    input: R,
+    mut input: R,
     output: &mut W,
 ) -> Result<Answer, Fault>
     ensures answers { IfOk result (λ answer. WritesAnswer real_time
@@ -151,7 +154,7 @@ pub fn check_serializable<R: Read + Drop, W: Write>(
         (FailsToCheck (R.remaining input))
         (W.contents output.old) (W.contents output.new)) }
 {
-    let bytes = read_file(alloc, input)?;
+    let bytes = read_bytes(alloc, &mut input)?;
     let (answer, text) = order_file(alloc, real_time, most_branches, shows_order, bytes)?;
     write_answer(answer, text.as_str(), output)
 }
@@ -179,7 +182,7 @@ pub fn check_serializable<R: Read + Drop, W: Write>(
 pub fn why<R: Read + Drop, W: Write>(
     alloc: Global,
     by_commits: bool,
-    input: R,
+    mut input: R,
     output: &mut W,
 ) -> Result<bool, Fault>
     ensures judges { IfOk result (λ legal. WritesExplanation by_commits (R.remaining input) legal
@@ -187,7 +190,7 @@ pub fn why<R: Read + Drop, W: Write>(
     ensures fault { IfErr result (LeavesExplanation (IsExplained by_commits) (R.remaining input)
         (W.contents output.old) (W.contents output.new)) }
 {
-    let bytes = read_file(alloc, input)?;
+    let bytes = read_bytes(alloc, &mut input)?;
     match explain_file(alloc, by_commits, &bytes) {
         Ok((verdict, lines)) => write_explained(alloc, verdict, lines.as_str(), output),
         Err(fault) => Err(tell(alloc, fault, &bytes, output)),
@@ -223,7 +226,7 @@ pub fn why_serializable<R: Read + Drop, W: Write>(
     real_time: bool,
     most_branches: u64,
     as_graph: bool,
-    input: R,
+    mut input: R,
     output: &mut W,
 ) -> Result<Answer, Fault>
     ensures answers { IfOk result (λ answer. WritesAnswer real_time
@@ -233,7 +236,7 @@ pub fn why_serializable<R: Read + Drop, W: Write>(
         (IsTextFor real_time (text_or_graph real_time as_graph))
         (R.remaining input) (W.contents output.old) (W.contents output.new)) }
 {
-    let bytes = read_file(alloc, input)?;
+    let bytes = read_bytes(alloc, &mut input)?;
     match explain_order(alloc, real_time, most_branches, as_graph, &bytes) {
         Ok((answer, text)) => write_answer(answer, text.as_str(), output),
         Err(fault) => Err(tell(alloc, fault, &bytes, output)),

@@ -2,13 +2,13 @@
 //! status. `tell_outcomes` has a separate type, since it must say which of its files is at fault.
 //! The conversions turn refused memory into `NoMemory`, and never into a refused file.
 ghost use Rattle.std.specs.Prelude.{◌≡◌};
-ghost use Rattle.judge_engine.specs.Faults.{status_of, message_of, of_file};
+ghost use Rattle.judge_engine.specs.Faults.{IsReadFault, status_of, message_of, of_file};
 ghost use Rattle.judge_engine.specs.declared.fault.Fault.TheVariants as faults;
 
 use piece_files::FileFault;
 use std::alloc::AllocError;
 use std::fmt;
-use txn_files::Unwritten;
+use txn_files::{Unread, Unwritten};
 
 /// Why there is no verdict. A fault is printed as one line, without a line feed.
 #[derive(Clone, Copy, Debug, PartialEq, Eq)]
@@ -64,6 +64,17 @@ impl From<AllocError> for Fault {
 
     fn from(_error: AllocError) -> Fault {
         Fault::NoMemory
+    }
+}
+
+impl From<Unread> for Fault {
+    ghost from_gives = { λ _ fault. IsReadFault fault };
+
+    fn from(unread: Unread) -> Fault {
+        match unread {
+            Unread::Failed => Fault::Read,
+            Unread::NoMemory => Fault::NoMemory,
+        }
     }
 }
 

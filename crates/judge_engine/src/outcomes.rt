@@ -8,13 +8,11 @@ ghost use Rattle.txn_files.specs.ScriptFile.{scripts_of};
 ghost use Rattle.judge_engine.specs.Files.{OfFile};
 ghost use Rattle.judge_engine.specs.Outcomes.{FailsForHistory, FailsForScripts, HistoryOf, IsWell, LeavesOutcomes, WritesOutcomes, has_abort, how_many, is_kind, outcome_lines, of_history, of_scripts, outcome_line, outcomes_message, outcomes_status, outcomes_text};
 
-use crate::fault::Fault;
-use crate::reading::read_file;
 use script_worker::{Outcome, outcomes};
 use std::alloc::{AllocError, Global};
 use std::fmt;
 use std::io::{Read, Write};
-use txn_files::{FileFault, read_packed_history, read_scripts, write_text};
+use txn_files::{FileFault, Unread, read_bytes, read_packed_history, read_scripts, write_text};
 use txn_trace::{Action, PackedAction, Script, Scripts, SmallEntry};
 
 /// Why there are no outcomes, and which file is at fault. A fault is printed as one line, without a
@@ -201,15 +199,15 @@ fn of_history(fault: FileFault) -> OutcomesFault
 }
 
 /// Reads a script file from a reader, and returns its scripts.
-fn scripts_in<R: Read + Drop>(alloc: Global, input: R) -> Result<Scripts, OutcomesFault>
+fn scripts_in<R: Read + Drop>(alloc: Global, mut input: R) -> Result<Scripts, OutcomesFault>
     ensures ok { IfOk result (λ work. OfFile (R.remaining input)
         (λ bytes. scripts_of bytes ≡ Ok work)) }
     ensures err { IfErr result (FailsForScripts (R.remaining input)) }
 {
-    let bytes = match read_file(alloc, input) {
+    let bytes = match read_bytes(alloc, &mut input) {
         Ok(bytes) => bytes,
-        Err(Fault::NoMemory) => return Err(OutcomesFault::NoMemory),
-        Err(_) => return Err(OutcomesFault::ScriptsRead),
+        Err(Unread::NoMemory) => return Err(OutcomesFault::NoMemory),
+        Err(Unread::Failed) => return Err(OutcomesFault::ScriptsRead),
     };
     match read_scripts(alloc, &bytes) {
         Ok(work) => Ok(work),
@@ -218,15 +216,15 @@ fn scripts_in<R: Read + Drop>(alloc: Global, input: R) -> Result<Scripts, Outcom
 }
 
 /// Reads a history file from a reader, and returns its entries.
-fn entries_in<R: Read + Drop>(alloc: Global, input: R) -> Result<Vec<SmallEntry>, OutcomesFault>
+fn entries_in<R: Read + Drop>(alloc: Global, mut input: R) -> Result<Vec<SmallEntry>, OutcomesFault>
     ensures ok { IfOk result (λ entries. OfFile (R.remaining input)
         (HistoryOf entries.items)) }
     ensures err { IfErr result (FailsForHistory (R.remaining input)) }
 {
-    let bytes = match read_file(alloc, input) {
+    let bytes = match read_bytes(alloc, &mut input) {
         Ok(bytes) => bytes,
-        Err(Fault::NoMemory) => return Err(OutcomesFault::NoMemory),
-        Err(_) => return Err(OutcomesFault::HistoryRead),
+        Err(Unread::NoMemory) => return Err(OutcomesFault::NoMemory),
+        Err(Unread::Failed) => return Err(OutcomesFault::HistoryRead),
     };
     match read_packed_history(alloc, &bytes) {
         Ok((_, entries, _)) => Ok(entries),
@@ -241,8 +239,8 @@ fn entries_in<R: Read + Drop>(alloc: Global, input: R) -> Result<Vec<SmallEntry>
 /// script that is given up has an abort.
 ///
 /// The function does not test whether the history is legal. The script file is read first. At most
-/// 16,777,217 bytes of each file are read. A read or a write is tried again only if it was
-/// interrupted.
+/// 16,777,217 bytes of each file are read. No call of a reader or the writer is repeated after it
+/// failed.
 ///
 /// # Errors
 ///

@@ -15,29 +15,13 @@ use std::alloc::{AllocError, Global};
 use std::io::Write;
 use txn_files::write_text;
 
-/// The line of a verdict. It has at most 61 bytes.
-fn line_of(alloc: Global, verdict: Verdict) -> Result<String, AllocError>
-    ensures { IfOk result (λ line. string_bytes line ≡ verdict_line verdict) }
-{
-    let mut line = String::new(alloc);
-    writeln!(line, "{verdict}")?;
-    Ok(line)
-}
-
 /// The line of a verdict, and the lines after it.
 fn text_of(alloc: Global, verdict: Verdict, lines: &str) -> Result<String, AllocError>
     ensures { IfOk result (λ text. string_bytes text ≡ verdict_line verdict ++ lines.now) }
 {
-    let mut text = line_of(alloc, verdict)?;
+    let mut text = verdict.line(alloc)?;
     text.push_str(lines)?;
     Ok(text)
-}
-
-/// Whether a verdict says that the history is legal. Constant time.
-fn is_legal(verdict: Verdict) -> bool
-    ensures { result ≡ says_legal verdict }
-{
-    matches!(verdict, Verdict::Legal { .. })
 }
 
 /// Writes the line of a verdict. Returns whether the verdict says that the history is legal.
@@ -60,9 +44,9 @@ pub(crate) fn write_verdict<W: Write>(
     ensures err { IfErr result (FailsToWrite (W.contents output.old) (W.contents output.new)
         (verdict_line verdict)) }
 {
-    let line = line_of(alloc, verdict)?;
+    let line = verdict.line(alloc)?;
     write_text(output, line.as_bytes())?;
-    Ok(is_legal(verdict))
+    Ok(verdict.is_legal())
 }
 
 /// Writes the line of a verdict and the lines after it. Returns whether the verdict says that the
@@ -90,7 +74,7 @@ pub(crate) fn write_explained<W: Write>(
 {
     let text = text_of(alloc, verdict, lines)?;
     write_text(output, text.as_bytes())?;
-    Ok(is_legal(verdict))
+    Ok(verdict.is_legal())
 }
 
 /// Writes the text of an answer, and returns the answer.

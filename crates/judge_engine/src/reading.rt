@@ -1,11 +1,7 @@
-//! Only this module calls a reader; other modules pass a reader on, or see only bytes. A file is
-//! read as a whole, up to one byte more than a file may have: this extra byte shows that the file
-//! is too long. Lines are read in chunks until an entry is bad, a line is refused, or the input
-//! ends.
-ghost use Rattle.std.specs.Prelude.{◌≡◌, ◌<◌, [], length, take, IfOk, IfErr, IfSome};
+//! Reads lines, in chunks, until an entry is bad, a line is refused, or the input ends. Files are
+//! read as a whole, by `txn_files::read_bytes`.
+ghost use Rattle.std.specs.Prelude.{◌≡◌, ◌<◌, [], length, IfOk, IfErr};
 ghost use Rattle.judge_engine.specs.declared.basis.Basis.{Basis as TheBasis};
-ghost use Rattle.judge_engine.specs.Faults.{IsReadFault};
-ghost use Rattle.txn_files.specs.Reading.{max_read};
 ghost use Rattle.judge_engine.specs.Bases.{HasStripes};
 ghost use Rattle.judge_engine.specs.Watchers.{TookIn};
 ghost use Rattle.judge_engine.specs.Watching.{FailsToWatch, Watches};
@@ -15,37 +11,10 @@ use crate::fault::Fault;
 use crate::watcher::Watcher;
 use history_check::Verdict;
 use std::alloc::{AllocError, Global};
-use std::io::{ErrorKind, Read};
+use std::io::Read;
 
 /// The most bytes that one read asks for.
 const CHUNK: usize = 65_536;
-
-/// One byte more than a file may have.
-const MAX_READ: u64 = 16_777_217;
-
-/// Reads the bytes that a reader has left, but at most one more than a file may have.
-///
-/// # Errors
-///
-/// `Read` if a read fails; `NoMemory` if memory is refused.
-///
-/// # Cost
-///
-/// Time and memory in proportion to the number of bytes.
-pub(crate) fn read_file<R: Read + Drop>(alloc: Global, input: R) -> Result<Vec<u8>, Fault>
-    ensures ok { IfOk result (λ bytes.
-        IfSome (R.remaining input) (λ all. bytes.items ≡ take max_read all)) }
-    ensures err { IfErr result IsReadFault }
-{
-    let mut bytes = Vec::new(alloc);
-    match input.take(MAX_READ).read_to_end(&mut bytes) {
-        Ok(_) => Ok(bytes),
-        Err(error) => match error.kind() {
-            ErrorKind::OutOfMemory => Err(Fault::NoMemory),
-            _ => Err(Fault::Read),
-        },
-    }
-}
 
 /// A buffer for reads.
 fn buffer(alloc: Global) -> Result<Vec<u8>, AllocError>

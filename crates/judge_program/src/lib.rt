@@ -24,6 +24,6 @@ mod system;
 mod words;
 
 pub use failure::Failure;
-pub use program::{Ending, run};
+pub use program::run;
 pub use system::{Host, HostInput};
 pub use words::Call;

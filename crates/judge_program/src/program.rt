@@ -19,24 +19,13 @@ use judge_engine::{
     Answer, Basis, Fault, OutcomesFault, check, check_serializable, tell_outcomes, watch, why,
     why_serializable,
 };
-use program_host::System;
+use program_host::{Ending, System};
 use std::alloc::Global;
 use std::io;
 use std::io::{Read, Write};
 
 /// The text that is printed for a call that asks for the version.
 const VERSION: &str = "judge 1.0.0";
-
-/// How a run of the program ended.
-#[derive(Clone, Copy, Debug, PartialEq, Eq)]
-pub struct Ending {
-    /// The exit status. It is that of the answer: 0 if all is well; 1 if a history is illegal or
-    /// not serializable, or a script that has no `abort` was given up; 5 if it is undecided whether
-    /// a history is serializable. After a failure it is the failure's status.
-    pub status: u8,
-    /// True if the whole message was written to standard error, or if there is no message.
-    pub is_told: bool,
-}
 
 /// Writes a line. Returns `Yes` (all is well) if the write succeeds.
 fn show<W: Write>(output: &mut W, text: &str) -> Result<Answer, Failure>
@@ -239,7 +228,9 @@ fn run_words<S: System, W: Write>(
     answer(alloc, system, call, output)
 }
 
-/// The exit status after a run with this outcome. Constant time.
+/// The exit status after a run with this outcome. It is that of the answer: 0 if all is well; 1 if a
+/// history is illegal or not serializable, or a script that has no `abort` was given up; 5 if it is
+/// undecided whether a history is serializable. After a failure it is the failure's status.
 fn status_of(outcome: &Result<Answer, Failure>) -> u8
     ensures { result ≡ status_after outcome.now }
 {

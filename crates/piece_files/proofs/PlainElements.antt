@@ -118,5 +118,5 @@ unless None b f e = refl
 unless (Some p) true f e = absurd (grind (arith, e))
 unless (Some p) false f e = absurd (grind (arith, f p refl))
 
-pub no_two : (ds : List Data) → are_plain 2 ds ≡ false → two_of ds ≡ None
-no_two ds e = unless (two_of ds) (are_plain 2 ds) (two_plain 0 ds) e
+pub no_two : (ds : List Data) → are_plain 7 ds ≡ false → two_of ds ≡ None
+no_two ds e = unless (two_of ds) (are_plain 7 ds) (two_plain 5 ds) e

@@ -19,7 +19,7 @@ use crate::piece::{PieceKind, Pieces};
 use std::alloc::Global;
 
 /// The greatest length of a file, in bytes.
-const MAX_BYTES: usize = 16_777_216;
+pub const MAX_BYTES: usize = 16_777_216;
 
 /// All the numbers. Returns `None` if one of them was not found.
 fn all_numbers<const N: usize>(found: [Option<u64>; N]) -> Option<[u64; N]>

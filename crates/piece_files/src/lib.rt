@@ -24,6 +24,7 @@
 mod elements;
 mod file;
 mod file_fault;
+mod flat;
 mod members;
 mod numeral;
 mod part;
@@ -37,8 +38,9 @@ mod plain_pieces;
 mod stop;
 
 pub use elements::{end_in, leading_optional_in, number_in, one_in, optional_in, two_in, word_in};
-pub use file::read_file;
+pub use file::{MAX_BYTES, read_file};
 pub use file_fault::FileFault;
+pub use flat::{Flat, FlatKind, MAX_ELEMENTS};
 pub use members::MAX_DEPTH;
 pub use part::Part;
 pub use passing::pass_value;

@@ -5,12 +5,14 @@
 //! the system that a process runs on. `specs/Words.antt` has three definitions for a command line
 //! that `clap` reads: when a command of `clap` is built as an application defines it, which rule a
 //! word must meet that names a file, and which words are numerals. `command_line` and
-//! `judge_program` use them, with the lemmas of `proofs/`.
+//! `judge_program` use them, with the lemmas of `proofs/`. Each program ends with an `Ending`.
 //!
 //! Only tested: `Host` passes on each word of the call, and opens exactly the file that a word
 //! names (`tests/program.sh`).
 #![tactic(auto)]
 
+mod ending;
 mod system;
 
+pub use ending::Ending;
 pub use system::{Host, System};

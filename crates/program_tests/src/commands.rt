@@ -5,12 +5,12 @@
 
 use crate::devices::{Desk, Ended, Narrow, compare_ended};
 use boostmap_program::run;
+use program_host::Ending;
 use std::alloc::Global;
 use std::io::ErrorKind;
 use std::process::Abort;
 use std::sync::Wait;
 use std::thread::Threads;
-use unthreaded_program::Ending;
 
 /// A step file with one transaction that commits.
 const STEPS: &str =

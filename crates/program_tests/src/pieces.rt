@@ -9,7 +9,7 @@ use crate::devices::filled;
 use arrayvec::ArrayVec;
 use json::{Reader, Scratch, Token};
 use piece_files::{
-    FileFault, Part, PieceKind, Plain, Stop, elements_at, end_in, number_in, one_in, optional_in,
+    FileFault, Flat, FlatKind, Part, Plain, elements_at, end_in, number_in, one_in, optional_in,
     pass_value, pieces_at, pieces_in, plain_elements, read_file, two_in, whole_array, word_in,
 };
 use std::alloc::{AllocError, Global};
@@ -20,7 +20,7 @@ use std::test::Fail;
 /// second number is 0.
 struct PointKind;
 
-impl PieceKind for PointKind {
+impl FlatKind for PointKind {
     ghost use Rattle.piece_files.specs.declared.part.Part.TheVariants as parts;
 
     type Piece = (u64, u64);
@@ -32,8 +32,6 @@ impl PieceKind for PointKind {
     ghost part = { parts.Entry };
 
     ghost most = { 3 };
-
-    ghost takes_memory = { false };
 
     fn part() -> Part {
         Part::Entry
@@ -47,33 +45,12 @@ impl PieceKind for PointKind {
         3
     }
 
-    #[tactic(auto, using(piece_files::proofs::PlainElements::no_two))]
-    fn read(
-        _alloc: Global,
-        reader: &mut Reader<'_>,
-        depth: usize,
-    ) -> Result<Option<(u64, u64)>, Stop> {
-        let mut elements = ArrayVec::<Plain<'_>, 2>::new();
-        if plain_elements(reader, depth, &mut elements)? {
-            Ok(two_in(&elements))
-        } else {
-            Ok(None)
-        }
+    fn of(elements: &[Plain<'_>]) -> Option<(u64, u64)> {
+        two_in(elements)
     }
 
-    fn read_plain(
-        _alloc: Global,
-        text: &str,
-        at: &mut usize,
-        _depth: usize,
-    ) -> Result<Option<(u64, u64)>, AllocError> {
-        let mut elements = ArrayVec::<Plain<'_>, 2>::new();
-        let Some(end) = elements_at(text, *at, &mut elements) else {
-            return Ok(None);
-        };
-        *at = end;
-        Ok(two_in(&elements))
-    }
+    #[tactic(auto, using(piece_files::proofs::PlainElements::no_two))]
+    fn others_make_none() {}
 }
 
 /// Similar drawings of width 7: texts, versions, and the points of each drawing, or the fault if the
@@ -87,7 +64,7 @@ type Drawings = (
 
 /// The width and the points of a drawing.
 fn drawing_in(alloc: Global, text: &str) -> Result<(u64, Vec<(u64, u64)>), FileFault> {
-    let (_version, [width], points) = read_file::<PointKind, 1>(
+    let (_version, [width], points) = read_file::<Flat<PointKind>, 1>(
         alloc,
         text.as_bytes(),
         &["width"],
@@ -337,7 +314,7 @@ fn next_points(
     if !begin(reader) {
         return Err("no array")?;
     }
-    let found = pieces_in::<PointKind>(alloc, reader, 1)?;
+    let found = pieces_in::<Flat<PointKind>>(alloc, reader, 1)?;
     Ok((found.pieces, found.count, found.are_all))
 }
 
@@ -386,7 +363,7 @@ fn elements_in_plain_form(rt: HostRuntime) {
 #[test]
 fn pieces_in_plain_form(rt: HostRuntime) -> Result<(), Fail> {
     let mut at = 0;
-    let found = pieces_at::<PointKind>(rt.alloc(), "[1,2],[3,4]],5", &mut at, 1)?.ok_or(
+    let found = pieces_at::<Flat<PointKind>>(rt.alloc(), "[1,2],[3,4]],5", &mut at, 1)?.ok_or(
         "not plain",
     )?;
     assert!(rt; at == 12);

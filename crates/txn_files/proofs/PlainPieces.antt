@@ -104,11 +104,11 @@ action_plain ds action e =
 
 -- ---- an array with other elements is no step, no entry and no action
 
-pub no_step : (ds : List Data) → are_plain 6 ds ≡ false → step_of ds ≡ None
-no_step ds e = unless (step_of ds) (are_plain 6 ds) (step_plain ds) e
+pub no_step : (ds : List Data) → are_plain 7 ds ≡ false → step_of ds ≡ None
+no_step ds e = unless (step_of ds) (are_plain 7 ds) (λ step is. room 6 ds (step_plain ds step is)) e
 
 pub no_entry : (ds : List Data) → are_plain 7 ds ≡ false → entry_of ds ≡ None
 no_entry ds e = unless (entry_of ds) (are_plain 7 ds) (entry_plain ds) e
 
-pub no_action : (ds : List Data) → are_plain 4 ds ≡ false → action_of ds ≡ None
-no_action ds e = unless (action_of ds) (are_plain 4 ds) (action_plain ds) e
+pub no_action : (ds : List Data) → are_plain 7 ds ≡ false → action_of ds ≡ None
+no_action ds e = unless (action_of ds) (are_plain 7 ds) (λ action is. room 6 ds (room 5 ds (room 4 ds (action_plain ds action is)))) e

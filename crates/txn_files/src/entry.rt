@@ -11,9 +11,6 @@ use crate::operation::{is_old_op, leading_op_in, op_in};
 use piece_files::{Plain, end_in, number_in, one_in, optional_in, word_in};
 use txn_words::{Entry, Limits};
 
-/// The number of elements of the longest entry: `["busy",0,"put_if",1,10,12,2]`.
-pub(crate) const MAX_ELEMENTS: usize = 7;
-
 /// The Busy entry with this caller. `values` are the elements after the caller.
 #[tactic(auto, unfolding(crate::specs::Entries::busy_of))]
 fn busy_in(caller: u64, values: &[Plain<'_>]) -> Option<Entry>

@@ -17,11 +17,12 @@ ghost use Rattle.txn_words.specs.Kinds.{caller_of};
 ghost use Rattle.txn_files.specs.Entries.{entry_of};
 ghost use Rattle.txn_files.specs.EntryLine.{entry_found, entry_on, is_blank};
 
-use crate::entry::{MAX_ELEMENTS, entry_in, is_in_range};
+use crate::entry::{entry_in, is_in_range};
 use arrayvec::ArrayVec;
 use json::{Reader, Scratch, Token};
 use piece_files::{
-    FileFault, MAX_DEPTH, Plain, Stop, is_space, pass_value, plain_elements, whole_array,
+    FileFault, MAX_DEPTH, MAX_ELEMENTS, Plain, Stop, is_space, pass_value, plain_elements,
+    whole_array,
 };
 use std::alloc::Global;
 use txn_words::Entry;

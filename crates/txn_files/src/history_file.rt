@@ -10,12 +10,8 @@ ghost use Rattle.piece_files.specs.Faults.{Gives};
 ghost use Rattle.txn_files.specs.Entries.{is_old_entry};
 ghost use Rattle.txn_files.specs.HistoryFile.{max_entries, is_in_range, is_history, entries_from, history_of, kept, kept_of, kept_history_of, holder_rule};
 
-use crate::entry::{MAX_ELEMENTS, entry_in, is_in_range, is_old_entry};
-use arrayvec::ArrayVec;
-use json::Reader;
-use piece_files::{
-    FileFault, Part, PieceKind, Plain, Stop, elements_at, plain_elements, read_file,
-};
+use crate::entry::{entry_in, is_in_range, is_old_entry};
+use piece_files::{FileFault, Flat, FlatKind, Part, Plain, read_file};
 use std::alloc::{AllocError, Global};
 use txn_words::{Entry, Holder, Limits, Op, SmallEntry};
 
@@ -49,18 +45,10 @@ fn kept(entry: Entry) -> SmallEntry
     small
 }
 
-/// The packed entry that is kept for an array with these elements.
-#[tactic(auto, unfolding(crate::specs::HistoryFile::kept_of))]
-fn kept_entry_in(values: &[Plain<'_>]) -> Option<SmallEntry>
-    ensures { result ≡ kept_of (map data_of values.now) }
-{
-    Some(kept(entry_in(values)?))
-}
-
 /// The kind of pieces that are entries of a history file. The entries are kept packed.
 struct EntryKind;
 
-impl PieceKind for EntryKind {
+impl FlatKind for EntryKind {
     ghost use Rattle.piece_files.specs.declared.part.Part.TheVariants as parts;
 
     type Piece = SmallEntry;
@@ -72,8 +60,6 @@ impl PieceKind for EntryKind {
     ghost part = { parts.Entry };
 
     ghost most = { max_entries };
-
-    ghost takes_memory = { false };
 
     fn part() -> Part {
         Part::Entry
@@ -87,33 +73,13 @@ impl PieceKind for EntryKind {
         MAX_ENTRIES
     }
 
-    #[tactic(auto, using(crate::proofs::KeptEntries::none_kept))]
-    fn read(
-        _alloc: Global,
-        reader: &mut Reader<'_>,
-        depth: usize,
-    ) -> Result<Option<SmallEntry>, Stop> {
-        let mut elements = ArrayVec::<Plain<'_>, MAX_ELEMENTS>::new();
-        if plain_elements(reader, depth, &mut elements)? {
-            Ok(kept_entry_in(&elements))
-        } else {
-            Ok(None)
-        }
+    #[tactic(auto, unfolding(crate::specs::HistoryFile::kept_of))]
+    fn of(elements: &[Plain<'_>]) -> Option<SmallEntry> {
+        Some(kept(entry_in(elements)?))
     }
 
-    fn read_plain(
-        _alloc: Global,
-        text: &str,
-        at: &mut usize,
-        _depth: usize,
-    ) -> Result<Option<SmallEntry>, AllocError> {
-        let mut elements = ArrayVec::<Plain<'_>, MAX_ELEMENTS>::new();
-        let Some(end) = elements_at(text, *at, &mut elements) else {
-            return Ok(None);
-        };
-        *at = end;
-        Ok(kept_entry_in(&elements))
-    }
+    #[tactic(auto, using(crate::proofs::KeptEntries::none_kept))]
+    fn others_make_none() {}
 }
 
 /// Whether the callers of all entries are in range.
@@ -246,7 +212,7 @@ pub fn into_packed_history(
 fn kept_history(alloc: Global, bytes: &[u8]) -> Result<(u32, Vec<SmallEntry>, u64), FileFault>
     ensures { Gives (λ file. (file.0, file.1.items, file.2)) result (kept_history_of bytes.now) }
 {
-    let (version, numbers, entries) = read_file::<EntryKind, 1>(
+    let (version, numbers, entries) = read_file::<Flat<EntryKind>, 1>(
         alloc,
         bytes,
         &["stripes"],

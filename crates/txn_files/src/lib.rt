@@ -22,6 +22,7 @@
 mod entry;
 mod entry_line;
 mod history_file;
+mod input;
 mod line;
 mod operation;
 mod output;
@@ -33,12 +34,13 @@ mod text;
 
 pub use entry_line::{MAX_LINE, entry_on};
 pub use history_file::{holder_in, into_packed_history, read_history, read_packed_history};
+pub use input::{Unread, read_bytes};
 pub use json::Scratch;
 pub use output::{Unwritten, write_text};
 pub use piece::Piece;
 pub use piece_files::{FileFault, Part};
 pub use pieces::HistoryPieces;
-pub use script_file::read_scripts;
+pub use script_file::{into_scripts, read_scripts};
 pub use step_file::{read_packed_steps, read_steps};
 pub use text::{history_lines, history_text};
 pub use txn_words::{Script, Scripts};

@@ -16,11 +16,10 @@ ghost use Rattle.txn_files.specs.ScriptFile.{max_scripts, is_short, are_scripts,
 
 use crate::operation::{is_old_op, op_in};
 use crate::step_file::limits_in;
-use arrayvec::ArrayVec;
 use json::Reader;
 use piece_files::{
-    FileFault, Part, PieceKind, Pieces, Plain, Stop, elements_at, end_in, one_in, pieces_at,
-    pieces_in, plain_elements, read_file, word_in,
+    FileFault, Flat, FlatKind, Part, PieceKind, Pieces, Plain, Stop, end_in, one_in, pieces_at,
+    pieces_in, read_file, word_in,
 };
 use std::alloc::{AllocError, Global};
 use txn_words::{Action, PackedAction, Script, Scripts};
@@ -33,9 +32,6 @@ const MAX_SCRIPTS: usize = 10_000;
 
 /// The most actions that a script may have.
 const MAX_ACTIONS: usize = 10_000;
-
-/// The number of elements of the longest action: `["put_if",1,10,12]`.
-const MAX_ELEMENTS: usize = 4;
 
 #[inline(always)]
 #[tactic(auto, unfolding(crate::specs::Actions::action_of))]
@@ -58,14 +54,6 @@ fn action_in(values: &[Plain<'_>]) -> Option<Action>
     }
 }
 
-/// The action that has these elements, packed.
-#[inline(always)]
-fn packed_action_in(values: &[Plain<'_>]) -> Option<PackedAction>
-    ensures { result ≡ action_of (map data_of values.now) }
-{
-    Some(PackedAction::new(action_in(values)?))
-}
-
 /// Whether version 1 has this action too.
 fn is_old_action(action: &PackedAction) -> bool
     ensures { result ≡ is_old_action action.now }
@@ -79,7 +67,7 @@ fn is_old_action(action: &PackedAction) -> bool
 /// The kind of pieces that are actions of a script. All actions are kept, packed.
 struct ActionKind;
 
-impl PieceKind for ActionKind {
+impl FlatKind for ActionKind {
     ghost use Rattle.piece_files.specs.declared.part.Part.TheVariants as parts;
 
     type Piece = PackedAction;
@@ -91,8 +79,6 @@ impl PieceKind for ActionKind {
     ghost part = { parts.Script };
 
     ghost most = { 18446744073709551615 };
-
-    ghost takes_memory = { false };
 
     fn part() -> Part {
         Part::Script
@@ -106,33 +92,13 @@ impl PieceKind for ActionKind {
         usize::MAX
     }
 
-    #[tactic(auto, using(crate::proofs::PlainPieces::no_action))]
-    fn read(
-        _alloc: Global,
-        reader: &mut Reader<'_>,
-        depth: usize,
-    ) -> Result<Option<PackedAction>, Stop> {
-        let mut elements = ArrayVec::<Plain<'_>, MAX_ELEMENTS>::new();
-        if plain_elements(reader, depth, &mut elements)? {
-            Ok(packed_action_in(&elements))
-        } else {
-            Ok(None)
-        }
+    #[inline(always)]
+    fn of(elements: &[Plain<'_>]) -> Option<PackedAction> {
+        Some(PackedAction::new(action_in(elements)?))
     }
 
-    fn read_plain(
-        _alloc: Global,
-        text: &str,
-        at: &mut usize,
-        _depth: usize,
-    ) -> Result<Option<PackedAction>, AllocError> {
-        let mut elements = ArrayVec::<Plain<'_>, MAX_ELEMENTS>::new();
-        let Some(end) = elements_at(text, *at, &mut elements) else {
-            return Ok(None);
-        };
-        *at = end;
-        Ok(packed_action_in(&elements))
-    }
+    #[tactic(auto, using(crate::proofs::PlainPieces::no_action))]
+    fn others_make_none() {}
 }
 
 /// The script that an array holds. `found` has the actions at the start of the array. If an element
@@ -182,7 +148,7 @@ impl PieceKind for ScriptKind {
 
     #[tactic(auto, unfolding(crate::specs::Actions::script_of))]
     fn read(alloc: Global, reader: &mut Reader<'_>, depth: usize) -> Result<Option<Script>, Stop> {
-        let found = pieces_in::<ActionKind>(alloc, reader, depth)?;
+        let found = pieces_in::<Flat<ActionKind>>(alloc, reader, depth)?;
         Ok(script_in(found))
     }
 
@@ -193,7 +159,7 @@ impl PieceKind for ScriptKind {
         at: &mut usize,
         depth: usize,
     ) -> Result<Option<Script>, AllocError> {
-        let Some(found) = pieces_at::<ActionKind>(alloc, text, at, depth)? else {
+        let Some(found) = pieces_at::<Flat<ActionKind>>(alloc, text, at, depth)? else {
             return Ok(None);
         };
         Ok(script_in(found))
@@ -264,4 +230,20 @@ pub fn read_scripts(alloc: Global, bytes: &[u8]) -> Result<Scripts, FileFault>
     let names = ["workers", "stripes", "buckets", "tries"];
     let (version, numbers, scripts) = read_file::<ScriptKind, 4>(alloc, bytes, &names, "scripts")?;
     work_in(version, numbers, scripts)
+}
+
+/// Reads a script file, and drops its bytes, so their memory is free before the caller uses the
+/// scripts.
+///
+/// # Errors
+///
+/// The errors of `read_scripts`, in the same order.
+///
+/// # Cost
+///
+/// The cost of `read_scripts`.
+pub fn into_scripts(alloc: Global, bytes: Vec<u8>) -> Result<Scripts, FileFault>
+    ensures { Gives (λ work. work) result (scripts_of bytes.items) }
+{
+    read_scripts(alloc, &bytes)
 }

@@ -10,20 +10,14 @@ ghost use Rattle.txn_files.specs.Steps.{ask_of, is_old_step, numbered_of, step_o
 ghost use Rattle.txn_files.specs.StepFile.{max_steps, sizes_at, steps_from, file_of};
 
 use crate::operation::{is_old_op, op_in};
-use arrayvec::ArrayVec;
-use json::Reader;
 use piece_files::{
-    FileFault, Part, PieceKind, Plain, Stop, elements_at, number_in, one_in, plain_elements,
-    read_file, two_in, word_in,
+    FileFault, Flat, FlatKind, Part, Plain, number_in, one_in, read_file, two_in, word_in,
 };
 use std::alloc::{AllocError, Global};
 use txn_words::{Limits, PackedStep, Step};
 
 /// The most steps that a file may have.
 const MAX_STEPS: usize = 1_000_000;
-
-/// The number of elements of the longest step: `["ask",0,"put_if",1,10,12]`.
-const MAX_ELEMENTS: usize = 6;
 
 #[tactic(auto, unfolding(crate::specs::Steps::ask_of))]
 fn ask_in(values: &[Plain<'_>]) -> Option<Step>
@@ -86,17 +80,10 @@ fn step_in(values: &[Plain<'_>]) -> Option<Step>
     }
 }
 
-/// The step that has these elements, packed.
-fn packed_step_in(values: &[Plain<'_>]) -> Option<PackedStep>
-    ensures { result ≡ step_of (map data_of values.now) }
-{
-    Some(PackedStep::new(step_in(values)?))
-}
-
 /// The kind of pieces that are steps of a step file. The steps are kept packed.
 struct StepKind;
 
-impl PieceKind for StepKind {
+impl FlatKind for StepKind {
     ghost use Rattle.piece_files.specs.declared.part.Part.TheVariants as parts;
 
     type Piece = PackedStep;
@@ -108,8 +95,6 @@ impl PieceKind for StepKind {
     ghost part = { parts.Step };
 
     ghost most = { max_steps };
-
-    ghost takes_memory = { false };
 
     fn part() -> Part {
         Part::Step
@@ -126,33 +111,12 @@ impl PieceKind for StepKind {
         MAX_STEPS
     }
 
-    #[tactic(auto, using(crate::proofs::PlainPieces::no_step))]
-    fn read(
-        _alloc: Global,
-        reader: &mut Reader<'_>,
-        depth: usize,
-    ) -> Result<Option<PackedStep>, Stop> {
-        let mut elements = ArrayVec::<Plain<'_>, MAX_ELEMENTS>::new();
-        if plain_elements(reader, depth, &mut elements)? {
-            Ok(packed_step_in(&elements))
-        } else {
-            Ok(None)
-        }
+    fn of(elements: &[Plain<'_>]) -> Option<PackedStep> {
+        Some(PackedStep::new(step_in(elements)?))
     }
 
-    fn read_plain(
-        _alloc: Global,
-        text: &str,
-        at: &mut usize,
-        _depth: usize,
-    ) -> Result<Option<PackedStep>, AllocError> {
-        let mut elements = ArrayVec::<Plain<'_>, MAX_ELEMENTS>::new();
-        let Some(end) = elements_at(text, *at, &mut elements) else {
-            return Ok(None);
-        };
-        *at = end;
-        Ok(packed_step_in(&elements))
-    }
+    #[tactic(auto, using(crate::proofs::PlainPieces::no_step))]
+    fn others_make_none() {}
 }
 
 /// The last version of step files and script files.
@@ -271,6 +235,6 @@ pub fn read_packed_steps(
     ensures { Gives (λ file. (file.0, file.1.items)) result (file_of bytes.now) }
 {
     let names = ["callers", "stripes", "buckets"];
-    let (version, numbers, steps) = read_file::<StepKind, 3>(alloc, bytes, &names, "steps")?;
+    let (version, numbers, steps) = read_file::<Flat<StepKind>, 3>(alloc, bytes, &names, "steps")?;
     steps_in(version, numbers, steps)
 }

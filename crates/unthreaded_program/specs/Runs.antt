@@ -12,7 +12,7 @@ use Rattle.boostmap_engine.specs.Judgement.{IsJudgement, IsJudgementOf, IsNoHist
 use Rattle.command_line.specs.declared.words.Command.{Command}
 use Rattle.command_line.specs.declared.words.Command.TheVariants.{Replay, Run, Mix, Check}
 use Rattle.unthreaded_program.specs.Opening.{SpellsCommand, IsUnopened}
-use Rattle.unthreaded_program.specs.declared.ending.Ending.{Ending}
+use Rattle.program_host.specs.declared.ending.Ending.{Ending}
 
 -- The outcome of a run: a fault, or a boolean that says whether all is well.
 abbrev pub RunResult : Type 0

@@ -5,19 +5,11 @@ ghost use Rattle.std.specs.Prelude.{◌≡◌};
 ghost use Rattle.unthreaded_program.specs.Runs.{TellsError, status_after};
 
 use boostmap_engine::Fault;
+use program_host::Ending;
 use std::io::Write;
 
-/// How a run of the program ended.
-#[derive(Clone, Copy, Debug, PartialEq, Eq)]
-pub struct Ending {
-    /// The exit status: 0 if all is well, 1 for an illegal history, otherwise the status of the
-    /// fault.
-    pub status: u8,
-    /// Whether standard error took the whole message. Also true if there is no message.
-    pub is_told: bool,
-}
-
-/// The exit status after a run with this outcome.
+/// The exit status after a run with this outcome: 0 if all is well, 1 for an illegal history,
+/// otherwise the status of the fault.
 fn status_of(outcome: &Result<bool, Fault>) -> u8
     ensures { result ≡ status_after outcome.now }
 {

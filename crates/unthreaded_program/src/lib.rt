@@ -22,6 +22,6 @@ mod ending;
 mod opening;
 mod program;
 
-pub use ending::{Ending, end};
+pub use ending::end;
 pub use opening::{Opened, open};
 pub use program::{run, run_command};

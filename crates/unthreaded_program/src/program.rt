@@ -6,11 +6,11 @@
 ghost use Rattle.std.specs.Prelude.{◌≡◌};
 ghost use Rattle.unthreaded_program.specs.Runs.{RunsCommand, HasExited, Runs, StartsNone, TellsError};
 
-use crate::ending::{Ending, end};
+use crate::ending::end;
 use crate::opening::open;
 use boostmap_engine::{Fault, check, mix, replay};
 use command_line::Command;
-use program_host::System;
+use program_host::{Ending, System};
 use std::alloc::Global;
 use std::io::{Read, Write};
 

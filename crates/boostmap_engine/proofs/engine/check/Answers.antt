@@ -8,4 +8,4 @@ returns-in_err-write_text-clause-fault g c =
     let p = err_from_is_err_and c.from_residual-in_err-write_text.result c.from_residual-in_err-write_text.ensures.1 in
     rw (p.1, p.2)
     (Leaves-line _ _ _ c.in_ok-bytes.bytes.items c.in_ok-bytes.bytes.items (string_bytes c.in_ok-line.line) c.as_bytes.result.now c.in_ok-verdict.verdict
-    c.in_ok-bytes.ensures.ok refl c.in_ok-verdict.ensures.ok c.in_ok-line.ensures c.as_bytes.ensures.value c.in_err-write_text.ensures.err)
+    c.in_ok-bytes.ensures refl c.in_ok-verdict.ensures.ok c.in_ok-line.ensures c.as_bytes.ensures.value c.in_err-write_text.ensures.err)

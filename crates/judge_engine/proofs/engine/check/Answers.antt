@@ -5,4 +5,4 @@ use Rattle.judge_engine.proofs.engine.check.Goals as goal
 pub returns-in_err-verdict-clause-fault : goal.returns-in_err-verdict-clause-fault
 returns-in_err-verdict-clause-fault g c =
     let p = err_from_is_err_and c.from_residual-in_err-verdict.result c.from_residual-in_err-verdict.ensures.1 in
-    rw (p.1, p.2) (leaves_check _ _ _ c.in_ok-bytes.bytes.items c.in_err-verdict.field-0.0 c.in_ok-bytes.ensures.ok c.in_err-verdict.ensures.err)
+    rw (p.1, p.2) (leaves_check _ _ _ c.in_ok-bytes.bytes.items c.in_err-verdict.field-0.0 c.in_ok-bytes.ensures c.in_err-verdict.ensures.err)

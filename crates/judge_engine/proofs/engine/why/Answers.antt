@@ -10,8 +10,8 @@ pub returns-in-Ok-clause-fault : goal.returns-in-Ok-clause-fault
 returns-in-Ok-clause-fault g c =
     let is = rw c.deref.ensures.value at c.in-Ok.ensures.ok in
     let left = rw c.as_str.ensures.value at c.write_explained.ensures.err in
-    err_more c.write_explained.result _ _ (λ fault. leaves_explained (g.R.Read.remaining c.args.input) (g.W.Write.contents c.args.output.now) (g.W.Write.contents c.write_explained.new.output) c.in_ok-bytes.bytes.items c.in_ok-bytes.ensures.ok c.args.by_commits c.in-Ok.verdict (string_bytes c.in-Ok.lines) fault is) left
+    err_more c.write_explained.result _ _ (λ fault. leaves_explained (g.R.Read.remaining c.args.input) (g.W.Write.contents c.args.output.now) (g.W.Write.contents c.write_explained.new.output) c.in_ok-bytes.bytes.items c.in_ok-bytes.ensures c.args.by_commits c.in-Ok.verdict (string_bytes c.in-Ok.lines) fault is) left
 
 pub returns-clause-fault : goal.returns-clause-fault
 returns-clause-fault g c =
-    leaves_told (g.R.Read.remaining c.args.input) _ _ c.in_ok-bytes.bytes.items c.in_ok-bytes.ensures.ok (IsExplained c.args.by_commits) c.tell.result (rw c.deref-in-Err.ensures.value at c.tell.ensures)
+    leaves_told (g.R.Read.remaining c.args.input) _ _ c.in_ok-bytes.bytes.items c.in_ok-bytes.ensures (IsExplained c.args.by_commits) c.tell.result (rw c.deref-in-Err.ensures.value at c.tell.ensures)

@@ -10,15 +10,15 @@ tell-requires g c = rw (c.deref-in-Err.ensures.value, ← c.deref.ensures.value)
 pub returns-in-Ok-clause-answers : goal.returns-in-Ok-clause-answers
 returns-in-Ok-clause-answers g c =
     let is = rw c.deref.ensures.value at c.in-Ok.ensures.ok in
-    answer_written c.args.real_time (text_or_graph c.args.real_time c.args.as_graph) (g.R.Read.remaining c.args.input) (g.W.Write.contents c.args.output.now) (g.W.Write.contents c.write_answer.new.output) c.in_ok-bytes.bytes.items c.in-Ok.answer (string_bytes c.in-Ok.text) c.write_answer.result c.in_ok-bytes.ensures.ok is
+    answer_written c.args.real_time (text_or_graph c.args.real_time c.args.as_graph) (g.R.Read.remaining c.args.input) (g.W.Write.contents c.args.output.now) (g.W.Write.contents c.write_answer.new.output) c.in_ok-bytes.bytes.items c.in-Ok.answer (string_bytes c.in-Ok.text) c.write_answer.result c.in_ok-bytes.ensures is
     (rw c.as_str.ensures.value at c.write_answer.ensures.ok)
 
 pub returns-in-Ok-clause-fault : goal.returns-in-Ok-clause-fault
 returns-in-Ok-clause-fault g c =
     let is = rw c.deref.ensures.value at c.in-Ok.ensures.ok in
     let left = rw c.as_str.ensures.value at c.write_answer.ensures.err in
-    err_more c.write_answer.result _ _ (λ fault. leaves_text (g.R.Read.remaining c.args.input) (g.W.Write.contents c.args.output.now) (g.W.Write.contents c.write_answer.new.output) c.in_ok-bytes.bytes.items c.in_ok-bytes.ensures.ok (IsTextFor c.args.real_time (text_or_graph c.args.real_time c.args.as_graph)) (string_bytes c.in-Ok.text) fault (c.in-Ok.answer, is)) left
+    err_more c.write_answer.result _ _ (λ fault. leaves_text (g.R.Read.remaining c.args.input) (g.W.Write.contents c.args.output.now) (g.W.Write.contents c.write_answer.new.output) c.in_ok-bytes.bytes.items c.in_ok-bytes.ensures (IsTextFor c.args.real_time (text_or_graph c.args.real_time c.args.as_graph)) (string_bytes c.in-Ok.text) fault (c.in-Ok.answer, is)) left
 
 pub returns-clause-fault : goal.returns-clause-fault
 returns-clause-fault g c =
-    leaves_told (g.R.Read.remaining c.args.input) _ _ c.in_ok-bytes.bytes.items c.in_ok-bytes.ensures.ok (IsTextFor c.args.real_time (text_or_graph c.args.real_time c.args.as_graph)) c.tell.result (rw c.deref-in-Err.ensures.value at c.tell.ensures)
+    leaves_told (g.R.Read.remaining c.args.input) _ _ c.in_ok-bytes.bytes.items c.in_ok-bytes.ensures (IsTextFor c.args.real_time (text_or_graph c.args.real_time c.args.as_graph)) c.tell.result (rw c.deref-in-Err.ensures.value at c.tell.ensures)

@@ -1,7 +1,7 @@
 use Rattle.std.proofs.Common.{length, ◌-◌, ◌≤◌}
 use Rattle.std.specs.Io.KnownBytes.{Consumes}
 use Rattle.txn_files.specs.Reading.{max_read}
-use Rattle.boostmap_engine.proofs.input.read_input.Given as goal
+use Rattle.txn_files.proofs.input.read_bytes.Given as goal
 
 abbrev pub invariant-loop-chunk : goal.invariant-loop-chunk
 invariant-loop-chunk g l = record {

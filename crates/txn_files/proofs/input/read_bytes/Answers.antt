@@ -1,8 +1,8 @@
 use Rattle.std.proofs.Common.{◌-◌, ◌≤◌, arith, length}
 use Rattle.std.proofs.lemmas.List.{length-take}
 use Rattle.txn_files.specs.Reading.{max_read}
-use Rattle.boostmap_engine.proofs.Known.{Consumes-nothing, read_to_end, read_most, read_more, read_within, still_whole}
-use Rattle.boostmap_engine.proofs.input.read_input.Goals as goal
+use Rattle.txn_files.proofs.Known.{Consumes-nothing, read_to_end, read_most, read_more, read_within, still_whole}
+use Rattle.txn_files.proofs.input.read_bytes.Goals as goal
 
 pub loop-chunk-init : goal.loop-chunk-init
 loop-chunk-init g c = record {
@@ -11,8 +11,8 @@ loop-chunk-init g c = record {
   taken = rw c.new-bytes.ensures.items (Consumes-nothing (g.R.Read.remaining c.args.input.now));
 }
 
-pub returns-then-count-eq0-clause-ok : goal.returns-then-count-eq0-clause-ok
-returns-then-count-eq0-clause-ok g c =
+pub returns-then-count-eq0 : goal.returns-then-count-eq0
+returns-then-count-eq0 g c =
     let b = c.in-Ok.ensures.bytes in
     read_to_end (g.R.Read.remaining c.args.input.now) (g.R.Read.remaining c.loop-chunk.input) (g.R.Read.remaining c.read.new.self) c.loop-chunk.bytes.items max_read c.loop-chunk.invariant.taken (rw c.if-count-eq0.true at b.0) (b.1 c.if-count-eq0.true (omega (arith, c.read.auto.buf, length-take c.min-room.result c.loop-chunk.chunk, c.min-room.ensures, c.len-in-loop-chunk.ensures, c.len.ensures, c.loop-chunk-test.true, c.loop-chunk.invariant.whole_chunk))) c.loop-chunk.invariant.within
 
@@ -27,5 +27,5 @@ loop-chunk-preserved g c =
       taken = read_more (g.R.Read.remaining c.args.input.now) (g.R.Read.remaining c.loop-chunk.input) (g.R.Read.remaining c.read.new.self) c.loop-chunk.bytes.items c.read.new.buf _ c.extend_from_slice.new.self.items c.in-Ok.count c.loop-chunk.invariant.taken c.in-Ok.ensures.bytes.0 c.in-Ok.ensures.bound.0 more;
     }
 
-pub returns-clause-ok : goal.returns-clause-ok
-returns-clause-ok g c = read_most (g.R.Read.remaining c.args.input.now) (g.R.Read.remaining c.loop-chunk.input) c.loop-chunk.bytes.items max_read c.loop-chunk.invariant.taken c.loop-chunk.invariant.within (omega (arith, c.loop-chunk-test.false))
+pub returns : goal.returns
+returns g c = read_most (g.R.Read.remaining c.args.input.now) (g.R.Read.remaining c.loop-chunk.input) c.loop-chunk.bytes.items max_read c.loop-chunk.invariant.taken c.loop-chunk.invariant.within (omega (arith, c.loop-chunk-test.false))
