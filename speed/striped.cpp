@@ -2,7 +2,7 @@
 // and on RocksDB's TransactionDB, which locks keys and not stripes, without a log on disk; for striped.sh. Each thread makes transactions of four operations: half puts, a quarter takes, a quarter gets, keys drawn
 // evenly, two keys in three there at the beginning. A tenth abort. A transaction that finds a stripe held aborts, and is not tried
 // again. The callers are joined one after the other, by one thread.
-// Usage: striped nothing|commits|calls|run|tbb|rocksdb THREADS KEYS TRANSACTIONS shared|own. With `own` each thread has its own
+// Usage: striped nothing|commits|entries|calls|run|tbb|rocksdb THREADS KEYS TRANSACTIONS shared|own. With `own` each thread has its own
 // stripes. `calls` and `run` make the same transactions on a map that keeps nothing, but none aborts: by the calls of its
 // operations, and as a whole by boostmap_striped_run.
 // Prints the transactions that were not busy a second, in millions, the nanoseconds of processor time of one, and the part that
@@ -301,6 +301,7 @@ int main(int argc, char **argv) {
     bool own = !std::strcmp(argv[5], "own");
     if (!std::strcmp(argv[1], "nothing")) measure<boosted>(threads, keys, count, own, BOOSTMAP_KEEP_NOTHING);
     else if (!std::strcmp(argv[1], "commits")) measure<boosted>(threads, keys, count, own, BOOSTMAP_KEEP_COMMITS);
+    else if (!std::strcmp(argv[1], "entries")) measure<boosted>(threads, keys, count, own, BOOSTMAP_KEEP_ENTRIES);
     else if (!std::strcmp(argv[1], "calls")) measure<by_calls>(threads, keys, count, own, BOOSTMAP_KEEP_NOTHING);
     else if (!std::strcmp(argv[1], "run")) measure<by_run>(threads, keys, count, own, BOOSTMAP_KEEP_NOTHING);
 #ifdef HAS_TBB

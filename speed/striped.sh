@@ -1,7 +1,8 @@
 #!/usr/bin/env bash
-# Runs the same transactions of four operations on the striped map from C (striped.cpp), which keeps nothing or the number of its
-# commits, on plain Rust (striped.rs: a mutex a stripe, and one mutex), and, where libtbb-dev and librocksdb-dev are installed, on
-# oneTBB boosted and on RocksDB's TransactionDB, which makes a tenth of the transactions. The programs take turns in random order in each round. Prints the medians: millions of transactions a second that were not busy, by
+# Runs the same transactions of four operations on the striped map from C (striped.cpp), which keeps nothing, the number of its
+# commits, or its entries, on plain Rust (striped.rs: a mutex a stripe, and one mutex), and, where libtbb-dev and librocksdb-dev are
+# installed, on oneTBB boosted and on RocksDB's TransactionDB. RocksDB makes a tenth of the transactions, and the map that keeps its
+# entries, of 40 bytes and some ten a transaction, a fifth. The programs take turns in random order in each round. Prints the medians: millions of transactions a second that were not busy, by
 # the clock; nanoseconds of processor time of one; and how many percent were busy. `own` gives each thread its own stripes.
 # With one thread all must give the same replies. Writes the table to striped.tsv, of which picture.py draws docs/striped.svg.
 # Then prints what one of these transactions takes by its calls and as a run, if all commit.
@@ -11,7 +12,8 @@ count=${1:-1000000}
 rounds=${2:-7}
 quietly bindings/install.sh "$work/usr"
 libraries=(-L"$work/usr/lib" -lboostmap -pthread)
-names='nothing commits mutexes one'
+names='nothing commits entries mutexes one'
+fewer=entries
 if [ -e /usr/include/tbb/concurrent_unordered_map.h ]; then
   libraries+=(-ltbb)
   names+=' tbb'
@@ -21,6 +23,7 @@ fi
 if [ -e /usr/include/rocksdb/utilities/transaction_db.h ]; then
   libraries+=(-lrocksdb)
   names+=' rocksdb'
+  fewer+=' rocksdb'
 else
   echo "not measured: rocksdb, whose header is not here (Debian's package librocksdb-dev)" >&2
 fi
@@ -32,6 +35,7 @@ run_one() {
   local program=$work/striped many=$count
   case $1 in
     mutexes | one) program=$work/plain ;;
+    entries) many=$((count / 5)) ;;
     rocksdb) many=$((count / 10)) ;;
   esac
   echo "$1 $2 $3 $4 $("$program" "$1" "$4" "$2" "$many" "$3")"
@@ -58,11 +62,11 @@ END
 
 # The replies of one thread do not depend on the map.
 {
-  grep -v '^rocksdb ' "$work/runs"
-  [ "${names% rocksdb}" = "$names" ] || for name in rocksdb nothing; do
+  grep -v -e '^entries ' -e '^rocksdb ' "$work/runs"
+  for name in $fewer nothing; do
     echo "$name 1000 few 1 $("$work/striped" "$name" 1 1000 10000 shared)"
   done
-} | awk '$4 == 1 { print $2, $3, $8 }' | sort -u | awk '{ n++; few += $2 == "few" } END { exit !(n - few == 6 && few <= 1) }' ||
+} | awk '$4 == 1 { print $2, $3, $8 }' | sort -u | awk 'END { exit NR != 7 }' ||
   { echo 'the replies differ' >&2; exit 1; }
 
 # The median of a column of the runs of a program.

@@ -1,5 +1,5 @@
 -- Entries that each name an operation.
-use Rattle.std.proofs.Common.{rules, ℕ, zero, suc, ◌+◌, ◌<◌, ◌≡◌, List, [], ◌∷◌, ◌++◌, Option, Some, None, length, map, take, slice_get, get_or, unwrap_or, refl, sym, ◌∙◌}
+use Rattle.std.proofs.Common.{rules, true, is_some, ℕ, zero, suc, ◌+◌, ◌<◌, ◌≡◌, List, [], ◌∷◌, ◌++◌, Option, Some, None, length, map, take, slice_get, get_or, unwrap_or, refl, sym, ◌∙◌}
 use Rattle.std.proofs.lemmas.List.{length-map, take_more}
 use Rattle.txn_words.specs.declared.op.Op.{Op}
 use Rattle.boostmap_c.specs.declared.c_entry.CEntry.{CEntry}
@@ -26,9 +26,13 @@ named_then : (entries : List CEntry) (entry : CEntry) (op : Op) → op_of entry 
 named_then [] entry op is named = only_one (op_of entry) op is
 named_then (first ∷ entries) entry op is named = first_of (op_of first) (ops_in entries) (map op_of entries) named _ _ (named_then entries entry op is (rest_of (op_of first) (ops_in entries) (map op_of entries) named))
 
+some_in : (o : Option Op) → is_some o ≡ true → (op : Op) × (o ≡ Some op)
+some_in (Some op) is = (op, refl)
+some_in None is = search rules
+
 -- One more entry names an operation.
-pub named_next : (entries : List CEntry) (i : ℕ) (d : CEntry) (op : Op) → i < length entries → op_of (get_or entries i d) ≡ Some op → map Some (ops_in (take i entries)) ≡ map op_of (take i entries) → map Some (ops_in (take (i + 1) entries)) ≡ map op_of (take (i + 1) entries)
-named_next entries i d op below is named = rw (take_more entries i d below) (named_then (take i entries) (get_or entries i d) op is named)
+pub named_next : (entries : List CEntry) (i : ℕ) (d : CEntry) → i < length entries → is_some (op_of (get_or entries i d)) ≡ true → map Some (ops_in (take i entries)) ≡ map op_of (take i entries) → map Some (ops_in (take (i + 1) entries)) ≡ map op_of (take (i + 1) entries)
+named_next entries i d below is named = let op = some_in (op_of (get_or entries i d)) is in rw (take_more entries i d below) (named_then (take i entries) (get_or entries i d) op.0 op.1 named)
 
 at_first : (o : Option Op) (ops : List Op) (rest : List (Option Op)) (other : Op) → map Some (with_op o ops) ≡ o ∷ rest → slice_get (with_op o ops) 0 ≡ Some (unwrap_or o other)
 at_first (Some op) ops rest other same = refl

@@ -1,11 +1,11 @@
 -- PROMISES from-c: TellsRun
 -- How a caller runs a whole transaction for C.
-use Rattle.std.specs.Prelude.{◌≡◌, ◌⊎◌, ◌<◌, ℕ, Bool, not, nat_eq, true, List, [], ◌∷◌, length, map, take, drop, slice_get, Option, Some, None, Result, Ok, Err}
+use Rattle.std.specs.Prelude.{◌≡◌, ◌⊎◌, ◌<◌, ℕ, Bool, not, nat_eq, List, [], ◌∷◌, length, map, slice_get, Option, Some, None, Result}
 use Rattle.txn_words.specs.declared.op.Op.{Op}
 use Rattle.txn_words.specs.declared.stop.Stop.{Stop}
 use Rattle.striped_map.specs.declared.caller.Caller.{Caller}
 use Rattle.striped_map.specs.declared.runs.RunEnd.{RunEnd}
-use Rattle.striped_map.specs.Runs.{IsNotRun, IsRunTo}
+use Rattle.striped_map.specs.Runs.{LieIn, Runs}
 use Rattle.boostmap_c.specs.declared.c_entry.CEntry.{CEntry}
 use Rattle.boostmap_c.specs.declared.counts.Counts.{Counts}
 use Rattle.boostmap_c.specs.declared.member.Member.{Member}
@@ -18,18 +18,6 @@ use Rattle.boostmap_c.specs.Stops.{status_of_run, word_of_run}
 abbrev pub c_reply_of : Option ℕ → CReply
 c_reply_of None = record { value = 0; has = 0 }
 c_reply_of (Some value) = record { value = value; has = 1 }
-
--- The replies lie at the front of an array, whose rest is unchanged.
-pub record LieReplies (replies : List (Option ℕ)) (before after : List CReply) : Type 0 where
-  pub front : take (length replies) after ≡ map c_reply_of replies
-  pub rest : drop (length replies) after ≡ drop (length replies) before
-
--- The caller ran a transaction of these operations, with these replies, or did not run it to its
--- end. If it was in a transaction before, there are no replies.
-abbrev pub Runs : Bool → List Op → List (Option ℕ) → Caller → Result RunEnd Stop → Caller → Type 0
-Runs strict ops replies a (Ok end) b = IsRunTo strict a b ops replies end
-Runs strict ops replies a (Err stop) b = IsNotRun strict a b ops replies stop
-    × (a.is_open ≡ true → replies ≡ [])
 
 -- The operations that entries name. An entry that names none is left out.
 abbrev pub with_op : Option Op → List Op → List Op
@@ -61,7 +49,7 @@ TellsRun entries strict (Some old) status before after done_before done was word
     × (((replies : List (Option ℕ)) × (answer : Result RunEnd Stop)
     × RunsOn entries (not (nat_eq strict 0)) replies old.caller old.counts answer new.caller
     new.counts × (status ≡ status_of_run answer) × (word ≡ word_of_run was answer)
-    × (done ≡ length replies) × LieReplies replies before after)
+    × LieIn c_reply_of replies before after done)
     ⊎ ((((status ≡ short) × (length before < length entries))
     ⊎ ((status ≡ no_entry) × IsUnnamed entries))
     × (new.caller ≡ old.caller) × (new.counts ≡ old.counts) × (after ≡ before) × (done ≡ 0)

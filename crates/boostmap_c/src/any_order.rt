@@ -10,6 +10,7 @@ use crate::status::{DONE, NO_ENTRY, SHORT, refused};
 use crate::striped_run::CReply;
 use order_check::{Edge, Kind, Options, Reason, Verdict, check};
 use std::alloc::Global;
+use striped_map::ReplyForm;
 use txn_trace::{Entry, Refusal};
 
 /// A transaction of a serial order or of a cycle. In a cycle each must come before the next one, and

@@ -2,7 +2,8 @@
 //! for. C passes numbers and no enum. If the numbers stand for no entry, nothing is fed and the call
 //! returns 8. Only this module reads the numbers, so a checker is fed only entries whose caller is
 //! below 64, as the checker requires.
-ghost use Rattle.std.specs.Prelude.{◌≡◌, ◌<◌, Some, IfSome};
+ghost use Rattle.std.specs.Prelude.{◌≡◌, ◌<◌, Some, IfSome, is_some, unwrap_or};
+ghost use Rattle.txn_words.specs.declared.op.Op.TheVariants.{Get};
 ghost use Rattle.txn_words.specs.Kinds.{caller_of};
 ghost use Rattle.boostmap_c.specs.Entries.{asked_entry_of, asking, busy_entry_of, c_entry_of, entry_of, judged_entry, numbers, op_of, optional, accepted_entry};
 ghost use Rattle.txn_words.specs.declared.entry.Entry.{Entry};
@@ -153,22 +154,38 @@ impl CEntry {
     }
 
     /// The operation that these numbers stand for, if `operation` names one.
-    pub(crate) fn op(&self) -> Option<Op>
+    fn op(&self) -> Option<Op>
         ensures { result ≡ op_of self.now }
     {
+        if !self.has_op() {
+            return None;
+        }
+        Some(self.op_or_get())
+    }
+
+    /// Whether `operation` names an operation.
+    #[inline(always)]
+    pub(crate) fn has_op(&self) -> bool
+        ensures { result ≡ is_some (op_of self.now) }
+    {
+        PUT <= self.operation && self.operation <= GET
+    }
+
+    /// The operation that these numbers stand for, or a get of the key if they stand for none.
+    #[inline(always)]
+    pub(crate) fn op_or_get(&self) -> Op
+        ensures { result ≡ unwrap_or (op_of self.now) (Get self.now.key) }
+    {
         if self.operation == PUT {
-            return Some(Op::Put(self.key, self.value));
+            return Op::Put(self.key, self.value);
         }
         if self.operation == PUT_IF {
-            return Some(Op::PutIf(self.key, self.optional(self.expected), self.value));
+            return Op::PutIf(self.key, self.optional(self.expected), self.value);
         }
         if self.operation == TAKE {
-            return Some(Op::Take(self.key));
+            return Op::Take(self.key);
         }
-        if self.operation == GET {
-            return Some(Op::Get(self.key));
-        }
-        None
+        Op::Get(self.key)
     }
 
     /// Returns `number` if `has` is not 0, and `None` if it is 0.

@@ -6,13 +6,12 @@
 //! A join takes a caller from the list of those that wait, and makes a member of it. If there is no
 //! memory for the member, the caller goes back to the list. This takes no memory, since the list
 //! has kept the room for the caller.
-ghost use Rattle.std.specs.Prelude.{◌≡◌, ◌≤◌, IfOk, IfErr, OnOk, OnErr, length, vec_len};
+ghost use Rattle.std.specs.Prelude.{◌≡◌, ◌≤◌, ℕ, List, Option, length};
 
 use crate::counts::Counts;
-use crate::striped_run::Named;
+use crate::striped_run::{CReply, Named};
 use std::alloc::Global;
 use striped_map::{Caller, Host, Opening, RunEnd, Stop};
-use txn_trace::Reply;
 
 /// What a member has besides its caller.
 #[derive(Drop)]
@@ -25,27 +24,27 @@ pub struct Group {
     pub(crate) opening: Opening,
 }
 
-/// A caller of a striped map, the counts of its transactions, and its group. It keeps the room for
-/// the replies of a run for the next run.
+/// A caller of a striped map, the counts of its transactions, and its group.
 ///
-/// A call also writes to the counts and the replies. In front of them lies the caller, whose own
-/// fields lie apart from all others. Behind them lie 128 bytes that no call reads or writes.
+/// A call also writes to the counts. In front of them lies the caller, whose own fields lie apart
+/// from all others. Behind them lie the group, which few calls write to, and 128 bytes that no call
+/// reads or writes.
 #[repr(C)]
 #[derive(Drop)]
 pub struct Member {
     pub(crate) caller: Caller,
     pub(crate) counts: Counts,
-    pub(crate) replies: Vec<Reply>,
     pub(crate) group: Group,
     behind: [u64; 16],
 }
 
 impl Member {
     ghost use Rattle.boostmap_c.specs.Counting.{counted_run, none_ended};
-    ghost use Rattle.boostmap_c.specs.StripedRuns.{Runs, ops_in};
+    ghost use Rattle.striped_map.specs.Runs.{LieIn, Runs};
+    ghost use Rattle.boostmap_c.specs.StripedRuns.{c_reply_of, ops_in};
 
     /// A member with this caller and this group.
-    pub(crate) fn new(alloc: Global, caller: Caller, group: Group) -> Member
+    pub(crate) fn new(caller: Caller, group: Group) -> Member
         ensures caller { result.caller ≡ caller }
         ensures group { result.group ≡ group }
         ensures counts { result.counts ≡ none_ended }
@@ -53,23 +52,28 @@ impl Member {
         Member {
             caller,
             counts: Counts::none(),
-            replies: Vec::new(alloc),
             group,
             behind: [0; 16],
         }
     }
 
-    /// Has the caller run a transaction of these operations, and counts its end. The replies are
-    /// then in the member's list.
-    pub(crate) fn run(&mut self, ops: &Named<'_>, strict: bool) -> Result<RunEnd, Stop>
+    /// Has the caller run a transaction of these operations, and counts its end. The replies then
+    /// lie at the front of the array, and `done` is their number.
+    pub(crate) fn run(
+        &mut self,
+        ops: &Named<'_>,
+        strict: bool,
+        replies: &mut [CReply],
+        done: &mut usize,
+    ) -> Result<RunEnd, Stop>
+        requires room { length (ops_in ops.now.entries.now) ≤ length replies.old }
         ensures group { self.new.group ≡ self.old.group }
-        ensures runs { Runs strict (ops_in ops.now.entries.now) self.new.replies.items
-            self.old.caller result self.new.caller }
-        ensures few { vec_len self.new.replies ≤ length (ops_in ops.now.entries.now) }
+        ensures runs { (told : List (Option ℕ)) × LieIn c_reply_of told replies.old replies.new
+            done.new × Runs strict (ops_in ops.now.entries.now) told self.old.caller result
+            self.new.caller }
         ensures counts { self.new.counts ≡ counted_run self.old.counts result }
     {
-        self.replies.clear();
-        let answer = self.caller.run_each(ops, strict, &mut self.replies);
+        let answer = self.caller.run_each(ops, strict, replies, done);
         self.counts.see_run(&answer);
         answer
     }
@@ -81,7 +85,6 @@ impl Member {
         let Member {
             caller,
             counts: _,
-            replies: _,
             group: _,
             behind: _,
         } = self;

@@ -59,7 +59,7 @@ fn made_member(
         host: Some(host),
         opening,
     };
-    match Box::new(alloc, Member::new(alloc, caller, group)) {
+    match Box::new(alloc, Member::new(caller, group)) {
         Ok(member) => Ok(member),
         Err(_) => Err(AllocError),
     }
@@ -113,7 +113,7 @@ fn joined(alloc: Global, group: &Group, caller: Caller) -> Result<Box<Member, Gl
         host: None,
         opening: group.opening,
     };
-    match Box::new(alloc, Member::new(alloc, caller, own)) {
+    match Box::new(alloc, Member::new(caller, own)) {
         Ok(member) => Ok(member),
         Err(failed) => Err(failed.value.into_caller()),
     }

@@ -1,14 +1,14 @@
 //! Runs a whole transaction of a striped map's caller by one call. C passes the operations as
 //! entries, as the judge reads them, and gets the replies.
-ghost use Rattle.std.specs.Prelude.{◌≡◌, ◌≤◌, Some, None, IfSome, length, map};
+ghost use Rattle.std.specs.Prelude.{◌≡◌, Some, None, IfSome, map};
 ghost use Rattle.boostmap_c.specs.Entries.{op_of};
-ghost use Rattle.boostmap_c.specs.StripedRuns.{IsUnnamed, LieReplies, TellsRun, c_reply_of, ops_in};
+ghost use Rattle.boostmap_c.specs.StripedRuns.{IsUnnamed, TellsRun, ops_in};
 
 use crate::c_entry::CEntry;
 use crate::member_handle::CallerHandle;
 use crate::status::{EMPTY, NO_ENTRY, SHORT};
 use crate::stops::tell_run;
-use striped_map::Operations;
+use striped_map::{Operations, ReplyForm};
 use txn_trace::{Op, Reply};
 
 /// The reply to an operation.
@@ -21,11 +21,13 @@ pub struct CReply {
     pub has: u64,
 }
 
-impl CReply {
-    /// The numbers of a value, or of none.
-    pub(crate) fn of(reply: Reply) -> CReply
-        ensures { result ≡ c_reply_of reply }
-    {
+impl ReplyForm for CReply {
+    ghost use Rattle.boostmap_c.specs.StripedRuns.{c_reply_of};
+
+    ghost form = { c_reply_of };
+
+    #[inline(always)]
+    fn of(reply: Reply) -> CReply {
         match reply {
             None => CReply { value: 0, has: 0 },
             Some(value) => CReply { value, has: 1 },
@@ -49,8 +51,9 @@ impl Operations for Named<'_> {
         self.entries.len()
     }
 
+    #[inline(always)]
     fn at(&self, place: usize) -> Op {
-        self.entries[place].op().unwrap_or(Op::Get(0))
+        self.entries[place].op_or_get()
     }
 }
 
@@ -60,19 +63,11 @@ fn read_all(entries: &[CEntry]) -> Option<Named<'_>>
     ensures none { result ≡ None → IsUnnamed entries.now }
 {
     'tests: for i in 0..entries.len() {
-        entries[i].op()?;
+        if !entries[i].has_op() {
+            return None;
+        }
     }
     Some(Named { entries })
-}
-
-/// Writes replies to the front of an array that has room for them.
-fn lay(listed: &[Reply], replies: &mut [CReply])
-    requires room { length listed.now ≤ length replies.old }
-    ensures { LieReplies listed.now replies.old replies.new }
-{
-    'lays: for i in 0..listed.len() {
-        replies[i] = CReply::of(listed[i]);
-    }
 }
 
 /// Runs a whole transaction: begins it, does the operations that these entries name, one after the
@@ -87,7 +82,7 @@ fn lay(listed: &[Reply], replies: &mut [CReply])
 ///
 /// - 13 if a `put if` ended the run. The last reply is its own.
 /// - 2 if another caller held the stripe of an operation's key. The word is that caller's number.
-/// - 30 (`NoMemory`) if memory is refused, perhaps before the transaction was begun.
+/// - 30 (`NoMemory`) if the beginning or an operation is refused memory.
 /// - 20 (`AlreadyOpen`) if the caller is in a transaction, which then continues.
 /// - 7 if the array has fewer places than there are operations, and 8 if the entry of an operation
 ///   names none. Nothing was run.
@@ -95,8 +90,7 @@ fn lay(listed: &[Reply], replies: &mut [CReply])
 ///
 /// # Cost
 ///
-/// The cost of `striped_map::Caller::run`, and a step for each operation. Takes memory for the
-/// replies, which the caller keeps for its next runs.
+/// The cost of `striped_map::Caller::run_each`, and a step for each operation.
 #[unsafe(no_mangle)]
 pub extern "C" fn boostmap_striped_run(
     caller: &mut CallerHandle,
@@ -120,8 +114,8 @@ pub extern "C" fn boostmap_striped_run(
         return NO_ENTRY;
     };
     let member = caller.held.get_mut();
-    let answer = member.run(&ops, strict != 0);
-    *done = member.replies.len() as u64;
-    lay(&member.replies, replies);
+    let mut count = 0;
+    let answer = member.run(&ops, strict != 0, replies, &mut count);
+    *done = count as u64;
     tell_run(answer, word)
 }

@@ -1,6 +1,6 @@
 -- A transaction that is run operation by operation.
-use Rattle.std.proofs.Common.{true, false, ◌≡◌, Bool, ℕ, ◌+◌, ◌<◌, List, [], ◌∷◌, ◌++◌, Option, Some, length, slice_get, take, get_or, sym, subst, refl}
-use Rattle.std.proofs.lemmas.List.{take_more}
+use Rattle.std.proofs.Common.{rules, true, false, ◌≡◌, Bool, ℕ, ◌+◌, ◌<◌, List, [], ◌∷◌, ◌++◌, Option, Some, length, map, slice_get, slice_set, take, drop, sym, subst, refl, ap}
+use Rattle.std.proofs.lemmas.List.{length-append, take_more}
 use Rattle.std.proofs.lemmas.Option.{get_or_from_slice_get, slice_get_within}
 use Rattle.txn_words.specs.declared.entry.Entry.TheVariants.{Began, Asked, Did, Committed}
 use Rattle.txn_words.specs.declared.op.Op.{Op}
@@ -8,7 +8,7 @@ use Rattle.txn_words.specs.declared.stop.Stop.{Stop}
 use Rattle.striped_map.specs.declared.caller.Caller.{Caller}
 use Rattle.striped_map.specs.Callers.{IsStep, IsStopped, keeps, number, seen}
 use Rattle.striped_map.specs.Lone.{RunsAlone}
-use Rattle.striped_map.specs.Runs.{DoesAll, DoesToMiss, DoesUntil, RunsAll, is_miss}
+use Rattle.striped_map.specs.Runs.{DoesAll, DoesToMiss, DoesUntil, LieIn, RunsAll, is_miss}
 use Rattle.striped_map.specs.Steps.{told_of}
 
 does_then : (strict : Bool) (ops : List Op) (replies : List (Option ℕ)) (op : Op) (reply : Option ℕ) (a b c : Caller) → DoesAll strict ops replies a b → IsStep b (Asked (number b) op ∷ Did (number b) reply ∷ []) c → is_miss strict op reply ≡ false
@@ -49,4 +49,17 @@ runs_all strict a b c d ops replies txn found began does done = record {
   found_is = done.2;
   committed = done.3;
   alone = done.4;
+}
+
+lies_then : {R : Type 0} (form : Option ℕ → R) (told : List (Option ℕ)) (reply : Option ℕ) (before : List R) → length told < length before → slice_set (map form told ++ drop (length told) before) (length told) (form reply) ≡ map form (told ++ reply ∷ []) ++ drop (length (told ++ reply ∷ [])) before
+lies_then form [] reply [] below = search rules
+lies_then form [] reply (x ∷ before) below = refl
+lies_then form (t ∷ told) reply [] below = search rules
+lies_then form (t ∷ told) reply (x ∷ before) below = ap (λ l. form t ∷ l) (lies_then form told reply before (search rules))
+
+-- One more reply is written behind the others.
+pub lies_next : {R : Type 0} (form : Option ℕ → R) (told : List (Option ℕ)) (reply : Option ℕ) (before after : List R) (place : ℕ) → place < length before → LieIn form told before after place → LieIn form (told ++ reply ∷ []) before (slice_set after place (form reply)) (place + 1)
+lies_next form told reply before after place below lie = record {
+  count = rw lie.count (sym (length-append told (reply ∷ [])));
+  all = rw (lie.all, lie.count) (lies_then form told reply before (rw (← lie.count) below));
 }

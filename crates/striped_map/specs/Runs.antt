@@ -1,5 +1,5 @@
 -- A whole transaction that is run by one call.
-use Rattle.std.specs.Prelude.{◌≡◌, ◌⊎◌, ◌&&◌, ◌++◌, not, nat_eq, ℕ, Bool, List, [], ◌∷◌, Option, Some, true, false, take, length, slice_get}
+use Rattle.std.specs.Prelude.{◌≡◌, ◌⊎◌, ◌&&◌, ◌++◌, not, nat_eq, ℕ, Bool, List, [], ◌∷◌, Option, Some, Result, Ok, Err, true, false, take, drop, map, length, slice_get}
 use Rattle.std.specs.Option.{option_eq}
 use Rattle.txn_words.specs.declared.entry.Entry.TheVariants.{Began, Asked, Did, Committed}
 use Rattle.txn_words.specs.declared.op.Op.{Op}
@@ -44,6 +44,20 @@ DoesToMiss strict ops replies a c = (before : List (Option ℕ)) × (reply : Opt
     × DoesAll strict (take (length before) ops) before a b
     × (slice_get ops (length before) ≡ Some op) × (is_miss strict op reply ≡ true)
     × IsStep b (Asked (number b) op ∷ Did (number b) reply ∷ []) c
+
+-- From `a` to `b`, the caller did these operations, with these replies: all of them, those up to the
+-- one that ends the run, or those before the one that failed.
+abbrev pub Does : Bool → List Op → List (Option ℕ) → Caller → Result Bool Stop → Caller → Type 0
+Does strict ops replies a (Ok true) b = DoesAll strict ops replies a b
+Does strict ops replies a (Ok false) b = DoesToMiss strict ops replies a b
+Does strict ops replies a (Err stop) b = DoesUntil strict ops replies a b stop
+
+-- The replies lie in this form at the front of an array, whose rest is unchanged, and `done` is
+-- their number.
+pub record LieIn {R : Type 0} (form : Option ℕ → R) (replies : List (Option ℕ))
+    (before after : List R) (done : ℕ) : Type 0 where
+  pub count : done ≡ length replies
+  pub all : after ≡ map form replies ++ drop (length replies) before
 
 -- A transaction was begun, did these operations with these replies, and committed.
 pub record RunsAll (strict : Bool) (a d : Caller) (ops : List Op) (replies : List (Option ℕ))
@@ -94,3 +108,10 @@ IsNotRun strict a d ops replies stop =
     ((stop ≡ Refused AlreadyOpen) × (a.is_open ≡ true) × (d ≡ a))
     ⊎ (((stop ≡ Refused NoMemory) × (a.is_open ≡ false) × IsSame a d × (replies ≡ []))
     ⊎ RunsUntil strict a d ops replies stop)
+
+-- The caller ran a transaction of these operations, with these replies, or did not run it to its
+-- end. If it was in a transaction before, there are no replies.
+abbrev pub Runs : Bool → List Op → List (Option ℕ) → Caller → Result RunEnd Stop → Caller → Type 0
+Runs strict ops replies a (Ok end) b = IsRunTo strict a b ops replies end
+Runs strict ops replies a (Err stop) b = IsNotRun strict a b ops replies stop
+    × (a.is_open ≡ true → replies ≡ [])

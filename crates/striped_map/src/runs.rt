@@ -1,8 +1,8 @@
 //! Defines `Caller::run`, which runs a whole transaction by one call.
 ghost use Rattle.txn_words.specs.declared.entry.Entry.TheVariants.{Asked, Did};
 ghost use Rattle.striped_map.specs.Callers.{IsStep, IsStopped, number};
-ghost use Rattle.std.specs.Prelude.{◌≡◌, ◌≤◌, [], ◌∷◌, true, false, IfOk, IfErr, length, vec_len, vec_capacity, OnOk};
-ghost use Rattle.striped_map.specs.Runs.{DoesAll, DoesToMiss, DoesUntil, IsNotRun, IsRunTo, is_miss};
+ghost use Rattle.std.specs.Prelude.{◌≡◌, ◌≤◌, ℕ, List, Option, [], ◌∷◌, true, false, IfOk, IfErr, length, vec_len, OnErr, OnOk};
+ghost use Rattle.striped_map.specs.Runs.{Does, IsNotRun, IsRunTo, LieIn, Runs, is_miss};
 
 use crate::caller::Caller;
 use std::alloc::AllocError;
@@ -66,18 +66,37 @@ impl Operations for Listed<'_> {
     }
 }
 
-/// Makes room for so many replies in an empty list. Tests first whether there is room, since
-/// `reserve` is a call.
+/// A form of a reply. A program that keeps replies in a form of its own implements this for it, and
+/// gets them without a copy.
+pub trait ReplyForm {
+    ghost use Rattle.std.specs.Prelude.{◌≡◌, ℕ, Option};
+
+    /// The reply in this form.
+    ghost form: { Option ℕ → Self };
+
+    /// Brings a reply into this form.
+    fn of(reply: Reply) -> Self
+        ensures { result ≡ form reply };
+}
+
+impl ReplyForm for Reply {
+    ghost form = { λ reply. reply };
+
+    #[inline(always)]
+    fn of(reply: Reply) -> Reply {
+        reply
+    }
+}
+
+/// Makes the list at least so long.
 #[inline(always)]
-fn make_room(replies: &mut Vec<Reply>, count: usize) -> Result<(), AllocError>
-    requires { replies.old.items ≡ [] }
-    ensures items { replies.new.items ≡ [] }
-    ensures room { OnOk result (count ≤ vec_capacity replies.new) }
+fn make_places(replies: &mut Vec<Reply>, count: usize) -> Result<(), AllocError>
+    ensures { OnOk result (count ≤ vec_len replies.new) }
 {
-    if count <= replies.capacity() {
+    if count <= replies.len() {
         return Ok(());
     }
-    replies.reserve(count)
+    replies.resize(count, None)
 }
 
 impl Caller {
@@ -99,30 +118,28 @@ impl Caller {
     }
 
     /// Does these operations in the caller's transaction, up to the first that fails or ends the
-    /// run. Adds the replies to the list, which must have room for them. Returns true if no
-    /// operation ends the run.
-    #[tactic(auto, using(crate::proofs::Ran::does_next, crate::proofs::Ran::does_until, crate::proofs::CallSpans::stopped_map))]
-    fn do_all<O: Operations>(
+    /// run. Writes the replies to the front of the array, and their number to `done`, which must be
+    /// 0. Returns true if no operation ends the run.
+    fn do_all<O: Operations, R: ReplyForm + Copy>(
         &mut self,
         ops: &O,
         strict: bool,
-        replies: &mut Vec<Reply>,
+        replies: &mut [R],
+        done: &mut usize,
     ) -> Result<bool, Stop>
-        requires none { replies.old.items ≡ [] }
-        requires room { length (O.ops_of ops.now) ≤ vec_capacity replies.old }
+        requires room { length (O.ops_of ops.now) ≤ length replies.old }
+        requires none { done.old ≡ 0 }
         ensures map { self.new.map ≡ self.old.map }
         ensures open { OnOk result (self.old.is_open ≡ true → self.new.is_open ≡ true) }
-        ensures all { IfOk result (λ done. done ≡ true
-            → DoesAll strict (O.ops_of ops.now) replies.new.items self.old self.new) }
-        ensures miss { IfOk result (λ done. done ≡ false
-            → DoesToMiss strict (O.ops_of ops.now) replies.new.items self.old self.new) }
-        ensures err { IfErr result (DoesUntil strict (O.ops_of ops.now) replies.new.items self.old self.new) }
-        ensures few { vec_len replies.new ≤ length (O.ops_of ops.now) }
+        ensures few { done.new ≤ length (O.ops_of ops.now) }
+        ensures does { (told : List (Option ℕ)) × LieIn R.form told replies.old replies.new done.new
+            × Does strict (O.ops_of ops.now) told self.old result self.new }
     {
         for place in 0..ops.count() {
             let op = ops.at(place);
             let reply = self.operate_by_kind(op)?;
-            replies.push_reserved(reply);
+            replies[place] = R::of(reply);
+            *done = place + 1;
             if is_miss(strict, op, reply) {
                 return Ok(false);
             }
@@ -160,43 +177,54 @@ impl Caller {
         ensures ok { IfOk result (IsRunTo strict self.old self.new ops.now replies.new.items) }
         ensures err { IfErr result (IsNotRun strict self.old self.new ops.now replies.new.items) }
     {
-        self.run_each(&Listed { ops }, strict, replies)
-    }
-
-    /// As `run`, for operations in any form.
-    ///
-    /// # Errors
-    ///
-    /// Those of `run`.
-    ///
-    /// # Cost
-    ///
-    /// That of `run`, and a call of `Operations::at` for each operation.
-    pub fn run_each<O: Operations>(
-        &mut self,
-        ops: &O,
-        strict: bool,
-        replies: &mut Vec<Reply>,
-    ) -> Result<RunEnd, Stop>
-        ensures map { self.new.map ≡ self.old.map }
-        ensures closed { self.old.is_open ≡ false → self.new.is_open ≡ false }
-        ensures untouched { self.old.is_open ≡ true → replies.new ≡ replies.old }
-        ensures few { self.old.is_open ≡ false
-            → vec_len replies.new ≤ length (O.ops_of ops.now) }
-        ensures ok { IfOk result
-            (IsRunTo strict self.old self.new (O.ops_of ops.now) replies.new.items) }
-        ensures err { IfErr result
-            (IsNotRun strict self.old self.new (O.ops_of ops.now) replies.new.items) }
-    {
         if self.is_open {
             return Err(Stop::Refused(Refusal::AlreadyOpen));
         }
-        replies.clear();
-        if make_room(replies, ops.count()).is_err() {
+        if make_places(replies, ops.len()).is_err() {
+            replies.clear();
             return Err(Stop::Refused(Refusal::NoMemory));
         }
+        let mut done = 0;
+        let answer = self.run_each(&Listed { ops }, strict, replies.as_mut_slice(), &mut done);
+        replies.truncate(done);
+        answer
+    }
+
+    /// As `run`, for operations and replies in any form. Writes the replies to the front of the
+    /// array, which must have room for them all, and their number to `done`. The rest of the array
+    /// is unchanged. If the caller is in a transaction, `done` is 0.
+    ///
+    /// # Errors
+    ///
+    /// - `Refused(AlreadyOpen)` if the caller is in a transaction.
+    /// - `Refused(NoMemory)` if memory is refused by `begin` or by an operation.
+    /// - `Busy` if another caller held the stripe of an operation's key.
+    ///
+    /// # Cost
+    ///
+    /// Those of `begin`, of the operations, and of `commit` or `abort`, and a call of
+    /// `Operations::at` and of `ReplyForm::of` for each operation.
+    pub fn run_each<O: Operations, R: ReplyForm + Copy>(
+        &mut self,
+        ops: &O,
+        strict: bool,
+        replies: &mut [R],
+        done: &mut usize,
+    ) -> Result<RunEnd, Stop>
+        requires room { length (O.ops_of ops.now) ≤ length replies.old }
+        ensures map { self.new.map ≡ self.old.map }
+        ensures closed { self.old.is_open ≡ false → self.new.is_open ≡ false }
+        ensures untouched { self.old.is_open ≡ true → (replies.new ≡ replies.old) × (done.new ≡ 0) }
+        ensures few { done.new ≤ length (O.ops_of ops.now) }
+        ensures runs { (told : List (Option ℕ)) × LieIn R.form told replies.old replies.new done.new
+            × Runs strict (O.ops_of ops.now) told self.old result self.new }
+    {
+        *done = 0;
+        if self.is_open {
+            return Err(Stop::Refused(Refusal::AlreadyOpen));
+        }
         self.begin()?;
-        match self.do_all(ops, strict, replies) {
+        match self.do_all(ops, strict, replies, done) {
             Ok(true) => Ok(RunEnd::Committed(self.commit()?)),
             Ok(false) => {
                 let _ = self.abort();

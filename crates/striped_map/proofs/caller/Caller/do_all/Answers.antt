@@ -1,16 +1,32 @@
-use Rattle.std.proofs.Common.{◌≡◌, Err, length, rules, sym, ◌∙◌, arith}
-use Rattle.striped_map.proofs.Ran.{does_to_miss, does_until}
+use Rattle.std.proofs.Common.{◌≡◌, ◌<◌, ◌∷◌, ◌++◌, [], Err, length, rules, refl, sym, ◌∙◌, arith}
+use Rattle.striped_map.proofs.Ran.{does_next, does_to_miss, does_until, lies_next}
 use Rattle.striped_map.proofs.caller.Caller.do_all.Goals as goal
 
-pub returns-in_err-reply-clause-err : goal.returns-in_err-reply-clause-err
-returns-in_err-reply-clause-err g c =
+pub returns-in_err-reply-clause-does : goal.returns-in_err-reply-clause-does
+returns-in_err-reply-clause-does g c =
     let l = c.loop-place in
-    let long : length l.replies.items ≡ l.place = (let n = l.invariant.len in let o = l.replies.ok.0 in omega arith) in
+    let ops = g.O.Operations.ops_of c.args.ops.now in
+    let told = l.invariant.0 in
     let is : c.from_residual.result ≡ Err c.in_err-reply.field-0.0 = search rules in
-    rw is (does_until c.args.strict (g.O.Operations.ops_of c.args.ops.now) l.place _ l.replies.items c.args.self.now l.self c.operate_by_kind.new.self c.in_err-reply.field-0.0 c.at-op.ensures long l.invariant.does c.in_err-reply.ensures.err)
+    rw is (told, rw l.invariant.3 l.invariant.4, does_until c.args.strict ops l.place _ told c.args.self.now l.self c.operate_by_kind.new.self c.in_err-reply.field-0.0 c.at-op.ensures (sym l.invariant.4.count) l.invariant.5 c.in_err-reply.ensures.err)
 
-pub returns-then-is_miss-clause-miss : goal.returns-then-is_miss-clause-miss
-returns-then-is_miss-clause-miss g c = λ _.
+pub returns-then-is_miss-clause-does : goal.returns-then-is_miss-clause-does
+returns-then-is_miss-clause-does g c =
     let l = c.loop-place in
-    let long : length l.replies.items ≡ l.place = (let n = l.invariant.len in let o = l.replies.ok.0 in omega arith) in
-    does_to_miss c.args.strict (g.O.Operations.ops_of c.args.ops.now) l.place _ l.replies.items c.push_reserved.new.self.items c.in_ok-reply.reply c.args.self.now l.self c.operate_by_kind.new.self c.at-op.ensures long c.push_reserved.ensures.items l.invariant.does c.in_ok-reply.ensures.ok (sym c.is_miss.ensures ∙ c.if-is_miss.true)
+    let ops = g.O.Operations.ops_of c.args.ops.now in
+    let told = l.invariant.0 in
+    let reply = c.in_ok-reply.reply in
+    let below : l.place < length c.args.replies.now = (let room = c.requires.room in let test = c.loop-place-test.true in search (rules, arith)) in
+    let all = told ++ reply ∷ [] in
+    let lie = lies_next g.R.ReplyForm.form told reply c.args.replies.now l.replies l.place below l.invariant.4 in
+    (all, rw c.of.ensures lie, does_to_miss c.args.strict ops l.place _ told all reply c.args.self.now l.self c.operate_by_kind.new.self c.at-op.ensures (sym l.invariant.4.count) refl l.invariant.5 c.in_ok-reply.ensures.ok (sym c.is_miss.ensures ∙ c.if-is_miss.true))
+
+pub loop-place-preserved : goal.loop-place-preserved
+loop-place-preserved g c =
+    let l = c.loop-place in
+    let ops = g.O.Operations.ops_of c.args.ops.now in
+    let told = l.invariant.0 in
+    let reply = c.in_ok-reply.reply in
+    let below : l.place < length c.args.replies.now = (let room = c.requires.room in let test = c.loop-place-test.true in search (rules, arith)) in
+    let lie = lies_next g.R.ReplyForm.form told reply c.args.replies.now l.replies l.place below l.invariant.4 in
+    (told ++ reply ∷ [], c.operate_by_kind.ensures.map ∙ l.invariant.1, (λ was. (c.in_ok-reply.ensures.open).1), refl, rw c.of.ensures lie, does_next c.args.strict ops l.place _ told reply c.args.self.now l.self c.operate_by_kind.new.self c.at-op.ensures l.invariant.5 c.in_ok-reply.ensures.ok (sym c.is_miss.ensures ∙ c.if-is_miss.false))
