@@ -13,7 +13,7 @@ use Rattle.order_check.specs.Forces.{Forces}
 use Rattle.order_check.specs.Graphs.{IsCycle, Graph, HasEdge}
 use Rattle.order_check.specs.Orders.{IsOrderOf, HasNoOrder}
 use Rattle.order_check.specs.Tables.{Version, version_eq, IsAmong, DoesWrite, DoesBeside}
-use Rattle.order_check.specs.Joined.{NeedsAt, DoesAt, AreDistinct, AreSourced}
+use Rattle.order_check.specs.Joined.{NeedsAt, DoesAt, AreDistinct, AreSourced, source_in}
 use Rattle.std.specs.List.{range_with_len}
 use Rattle.order_check.specs.Choices.{IsUnwritten}
 use Rattle.order_check.specs.InTurn.{AreRising}
@@ -27,10 +27,14 @@ abbrev pub footprints_of : List Access → ℕ → Footprint
 footprints_of [] t k = None
 footprints_of (a ∷ rest) t k = if (a.txn == t) && (a.key == k) then Some (cell_of a) else footprints_of rest t k
 
--- The source of each need.
+-- The source of each need: the access's index.
+abbrev pub indices_of : List Access → ℕ → ℕ → Option ℕ
+indices_of [] t k = None
+indices_of (a ∷ rest) t k = if (a.txn == t) && (a.key == k) then a.source else indices_of rest t k
+
+-- The transaction.
 abbrev pub sources_of : List Access → ℕ → ℕ → Option ℕ
-sources_of [] t k = None
-sources_of (a ∷ rest) t k = if (a.txn == t) && (a.key == k) then a.source else sources_of rest t k
+sources_of accesses t k = source_in accesses (indices_of accesses t k)
 
 -- The accesses of so many transactions, one transaction after the other. Their sources mean nothing.
 pub record ArePlain (count : ℕ) (accesses : List Access) : Type 0 where

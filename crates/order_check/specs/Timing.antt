@@ -1,6 +1,5 @@
 -- What is kept of real time.
 use Rattle.std.specs.Prelude.{ℕ, ◌≡◌, ◌<◌, ◌≤◌, Bool, None, List, length, slice_index_or}
-use Rattle.std.specs.HashMap.{HashMap}
 use mathlib.Core.Logic.{◌⊎◌}
 use Rattle.txn_words.specs.declared.entry.Entry.{Entry}
 use Rattle.txn_trace.specs.History.{commits}
@@ -8,11 +7,11 @@ use Rattle.order_check.specs.declared.access.Access.{Access}
 use Rattle.order_check.specs.declared.edge.Edge.{Edge}
 use Rattle.order_check.specs.declared.edge.Kind.TheVariants.{Began}
 use Rattle.order_check.specs.Graphs.{Graph, HasEdge}
-use Rattle.order_check.specs.declared.table.Doer.{Doer}
+use Rattle.order_check.specs.declared.replacers.Replacers.{Replacers}
 use Rattle.order_check.specs.Joined.{AreMeant, IsEdge, IsJoined, Keeps}
 use Rattle.order_check.specs.Lists.{place}
 use Rattle.order_check.specs.RealTime.{IsEarlierIf}
-use Rattle.order_check.specs.Tables.{Version, IsAmong}
+use Rattle.order_check.specs.Tables.{IsAmong}
 
 -- `n` transactions had committed when `u` began, or none of them counts.
 pub record IsSince (real_time : Bool) (h : List Entry) (u n : ℕ) : Type 0 where
@@ -66,8 +65,8 @@ pub record AreTimed (since : ℕ → ℕ) (old new : Graph) : Type 0 where
 
 -- The edges of so many transactions: each has its meaning, each access has its edges, and so has
 -- real time.
-pub record IsGraphOf {R : Type 0} (count : ℕ) (since : ℕ → ℕ) (accesses : List Access) (replacers : HashMap Version Doer R) (graph : Graph) : Type 0 where
+pub record IsGraphOf (count : ℕ) (since : ℕ → ℕ) (accesses : List Access) (replacers : Replacers) (graph : Graph) : Type 0 where
   pub len : length graph ≡ count
   pub meant : AreMeant accesses since graph
-  pub joined : (a : Access) → IsAmong a accesses → IsJoined replacers graph a
+  pub joined : (a : Access) → IsAmong a accesses → IsJoined accesses replacers graph a
   pub timed : (t u : ℕ) → t < since u → IsTimed since graph t u

@@ -43,6 +43,7 @@ mod naming;
 mod options;
 mod outcome;
 mod placing;
+mod replacers;
 mod search;
 mod shortest;
 mod table;

@@ -16,9 +16,10 @@ use crate::edge::{Edge, Kind};
 use crate::edges::make_graph;
 use crate::exclusion::find_impossible;
 use crate::in_turn::run_in_turn;
+use crate::replacers::make_replacers;
 use crate::search::Found;
 use crate::shortest::find_shortest;
-use crate::table::{Doer, Version, make_replacers, make_writers};
+use crate::table::{Doer, Version, make_writers};
 use std::alloc::{AllocError, Global};
 use std::collections::HashMap;
 

@@ -18,7 +18,7 @@ add_edges-requires-clause-doers c =
 pub loop-access-preserved : goal.loop-access-preserved
 loop-access-preserved c =
     let below : c.loop-access.access-index < length c.args.accesses.now = omega arith in
-    let one = c.in_ok-add_edges.ensures c.args.accesses.now c.requires.told c.requires.are.distinct c.requires.are.sourced (among_at c.args.accesses.now c.loop-access.access-index no_access below) in
+    let one = c.in_ok-add_edges.ensures c.requires.told c.requires.are.sourced (among_at c.args.accesses.now c.loop-access.access-index no_access below) in
     record {
       len = one.len ∙ c.loop-access.invariant.len;
       meant = one.meant (since_in c.args.since.now) c.loop-access.invariant.meant;
@@ -32,10 +32,10 @@ pub returns : goal.returns
 returns c =
     let end : length c.args.accesses.now ≤ c.loop-access.access-index = omega arith in
     let timed = c.in_ok-add_times.ensures in
-    let joined = at_end c.args.replacers.now c.args.accesses.now c.loop-access.access-index c.loop-access.graph.items end c.loop-access.invariant.joined in
+    let joined = at_end c.args.accesses.now c.args.replacers.now c.args.accesses.now c.loop-access.access-index c.loop-access.graph.items end c.loop-access.invariant.joined in
     record {
       len = timed.len ∙ c.loop-access.invariant.len;
       meant = meant_timed c.args.accesses.now (since_in c.args.since.now) c.loop-access.graph.items c.add_times.new.graph.items timed c.loop-access.invariant.meant;
-      joined = λ a is_in. joined_more c.args.replacers.now c.loop-access.graph.items c.add_times.new.graph.items a timed.keeps (joined a is_in);
+      joined = λ a is_in. joined_more c.args.accesses.now c.args.replacers.now c.loop-access.graph.items c.add_times.new.graph.items a timed.keeps (joined a is_in);
       timed = timed.timed;
     }

@@ -9,5 +9,5 @@ abbrev pub invariant-loop-access : goal.invariant-loop-access
 invariant-loop-access l = record {
   len : length l.graph.items ≡ l.count;
   meant : AreMeant l.accesses (since_in l.since) l.graph.items;
-  joined : (a : Access) → IsAmong a (take l.access-index l.accesses) → IsJoined l.replacers l.graph.items a;
+  joined : (a : Access) → IsAmong a (take l.access-index l.accesses) → IsJoined l.accesses l.replacers l.graph.items a;
 }
