@@ -5,12 +5,12 @@ use Rattle.std.proofs.Common.{◌≡◌, ◌≢◌, ℕ, zero, suc, Option, Some
 use mathlib.Core.Logic.{inl, inr}
 use Rattle.order_check.specs.declared.access.Access.{Access}
 use Rattle.order_check.specs.declared.edge.Kind.TheVariants.{Read, Replaced}
-use Rattle.order_check.specs.declared.edge.Edge.{Edge}
+use Rattle.order_check.specs.declared.link.Link.{Link}
 use Rattle.order_check.specs.declared.replacers.Replacers.{Replacers}
 use Rattle.order_check.specs.Graphs.{Graph}
 use Rattle.order_check.specs.Growth.{Adds}
 use Rattle.order_check.specs.Tables.{DoesReplace, DoesWrite, IsAmong, IsFrom, Knows, replacer_in}
-use Rattle.order_check.specs.Joined.{NeedsAt, DoesAt, SourceIs, AreReplacers, AreSourced, Means, AreMeant, IsEdge, Keeps, EdgesOne, source_in, txn_of}
+use Rattle.order_check.specs.Joined.{NeedsAt, DoesAt, SourceIs, AreReplacers, AreSourced, Means, AreMeant, IsEdge, Keeps, EdgesOne, meaning_of, source_in, txn_of, version_in}
 
 needs_at : (accesses : List Access) (a : Access) → IsAmong a accesses → NeedsAt accesses a.txn (a.key, a.need)
 needs_at accesses a is_in = record { by = a; is_among = is_in; txn_is = refl; key_is = refl; need_is = refl }
@@ -21,13 +21,13 @@ among_there (x ∷ xs) zero a there = inl (cc there)
 among_there (x ∷ xs) (suc i) a there = inr (among_there xs i a there)
 
 -- One more edge with its meaning.
-meant_more : (accesses : List Access) (since : ℕ → ℕ) (edge : Edge) (to : ℕ) (old new : Graph) → Adds edge to old new → Means accesses since edge to → AreMeant accesses since old → AreMeant accesses since new
+meant_more : (accesses : List Access) (since : ℕ → ℕ) (edge : Link) (to : ℕ) (old new : Graph) → Adds edge to old new → Means accesses since edge to → AreMeant accesses since old → AreMeant accesses since new
 meant_more accesses since edge to old new adds means were u l has = elim (adds.only u l has) [
   | inl before ↦ were u l before
   | inr last ↦ subst (λ m. Means accesses since m u) (sym last.1) (subst (Means accesses since edge) (sym last.0) means)
 ]
 
-edge_from : (edge : Edge) (to : ℕ) (old new : Graph) → Adds edge to old new → IsEdge new edge.from to
+edge_from : (edge : Link) (to : ℕ) (old new : Graph) → Adds edge to old new → IsEdge new edge.from to
 edge_from edge to old new adds = record { edge = edge; there = adds.there; from_is = refl }
 
 pub more_edge : (old new : Graph) (t u : ℕ) → Keeps old new → IsEdge old t u → IsEdge new t u
@@ -52,7 +52,13 @@ source_writes accesses a None t of is = absurd (cc is)
 source_writes accesses a (Some i) t of is =
     record { by = of.by; is_among = among_there accesses i of.by of.there; does_it = of.does_it; txn_is = cc (ap (λ o. txn_of o) (sym of.there) ∙ is) }
 
-module _ (accesses : List Access) (replacers : Replacers) (a : Access) (told : AreReplacers accesses replacers) (sourced : AreSourced accesses) (is_in : IsAmong a accesses) where
+module _ (accesses : List Access) (replacers : Replacers) (i : ℕ) (a : Access) (told : AreReplacers accesses replacers) (sourced : AreSourced accesses) (here : slice_get accesses i ≡ Some a) where
+  is_in : IsAmong a accesses
+  is_in = among_there accesses i a here
+
+  version_is : version_in (slice_get accesses i) ≡ (a.key, a.need)
+  version_is = ap version_in here
+
   -- The edge from the source was added, if there is one.
   pub record Reads (old mid : Graph) : Type 0 where
     pub len : length mid ≡ length old
@@ -64,12 +70,12 @@ module _ (accesses : List Access) (replacers : Replacers) (a : Access) (told : A
   reads_nothing old mid same none =
       subst (Reads old) (sym same) (record { len = refl; keeps = λ u l has. has; reads = λ t is. absurd (none t is); meant = λ since were. were })
 
-  pub reads_from : (old mid : Graph) (t : ℕ) → source_in accesses a.source ≡ Some t → Adds (record { from = t; kind = Read; key = a.key; value = a.need }) a.txn old mid → Reads old mid
+  pub reads_from : (old mid : Graph) (t : ℕ) → source_in accesses a.source ≡ Some t → Adds (record { from = t; kind = Read; index = i }) a.txn old mid → Reads old mid
   reads_from old mid t is adds = record {
     len = adds.len;
     keeps = adds.stays;
-    reads = λ u u_is. let same : t ≡ u = cc (sym is ∙ u_is) in subst (λ v. IsEdge mid v a.txn) same (edge_from (record { from = t; kind = Read; key = a.key; value = a.need }) a.txn old mid adds);
-    meant = λ since were. meant_more accesses since (record { from = t; kind = Read; key = a.key; value = a.need }) a.txn old mid adds (source_writes accesses a a.source t (sourced a is_in) is, needs_at accesses a is_in) were;
+    reads = λ u u_is. let same : t ≡ u = cc (sym is ∙ u_is) in subst (λ v. IsEdge mid v a.txn) same (edge_from (record { from = t; kind = Read; index = i }) a.txn old mid adds);
+    meant = λ since were. meant_more accesses since (record { from = t; kind = Read; index = i }) a.txn old mid adds (subst (λ q. meaning_of accesses since Read t q a.txn) (sym version_is) (source_writes accesses a a.source t (sourced a is_in) is, needs_at accesses a is_in)) were;
   }
 
   module _ (old mid : Graph) (part : Reads old mid) where
@@ -106,17 +112,18 @@ module _ (accesses : List Access) (replacers : Replacers) (a : Access) (told : A
       unfolding replacer
       same = same_need accesses a replacer.by sourced is_in replacer.is_among replacer.does_it.0
 
-      abbrev pub forth : Edge
-      forth = record { from = a.txn; kind = Replaced; key = a.key; value = a.need }
+      abbrev pub forth : Link
+      forth = record { from = a.txn; kind = Replaced; index = i }
 
-      abbrev pub back : Edge
-      back = record { from = first; kind = Replaced; key = a.key; value = a.need }
+      abbrev pub back : Link
+      back = record { from = first; kind = Replaced; index = i }
 
       forth_meant : (since : ℕ → ℕ) → (first ≡ a.txn → ⊥) → Means accesses since forth first
-      forth_meant since other = (needs_at accesses a is_in, record { by = replacer.by; is_among = replacer.is_among; does_it = (same.0, same.1, replacer.does_it.1); txn_is = replacer.txn_is }, λ is. other (sym is))
+      forth_meant since other =
+          subst (λ q. meaning_of accesses since Replaced a.txn q first) (sym version_is) (needs_at accesses a is_in, record { by = replacer.by; is_among = replacer.is_among; does_it = (same.0, same.1, replacer.does_it.1); txn_is = replacer.txn_is }, λ is. other (sym is))
 
       back_meant : (since : ℕ → ℕ) → (first ≡ a.txn → ⊥) → a.need ≢ a.left → Means accesses since back a.txn
-      back_meant since other changed = (
+      back_meant since other changed = subst (λ q. meaning_of accesses since Replaced first q a.txn) (sym version_is) (
         record { by = replacer.by; is_among = replacer.is_among; txn_is = replacer.txn_is; key_is = same.0; need_is = same.1 },
         record { by = a; is_among = is_in; does_it = (refl, refl, changed); txn_is = refl },
         other,

@@ -1,7 +1,7 @@
 -- Shows that cycles, orders and repeated values found on accesses are those of the footprints,
 -- because each cell comes from exactly one access.
 use Rattle.std.specs.Prelude.{slice_get}
-use Rattle.std.proofs.Common.{◌≡◌, ◌≢◌, ◌==◌, ℕ, zero, suc, ◌<◌, Bool, true, false, cond, ◌&&◌, Option, Some, None, is_some, List, [], ◌∷◌, length, refl, ap, sym, ◌∙◌, subst, arith}
+use Rattle.std.proofs.Common.{◌≡◌, ◌≢◌, ◌==◌, ℕ, zero, suc, ◌<◌, Bool, true, false, cond, ◌&&◌, Option, Some, None, is_some, List, [], ◌∷◌, length, map, refl, ap, sym, ◌∙◌, subst, arith}
 use Rattle.std.specs.HashMap.{HashMap, get as told_at}
 use Rattle.std.specs.List.{All}
 use Rattle.std.proofs.lemmas.Bool.{false≢true, and_parts, and_cases, and_from, eqb-true, eq-eqb, cases_eq}
@@ -11,18 +11,19 @@ use Rattle.order_check.specs.declared.access.Access.{Access}
 use Rattle.order_check.specs.declared.edge.Kind.{Kind}
 use Rattle.order_check.specs.declared.edge.Kind.TheVariants.{Read, Replaced, Began}
 use Rattle.order_check.specs.declared.edge.Edge.{Edge}
+use Rattle.order_check.specs.declared.link.Link.{Link}
 use Rattle.order_check.specs.declared.replacers.Replacers.{Replacers}
 use Rattle.order_check.specs.declared.table.Doer.{Doer}
 use Rattle.order_check.specs.Lists.{IsIn, place, HasEachOnce}
 use Rattle.order_check.specs.Footprints.{Cell}
 use Rattle.order_check.specs.Dependencies.{Needs, Writes, Replaces, ComesOnce}
 use Rattle.order_check.specs.Forces.{dependency_of, Forces, OnlyThese}
-use Rattle.order_check.specs.Graphs.{Graph, HasEdge, AreInRange, KeepsEdges, IsWay, IsCycle}
+use Rattle.order_check.specs.Graphs.{Graph, HasEdge, AreInRange, KeepsEdges, IsWay, IsCycle, IsRoute, IsRing}
 use Rattle.order_check.specs.Timing.{Leads}
 use Rattle.order_check.specs.Orders.{KeepsTime, IsOrderOf, HasNoOrder}
 use Rattle.order_check.specs.Tables.{Version, version_eq, DoesWrite, DoesReplace, ReplacesValue, IsAmong, IsFrom, Knows, Told, AreWriters, AreBelow, replacer_in}
-use Rattle.order_check.specs.Joined.{NeedsAt, DoesAt, SourceIs, AreDistinct, AreReplacers, meaning_of, AreMeant, IsEdge, IsJoined, source_in, txn_of}
-use Rattle.order_check.specs.Outcomes.{cell_of, footprints_of, indices_of, sources_of, AreAccesses, IsTxn, comes_once, holds_always, IsOnce, IsRepeated}
+use Rattle.order_check.specs.Joined.{NeedsAt, DoesAt, SourceIs, AreDistinct, AreReplacers, meaning_of, AreMeant, IsEdge, IsJoined, edge_of, source_in, txn_of, version_of}
+use Rattle.order_check.specs.Outcomes.{cell_of, footprints_of, indices_of, sources_of, AreAccesses, IsTxn, comes_once, holds_always, is_once, IsOnce, IsRepeated}
 use Rattle.order_check.proofs.AccessEdges.{among_there, source_writes}
 use Rattle.order_check.specs.Sources.{Gives}
 use Rattle.order_check.proofs.Versions.{runs_by_sources}
@@ -138,7 +139,7 @@ module _ (count : ℕ) (accesses : List Access) (are : AreAccesses count accesse
     from_below Began t q u means = early t u means
 
     pub in_range : length graph ≡ count → AreInRange graph
-    in_range len u l has = subst (λ n. l.from < n) (sym len) (from_below l.kind l.from (l.key, l.value) u (meant u l has))
+    in_range len u l has = subst (λ n. l.from < n) (sym len) (from_below l.kind l.from (version_of accesses l) u (meant u l has))
 
   module _ (since : ℕ → ℕ) {S : Type 0} (writers : HashMap Version Doer S) (written : AreWriters accesses writers) where
     -- A value that comes only once by the tables does so by the footprints.
@@ -166,40 +167,43 @@ module _ (count : ℕ) (accesses : List Access) (are : AreAccesses count accesse
     forces_of Began t k v u means once = means
 
     module _ (graph : Graph) (meant : AreMeant accesses since graph) where
-      edge_forces : (l : Edge) (u : ℕ) → HasEdge graph l u → IsOnce writers l → Forces (footprints_of accesses) since l u
-      edge_forces l u has once = forces_of l.kind l.from l.key l.value u (meant u l has) once
+      abbrev edges : List Link → List Edge
+      edges ls = map (edge_of accesses) ls
 
-      leads_forces : (l : Edge) (u : ℕ) → Leads since graph l u → (HasEdge graph l u → IsOnce writers l) → Forces (footprints_of accesses) since l u
+      edge_forces : (l : Link) (u : ℕ) → HasEdge graph l u → IsOnce accesses writers l → Forces (footprints_of accesses) since (edge_of accesses l) u
+      edge_forces l u has once = forces_of l.kind l.from (version_of accesses l).0 (version_of accesses l).1 u (meant u l has) once
+
+      leads_forces : (l : Link) (u : ℕ) → Leads since graph l u → (HasEdge graph l u → IsOnce accesses writers l) → Forces (footprints_of accesses) since (edge_of accesses l) u
       leads_forces l u leads once = elim leads [
         | inl has ↦ edge_forces l u has (once has)
-        | inr timed ↦ subst (λ kind. dependency_of kind (footprints_of accesses) since l.from u l.key l.value) (sym timed.0) timed.1
+        | inr timed ↦ subst (λ kind. dependency_of kind (footprints_of accesses) since l.from u (version_of accesses l).0 (version_of accesses l).1) (sym timed.0) timed.1
       ]
 
-      way_forces : (l : Edge) (ls : List Edge) (end : ℕ) → IsWay (Leads since graph) l ls end → All (IsOnce writers) (l ∷ ls) → IsWay (Forces (footprints_of accesses) since) l ls end
-      way_forces l [] end way all = leads_forces l end way (λ has. All-head (IsOnce writers) l [] all)
-      way_forces l (m ∷ ms) end way all = (leads_forces l m.from way.0 (λ has. All-head (IsOnce writers) l (m ∷ ms) all), way_forces m ms end way.1 (All-tail (IsOnce writers) l (m ∷ ms) all))
+      way_forces : (l : Link) (ls : List Link) (end : ℕ) → IsRoute (Leads since graph) l ls end → All (IsOnce accesses writers) (l ∷ ls) → IsWay (Forces (footprints_of accesses) since) (edge_of accesses l) (edges ls) end
+      way_forces l [] end way all = leads_forces l end way (λ has. All-head (IsOnce accesses writers) l [] all)
+      way_forces l (m ∷ ms) end way all = (leads_forces l m.from way.0 (λ has. All-head (IsOnce accesses writers) l (m ∷ ms) all), way_forces m ms end way.1 (All-tail (IsOnce accesses writers) l (m ∷ ms) all))
 
-      cycle_forces : (ls : List Edge) → IsCycle (Leads since graph) ls → All (IsOnce writers) ls → IsCycle (Forces (footprints_of accesses) since) ls
+      cycle_forces : (ls : List Link) → IsRing (Leads since graph) ls → All (IsOnce accesses writers) ls → IsCycle (Forces (footprints_of accesses) since) (edges ls)
       cycle_forces [] cycle all = cycle
       cycle_forces (l ∷ ls) cycle all = way_forces l ls l.from cycle all
 
-      pub cycle_found : (ls : List Edge) → IsCycle (Leads since graph) ls → All (IsOnce writers) ls → IsCycle (Forces (footprints_of accesses) since) ls × HasNoOrder (IsTxn count) (footprints_of accesses) since
+      pub cycle_found : (ls : List Link) → IsRing (Leads since graph) ls → All (IsOnce accesses writers) ls → IsCycle (Forces (footprints_of accesses) since) (edges ls) × HasNoOrder (IsTxn count) (footprints_of accesses) since
       cycle_found ls cycle all =
           let forced = cycle_forces ls cycle all in
-          (forced, cycle_no_order (IsTxn count) (footprints_of accesses) since only_these ls forced)
+          (forced, cycle_no_order (IsTxn count) (footprints_of accesses) since only_these (edges ls) forced)
 
-      certain_way : ((u : ℕ) (l : Edge) → HasEdge graph l u → IsOnce writers l) → (l : Edge) (ls : List Edge) (end : ℕ) → IsWay (Leads since graph) l ls end → IsWay (Forces (footprints_of accesses) since) l ls end
+      certain_way : ((u : ℕ) (l : Link) → HasEdge graph l u → IsOnce accesses writers l) → (l : Link) (ls : List Link) (end : ℕ) → IsRoute (Leads since graph) l ls end → IsWay (Forces (footprints_of accesses) since) (edge_of accesses l) (edges ls) end
       certain_way once l [] end way = leads_forces l end way (once end l)
       certain_way once l (m ∷ ms) end way = (leads_forces l m.from way.0 (once m.from l), certain_way once m ms end way.1)
 
-      certain_cycle : ((u : ℕ) (l : Edge) → HasEdge graph l u → IsOnce writers l) → (ls : List Edge) → IsCycle (Leads since graph) ls → IsCycle (Forces (footprints_of accesses) since) ls
+      certain_cycle : ((u : ℕ) (l : Link) → HasEdge graph l u → IsOnce accesses writers l) → (ls : List Link) → IsRing (Leads since graph) ls → IsCycle (Forces (footprints_of accesses) since) (edges ls)
       certain_cycle once [] cycle = cycle
       certain_cycle once (l ∷ ls) cycle = certain_way once l ls l.from cycle
 
-      pub certain_found : ((u : ℕ) (l : Edge) → HasEdge graph l u → IsOnce writers l) → (ls : List Edge) → IsCycle (Leads since graph) ls → IsCycle (Forces (footprints_of accesses) since) ls × HasNoOrder (IsTxn count) (footprints_of accesses) since
+      pub certain_found : ((u : ℕ) (l : Link) → HasEdge graph l u → IsOnce accesses writers l) → (ls : List Link) → IsRing (Leads since graph) ls → IsCycle (Forces (footprints_of accesses) since) (edges ls) × HasNoOrder (IsTxn count) (footprints_of accesses) since
       certain_found once ls cycle =
           let forced = certain_cycle once ls cycle in
-          (forced, cycle_no_order (IsTxn count) (footprints_of accesses) since only_these ls forced)
+          (forced, cycle_no_order (IsTxn count) (footprints_of accesses) since only_these (edges ls) forced)
 
     -- A value that comes more than once by the tables does so.
     pub repeated_of : (k : ℕ) (v : Option ℕ) (o : Option Doer) → Told (DoesWrite (k, v)) accesses o → comes_once o v ≡ false → IsRepeated accesses (k, v)
@@ -222,8 +226,10 @@ module _ (count : ℕ) (accesses : List Access) (are : AreAccesses count accesse
     often_of Replaced o v often = often
     often_of Began o v often = absurd (false≢true (sym often))
 
-    pub repeated : (l : Edge) → holds_always l.kind (told_at version_eq writers (l.key, l.value)) l.value ≡ false → IsRepeated accesses (l.key, l.value)
-    repeated l often = repeated_of l.key l.value (told_at version_eq writers (l.key, l.value)) (written (l.key, l.value)) (often_of l.kind (told_at version_eq writers (l.key, l.value)) l.value often)
+    pub repeated : (l : Link) → is_once accesses writers l ≡ false → IsRepeated accesses (version_of accesses l)
+    repeated l often =
+        let q = version_of accesses l in
+        repeated_of q.0 q.1 (told_at version_eq writers q) (written q) (often_of l.kind (told_at version_eq writers q) q.1 often)
 
   module _ (replacers : Replacers) (replaced : AreReplacers accesses replacers) where
     pub tables_below : (n : ℕ) → n ≡ count → AreBelow replacers n

@@ -6,7 +6,7 @@ use Rattle.std.proofs.lemmas.List.{take_more, take_all}
 use Rattle.std.proofs.lemmas.List.Elements.{All-more}
 use mathlib.Core.Logic.{inl, inr}
 use Rattle.order_check.specs.declared.access.Access.{Access}
-use Rattle.order_check.specs.declared.edge.Edge.{Edge}
+use Rattle.order_check.specs.declared.link.Link.{Link}
 use Rattle.order_check.specs.declared.replacers.Replacers.{Replacers}
 use Rattle.order_check.specs.declared.table.Doer.{Doer}
 use Rattle.order_check.specs.Graphs.{Graph}
@@ -39,8 +39,8 @@ all_joined replacers accesses xs i old new below one before a is_in =
 pub at_end : (accesses : List Access) (replacers : Replacers) (xs : List Access) (i : ℕ) (graph : Graph) → length xs ≤ i → ((a : Access) → IsAmong a (take i xs) → IsJoined accesses replacers graph a) → (a : Access) → IsAmong a xs → IsJoined accesses replacers graph a
 at_end accesses replacers xs i graph end all a is_in = all a (subst (IsAmong a) (sym (take_all i xs end)) is_in)
 
-pub once_more : {S : Type 0} (writers : HashMap Version Doer S) (edges : List Edge) (i : ℕ) (d : Edge) → i < length edges → All (IsOnce writers) (take i edges) → IsOnce writers (get_or edges i d) → All (IsOnce writers) (take (i + 1) edges)
-once_more writers edges i d below all here = All-more (IsOnce writers) edges i d below all here
+pub once_more : {S : Type 0} (accesses : List Access) (writers : HashMap Version Doer S) (edges : List Link) (i : ℕ) (d : Link) → i < length edges → All (IsOnce accesses writers) (take i edges) → IsOnce accesses writers (get_or edges i d) → All (IsOnce accesses writers) (take (i + 1) edges)
+once_more accesses writers edges i d below all here = All-more (IsOnce accesses writers) edges i d below all here
 
-pub once_all : {S : Type 0} (writers : HashMap Version Doer S) (edges : List Edge) (i : ℕ) → length edges ≤ i → All (IsOnce writers) (take i edges) → All (IsOnce writers) edges
-once_all writers edges i end all = subst (All (IsOnce writers)) (take_all i edges end) all
+pub once_all : {S : Type 0} (accesses : List Access) (writers : HashMap Version Doer S) (edges : List Link) (i : ℕ) → length edges ≤ i → All (IsOnce accesses writers) (take i edges) → All (IsOnce accesses writers) edges
+once_all accesses writers edges i end all = subst (All (IsOnce accesses writers)) (take_all i edges end) all

@@ -4,6 +4,7 @@ use Rattle.order_check.specs.declared.access.Access.{Access}
 use Rattle.order_check.specs.declared.edge.Kind.{Kind}
 use Rattle.order_check.specs.declared.edge.Kind.TheVariants.{Read, Replaced, Began}
 use Rattle.order_check.specs.declared.edge.Edge.{Edge}
+use Rattle.order_check.specs.declared.link.Link.{Link}
 use Rattle.order_check.specs.declared.replacers.Replacers.{Replacers}
 use Rattle.order_check.specs.Graphs.{Graph, HasEdge}
 use Rattle.order_check.specs.Tables.{Version, DoesWrite, DoesReplace, ReplacesValue, IsAmong, Knows, replacer_in}
@@ -63,16 +64,37 @@ meaning_of accesses since Replaced t q u =
     NeedsAt accesses t q × DoesAt (ReplacesValue q) accesses u × (t ≢ u)
 meaning_of accesses since Began t q u = t < since u
 
-abbrev pub Means : List Access → (ℕ → ℕ) → Edge → ℕ → Type 0
-Means accesses since l u = meaning_of accesses since l.kind l.from (l.key, l.value) u
+-- The version that an edge is about: what its access needs. One of real time is about none.
+abbrev pub version_in : Option Access → Version
+version_in None = (0, None)
+version_in (Some a) = (a.key, a.need)
+
+abbrev pub version_at : List Access → Kind → ℕ → Version
+version_at accesses Began i = (0, None)
+version_at accesses kind i = version_in (slice_get accesses i)
+
+abbrev pub version_of : List Access → Link → Version
+version_of accesses l = version_at accesses l.kind l.index
+
+-- The edge that a link stands for.
+abbrev pub edge_of : List Access → Link → Edge
+edge_of accesses l = record {
+  from = l.from;
+  kind = l.kind;
+  key = (version_of accesses l).0;
+  value = (version_of accesses l).1;
+}
+
+abbrev pub Means : List Access → (ℕ → ℕ) → Link → ℕ → Type 0
+Means accesses since l u = meaning_of accesses since l.kind l.from (version_of accesses l) u
 
 -- Each edge has its meaning.
 abbrev pub AreMeant : List Access → (ℕ → ℕ) → Graph → Type 0
-AreMeant accesses since graph = (u : ℕ) (l : Edge) → HasEdge graph l u → Means accesses since l u
+AreMeant accesses since graph = (u : ℕ) (l : Link) → HasEdge graph l u → Means accesses since l u
 
 -- There is an edge from one transaction to the other.
 pub record IsEdge (graph : Graph) (t u : ℕ) : Type 0 where
-  pub edge : Edge
+  pub edge : Link
   pub there : HasEdge graph edge u
   pub from_is : edge.from ≡ t
 
@@ -85,7 +107,7 @@ pub record IsJoined (accesses : List Access) (replacers : Replacers) (graph : Gr
 
 -- All edges of `old` are edges of `new`.
 abbrev pub Keeps : Graph → Graph → Type 0
-Keeps old new = (u : ℕ) (l : Edge) → HasEdge old l u → HasEdge new l u
+Keeps old new = (u : ℕ) (l : Link) → HasEdge old l u → HasEdge new l u
 
 -- The edges of one more access were added.
 pub record EdgesOne (accesses : List Access) (replacers : Replacers) (a : Access) (old new : Graph) : Type 0 where

@@ -1,10 +1,10 @@
 -- What is kept of real time.
-use Rattle.std.specs.Prelude.{ℕ, ◌≡◌, ◌<◌, ◌≤◌, Bool, None, List, length, slice_index_or}
+use Rattle.std.specs.Prelude.{ℕ, ◌≡◌, ◌<◌, ◌≤◌, Bool, List, length, slice_index_or}
 use mathlib.Core.Logic.{◌⊎◌}
 use Rattle.txn_words.specs.declared.entry.Entry.{Entry}
 use Rattle.txn_trace.specs.History.{commits}
 use Rattle.order_check.specs.declared.access.Access.{Access}
-use Rattle.order_check.specs.declared.edge.Edge.{Edge}
+use Rattle.order_check.specs.declared.link.Link.{Link}
 use Rattle.order_check.specs.declared.edge.Kind.TheVariants.{Began}
 use Rattle.order_check.specs.Graphs.{Graph, HasEdge}
 use Rattle.order_check.specs.declared.replacers.Replacers.{Replacers}
@@ -34,11 +34,11 @@ pub record AreBegun (count : ℕ) (since begun : List ℕ) : Type 0 where
   pub within : (c : ℕ) → slice_index_or begun c 0 ≤ count
 
 -- An edge of real time from a transaction.
-abbrev pub time_edge : ℕ → Edge
-time_edge t = record { from = t; kind = Began; key = 0; value = None }
+abbrev pub time_edge : ℕ → Link
+time_edge t = record { from = t; kind = Began; index = 0 }
 
 -- One of the edges of `u`, or an edge of real time to it.
-abbrev pub Leads : (ℕ → ℕ) → Graph → Edge → ℕ → Type 0
+abbrev pub Leads : (ℕ → ℕ) → Graph → Link → ℕ → Type 0
 Leads since graph l u = HasEdge graph l u ⊎ ((l.kind ≡ Began) × (l.from < since u))
 
 -- There is an edge from `t` to `u`, or a transaction between them: it began after `t` had committed,
@@ -52,7 +52,7 @@ pub record AddsTimes (start end to : ℕ) (old new : Graph) : Type 0 where
   pub len : length new ≡ length old
   pub keeps : Keeps old new
   pub there : (t : ℕ) → start ≤ t → t < end → IsEdge new t to
-  pub only : (u : ℕ) (l : Edge) → HasEdge new l u
+  pub only : (u : ℕ) (l : Link) → HasEdge new l u
       → HasEdge old l u ⊎ ((u ≡ to) × (l.kind ≡ Began) × (l.from < end))
 
 -- The edges of real time were added, those of transactions without one between them at least.
@@ -60,7 +60,7 @@ pub record AreTimed (since : ℕ → ℕ) (old new : Graph) : Type 0 where
   pub len : length new ≡ length old
   pub keeps : Keeps old new
   pub timed : (t u : ℕ) → t < since u → IsTimed since new t u
-  pub only : (u : ℕ) (l : Edge) → HasEdge new l u
+  pub only : (u : ℕ) (l : Link) → HasEdge new l u
       → HasEdge old l u ⊎ ((l.kind ≡ Began) × (l.from < since u))
 
 -- The edges of so many transactions: each has its meaning, each access has its edges, and so has

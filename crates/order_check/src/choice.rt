@@ -1,6 +1,7 @@
 //! Chooses the source of each access, in the order of the list.
-ghost use Rattle.std.specs.Prelude.{◌≡◌, ℕ, IfOk, IfSome, IsSome, List, OnOk};
-ghost use Rattle.order_check.specs.Choices.{AreFirst, IsChoice, IsSourced, LatestWrite, IsSourcing, NotesFirst};
+ghost use Rattle.std.specs.Prelude.{◌≡◌, IfOk, IfSome, IsSome, List, OnOk};
+ghost use Rattle.order_check.specs.Choices.{IsChoice, IsSourced, LatestWrite, IsSourcing};
+ghost use Rattle.order_check.specs.Choices.{AreFirst, NotesFirst};
 ghost use Rattle.order_check.specs.Joined.{SourceIs};
 ghost use Rattle.order_check.specs.declared.access.Access.{Access};
 
@@ -67,7 +68,7 @@ fn with_source(access: Access, source: Option<usize>) -> Access
     }
 }
 
-/// The source of an access. The table of the first accesses is made when a value is needed that is not
+/// The source of an access. The table of first accesses is made when a value is needed that is not
 /// written before it in the list: few are.
 fn source_of(
     alloc: Global,

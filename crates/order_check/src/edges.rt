@@ -1,13 +1,14 @@
 //! The edges that accesses and real time give.
-ghost use Rattle.std.specs.Prelude.{◌≡◌, ◌<◌, ℕ, List, IfOk, IfSome, vec_len, OnOk};
+ghost use Rattle.std.specs.Prelude.{◌≡◌, ◌<◌, IfOk, OnOk, slice_get, Some, vec_len};
 ghost use Rattle.order_check.specs.Joined.{EdgesOne, AreReplacers, AreSourced, source_in};
 ghost use Rattle.order_check.specs.Outcomes.{AreAccesses};
-ghost use Rattle.order_check.specs.Tables.{AreBelow, IsAmong};
+ghost use Rattle.order_check.specs.Tables.{AreBelow};
 ghost use Rattle.order_check.specs.Timing.{IsGraphOf, IsTiming, since_in};
 
 use crate::access::Access;
-use crate::edge::{Edge, Kind};
+use crate::edge::Kind;
 use crate::graph::{add, no_edges};
+use crate::link::Link;
 use crate::replacers::Replacers;
 use crate::timing::add_times;
 use std::alloc::{AllocError, Global};
@@ -20,7 +21,7 @@ pub(crate) fn make_graph(
     since: &[usize],
     replacers: &Replacers,
     accesses: &[Access],
-) -> Result<Vec<Vec<Edge>>, AllocError>
+) -> Result<Vec<Vec<Link>>, AllocError>
     requires are { AreAccesses count accesses.now }
     requires timing { IsTiming count since.now }
     requires told { AreReplacers accesses.now replacers.now }
@@ -29,14 +30,16 @@ pub(crate) fn make_graph(
 {
     let rooms = count_edges(alloc, count, replacers, accesses)?;
     let mut graph = no_edges(alloc, count, &rooms)?;
-    for access in accesses {
-        add_edges(&mut graph, accesses, replacers, access)?;
+    for index in 0..accesses.len() {
+        let access = accesses[index];
+        add_edges(&mut graph, accesses, replacers, index, &access)?;
     }
     add_times(alloc, &mut graph, since)?;
     Ok(graph)
 }
 
-/// The number of edges that `add_edges` adds to each of so many transactions.
+/// How many edges `add_edges` adds to each of so many transactions. So a row is made with room for
+/// all of its own, and does not grow.
 fn count_edges(
     alloc: Global,
     count: usize,
@@ -77,43 +80,41 @@ fn source_txn(accesses: &[Access], access: &Access) -> Option<usize>
     }
 }
 
-/// Adds the edges that an access gives.
+/// Adds the edges that the access with this index gives.
 fn add_edges(
-    graph: &mut Vec<Vec<Edge>>,
+    graph: &mut Vec<Vec<Link>>,
     accesses: &[Access],
     replacers: &Replacers,
+    index: usize,
     access: &Access,
 ) -> Result<(), AllocError>
+    requires here { slice_get accesses.now index ≡ Some access.now }
     requires range { access.now.txn < vec_len graph.old }
     requires doers { AreBelow replacers.now (vec_len graph.old) }
-    ensures { OnOk result (AreReplacers accesses.now replacers.now
-        → AreSourced accesses.now → IsAmong access.now accesses.now
+    ensures { OnOk result (AreReplacers accesses.now replacers.now → AreSourced accesses.now
         → EdgesOne accesses.now replacers.now access.now graph.old.items graph.new.items) }
 {
     if let Some(source) = source_txn(accesses, access) {
-        let edge = Edge {
-            from: source as u64,
+        let edge = Link {
+            from: source,
             kind: Kind::Read,
-            key: access.key,
-            value: access.need,
+            index,
         };
         add(graph, access.txn, edge)?;
     }
     if let Some(first) = replacers.replacer(access) {
         if first != access.txn {
-            let edge = Edge {
-                from: access.txn as u64,
+            let edge = Link {
+                from: access.txn,
                 kind: Kind::Replaced,
-                key: access.key,
-                value: access.need,
+                index,
             };
             add(graph, first, edge)?;
             if access.need != access.left {
-                let back = Edge {
-                    from: first as u64,
+                let back = Link {
+                    from: first,
                     kind: Kind::Replaced,
-                    key: access.key,
-                    value: access.need,
+                    index,
                 };
                 add(graph, access.txn, back)?;
             }

@@ -2,7 +2,7 @@
 ghost use Rattle.std.specs.Prelude.{◌≡◌, ◌<◌, length, vec_len, OnOk, IfOk, true};
 ghost use Rattle.order_check.specs.Growth.{Adds, AreEmpty};
 
-use crate::edge::Edge;
+use crate::link::Link;
 use std::alloc::{AllocError, Global};
 
 /// No edges for each of so many transactions, with room for so many of each.
@@ -10,7 +10,7 @@ pub(crate) fn no_edges(
     alloc: Global,
     count: usize,
     rooms: &[usize],
-) -> Result<Vec<Vec<Edge>>, AllocError>
+) -> Result<Vec<Vec<Link>>, AllocError>
     ensures { IfOk result (λ graph. AreEmpty count graph.items) }
 {
     let mut graph = Vec::with_capacity(alloc, count)?;
@@ -29,7 +29,7 @@ fn room_at(rooms: &[usize], txn: usize) -> usize {
 }
 
 /// Adds an edge to a transaction.
-pub(crate) fn add(graph: &mut Vec<Vec<Edge>>, to: usize, edge: Edge) -> Result<(), AllocError>
+pub(crate) fn add(graph: &mut Vec<Vec<Link>>, to: usize, edge: Link) -> Result<(), AllocError>
     requires { to < vec_len graph.old }
     ensures { OnOk result (Adds edge to graph.old.items graph.new.items) }
 {

@@ -39,6 +39,7 @@ mod history;
 mod in_turn;
 mod known;
 mod laws;
+mod link;
 mod naming;
 mod options;
 mod outcome;

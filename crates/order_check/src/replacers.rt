@@ -1,6 +1,6 @@
-//! Which transactions replace a value: what an access wrote, or a key as it was at the beginning. What
-//! was written is found by the index of the access. So in the order of the commits what is read next
-//! lies beside what was read last.
+//! Which transactions replace a value: what an access wrote, or a key as it was at the beginning.
+//! Who replaces what was written is found at the index of the access that wrote it. Most values are
+//! replaced soon after, so that the places that are read lie close together.
 ghost use Rattle.std.specs.Prelude.{◌≡◌, ◌<◌, IfOk, IfSome, None, OnOk, slice_index_or, vec_len};
 ghost use Rattle.order_check.specs.Joined.{AreReplacers, AreSourced};
 ghost use Rattle.order_check.specs.Tables.{NotesReplacer, replacer_in};
