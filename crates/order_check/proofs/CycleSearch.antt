@@ -7,10 +7,10 @@ use Rattle.std.proofs.lemmas.List.{get_or-reverse, length-reverse, get_or_defaul
 use Rattle.std.proofs.lemmas.Option.{slice_get_within}
 use Rattle.std.proofs.lemmas.Bool.{cases_lt}
 use mathlib.Core.Logic.{◌⊎◌, inl, inr}
-use Rattle.order_check.specs.declared.edge.Edge.{Edge}
+use Rattle.order_check.specs.declared.link.Link.{Link}
 use Rattle.order_check.specs.declared.search.Visit.{Visit}
 use Rattle.order_check.specs.Lists.{IsIn}
-use Rattle.order_check.specs.Graphs.{Graph, edges_of, HasEdge, IsWay, IsCycle}
+use Rattle.order_check.specs.Graphs.{Graph, edges_of, HasEdge, IsRoute, IsRing}
 use Rattle.order_check.specs.Search.{unvisited, next_in, Follows, AreChained, IsSearch, MeetsOpen}
 use Rattle.order_check.proofs.SearchTurns.{edge_there, visit_is}
 use Rattle.order_check.proofs.Work.{row_is}
@@ -71,7 +71,7 @@ newest_at path k u below is = is ∙ sym (get_or-reverse path k u below) ∙ def
     default (x ∷ xs) (suc k) d e below = default xs k d e (omega arith)
 
 -- The code may read the next edge of each element of the path.
-pub may_read : (graph : Graph) (visits : List Visit) (path : List ℕ) (start k u : ℕ) (row : Vec Edge Global) (a : Visit) → Circle graph visits path start → k < length path → u ≡ get_or (reverse path) k 0 → row ≡ get_or graph u row → a ≡ get_or visits u a → a.next < vec_len row
+pub may_read : (graph : Graph) (visits : List Visit) (path : List ℕ) (start k u : ℕ) (row : Vec Link Global) (a : Visit) → Circle graph visits path start → k < length path → u ≡ get_or (reverse path) k 0 → row ≡ get_or graph u row → a ≡ get_or visits u a → a.next < vec_len row
 may_read graph visits path start k u row a circle less at row_here a_here =
     let below : u < length graph = subst (λ x. x < length graph) (sym at) (circle.below k less) in
     let in_visits : u < length visits = omega (arith, circle.len) in
@@ -83,35 +83,35 @@ may_read graph visits path start k u row a circle less at row_here a_here =
     omega arith
 
 -- The edge that the code reads at the place leads to the element from the one before.
-pub record Read (graph : Graph) (start : ℕ) (path : List ℕ) (k u : ℕ) (l : Edge) : Type 0 where
+pub record Read (graph : Graph) (start : ℕ) (path : List ℕ) (k u : ℕ) (l : Link) : Type 0 where
   pub from_is : l.from ≡ before_at start (reverse path) k
   pub there : HasEdge graph l u
 
-pub read_at : (graph : Graph) (visits : List Visit) (path : List ℕ) (start k u : ℕ) (row : Vec Edge Global) (a : Visit) (l : Edge) → Circle graph visits path start → k < length path → u ≡ get_or (reverse path) k 0 → row ≡ get_or graph u row → a ≡ get_or visits u a → l ≡ get_or row.items a.next l → Read graph start path k u l
+pub read_at : (graph : Graph) (visits : List Visit) (path : List ℕ) (start k u : ℕ) (row : Vec Link Global) (a : Visit) (l : Link) → Circle graph visits path start → k < length path → u ≡ get_or (reverse path) k 0 → row ≡ get_or graph u row → a ≡ get_or visits u a → l ≡ get_or row.items a.next l → Read graph start path k u l
 read_at graph visits path start k u row a l circle less at row_here a_here l_here =
     let below : u < length graph = subst (λ x. x < length graph) (sym at) (circle.below k less) in
     let in_row = may_read graph visits path start k u row a circle less at row_here a_here in
     let there = edge_there graph visits u row a l below circle.len row_here a_here in_row l_here in
     let f : Follows graph (next_in visits) u (before_at start (reverse path) k) = subst (λ x. Follows graph (next_in visits) x (before_at start (reverse path) k)) (sym at) (circle.leads k less) in
     let same : f.edge ≡ l = cc (sym f.there ∙ there) in
-    record { from_is = ap (λ (x : Edge). x.from) (sym same) ∙ f.from_is; there = record { number = next_in visits u; there = there } }
+    record { from_is = ap (λ (x : Link). x.from) (sym same) ∙ f.from_is; there = record { number = next_in visits u; there = there } }
 
 -- The edges so far lead from `start` to `u`.
-pub record Trail (leads : Edge → ℕ → Type 0) (start : ℕ) (edges : List Edge) (u : ℕ) : Type 0 where
-  pub first : Edge
-  pub others : List Edge
+pub record Trail (leads : Link → ℕ → Type 0) (start : ℕ) (edges : List Link) (u : ℕ) : Type 0 where
+  pub first : Link
+  pub others : List Link
   pub edges_are : edges ≡ first ∷ others
   pub from_is : first.from ≡ start
-  pub way : IsWay leads first others u
+  pub way : IsRoute leads first others u
 
-way_push : (leads : Edge → ℕ → Type 0) (l : Edge) (ls : List Edge) (m : Edge) (t u : ℕ) → IsWay leads l ls t → m.from ≡ t → leads m u → IsWay leads l (ls ++ m ∷ []) u
+way_push : (leads : Link → ℕ → Type 0) (l : Link) (ls : List Link) (m : Link) (t u : ℕ) → IsRoute leads l ls t → m.from ≡ t → leads m u → IsRoute leads l (ls ++ m ∷ []) u
 way_push leads l [] m t u way from_is there = (subst (leads l) (sym from_is) way, there)
 way_push leads l (n ∷ ns) m t u way from_is there = (way.0, way_push leads n ns m t u way.1 from_is there)
 
-pub trail_one : (leads : Edge → ℕ → Type 0) (start u : ℕ) (l : Edge) → l.from ≡ start → leads l u → Trail leads start (l ∷ []) u
+pub trail_one : (leads : Link → ℕ → Type 0) (start u : ℕ) (l : Link) → l.from ≡ start → leads l u → Trail leads start (l ∷ []) u
 trail_one leads start u l from_is there = record { first = l; others = []; edges_are = refl; from_is = from_is; way = there }
 
-pub trail_push : (leads : Edge → ℕ → Type 0) (start t u : ℕ) (l : Edge) (edges : List Edge) → Trail leads start edges t → l.from ≡ t → leads l u → Trail leads start (edges ++ l ∷ []) u
+pub trail_push : (leads : Link → ℕ → Type 0) (start t u : ℕ) (l : Link) (edges : List Link) → Trail leads start edges t → l.from ≡ t → leads l u → Trail leads start (edges ++ l ∷ []) u
 trail_push leads start t u l edges trail from_is there = record {
   first = trail.first;
   others = trail.others ++ l ∷ [];
@@ -121,21 +121,21 @@ trail_push leads start t u l edges trail from_is there = record {
 }
 
 -- What the loop has collected before the place.
-pub record Collected (graph : Graph) (start : ℕ) (path : List ℕ) (k : ℕ) (edges : List Edge) : Type 0 where
+pub record Collected (graph : Graph) (start : ℕ) (path : List ℕ) (k : ℕ) (edges : List Link) : Type 0 where
   pub none : k ≡ 0 → edges ≡ []
   pub trail : (j : ℕ) → k ≡ suc j → Trail (HasEdge graph) start edges (get_or (reverse path) j 0)
   pub unmet : (j : ℕ) → j < k → get_or (reverse path) j 0 ≡ start → ⊥
 
-pub collected_none : (graph : Graph) (start : ℕ) (path : List ℕ) (edges : List Edge) → edges ≡ [] → Collected graph start path 0 edges
+pub collected_none : (graph : Graph) (start : ℕ) (path : List ℕ) (edges : List Link) → edges ≡ [] → Collected graph start path 0 edges
 collected_none graph start path edges none = record { none = λ is. none; trail = λ j is. absurd (omega arith); unmet = λ j less. absurd (omega arith) }
 
-pub trail_more : (graph : Graph) (start : ℕ) (path : List ℕ) (k u : ℕ) (l : Edge) (edges edges' : List Edge) → Collected graph start path k edges → Read graph start path k u l → edges' ≡ edges ++ l ∷ [] → Trail (HasEdge graph) start edges' u
+pub trail_more : (graph : Graph) (start : ℕ) (path : List ℕ) (k u : ℕ) (l : Link) (edges edges' : List Link) → Collected graph start path k edges → Read graph start path k u l → edges' ≡ edges ++ l ∷ [] → Trail (HasEdge graph) start edges' u
 trail_more graph start path zero u l edges edges' c r is =
     subst (λ ls. Trail (HasEdge graph) start ls u) (sym (is ∙ ap (λ ls. ls ++ l ∷ []) (c.none refl))) (trail_one (HasEdge graph) start u l r.from_is r.there)
 trail_more graph start path (suc j) u l edges edges' c r is =
     subst (λ ls. Trail (HasEdge graph) start ls u) (sym is) (trail_push (HasEdge graph) start (get_or (reverse path) j 0) u l edges (c.trail j refl) r.from_is r.there)
 
-pub collected_more : (graph : Graph) (start : ℕ) (path : List ℕ) (k u : ℕ) (l : Edge) (edges edges' : List Edge) → Collected graph start path k edges → Read graph start path k u l → edges' ≡ edges ++ l ∷ [] → u ≡ get_or (reverse path) k 0 → (u ≡ start → ⊥) → Collected graph start path (k + 1) edges'
+pub collected_more : (graph : Graph) (start : ℕ) (path : List ℕ) (k u : ℕ) (l : Link) (edges edges' : List Link) → Collected graph start path k edges → Read graph start path k u l → edges' ≡ edges ++ l ∷ [] → u ≡ get_or (reverse path) k 0 → (u ≡ start → ⊥) → Collected graph start path (k + 1) edges'
 collected_more graph start path k u l edges edges' c r is at other = record {
   none = λ zero_is. absurd (omega arith);
   trail = λ j j_is. let same : k ≡ j = omega arith in subst (Trail (HasEdge graph) start edges') (at ∙ ap (λ n. get_or (reverse path) n 0) same) (trail_more graph start path k u l edges edges' c r is);
@@ -152,9 +152,9 @@ collected_more graph start path k u l edges edges' c r is at other = record {
     ]
 
 -- Back at `start`.
-pub comes_round : (leads : Edge → ℕ → Type 0) (start : ℕ) (edges : List Edge) → Trail leads start edges start → IsCycle leads edges
+pub comes_round : (leads : Link → ℕ → Type 0) (start : ℕ) (edges : List Link) → Trail leads start edges start → IsRing leads edges
 comes_round leads start edges t =
-    subst (IsCycle leads) (sym t.edges_are) (subst (IsWay leads t.first t.others) (sym t.from_is) t.way)
+    subst (IsRing leads) (sym t.edges_are) (subst (IsRoute leads t.first t.others) (sym t.from_is) t.way)
 
 pub at_back : (path : List ℕ) (k : ℕ) → k < length path → get_or path (length path - 1 - k) 0 ≡ get_or (reverse path) k 0
 at_back path k less = sym (get_or-reverse path k 0 less)
@@ -175,16 +175,16 @@ module _ (graph : Graph) (visits : List Visit) (path : List ℕ) (start : ℕ) (
   pub u_visited : get_or path (length path - 1 - k) 0 < length visits
   u_visited = omega (arith, u_below, circle.len)
 
-  module _ (row : Vec Edge Global) (row_here : row ≡ get_or graph (get_or path (length path - 1 - k) 0) row) where
+  module _ (row : Vec Link Global) (row_here : row ≡ get_or graph (get_or path (length path - 1 - k) 0) row) where
     pub u_may_read : (get_or visits (get_or path (length path - 1 - k) 0) unvisited).next < vec_len row
     u_may_read =
         may_read graph visits path start k (get_or path (length path - 1 - k) 0) row (get_or visits (get_or path (length path - 1 - k) 0) unvisited) circle less (at_back path k less) row_here (itself visits (get_or path (length path - 1 - k) 0) u_visited)
 
-    pub u_read : (l : Edge) → l ≡ get_or row.items (get_or visits (get_or path (length path - 1 - k) 0) unvisited).next l → Read graph start path k (get_or path (length path - 1 - k) 0) l
+    pub u_read : (l : Link) → l ≡ get_or row.items (get_or visits (get_or path (length path - 1 - k) 0) unvisited).next l → Read graph start path k (get_or path (length path - 1 - k) 0) l
     u_read l l_here =
         read_at graph visits path start k (get_or path (length path - 1 - k) 0) row (get_or visits (get_or path (length path - 1 - k) 0) unvisited) l circle less (at_back path k less) row_here (itself visits (get_or path (length path - 1 - k) 0) u_visited) l_here
 
-module _ (graph : Graph) (visits : List Visit) (path : List ℕ) (is : (order : List ℕ) × IsSearch graph visits path order) (stuck : MeetsOpen graph (next_in visits) (reverse path)) (row : Vec Edge Global) (row_here : row ≡ get_or graph (get_or path (length path - 1) 0) row) where
+module _ (graph : Graph) (visits : List Visit) (path : List ℕ) (is : (order : List ℕ) × IsSearch graph visits path order) (stuck : MeetsOpen graph (next_in visits) (reverse path)) (row : Vec Link Global) (row_here : row ≡ get_or graph (get_or path (length path - 1) 0) row) where
   known : Circle graph visits path stuck.from
   known = circle_of graph visits path is.0 is.1 stuck
 
@@ -196,7 +196,7 @@ module _ (graph : Graph) (visits : List Visit) (path : List ℕ) (is : (order : 
   may_start =
       may_read graph visits path stuck.from 0 (get_or path (length path - 1) 0) row (get_or visits (get_or path (length path - 1) 0) unvisited) known known.some (at_top path known.some) row_here (itself visits (get_or path (length path - 1) 0) top_visited)
 
-  pub circle_here : (l : Edge) → l ≡ get_or row.items (get_or visits (get_or path (length path - 1) 0) unvisited).next l → Circle graph visits path l.from
+  pub circle_here : (l : Link) → l ≡ get_or row.items (get_or visits (get_or path (length path - 1) 0) unvisited).next l → Circle graph visits path l.from
   circle_here l l_here =
       let r = read_at graph visits path stuck.from 0 (get_or path (length path - 1) 0) row (get_or visits (get_or path (length path - 1) 0) unvisited) l known known.some (at_top path known.some) row_here (itself visits (get_or path (length path - 1) 0) top_visited) l_here in
       subst (Circle graph visits path) (sym r.from_is) known

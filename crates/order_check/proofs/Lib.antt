@@ -13,6 +13,7 @@ pub mod CycleSearch
 pub mod Shortening
 pub mod Rooting
 pub mod Noting
+pub mod Replacing
 pub mod Adding
 pub mod AccessEdges
 pub mod Meanings

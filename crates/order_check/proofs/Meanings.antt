@@ -1,6 +1,7 @@
 -- Shows that cycles, orders and repeated values found on accesses are those of the footprints,
 -- because each cell comes from exactly one access.
-use Rattle.std.proofs.Common.{◌≡◌, ◌≢◌, ◌==◌, ℕ, ◌<◌, Bool, true, false, cond, ◌&&◌, Option, Some, None, is_some, List, [], ◌∷◌, length, refl, ap, sym, ◌∙◌, subst, arith}
+use Rattle.std.specs.Prelude.{slice_get}
+use Rattle.std.proofs.Common.{◌≡◌, ◌≢◌, ◌==◌, ℕ, zero, suc, ◌<◌, Bool, true, false, cond, ◌&&◌, Option, Some, None, is_some, List, [], ◌∷◌, length, map, refl, ap, sym, ◌∙◌, subst, arith}
 use Rattle.std.specs.HashMap.{HashMap, get as told_at}
 use Rattle.std.specs.List.{All}
 use Rattle.std.proofs.lemmas.Bool.{false≢true, and_parts, and_cases, and_from, eqb-true, eq-eqb, cases_eq}
@@ -10,18 +11,20 @@ use Rattle.order_check.specs.declared.access.Access.{Access}
 use Rattle.order_check.specs.declared.edge.Kind.{Kind}
 use Rattle.order_check.specs.declared.edge.Kind.TheVariants.{Read, Replaced, Began}
 use Rattle.order_check.specs.declared.edge.Edge.{Edge}
+use Rattle.order_check.specs.declared.link.Link.{Link}
+use Rattle.order_check.specs.declared.replacers.Replacers.{Replacers}
 use Rattle.order_check.specs.declared.table.Doer.{Doer}
 use Rattle.order_check.specs.Lists.{IsIn, place, HasEachOnce}
 use Rattle.order_check.specs.Footprints.{Cell}
 use Rattle.order_check.specs.Dependencies.{Needs, Writes, Replaces, ComesOnce}
 use Rattle.order_check.specs.Forces.{dependency_of, Forces, OnlyThese}
-use Rattle.order_check.specs.Graphs.{Graph, HasEdge, AreInRange, KeepsEdges, IsWay, IsCycle}
+use Rattle.order_check.specs.Graphs.{Graph, HasEdge, AreInRange, KeepsEdges, IsWay, IsCycle, IsRoute, IsRing}
 use Rattle.order_check.specs.Timing.{Leads}
 use Rattle.order_check.specs.Orders.{KeepsTime, IsOrderOf, HasNoOrder}
-use Rattle.order_check.specs.Tables.{Version, version_eq, DoesWrite, DoesReplace, ReplacesValue, IsAmong, ToldOf, Told, AreWriters, AreReplacers, AreBelow}
-use Rattle.order_check.specs.Joined.{NeedsAt, DoesAt, SourceIs, AreDistinct, meaning_of, AreMeant, IsEdge, IsJoined}
-use Rattle.order_check.specs.Outcomes.{cell_of, footprints_of, sources_of, AreAccesses, IsTxn, comes_once, holds_always, IsOnce, IsRepeated}
-use Rattle.order_check.proofs.AccessEdges.{told_some}
+use Rattle.order_check.specs.Tables.{Version, version_eq, DoesWrite, DoesReplace, ReplacesValue, IsAmong, IsFrom, Knows, Told, AreWriters, AreBelow, replacer_in}
+use Rattle.order_check.specs.Joined.{NeedsAt, DoesAt, SourceIs, AreDistinct, AreReplacers, meaning_of, AreMeant, IsEdge, IsJoined, edge_of, source_in, txn_of, version_of}
+use Rattle.order_check.specs.Outcomes.{cell_of, footprints_of, indices_of, sources_of, AreAccesses, IsTxn, comes_once, holds_always, is_once, IsOnce, IsRepeated}
+use Rattle.order_check.proofs.AccessEdges.{among_there, source_writes}
 use Rattle.order_check.specs.Sources.{Gives}
 use Rattle.order_check.proofs.Versions.{runs_by_sources}
 use Rattle.order_check.proofs.Cycles.{cycle_no_order}
@@ -62,20 +65,32 @@ foot_there (x ∷ xs) a distinct is_in = elim is_in [
     at false is rest later = later
 
 -- The source that is found for an access is its own.
-pub source_there : (accesses : List Access) (a : Access) → AreDistinct accesses → IsAmong a accesses → sources_of accesses a.txn a.key ≡ a.source
+pub source_there : (accesses : List Access) (a : Access) → AreDistinct accesses → IsAmong a accesses → indices_of accesses a.txn a.key ≡ a.source
 source_there [] a distinct is_in = absurd is_in
 source_there (x ∷ xs) a distinct is_in = elim is_in [
   | inl same ↦
-      ap (λ b. cond b x.source (sources_of xs a.txn a.key)) (and_from (x.txn == a.txn) (x.key == a.key) (eq-eqb x.txn a.txn (ap (λ (y : Access). y.txn) same)) (eq-eqb x.key a.key (ap (λ (y : Access). y.key) same)))
+      ap (λ b. cond b x.source (indices_of xs a.txn a.key)) (and_from (x.txn == a.txn) (x.key == a.key) (eq-eqb x.txn a.txn (ap (λ (y : Access). y.txn) same)) (eq-eqb x.key a.key (ap (λ (y : Access). y.key) same)))
       ∙ ap (λ (y : Access). y.source) same
   | inr rest ↦ at ((x.txn == a.txn) && (x.key == a.key)) refl rest (source_there xs a distinct.1 rest)
 ]
   where
-    at : (b : Bool) → ((x.txn == a.txn) && (x.key == a.key)) ≡ b → IsAmong a xs → sources_of xs a.txn a.key ≡ a.source → cond b x.source (sources_of xs a.txn a.key) ≡ a.source
+    at : (b : Bool) → ((x.txn == a.txn) && (x.key == a.key)) ≡ b → IsAmong a xs → indices_of xs a.txn a.key ≡ a.source → cond b x.source (indices_of xs a.txn a.key) ≡ a.source
     at true is rest later =
         let parts = and_parts (x.txn == a.txn) (x.key == a.key) is in
         absurd (distinct.0 a rest (eqb-true x.txn a.txn parts.0) (eqb-true x.key a.key parts.1))
     at false is rest later = later
+
+-- Two accesses of one transaction at one key are one.
+same_index : (accesses : List Access) (i j : ℕ) (x y : Access) → AreDistinct accesses → slice_get accesses i ≡ Some x → slice_get accesses j ≡ Some y → x.txn ≡ y.txn → x.key ≡ y.key → i ≡ j
+same_index [] i j x y distinct there_x there_y txn key = absurd (cc there_x)
+same_index (z ∷ zs) zero zero x y distinct there_x there_y txn key = refl
+same_index (z ∷ zs) zero (suc j) x y distinct there_x there_y txn key =
+    let is : z ≡ x = cc there_x in
+    absurd (distinct.0 y (among_there zs j y there_y) (ap (λ (a : Access). a.txn) is ∙ txn) (ap (λ (a : Access). a.key) is ∙ key))
+same_index (z ∷ zs) (suc i) zero x y distinct there_x there_y txn key =
+    let is : z ≡ y = cc there_y in
+    absurd (distinct.0 x (among_there zs i x there_x) (ap (λ (a : Access). a.txn) is ∙ sym txn) (ap (λ (a : Access). a.key) is ∙ sym key))
+same_index (z ∷ zs) (suc i) (suc j) x y distinct there_x there_y txn key = ap (λ n. suc n) (same_index zs i j x y distinct.1 there_x there_y txn key)
 
 module _ (count : ℕ) (accesses : List Access) (are : AreAccesses count accesses) where
   foot_at : (a : Access) (t k : ℕ) → IsAmong a accesses → a.txn ≡ t → a.key ≡ k → footprints_of accesses t k ≡ Some (cell_of a)
@@ -117,9 +132,6 @@ module _ (count : ℕ) (accesses : List Access) (are : AreAccesses count accesse
       let f = comes_from accesses t k cell there in
       subst (IsTxn count) f.txn_is (are.below f.by f.is_among)
 
-  below_of : (does : Access → Type 0) (d : Doer) → ToldOf does accesses d → d.txn < count
-  below_of does d t = subst (IsTxn count) t.txn_is (are.below t.by t.is_among)
-
   module _ (since : ℕ → ℕ) (graph : Graph) (meant : AreMeant accesses since graph) (early : (t u : ℕ) → t < since u → t < count) where
     from_below : (kind : Kind) (t : ℕ) (q : Version) (u : ℕ) → meaning_of accesses since kind t q u → t < count
     from_below Read t q u means = subst (IsTxn count) means.0.txn_is (are.below means.0.by means.0.is_among)
@@ -127,7 +139,7 @@ module _ (count : ℕ) (accesses : List Access) (are : AreAccesses count accesse
     from_below Began t q u means = early t u means
 
     pub in_range : length graph ≡ count → AreInRange graph
-    in_range len u l has = subst (λ n. l.from < n) (sym len) (from_below l.kind l.from (l.key, l.value) u (meant u l has))
+    in_range len u l has = subst (λ n. l.from < n) (sym len) (from_below l.kind l.from (version_of accesses l) u (meant u l has))
 
   module _ (since : ℕ → ℕ) {S : Type 0} (writers : HashMap Version Doer S) (written : AreWriters accesses writers) where
     -- A value that comes only once by the tables does so by the footprints.
@@ -155,40 +167,43 @@ module _ (count : ℕ) (accesses : List Access) (are : AreAccesses count accesse
     forces_of Began t k v u means once = means
 
     module _ (graph : Graph) (meant : AreMeant accesses since graph) where
-      edge_forces : (l : Edge) (u : ℕ) → HasEdge graph l u → IsOnce writers l → Forces (footprints_of accesses) since l u
-      edge_forces l u has once = forces_of l.kind l.from l.key l.value u (meant u l has) once
+      abbrev edges : List Link → List Edge
+      edges ls = map (edge_of accesses) ls
 
-      leads_forces : (l : Edge) (u : ℕ) → Leads since graph l u → (HasEdge graph l u → IsOnce writers l) → Forces (footprints_of accesses) since l u
+      edge_forces : (l : Link) (u : ℕ) → HasEdge graph l u → IsOnce accesses writers l → Forces (footprints_of accesses) since (edge_of accesses l) u
+      edge_forces l u has once = forces_of l.kind l.from (version_of accesses l).0 (version_of accesses l).1 u (meant u l has) once
+
+      leads_forces : (l : Link) (u : ℕ) → Leads since graph l u → (HasEdge graph l u → IsOnce accesses writers l) → Forces (footprints_of accesses) since (edge_of accesses l) u
       leads_forces l u leads once = elim leads [
         | inl has ↦ edge_forces l u has (once has)
-        | inr timed ↦ subst (λ kind. dependency_of kind (footprints_of accesses) since l.from u l.key l.value) (sym timed.0) timed.1
+        | inr timed ↦ subst (λ kind. dependency_of kind (footprints_of accesses) since l.from u (version_of accesses l).0 (version_of accesses l).1) (sym timed.0) timed.1
       ]
 
-      way_forces : (l : Edge) (ls : List Edge) (end : ℕ) → IsWay (Leads since graph) l ls end → All (IsOnce writers) (l ∷ ls) → IsWay (Forces (footprints_of accesses) since) l ls end
-      way_forces l [] end way all = leads_forces l end way (λ has. All-head (IsOnce writers) l [] all)
-      way_forces l (m ∷ ms) end way all = (leads_forces l m.from way.0 (λ has. All-head (IsOnce writers) l (m ∷ ms) all), way_forces m ms end way.1 (All-tail (IsOnce writers) l (m ∷ ms) all))
+      way_forces : (l : Link) (ls : List Link) (end : ℕ) → IsRoute (Leads since graph) l ls end → All (IsOnce accesses writers) (l ∷ ls) → IsWay (Forces (footprints_of accesses) since) (edge_of accesses l) (edges ls) end
+      way_forces l [] end way all = leads_forces l end way (λ has. All-head (IsOnce accesses writers) l [] all)
+      way_forces l (m ∷ ms) end way all = (leads_forces l m.from way.0 (λ has. All-head (IsOnce accesses writers) l (m ∷ ms) all), way_forces m ms end way.1 (All-tail (IsOnce accesses writers) l (m ∷ ms) all))
 
-      cycle_forces : (ls : List Edge) → IsCycle (Leads since graph) ls → All (IsOnce writers) ls → IsCycle (Forces (footprints_of accesses) since) ls
+      cycle_forces : (ls : List Link) → IsRing (Leads since graph) ls → All (IsOnce accesses writers) ls → IsCycle (Forces (footprints_of accesses) since) (edges ls)
       cycle_forces [] cycle all = cycle
       cycle_forces (l ∷ ls) cycle all = way_forces l ls l.from cycle all
 
-      pub cycle_found : (ls : List Edge) → IsCycle (Leads since graph) ls → All (IsOnce writers) ls → IsCycle (Forces (footprints_of accesses) since) ls × HasNoOrder (IsTxn count) (footprints_of accesses) since
+      pub cycle_found : (ls : List Link) → IsRing (Leads since graph) ls → All (IsOnce accesses writers) ls → IsCycle (Forces (footprints_of accesses) since) (edges ls) × HasNoOrder (IsTxn count) (footprints_of accesses) since
       cycle_found ls cycle all =
           let forced = cycle_forces ls cycle all in
-          (forced, cycle_no_order (IsTxn count) (footprints_of accesses) since only_these ls forced)
+          (forced, cycle_no_order (IsTxn count) (footprints_of accesses) since only_these (edges ls) forced)
 
-      certain_way : ((u : ℕ) (l : Edge) → HasEdge graph l u → IsOnce writers l) → (l : Edge) (ls : List Edge) (end : ℕ) → IsWay (Leads since graph) l ls end → IsWay (Forces (footprints_of accesses) since) l ls end
+      certain_way : ((u : ℕ) (l : Link) → HasEdge graph l u → IsOnce accesses writers l) → (l : Link) (ls : List Link) (end : ℕ) → IsRoute (Leads since graph) l ls end → IsWay (Forces (footprints_of accesses) since) (edge_of accesses l) (edges ls) end
       certain_way once l [] end way = leads_forces l end way (once end l)
       certain_way once l (m ∷ ms) end way = (leads_forces l m.from way.0 (once m.from l), certain_way once m ms end way.1)
 
-      certain_cycle : ((u : ℕ) (l : Edge) → HasEdge graph l u → IsOnce writers l) → (ls : List Edge) → IsCycle (Leads since graph) ls → IsCycle (Forces (footprints_of accesses) since) ls
+      certain_cycle : ((u : ℕ) (l : Link) → HasEdge graph l u → IsOnce accesses writers l) → (ls : List Link) → IsRing (Leads since graph) ls → IsCycle (Forces (footprints_of accesses) since) (edges ls)
       certain_cycle once [] cycle = cycle
       certain_cycle once (l ∷ ls) cycle = certain_way once l ls l.from cycle
 
-      pub certain_found : ((u : ℕ) (l : Edge) → HasEdge graph l u → IsOnce writers l) → (ls : List Edge) → IsCycle (Leads since graph) ls → IsCycle (Forces (footprints_of accesses) since) ls × HasNoOrder (IsTxn count) (footprints_of accesses) since
+      pub certain_found : ((u : ℕ) (l : Link) → HasEdge graph l u → IsOnce accesses writers l) → (ls : List Link) → IsRing (Leads since graph) ls → IsCycle (Forces (footprints_of accesses) since) (edges ls) × HasNoOrder (IsTxn count) (footprints_of accesses) since
       certain_found once ls cycle =
           let forced = certain_cycle once ls cycle in
-          (forced, cycle_no_order (IsTxn count) (footprints_of accesses) since only_these ls forced)
+          (forced, cycle_no_order (IsTxn count) (footprints_of accesses) since only_these (edges ls) forced)
 
     -- A value that comes more than once by the tables does so.
     pub repeated_of : (k : ℕ) (v : Option ℕ) (o : Option Doer) → Told (DoesWrite (k, v)) accesses o → comes_once o v ≡ false → IsRepeated accesses (k, v)
@@ -211,31 +226,49 @@ module _ (count : ℕ) (accesses : List Access) (are : AreAccesses count accesse
     often_of Replaced o v often = often
     often_of Began o v often = absurd (false≢true (sym often))
 
-    pub repeated : (l : Edge) → holds_always l.kind (told_at version_eq writers (l.key, l.value)) l.value ≡ false → IsRepeated accesses (l.key, l.value)
-    repeated l often = repeated_of l.key l.value (told_at version_eq writers (l.key, l.value)) (written (l.key, l.value)) (often_of l.kind (told_at version_eq writers (l.key, l.value)) l.value often)
+    pub repeated : (l : Link) → is_once accesses writers l ≡ false → IsRepeated accesses (version_of accesses l)
+    repeated l often =
+        let q = version_of accesses l in
+        repeated_of q.0 q.1 (told_at version_eq writers q) (written q) (often_of l.kind (told_at version_eq writers q) q.1 often)
 
-  module _ {R : Type 0} (replacers : HashMap Version Doer R) (replaced : AreReplacers accesses replacers) where
+  module _ (replacers : Replacers) (replaced : AreReplacers accesses replacers) where
     pub tables_below : (n : ℕ) → n ≡ count → AreBelow replacers n
-    tables_below n same q d is =
-        subst (λ m. d.txn < m) (sym same) (below_of (DoesReplace q) d (told_some (DoesReplace q) accesses (told_at version_eq replacers q) d is (replaced q)))
+    tables_below n same k source t is =
+        let known : DoesAt (DoesReplace k source) accesses t = subst (Knows (DoesAt (DoesReplace k source) accesses) (DoesReplace k source) accesses) is (replaced k source) in
+        subst (λ m. t < m) (sym same) (subst (λ u. u < count) known.txn_is (are.below known.by known.is_among))
 
     -- If all accesses have their edges, an order that keeps the edges is one of the footprints.
-    module _ (since : ℕ → ℕ) (graph : Graph) (joined : (a : Access) → IsAmong a accesses → IsJoined replacers graph a) (ts : List ℕ) (keeps : KeepsEdges graph ts) where
+    module _ (since : ℕ → ℕ) (graph : Graph) (joined : (a : Access) → IsAmong a accesses → IsJoined accesses replacers graph a) (ts : List ℕ) (keeps : KeepsEdges graph ts) where
       before : (t u : ℕ) → IsEdge graph t u → place t ts < place u ts
       before t u l = subst (λ x. place x ts < place u ts) l.from_is (keeps u l.edge l.there)
 
-      source_at : (u k : ℕ) (cell : Cell) (f : ComesFrom accesses u k cell) → sources_of accesses u k ≡ f.by.source
-      source_at u k cell f = (λ i. sources_of accesses (sym f.txn_is i) (sym f.key_is i)) ∙ source_there accesses f.by are.distinct f.is_among
+      index_at : (u k : ℕ) (cell : Cell) (f : ComesFrom accesses u k cell) → indices_of accesses u k ≡ f.by.source
+      index_at u k cell f = (λ i. indices_of accesses (sym f.txn_is i) (sym f.key_is i)) ∙ source_there accesses f.by are.distinct f.is_among
 
-      gives_at : (a : Access) (k : ℕ) (s : Option ℕ) → a.key ≡ k → SourceIs accesses a s → Gives (footprints_of accesses) k a.need s
+      source_at : (u k : ℕ) (cell : Cell) (f : ComesFrom accesses u k cell) → sources_of accesses u k ≡ source_in accesses f.by.source
+      source_at u k cell f = ap (source_in accesses) (index_at u k cell f)
+
+      gives_at : (a : Access) (k : ℕ) (s : Option ℕ) → a.key ≡ k → SourceIs accesses a s → Gives (footprints_of accesses) k a.need (source_in accesses s)
       gives_at a k None key_is is = is
-      gives_at a k (Some t) key_is is = subst (λ q. Writes (footprints_of accesses t) q a.need) key_is (writes_of t (a.key, a.need) is)
+      gives_at a k (Some i) key_is is =
+          let t_is : source_in accesses (Some i) ≡ Some is.by.txn = ap txn_of is.there in
+          subst (Gives (footprints_of accesses) k a.need) (sym t_is)
+          (subst (λ q. Writes (footprints_of accesses is.by.txn) q a.need) key_is (writes_of is.by.txn (a.key, a.need) (source_writes accesses a (Some i) is.by.txn is t_is)))
+
+      -- Sources of one transaction at one key are one access.
+      one_source : (a b : Access) (s r : Option ℕ) → a.key ≡ b.key → SourceIs accesses a s → SourceIs accesses b r → source_in accesses s ≡ source_in accesses r → s ≡ r
+      one_source a b None None key of_a of_b same = refl
+      one_source a b None (Some j) key of_a of_b same = absurd (cc (same ∙ ap txn_of of_b.there))
+      one_source a b (Some i) None key of_a of_b same = absurd (cc (sym same ∙ ap txn_of of_a.there))
+      one_source a b (Some i) (Some j) key of_a of_b same =
+          let txn : of_a.by.txn ≡ of_b.by.txn = cc (sym (ap txn_of of_a.there) ∙ same ∙ ap txn_of of_b.there) in
+          ap Some (same_index accesses i j of_a.by of_b.by are.distinct of_a.there of_b.there txn (of_a.does_it.0 ∙ key ∙ sym of_b.does_it.0))
 
       kept_gives : (u k : ℕ) (cell : Cell) → IsIn u ts → footprints_of accesses u k ≡ Some cell → Gives (footprints_of accesses) k cell.need (sources_of accesses u k)
       kept_gives u k cell is_in there =
           let f = comes_from accesses u k cell there in
           subst (Gives (footprints_of accesses) k cell.need) (sym (source_at u k cell f))
-          (subst (λ (c : Cell). Gives (footprints_of accesses) k c.need f.by.source) f.cell_is (gives_at f.by k f.by.source f.key_is (are.sourced f.by f.is_among)))
+          (subst (λ (c : Cell). Gives (footprints_of accesses) k c.need (source_in accesses f.by.source)) f.cell_is (gives_at f.by k f.by.source f.key_is (are.sourced f.by f.is_among)))
 
       kept_reads : (u k t : ℕ) (cell : Cell) → IsIn u ts → footprints_of accesses u k ≡ Some cell → sources_of accesses u k ≡ Some t → place t ts < place u ts
       kept_reads u k t cell is_in there source_is =
@@ -243,7 +276,7 @@ module _ (count : ℕ) (accesses : List Access) (are : AreAccesses count accesse
           subst (λ x. place t ts < place x ts) f.txn_is (before t f.by.txn ((joined f.by f.is_among).reads t (sym (source_at u k cell f) ∙ source_is)))
 
       kept_replaces : (t u k : ℕ) (one other : Cell) → t ≢ u → IsIn t ts → IsIn u ts → footprints_of accesses t k ≡ Some one → footprints_of accesses u k ≡ Some other → sources_of accesses t k ≡ sources_of accesses u k → other.need ≢ other.now → place t ts < place u ts
-      kept_replaces t u k one other differ in_t in_u there_t there_u same changed = at (told_at version_eq replacers (k, a.by.source)) refl (replaced (k, a.by.source))
+      kept_replaces t u k one other differ in_t in_u there_t there_u same changed = at (replacer_in replacers a.by.key a.by.source) refl (replaced a.by.key a.by.source)
         where
           a : ComesFrom accesses t k one
           a = comes_from accesses t k one there_t
@@ -251,33 +284,33 @@ module _ (count : ℕ) (accesses : List Access) (are : AreAccesses count accesse
           b : ComesFrom accesses u k other
           b = comes_from accesses u k other there_u
 
+          key_same : b.by.key ≡ a.by.key
+          key_same = b.key_is ∙ sym a.key_is
+
           b_source : b.by.source ≡ a.by.source
-          b_source = sym (source_at u k other b) ∙ sym same ∙ source_at t k one a
+          b_source = one_source b.by a.by b.by.source a.by.source key_same (are.sourced b.by b.is_among) (are.sourced a.by a.is_among) (sym (source_at u k other b) ∙ sym same ∙ source_at t k one a)
+
+          b_from : (s : Option ℕ) → b.by.source ≡ s → IsFrom a.by.key s b.by
+          b_from None is = (key_same, is)
+          b_from (Some i) is = is
 
           b_changes : b.by.need ≢ b.by.left
           b_changes = λ equal. changed (sym (ap (λ (c : Cell). c.need) b.cell_is) ∙ equal ∙ ap (λ (c : Cell). c.now) b.cell_is)
 
-          a_same : ◌≡◌ {A = Version} (a.by.key, a.by.source) (k, a.by.source)
-          a_same = λ i. (a.key_is i, a.by.source)
-
-          b_same : ◌≡◌ {A = Version} (b.by.key, b.by.source) (k, a.by.source)
-          b_same = λ i. (b.key_is i, b_source i)
-
-          first_other : (f : Doer) → told_at version_eq replacers (k, a.by.source) ≡ Some f → (f.txn ≡ u → ⊥) → ⊥
+          first_other : (f : ℕ) → replacer_in replacers a.by.key a.by.source ≡ Some f → (f ≡ u → ⊥) → ⊥
           first_other f is apart_u =
-              let at_b : told_at version_eq replacers (b.by.key, b.by.source) ≡ Some f = ap (told_at version_eq replacers) b_same ∙ is in
-              let apart : b.by.txn ≢ f.txn = λ equal. apart_u (sym equal ∙ b.txn_is) in
-              let forth = before b.by.txn f.txn ((joined b.by b.is_among).replaces f at_b apart) in
-              let back = before f.txn b.by.txn ((joined b.by b.is_among).twice f at_b apart b_changes) in
+              let at_b : replacer_in replacers b.by.key b.by.source ≡ Some f = (λ i. replacer_in replacers (key_same i) (b_source i)) ∙ is in
+              let apart : b.by.txn ≢ f = λ equal. apart_u (sym equal ∙ b.txn_is) in
+              let forth = before b.by.txn f ((joined b.by b.is_among).replaces f at_b apart) in
+              let back = before f b.by.txn ((joined b.by b.is_among).twice f at_b apart b_changes) in
               omega arith
 
-          at : (o : Option Doer) → told_at version_eq replacers (k, a.by.source) ≡ o → Told (DoesReplace (k, a.by.source)) accesses o → place t ts < place u ts
-          at None is none = absurd (none b.by b.is_among (b.key_is, b_source, b_changes))
-          at (Some f) is known = elim (cases_eq f.txn u) [
+          at : (o : Option ℕ) → replacer_in replacers a.by.key a.by.source ≡ o → Knows (DoesAt (DoesReplace a.by.key a.by.source) accesses) (DoesReplace a.by.key a.by.source) accesses o → place t ts < place u ts
+          at None is none = absurd (none b.by b.is_among (b_from a.by.source b_source, b_changes))
+          at (Some f) is known = elim (cases_eq f u) [
             | inl here ↦
-                let at_a : told_at version_eq replacers (a.by.key, a.by.source) ≡ Some f = ap (told_at version_eq replacers) a_same ∙ is in
-                let l = (joined a.by a.is_among).replaces f at_a (λ equal. differ (sym a.txn_is ∙ equal ∙ here)) in
-                subst (λ x. place x ts < place u ts) a.txn_is (subst (λ x. place a.by.txn ts < place x ts) here (before a.by.txn f.txn l))
+                let l = (joined a.by a.is_among).replaces f is (λ equal. differ (sym a.txn_is ∙ equal ∙ here)) in
+                subst (λ x. place x ts < place u ts) a.txn_is (subst (λ x. place a.by.txn ts < place x ts) here (before a.by.txn f l))
             | inr apart_u ↦ absurd (first_other f is apart_u)
           ]
 

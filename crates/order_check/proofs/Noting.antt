@@ -9,7 +9,7 @@ use mathlib.Core.Logic.{◌⊎◌, inl, inr}
 use Rattle.txn_trace.proofs.Now.{same_option, same_is}
 use Rattle.order_check.specs.declared.access.Access.{Access}
 use Rattle.order_check.specs.declared.table.Doer.{Doer}
-use Rattle.order_check.specs.Tables.{Version, version_eq, noted, Notes, DoesWrite, DoesReplace, IsAmong, DoesBeside, Told}
+use Rattle.order_check.specs.Tables.{Version, version_eq, noted, Notes, DoesWrite, IsAmong, DoesBeside, Told, Grows, Knows}
 
 pub same_version : (a b : Version) → version_eq a b ≡ true → a ≡ b
 same_version a b is =
@@ -108,6 +108,29 @@ notes_told does xs x version old new notes it only told q = subst (Told (does q)
         (told_more (does version) xs x (told_at version_eq old version) it (told version))
     at false is = told_same (does q) xs x (told_at version_eq old q) (λ it. false≢true (sym is ∙ only q it)) (told q)
 
+-- What is known after one more access that does not do it.
+pub knows_same : (is : ℕ → Type 0) (does : Access → Type 0) (xs : List Access) (x : Access) (o : Option ℕ) → (does x → ⊥) → Knows is does xs o → Knows is does (xs ++ x ∷ []) o
+knows_same is does xs x None not_it known = λ a is_in it. elim (among_cases a x xs is_in) [
+  | inl before ↦ known a before it
+  | inr last ↦ not_it (subst does (sym last) it)
+]
+knows_same is does xs x (Some n) not_it known = known
+
+-- What is known after one more access that does it.
+pub knows_more : {Q : Type 0} (is : Q → ℕ → Type 0) (does : Q → Access → Type 0) (of : Q → Type 0) (xs : List Access) (x : Access) (n : ℕ) (old new : Q → Option ℕ) → Grows of n old new → ((q : Q) → of q → is q n) → ((q : Q) → does q x → of q)
+    → ((q : Q) → Knows (is q) (does q) xs (old q)) → (q : Q) → Knows (is q) (does q) (xs ++ x ∷ []) (new q)
+knows_more is does of xs x n old new grows of_is does_of known q = at (new q) refl
+  where
+    at : (o : Option ℕ) → new q ≡ o → Knows (is q) (does q) (xs ++ x ∷ []) o
+    at None now = λ a is_in it. elim (among_cases a x xs is_in) [
+      | inl before ↦ (subst (Knows (is q) (does q) xs) (grows.kept q now) (known q)) a before it
+      | inr last ↦ grows.here q (does_of q (subst (does q) (sym last) it)) now
+    ]
+    at (Some m) now = elim (grows.told q m now) [
+      | inl before ↦ subst (Knows (is q) (does q) xs) before (known q)
+      | inr here ↦ subst (is q) (sym here.0) (of_is q here.1)
+    ]
+
 abbrev pub no_access : Access
 no_access = record { txn = 0; key = 0; need = None; left = None; source = None }
 
@@ -141,15 +164,3 @@ only_written x q it = version_is (written_by x) q it.0 it.1
 
 pub never_written : (x : Access) (q : Version) → x.need ≡ x.left → DoesWrite q x → ⊥
 never_written x q same it = it.2 same
-
-abbrev pub replaced_by : Access → Version
-replaced_by x = (x.key, x.source)
-
-pub replaces_it : (x : Access) → x.need ≢ x.left → DoesReplace (replaced_by x) x
-replaces_it x changed = (refl, refl, changed)
-
-pub only_replaced : (x : Access) (q : Version) → DoesReplace q x → version_eq (replaced_by x) q ≡ true
-only_replaced x q it = version_is (replaced_by x) q it.0 it.1
-
-pub never_replaced : (x : Access) (q : Version) → x.need ≡ x.left → DoesReplace q x → ⊥
-never_replaced x q same it = it.2 same

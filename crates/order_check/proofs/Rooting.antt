@@ -6,7 +6,7 @@ use Rattle.std.specs.declared.alloc.Global.{Global}
 use Rattle.std.proofs.lemmas.Bool.{cases_lt}
 use Rattle.std.proofs.lemmas.List.{length-replicate}
 use mathlib.Core.Logic.{inl, inr}
-use Rattle.order_check.specs.declared.edge.Edge.{Edge}
+use Rattle.order_check.specs.declared.link.Link.{Link}
 use Rattle.order_check.specs.declared.search.Mark.{Mark}
 use Rattle.order_check.specs.declared.search.Mark.TheVariants.{New, Open, Done}
 use Rattle.order_check.specs.declared.search.Visit.{Visit}
@@ -89,7 +89,7 @@ visited_more old new root all stays here u less is = elim (cases_lt u root) [
   | inr not_before ↦ let same : u ≡ root = omega arith in here (ap (mark_in new) (sym same) ∙ is)
 ]
 
-edge_below : (graph : Graph) (u j : ℕ) (l : Edge) → slice_get (edges_of graph u) j ≡ Some l → u < length graph
+edge_below : (graph : Graph) (u j : ℕ) (l : Link) → slice_get (edges_of graph u) j ≡ Some l → u < length graph
 edge_below [] u j l there = absurd (cc there)
 edge_below (row ∷ graph) zero j l there = omega arith
 edge_below (row ∷ graph) (suc u) j l there = let rest = edge_below graph u j l there in omega arith

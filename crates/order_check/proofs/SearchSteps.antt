@@ -5,7 +5,7 @@ use Rattle.std.specs.Prelude.{slice_get}
 use Rattle.std.proofs.lemmas.Bool.{cases_eq, cases_lt}
 use Rattle.std.proofs.lemmas.Option.{slice_get_within}
 use mathlib.Core.Logic.{inl, inr}
-use Rattle.order_check.specs.declared.edge.Edge.{Edge}
+use Rattle.order_check.specs.declared.link.Link.{Link}
 use Rattle.order_check.specs.declared.search.Mark.{Mark}
 use Rattle.order_check.specs.declared.search.Mark.TheVariants.{New, Open, Done}
 use Rattle.order_check.specs.Lists.{IsIn, place}
@@ -94,7 +94,7 @@ module _ (graph : Graph) (mark mark' : ℕ → Mark) (next next' : ℕ → ℕ) 
           omega arith
 
   -- An edge from a transaction that is done is passed.
-  pub passed : (path order : List ℕ) (t : ℕ) (l : Edge) → Searches graph mark next (t ∷ path) order → slice_get (edges_of graph t) (next t) ≡ Some l → mark l.from ≡ Done → ((u : ℕ) → mark' u ≡ mark u) → next' t ≡ next t + 1
+  pub passed : (path order : List ℕ) (t : ℕ) (l : Link) → Searches graph mark next (t ∷ path) order → slice_get (edges_of graph t) (next t) ≡ Some l → mark l.from ≡ Done → ((u : ℕ) → mark' u ≡ mark u) → next' t ≡ next t + 1
       → ((u : ℕ) → (u ≡ t → ⊥) → next' u ≡ next u) → Searches graph mark' next' (t ∷ path) order
   passed path order t l was at_l is_done same step others = record {
     in_order = λ u is_in. let o = was.in_order u is_in in (o.0, same u ∙ o.1);
@@ -126,7 +126,7 @@ module _ (graph : Graph) (mark mark' : ℕ → Mark) (next next' : ℕ → ℕ) 
           let d : length (edges_of graph u) ≡ length (edges_of graph t) = ap (λ v. length (edges_of graph v)) here in
           omega arith
 
-      at_t : (u j : ℕ) (m : Edge) → IsIn u (t ∷ path) → u ≡ t → slice_get (edges_of graph u) j ≡ Some m → j < next' u → mark m.from ≡ Done
+      at_t : (u j : ℕ) (m : Link) → IsIn u (t ∷ path) → u ≡ t → slice_get (edges_of graph u) j ≡ Some m → j < next' u → mark m.from ≡ Done
       at_t u j m is_in here there before =
           let a : next' u ≡ next t + 1 = ap next' here ∙ step in
           let b : next u ≡ next t = ap next here in
@@ -135,7 +135,7 @@ module _ (graph : Graph) (mark mark' : ℕ → Mark) (next next' : ℕ → ℕ) 
             | inr not_less ↦
                 let is_last : j ≡ next t = omega arith in
                 let same_edge : l ≡ m = cc (sym at_l ∙ ap (slice_get (edges_of graph t)) (sym is_last) ∙ ap (λ v. slice_get (edges_of graph v) j) (sym here) ∙ there) in
-                ap (λ (x : Edge). mark x.from) (sym same_edge) ∙ is_done
+                ap (λ (x : Link). mark x.from) (sym same_edge) ∙ is_done
           ]
 
   -- A transaction whose edges were all followed is done.
@@ -192,7 +192,7 @@ module _ (graph : Graph) (mark mark' : ℕ → Mark) (next next' : ℕ → ℕ) 
         | inr other ↦ others u other ∙ is
       ]
 
-      below : (u j : ℕ) (l : Edge) → t ≡ u → slice_get (edges_of graph u) j ≡ Some l → j < next u
+      below : (u j : ℕ) (l : Link) → t ≡ u → slice_get (edges_of graph u) j ≡ Some l → j < next u
       below u j l here there =
           let a : j < length (edges_of graph u) = slice_get_within (edges_of graph u) j l there in
           let b : next u ≡ next t = ap next (sym here) in

@@ -8,7 +8,7 @@ use Rattle.std.proofs.lemmas.Bool.{cases_eq, eqb-false}
 use Rattle.std.proofs.lemmas.List.{take_more, take_all, reverse-append, get_or_default, get_or-set_same, get_or-set_other, length-set}
 use Rattle.std.proofs.lemmas.Option.{slice_get_read}
 use mathlib.Core.Logic.{inl, inr}
-use Rattle.order_check.specs.declared.edge.Edge.{Edge}
+use Rattle.order_check.specs.declared.link.Link.{Link}
 use Rattle.order_check.specs.declared.search.Mark.{Mark}
 use Rattle.order_check.specs.declared.search.Mark.TheVariants.{New, Open, Done}
 use Rattle.order_check.specs.declared.search.Visit.{Visit}
@@ -124,7 +124,7 @@ closing graph vs path order top w a path' order' t is is_a all path_is order_is 
     }
 
 -- A transaction that the newest open one needs is opened.
-pub opening : (graph : Graph) (vs : List Visit) (path order : List ℕ) (top : ℕ) (l : Edge) (w : Visit) (path' : List ℕ) → Turn graph vs path order top → slice_get (edges_of graph top) (next_in vs top) ≡ Some l → l.from < length graph → mark_in vs l.from ≡ New
+pub opening : (graph : Graph) (vs : List Visit) (path order : List ℕ) (top : ℕ) (l : Link) (w : Visit) (path' : List ℕ) → Turn graph vs path order top → slice_get (edges_of graph top) (next_in vs top) ≡ Some l → l.from < length graph → mark_in vs l.from ≡ New
     → w ≡ get_or vs l.from w → path' ≡ path ++ l.from ∷ [] → Kept graph vs (set vs l.from (record { mark = Open; next = w.next })) path' order
 opening graph vs path order top l w path' t there in_range is_new is path_is =
     let below : l.from < length vs = omega (arith, t.len, in_range) in
@@ -145,7 +145,7 @@ opening graph vs path order top l w path' t there in_range is_new is path_is =
     }
 
 -- An edge from a transaction that is done is passed.
-pub passing : (graph : Graph) (vs : List Visit) (path order : List ℕ) (top : ℕ) (l : Edge) (w a : Visit) → Turn graph vs path order top → slice_get (edges_of graph top) (next_in vs top) ≡ Some l → mark_in vs l.from ≡ Done
+pub passing : (graph : Graph) (vs : List Visit) (path order : List ℕ) (top : ℕ) (l : Link) (w a : Visit) → Turn graph vs path order top → slice_get (edges_of graph top) (next_in vs top) ≡ Some l → mark_in vs l.from ≡ Done
     → w ≡ get_or vs top w → a ≡ get_or vs top a → Kept graph vs (set vs top (record { mark = w.mark; next = a.next + 1 })) path order
 passing graph vs path order top l w a t there is_done is_w is_a =
     let below : top < length vs = omega (arith, t.len, t.below) in
@@ -164,7 +164,7 @@ passing graph vs path order top l w a t there is_done is_w is_a =
     }
 
 -- The edge that the code reads.
-pub edge_there : (graph : Graph) (vs : List Visit) (top : ℕ) (row : Vec Edge Global) (a : Visit) (l : Edge) → top < length graph → length vs ≡ length graph → row ≡ get_or graph top row → a ≡ get_or vs top a → a.next < vec_len row → l ≡ get_or row.items a.next l
+pub edge_there : (graph : Graph) (vs : List Visit) (top : ℕ) (row : Vec Link Global) (a : Visit) (l : Link) → top < length graph → length vs ≡ length graph → row ≡ get_or graph top row → a ≡ get_or vs top a → a.next < vec_len row → l ≡ get_or row.items a.next l
     → slice_get (edges_of graph top) (next_in vs top) ≡ Some l
 edge_there graph vs top row a l below len row_here a_here in_row l_here =
     let in_vs : top < length vs = omega (arith, len, below) in
@@ -173,7 +173,7 @@ edge_there graph vs top row a l below len row_here a_here in_row l_here =
     ∙ slice_get_read row.items (vec_len row) a.next l row.ok.0 in_row l_here
 
 -- The index of the next edge is not past the end.
-pub next_within : (graph : Graph) (vs : List Visit) (path order : List ℕ) (top : ℕ) (row : Vec Edge Global) (a : Visit) → Turn graph vs path order top → row ≡ get_or graph top row → a ≡ get_or vs top a → (a.next ≤ vec_len row) × (length (edges_of graph top) ≡ vec_len row)
+pub next_within : (graph : Graph) (vs : List Visit) (path order : List ℕ) (top : ℕ) (row : Vec Link Global) (a : Visit) → Turn graph vs path order top → row ≡ get_or graph top row → a ≡ get_or vs top a → (a.next ≤ vec_len row) × (length (edges_of graph top) ≡ vec_len row)
 next_within graph vs path order top row a t row_here a_here =
     let below : top < length vs = omega (arith, t.len, t.below) in
     let next_is : a.next ≡ next_in vs top = ap (λ (x : Visit). x.next) (visit_is vs top a below a_here) in
@@ -209,7 +209,7 @@ passing_falls graph vs path order top w a t is_w is_a less =
     falls graph vs top (record { mark = w.mark; next = a.next + 1 }) t.below t.len (omega arith)
 
 -- The next edge comes from a transaction that is open.
-pub stuck_at : (graph : Graph) (vs : List Visit) (path order : List ℕ) (top : ℕ) (l : Edge) → Turn graph vs path order top → slice_get (edges_of graph top) (next_in vs top) ≡ Some l → mark_in vs l.from ≡ Open → MeetsOpen graph (next_in vs) (reverse path)
+pub stuck_at : (graph : Graph) (vs : List Visit) (path order : List ℕ) (top : ℕ) (l : Link) → Turn graph vs path order top → slice_get (edges_of graph top) (next_in vs top) ≡ Some l → mark_in vs l.from ≡ Open → MeetsOpen graph (next_in vs) (reverse path)
 stuck_at graph vs path order top l t there is_open = record {
   top = top;
   rest = t.rest;

@@ -6,23 +6,23 @@ use Rattle.std.specs.declared.vec.Vec.{Vec}
 use Rattle.std.specs.declared.alloc.Global.{Global}
 use Rattle.std.proofs.lemmas.Option.{slice_get_read}
 use mathlib.Core.Logic.{◌⊎◌, inl, inr}
-use Rattle.order_check.specs.declared.edge.Edge.{Edge}
-use Rattle.order_check.specs.Graphs.{Graph, HasEdge, IsWay, IsCycle}
+use Rattle.order_check.specs.declared.link.Link.{Link}
+use Rattle.order_check.specs.Graphs.{Graph, HasEdge, IsRoute, IsRing}
 use Rattle.order_check.specs.Timing.{Leads}
 use Rattle.order_check.proofs.CycleSearch.{Trail, trail_one, trail_push}
 use Rattle.order_check.proofs.Work.{row_is}
 
-pub has_edge : (graph : Graph) (u k : ℕ) (row : Vec Edge Global) (l : Edge) → u < length graph → row ≡ get_or graph u row → k < length row.items → l ≡ get_or row.items k l → HasEdge graph l u
+pub has_edge : (graph : Graph) (u k : ℕ) (row : Vec Link Global) (l : Link) → u < length graph → row ≡ get_or graph u row → k < length row.items → l ≡ get_or row.items k l → HasEdge graph l u
 has_edge graph u k row l below row_here less here = record {
   number = k;
   there = subst (λ ls. slice_get ls k ≡ Some l) (sym (row_is graph u row below row_here)) (slice_get_read row.items (length row.items) k l refl less here);
 }
 
 -- The edges so far lead from `start` to `u`, or there are none yet.
-abbrev pub IsTrail : (Edge → ℕ → Type 0) → ℕ → List Edge → ℕ → Type 0
+abbrev pub IsTrail : (Link → ℕ → Type 0) → ℕ → List Link → ℕ → Type 0
 IsTrail leads start edges u = ((edges ≡ []) × (u ≡ start)) ⊎ Trail leads start edges u
 
-pub trail_on : (leads : Edge → ℕ → Type 0) (start t u : ℕ) (l : Edge) (edges edges' : List Edge) → IsTrail leads start edges t → l.from ≡ t → leads l u → edges' ≡ edges ++ l ∷ [] → Trail leads start edges' u
+pub trail_on : (leads : Link → ℕ → Type 0) (start t u : ℕ) (l : Link) (edges edges' : List Link) → IsTrail leads start edges t → l.from ≡ t → leads l u → edges' ≡ edges ++ l ∷ [] → Trail leads start edges' u
 trail_on leads start t u l edges edges' so_far from_is there is = elim so_far [
   | inl none ↦
       subst (λ ls. Trail leads start ls u) (sym (is ∙ ap (λ ls. ls ++ l ∷ []) none.0)) (trail_one leads start u l (from_is ∙ none.1) there)
@@ -30,10 +30,10 @@ trail_on leads start t u l edges edges' so_far from_is there is = elim so_far [
       subst (λ ls. Trail leads start ls u) (sym is) (trail_push leads start t u l edges trail from_is there)
 ]
 
-way_leads : (since : ℕ → ℕ) (graph : Graph) (l : Edge) (ls : List Edge) (end : ℕ) → IsWay (HasEdge graph) l ls end → IsWay (Leads since graph) l ls end
+way_leads : (since : ℕ → ℕ) (graph : Graph) (l : Link) (ls : List Link) (end : ℕ) → IsRoute (HasEdge graph) l ls end → IsRoute (Leads since graph) l ls end
 way_leads since graph l [] end way = inl way
 way_leads since graph l (m ∷ ms) end way = (inl way.0, way_leads since graph m ms end way.1)
 
-pub cycle_leads : (since : ℕ → ℕ) (graph : Graph) (ls : List Edge) → IsCycle (HasEdge graph) ls → IsCycle (Leads since graph) ls
+pub cycle_leads : (since : ℕ → ℕ) (graph : Graph) (ls : List Link) → IsRing (HasEdge graph) ls → IsRing (Leads since graph) ls
 cycle_leads since graph [] cycle = cycle
 cycle_leads since graph (l ∷ ls) cycle = way_leads since graph l ls l.from cycle

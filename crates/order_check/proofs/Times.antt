@@ -6,11 +6,11 @@ use Rattle.std.proofs.lemmas.Bool.{cases_eq, cases_lt}
 use Rattle.std.proofs.lemmas.List.{length_push}
 use mathlib.Core.Logic.{◌⊎◌, inl, inr}
 use Rattle.order_check.specs.declared.access.Access.{Access}
-use Rattle.order_check.specs.declared.edge.Edge.{Edge}
+use Rattle.order_check.specs.declared.link.Link.{Link}
 use Rattle.order_check.specs.declared.edge.Kind.TheVariants.{Began}
 use Rattle.order_check.specs.Graphs.{Graph, HasEdge, KeepsEdges}
 use Rattle.order_check.specs.Growth.{Adds}
-use Rattle.order_check.specs.Joined.{AreMeant, IsEdge, Keeps, meaning_of}
+use Rattle.order_check.specs.Joined.{AreMeant, IsEdge, Keeps, meaning_of, version_of}
 use Rattle.order_check.specs.Lists.{place}
 use Rattle.order_check.specs.Orders.{KeepsTime}
 use Rattle.order_check.specs.Timing.{AddsTimes, AreTimed, IsTimed, since_in, time_edge}
@@ -44,7 +44,7 @@ module _ (since : ℕ → ℕ) (early : (t u : ℕ) → t < since u → t < u) (
 pub meant_timed : (accesses : List Access) (since : ℕ → ℕ) (old new : Graph) → AreTimed since old new → AreMeant accesses since old → AreMeant accesses since new
 meant_timed accesses since old new timed were u l has = elim (timed.only u l has) [
   | inl before ↦ were u l before
-  | inr added ↦ subst (λ kind. meaning_of accesses since kind l.from (l.key, l.value) u) (sym added.0) added.1
+  | inr added ↦ subst (λ kind. meaning_of accesses since kind l.from (version_of accesses l) u) (sym added.0) added.1
 ]
 
 -- The turns of the loop that adds the edges from `start` on, up to `end`.
@@ -52,25 +52,25 @@ pub record AddsSome (start now end to : ℕ) (old new : Graph) : Type 0 where
   pub len : length new ≡ length old
   pub keeps : Keeps old new
   pub there : (t : ℕ) → start ≤ t → t < now → IsEdge new t to
-  pub only : (u : ℕ) (l : Edge) → HasEdge new l u → HasEdge old l u ⊎ ((u ≡ to) × (l.kind ≡ Began) × (l.from < end))
+  pub only : (u : ℕ) (l : Link) → HasEdge new l u → HasEdge old l u ⊎ ((u ≡ to) × (l.kind ≡ Began) × (l.from < end))
 
 pub adds_none : (start end to : ℕ) (graph : Graph) → AddsSome start start end to graph graph
 adds_none start end to graph = record { len = refl; keeps = λ u l has. has; there = λ t low high. absurd (omega arith); only = λ u l has. inl has }
 
-pub adds_more : (start now end to : ℕ) (old mid new : Graph) (edge : Edge) → now < end → edge ≡ time_edge now → Adds edge to mid new → AddsSome start now end to old mid → AddsSome start (now + 1) end to old new
+pub adds_more : (start now end to : ℕ) (old mid new : Graph) (edge : Link) → now < end → edge ≡ time_edge now → Adds edge to mid new → AddsSome start now end to old mid → AddsSome start (now + 1) end to old new
 adds_more start now end to old mid new edge below edge_is adds was = record {
   len = adds.len ∙ was.len;
   keeps = λ u l has. adds.stays u l (was.keeps u l has);
   there = λ t low high. elim (cases_eq now t) [
-    | inl same ↦ record { edge = edge; there = adds.there; from_is = ap (λ (e : Edge). e.from) edge_is ∙ same }
+    | inl same ↦ record { edge = edge; there = adds.there; from_is = ap (λ (e : Link). e.from) edge_is ∙ same }
     | inr other ↦ more_edge mid new t to adds.stays (was.there t low (earlier t other high))
   ];
   only = λ u l has. elim (adds.only u l has) [
     | inl before ↦ was.only u l before
     | inr last ↦
         let is : l ≡ time_edge now = last.1 ∙ edge_is in
-        let from_is : l.from ≡ now = ap (λ (e : Edge). e.from) is in
-        inr (last.0, ap (λ (e : Edge). e.kind) is, omega arith)
+        let from_is : l.from ≡ now = ap (λ (e : Link). e.from) is in
+        inr (last.0, ap (λ (e : Link). e.kind) is, omega arith)
   ];
 }
   where
@@ -91,7 +91,7 @@ pub record TimesSome (since : List ℕ) (txn : ℕ) (covered : List ℕ) (old ne
   pub len : length new ≡ length old
   pub keeps : Keeps old new
   pub timed : (t u : ℕ) → u < txn → t < since_in since u → IsTimed (since_in since) new t u
-  pub only : (u : ℕ) (l : Edge) → HasEdge new l u → HasEdge old l u ⊎ ((l.kind ≡ Began) × (l.from < since_in since u))
+  pub only : (u : ℕ) (l : Link) → HasEdge new l u → HasEdge old l u ⊎ ((l.kind ≡ Began) × (l.from < since_in since u))
 
 pub times_none : (since covered : List ℕ) (graph : Graph) → covered ≡ 0 ∷ [] → TimesSome since 0 covered graph graph
 times_none since covered graph is = record {

@@ -2,7 +2,7 @@
 use Rattle.std.proofs.Common.{◌≡◌, ℕ, zero, suc, ◌+◌, ◌-◌, ◌<◌, List, [], ◌∷◌, length, set, get_or, ap, sym, arith}
 use Rattle.std.specs.declared.vec.Vec.{Vec}
 use Rattle.std.specs.declared.alloc.Global.{Global}
-use Rattle.order_check.specs.declared.edge.Edge.{Edge}
+use Rattle.order_check.specs.declared.link.Link.{Link}
 use Rattle.order_check.specs.declared.search.Mark.{Mark}
 use Rattle.order_check.specs.declared.search.Mark.TheVariants.{New, Open, Done}
 use Rattle.order_check.specs.declared.search.Visit.{Visit}
@@ -32,7 +32,7 @@ falls (row ∷ graph) (w ∷ vs) (suc u) v below same less =
     let rest = falls graph vs u v (omega arith) (omega arith) less in
     omega arith
 
-pub row_is : (graph : Graph) (u : ℕ) (row : Vec Edge Global) → u < length graph → row ≡ get_or graph u row → edges_of graph u ≡ row.items
+pub row_is : (graph : Graph) (u : ℕ) (row : Vec Link Global) → u < length graph → row ≡ get_or graph u row → edges_of graph u ≡ row.items
 row_is [] u row below is = absurd (omega arith)
-row_is (r ∷ graph) zero row below is = ap (λ (x : Vec Edge Global). x.items) (sym is)
+row_is (r ∷ graph) zero row below is = ap (λ (x : Vec Link Global). x.items) (sym is)
 row_is (r ∷ graph) (suc u) row below is = row_is graph u row (omega arith) is

@@ -1,7 +1,7 @@
 -- How the edges of transactions grow.
 use Rattle.std.specs.Prelude.{ℕ, ◌≡◌, [], length}
 use mathlib.Core.Logic.{◌⊎◌}
-use Rattle.order_check.specs.declared.edge.Edge.{Edge}
+use Rattle.order_check.specs.declared.link.Link.{Link}
 use Rattle.order_check.specs.Graphs.{Graph, edges_of, HasEdge}
 
 -- No transaction has an edge.
@@ -10,8 +10,8 @@ pub record AreEmpty (count : ℕ) (graph : Graph) : Type 0 where
   pub none : (u : ℕ) → edges_of graph u ≡ []
 
 -- One transaction gets one more edge.
-pub record Adds (edge : Edge) (to : ℕ) (old new : Graph) : Type 0 where
+pub record Adds (edge : Link) (to : ℕ) (old new : Graph) : Type 0 where
   pub len : length new ≡ length old
   pub there : HasEdge new edge to
-  pub stays : (u : ℕ) (l : Edge) → HasEdge old l u → HasEdge new l u
-  pub only : (u : ℕ) (l : Edge) → HasEdge new l u → HasEdge old l u ⊎ ((u ≡ to) × (l ≡ edge))
+  pub stays : (u : ℕ) (l : Link) → HasEdge old l u → HasEdge new l u
+  pub only : (u : ℕ) (l : Link) → HasEdge new l u → HasEdge old l u ⊎ ((u ≡ to) × (l ≡ edge))

@@ -4,7 +4,7 @@ use Rattle.std.specs.HashMap.{HashMap, get as told_at}
 use Rattle.order_check.specs.declared.access.Access.{Access}
 use Rattle.order_check.specs.declared.outcome.Outcome.{Outcome}
 use Rattle.order_check.specs.declared.outcome.Outcome.TheVariants.{Order, Unwritten, Impossible, Cycle, Ambiguous}
-use Rattle.order_check.specs.declared.edge.Edge.{Edge}
+use Rattle.order_check.specs.declared.link.Link.{Link}
 use Rattle.order_check.specs.declared.edge.Kind.{Kind}
 use Rattle.order_check.specs.declared.edge.Kind.TheVariants.{Began}
 use Rattle.order_check.specs.declared.table.Doer.{Doer}
@@ -13,7 +13,7 @@ use Rattle.order_check.specs.Forces.{Forces}
 use Rattle.order_check.specs.Graphs.{IsCycle, Graph, HasEdge}
 use Rattle.order_check.specs.Orders.{IsOrderOf, HasNoOrder}
 use Rattle.order_check.specs.Tables.{Version, version_eq, IsAmong, DoesWrite, DoesBeside}
-use Rattle.order_check.specs.Joined.{NeedsAt, DoesAt, AreDistinct, AreSourced}
+use Rattle.order_check.specs.Joined.{NeedsAt, DoesAt, AreDistinct, AreSourced, source_in, version_of}
 use Rattle.std.specs.List.{range_with_len}
 use Rattle.order_check.specs.Choices.{IsUnwritten}
 use Rattle.order_check.specs.InTurn.{AreRising}
@@ -27,10 +27,14 @@ abbrev pub footprints_of : List Access → ℕ → Footprint
 footprints_of [] t k = None
 footprints_of (a ∷ rest) t k = if (a.txn == t) && (a.key == k) then Some (cell_of a) else footprints_of rest t k
 
--- The source of each need.
+-- The source of each need: the access's index.
+abbrev pub indices_of : List Access → ℕ → ℕ → Option ℕ
+indices_of [] t k = None
+indices_of (a ∷ rest) t k = if (a.txn == t) && (a.key == k) then a.source else indices_of rest t k
+
+-- The transaction.
 abbrev pub sources_of : List Access → ℕ → ℕ → Option ℕ
-sources_of [] t k = None
-sources_of (a ∷ rest) t k = if (a.txn == t) && (a.key == k) then a.source else sources_of rest t k
+sources_of accesses t k = source_in accesses (indices_of accesses t k)
 
 -- The accesses of so many transactions, one transaction after the other. Their sources mean nothing.
 pub record ArePlain (count : ℕ) (accesses : List Access) : Type 0 where
@@ -58,19 +62,22 @@ abbrev pub holds_always : Kind → Option Doer → Option ℕ → Bool
 holds_always Began o v = true
 holds_always kind o v = comes_once o v
 
-abbrev pub IsOnce : {S : Type 0} → HashMap Version Doer S → Edge → Type 0
-IsOnce writers l =
-    holds_always l.kind (told_at version_eq writers (l.key, l.value)) l.value ≡ true
+abbrev pub is_once : {S : Type 0} → List Access → HashMap Version Doer S → Link → Bool
+is_once accesses writers l =
+    holds_always l.kind (told_at version_eq writers (version_of accesses l)) (version_of accesses l).1
+
+abbrev pub IsOnce : {S : Type 0} → List Access → HashMap Version Doer S → Link → Type 0
+IsOnce accesses writers l = is_once accesses writers l ≡ true
 
 -- These edges are some of the others, and each of them holds in every order.
-abbrev pub AreOnce : {S : Type 0} → HashMap Version Doer S → List Edge → List Edge → Type 0
-AreOnce writers all kept =
-    (n : ℕ) (l : Edge) → slice_get kept n ≡ Some l → (m : ℕ) × (slice_get all m ≡ Some l) × IsOnce writers l
+abbrev pub AreOnce : {S : Type 0} → List Access → HashMap Version Doer S → List Link → List Link → Type 0
+AreOnce accesses writers all kept = (n : ℕ) (l : Link) → slice_get kept n ≡ Some l
+    → (m : ℕ) × (slice_get all m ≡ Some l) × IsOnce accesses writers l
 
 -- The same for all transactions.
-pub record AreCertain {S : Type 0} (writers : HashMap Version Doer S) (all kept : Graph) : Type 0 where
+pub record AreCertain {S : Type 0} (accesses : List Access) (writers : HashMap Version Doer S) (all kept : Graph) : Type 0 where
   pub len : length kept ≡ length all
-  pub certain : (u : ℕ) (l : Edge) → HasEdge kept l u → HasEdge all l u × IsOnce writers l
+  pub certain : (u : ℕ) (l : Link) → HasEdge kept l u → HasEdge all l u × IsOnce accesses writers l
 
 -- The value comes more than once: two transactions write it, or a transaction makes the key absent,
 -- as it was at the beginning.

@@ -1,6 +1,6 @@
 -- What a search for an order knows.
 use Rattle.std.specs.Prelude.{ℕ, ◌≡◌, ◌<◌, ◌≤◌, reverse, Some, List, [], ◌∷◌, length, slice_get, slice_index_or}
-use Rattle.order_check.specs.declared.edge.Edge.{Edge}
+use Rattle.order_check.specs.declared.link.Link.{Link}
 use Rattle.order_check.specs.declared.search.Mark.{Mark}
 use Rattle.order_check.specs.declared.search.Mark.TheVariants.{New, Open, Done}
 use Rattle.order_check.specs.declared.search.Visit.{Visit}
@@ -18,7 +18,7 @@ next_in visits u = (slice_index_or visits u unvisited).next
 
 -- The edge that the search follows from `u` next comes from `t`.
 pub record Follows (graph : Graph) (next : ℕ → ℕ) (u t : ℕ) : Type 0 where
-  pub edge : Edge
+  pub edge : Link
   pub there : slice_get (edges_of graph u) (next u) ≡ Some edge
   pub from_is : edge.from ≡ t
 
@@ -33,12 +33,12 @@ pub record Searches (graph : Graph) (mark : ℕ → Mark) (next : ℕ → ℕ) (
   pub in_order : (u : ℕ) → IsIn u order → (u < length graph) × (mark u ≡ Done)
   pub done : (u : ℕ) → mark u ≡ Done → IsIn u order
   pub apart : AreApart order
-  pub early : (u j : ℕ) (l : Edge) → IsIn u order → slice_get (edges_of graph u) j ≡ Some l
+  pub early : (u j : ℕ) (l : Link) → IsIn u order → slice_get (edges_of graph u) j ≡ Some l
       → IsIn l.from order × (place l.from order < place u order)
   pub in_path : (u : ℕ) → IsIn u path → (u < length graph) × (mark u ≡ Open)
   pub going : (u : ℕ) → mark u ≡ Open → IsIn u path
   pub path_apart : AreApart path
-  pub followed : (u j : ℕ) (l : Edge) → IsIn u path → slice_get (edges_of graph u) j ≡ Some l
+  pub followed : (u j : ℕ) (l : Link) → IsIn u path → slice_get (edges_of graph u) j ≡ Some l
       → j < next u → mark l.from ≡ Done
   pub chained : AreChained graph next path
   pub fresh : (u : ℕ) → mark u ≡ New → next u ≡ 0

@@ -1,18 +1,17 @@
 -- What is kept of real time.
-use Rattle.std.specs.Prelude.{ℕ, ◌≡◌, ◌<◌, ◌≤◌, Bool, None, List, length, slice_index_or}
-use Rattle.std.specs.HashMap.{HashMap}
+use Rattle.std.specs.Prelude.{ℕ, ◌≡◌, ◌<◌, ◌≤◌, Bool, List, length, slice_index_or}
 use mathlib.Core.Logic.{◌⊎◌}
 use Rattle.txn_words.specs.declared.entry.Entry.{Entry}
 use Rattle.txn_trace.specs.History.{commits}
 use Rattle.order_check.specs.declared.access.Access.{Access}
-use Rattle.order_check.specs.declared.edge.Edge.{Edge}
+use Rattle.order_check.specs.declared.link.Link.{Link}
 use Rattle.order_check.specs.declared.edge.Kind.TheVariants.{Began}
 use Rattle.order_check.specs.Graphs.{Graph, HasEdge}
-use Rattle.order_check.specs.declared.table.Doer.{Doer}
+use Rattle.order_check.specs.declared.replacers.Replacers.{Replacers}
 use Rattle.order_check.specs.Joined.{AreMeant, IsEdge, IsJoined, Keeps}
 use Rattle.order_check.specs.Lists.{place}
 use Rattle.order_check.specs.RealTime.{IsEarlierIf}
-use Rattle.order_check.specs.Tables.{Version, IsAmong}
+use Rattle.order_check.specs.Tables.{IsAmong}
 
 -- `n` transactions had committed when `u` began, or none of them counts.
 pub record IsSince (real_time : Bool) (h : List Entry) (u n : ℕ) : Type 0 where
@@ -35,11 +34,11 @@ pub record AreBegun (count : ℕ) (since begun : List ℕ) : Type 0 where
   pub within : (c : ℕ) → slice_index_or begun c 0 ≤ count
 
 -- An edge of real time from a transaction.
-abbrev pub time_edge : ℕ → Edge
-time_edge t = record { from = t; kind = Began; key = 0; value = None }
+abbrev pub time_edge : ℕ → Link
+time_edge t = record { from = t; kind = Began; index = 0 }
 
 -- One of the edges of `u`, or an edge of real time to it.
-abbrev pub Leads : (ℕ → ℕ) → Graph → Edge → ℕ → Type 0
+abbrev pub Leads : (ℕ → ℕ) → Graph → Link → ℕ → Type 0
 Leads since graph l u = HasEdge graph l u ⊎ ((l.kind ≡ Began) × (l.from < since u))
 
 -- There is an edge from `t` to `u`, or a transaction between them: it began after `t` had committed,
@@ -53,7 +52,7 @@ pub record AddsTimes (start end to : ℕ) (old new : Graph) : Type 0 where
   pub len : length new ≡ length old
   pub keeps : Keeps old new
   pub there : (t : ℕ) → start ≤ t → t < end → IsEdge new t to
-  pub only : (u : ℕ) (l : Edge) → HasEdge new l u
+  pub only : (u : ℕ) (l : Link) → HasEdge new l u
       → HasEdge old l u ⊎ ((u ≡ to) × (l.kind ≡ Began) × (l.from < end))
 
 -- The edges of real time were added, those of transactions without one between them at least.
@@ -61,13 +60,13 @@ pub record AreTimed (since : ℕ → ℕ) (old new : Graph) : Type 0 where
   pub len : length new ≡ length old
   pub keeps : Keeps old new
   pub timed : (t u : ℕ) → t < since u → IsTimed since new t u
-  pub only : (u : ℕ) (l : Edge) → HasEdge new l u
+  pub only : (u : ℕ) (l : Link) → HasEdge new l u
       → HasEdge old l u ⊎ ((l.kind ≡ Began) × (l.from < since u))
 
 -- The edges of so many transactions: each has its meaning, each access has its edges, and so has
 -- real time.
-pub record IsGraphOf {R : Type 0} (count : ℕ) (since : ℕ → ℕ) (accesses : List Access) (replacers : HashMap Version Doer R) (graph : Graph) : Type 0 where
+pub record IsGraphOf (count : ℕ) (since : ℕ → ℕ) (accesses : List Access) (replacers : Replacers) (graph : Graph) : Type 0 where
   pub len : length graph ≡ count
   pub meant : AreMeant accesses since graph
-  pub joined : (a : Access) → IsAmong a accesses → IsJoined replacers graph a
+  pub joined : (a : Access) → IsAmong a accesses → IsJoined accesses replacers graph a
   pub timed : (t u : ℕ) → t < since u → IsTimed since graph t u

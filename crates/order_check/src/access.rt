@@ -11,7 +11,7 @@ pub(crate) struct Access {
     pub(crate) need: Option<u64>,
     /// The value that the transaction leaves.
     pub(crate) left: Option<u64>,
-    /// The transaction that writes the value that it needs, or `None` if the key is as it was at the
-    /// beginning.
-    pub(crate) source: Option<u64>,
+    /// The index of the access that writes the value that it needs, or `None` if the key is as it
+    /// was at the beginning.
+    pub(crate) source: Option<usize>,
 }

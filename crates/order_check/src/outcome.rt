@@ -1,13 +1,11 @@
 //! The judge: finds an order of transactions, or shows why there is none.
 ghost use Rattle.std.specs.Prelude.{◌≡◌, IfOk, IfSome, IsNone, true, false};
-ghost use Rattle.std.specs.HashMap.{get as told_at};
 ghost use Rattle.std.specs.List.{All};
 ghost use Rattle.order_check.specs.Outcomes.{AreAccesses, AreCertain, AreOnce, ArePlain};
-ghost use Rattle.order_check.specs.Outcomes.{IsInTurn, IsOutcome, IsOnce, IsRepeated, holds_always};
+ghost use Rattle.order_check.specs.Outcomes.{IsInTurn, IsOutcome, IsOnce, IsRepeated, is_once};
 ghost use Rattle.std.specs.List.{range_with_len};
 ghost use Rattle.order_check.specs.Footprints.{no_values};
 ghost use Rattle.order_check.specs.InTurn.{RunInTurn};
-ghost use Rattle.order_check.specs.Tables.{version_eq};
 ghost use Rattle.order_check.specs.Timing.{IsTiming, since_in};
 
 use crate::access::Access;
@@ -16,9 +14,11 @@ use crate::edge::{Edge, Kind};
 use crate::edges::make_graph;
 use crate::exclusion::find_impossible;
 use crate::in_turn::run_in_turn;
+use crate::link::{Link, edge_of, edges_of, version_of};
+use crate::replacers::make_replacers;
 use crate::search::Found;
 use crate::shortest::find_shortest;
-use crate::table::{Doer, Version, make_replacers, make_writers};
+use crate::table::{Doer, Version, make_writers};
 use std::alloc::{AllocError, Global};
 use std::collections::HashMap;
 
@@ -164,15 +164,17 @@ fn judge_sourced(
         Found::Order(order) => Ok(Outcome::Order(order)),
         Found::Cycle(edges) => {
             let writers = make_writers(alloc, accesses)?;
-            match first_repeated(&writers, &edges) {
+            match first_repeated(accesses, &writers, &edges) {
                 Some(edge) => {
-                    let certain = keep_once(alloc, &writers, &graph)?;
+                    let certain = keep_once(alloc, accesses, &writers, &graph)?;
                     match find_shortest(alloc, &certain, since)? {
-                        Found::Cycle(edges) => Ok(Outcome::Cycle(edges)),
-                        Found::Order(_) => Ok(Outcome::Ambiguous(edge)),
+                        Found::Cycle(edges) => {
+                            Ok(Outcome::Cycle(edges_of(alloc, accesses, &edges)?))
+                        }
+                        Found::Order(_) => Ok(Outcome::Ambiguous(edge_of(accesses, &edge))),
                     }
                 }
-                None => Ok(Outcome::Cycle(edges)),
+                None => Ok(Outcome::Cycle(edges_of(alloc, accesses, &edges)?)),
             }
         }
     }
@@ -181,14 +183,15 @@ fn judge_sourced(
 /// The edges that hold in every order.
 fn keep_once(
     alloc: Global,
+    accesses: &[Access],
     writers: &HashMap<Version, Doer>,
-    graph: &[Vec<Edge>],
-) -> Result<Vec<Vec<Edge>>, AllocError>
-    ensures { IfOk result (λ kept. AreCertain writers.now graph.now kept.items) }
+    graph: &[Vec<Link>],
+) -> Result<Vec<Vec<Link>>, AllocError>
+    ensures { IfOk result (λ kept. AreCertain accesses.now writers.now graph.now kept.items) }
 {
     let mut kept = Vec::with_capacity(alloc, graph.len())?;
     for row in graph {
-        kept.push(keep_in(alloc, writers, row)?)?;
+        kept.push(keep_in(alloc, accesses, writers, row)?)?;
     }
     Ok(kept)
 }
@@ -196,14 +199,15 @@ fn keep_once(
 /// The edges of one transaction that hold in every order.
 fn keep_in(
     alloc: Global,
+    accesses: &[Access],
     writers: &HashMap<Version, Doer>,
-    row: &[Edge],
-) -> Result<Vec<Edge>, AllocError>
-    ensures { IfOk result (λ kept. AreOnce writers.now row.now kept.items) }
+    row: &[Link],
+) -> Result<Vec<Link>, AllocError>
+    ensures { IfOk result (λ kept. AreOnce accesses.now writers.now row.now kept.items) }
 {
     let mut kept = Vec::new(alloc);
     for edge in row {
-        if is_once(writers, edge) {
+        if is_once(accesses, writers, edge) {
             kept.push(*edge)?;
         }
     }
@@ -211,13 +215,16 @@ fn keep_in(
 }
 
 /// The first edge that need not hold in every order: its value comes more than once.
-fn first_repeated(writers: &HashMap<Version, Doer>, edges: &[Edge]) -> Option<Edge>
-    ensures none { IsNone result → All (IsOnce writers.now) edges.now }
-    ensures some { IfSome result (λ l. holds_always l.kind
-        (told_at version_eq writers.now (l.key, l.value)) l.value ≡ false) }
+fn first_repeated(
+    accesses: &[Access],
+    writers: &HashMap<Version, Doer>,
+    edges: &[Link],
+) -> Option<Link>
+    ensures none { IsNone result → All (IsOnce accesses.now writers.now) edges.now }
+    ensures some { IfSome result (λ l. is_once accesses.now writers.now l ≡ false) }
 {
     for edge in edges {
-        if !is_once(writers, edge) {
+        if !is_once(accesses, writers, edge) {
             return Some(*edge);
         }
     }
@@ -226,15 +233,15 @@ fn first_repeated(writers: &HashMap<Version, Doer>, edges: &[Edge]) -> Option<Ed
 
 /// Whether the value of an edge comes only once, or it is an edge of real time. Then it holds in every
 /// order.
-fn is_once(writers: &HashMap<Version, Doer>, edge: &Edge) -> bool
-    ensures { result ≡ holds_always edge.now.kind
-        (told_at version_eq writers.now (edge.now.key, edge.now.value)) edge.now.value }
+fn is_once(accesses: &[Access], writers: &HashMap<Version, Doer>, edge: &Link) -> bool
+    ensures { result ≡ is_once accesses.now writers.now edge.now }
 {
     if let Kind::Began = edge.kind {
         return true;
     }
-    match writers.get(&(edge.key, edge.value)) {
-        Some(doer) => edge.value.is_some() && doer.is_only,
+    let version = version_of(accesses, edge);
+    match writers.get(&version) {
+        Some(doer) => version.1.is_some() && doer.is_only,
         None => true,
     }
 }

@@ -1,9 +1,9 @@
 //! A search for an order that keeps all edges, or for a cycle of edges.
 ghost use Rattle.std.specs.Prelude.{◌≡◌, ℕ, ◌<◌, length, IfOk, OnOk, reverse, true, false, [], List};
-ghost use Rattle.order_check.specs.Graphs.{AreInRange, IsFound, IsCycle, HasEdge};
+ghost use Rattle.order_check.specs.Graphs.{AreInRange, IsFound, IsRing, HasEdge};
 ghost use Rattle.order_check.specs.Search.{IsSearch, IsStuck, StaysVisited};
 
-use crate::edge::Edge;
+use crate::link::Link;
 use std::alloc::{AllocError, Global};
 
 /// An order, or a cycle.
@@ -13,7 +13,7 @@ pub(crate) enum Found {
     Order(Vec<usize>),
     /// Each edge leads to the transaction from which the next one comes, and the last edge leads to
     /// the transaction from which the first one comes.
-    Cycle(Vec<Edge>),
+    Cycle(Vec<Link>),
 }
 
 /// How far the search has come with a transaction.
@@ -44,7 +44,7 @@ pub(crate) struct Visit {
 /// # Cost
 ///
 /// Time and memory in proportion to the number of transactions and edges.
-pub(crate) fn find_order(alloc: Global, graph: &[Vec<Edge>]) -> Result<Found, AllocError>
+pub(crate) fn find_order(alloc: Global, graph: &[Vec<Link>]) -> Result<Found, AllocError>
     requires { AreInRange graph.now }
     ensures { IfOk result (IsFound (HasEdge graph.now) graph.now) }
 {
@@ -70,7 +70,7 @@ pub(crate) fn find_order(alloc: Global, graph: &[Vec<Edge>]) -> Result<Found, Al
 /// Follows edges until no transaction is open, and returns true. If an edge comes from an open
 /// transaction, stops before this edge and returns false.
 fn follow(
-    graph: &[Vec<Edge>],
+    graph: &[Vec<Link>],
     visits: &mut Vec<Visit>,
     path: &mut Vec<usize>,
     order: &mut Vec<usize>,
@@ -90,7 +90,7 @@ fn follow(
             path.pop();
             visits[top].mark = Mark::Done;
         } else {
-            let from = graph[top][at].from as usize;
+            let from = graph[top][at].from;
             match visits[from].mark {
                 Mark::New => {
                     path.push(from)?;
@@ -107,18 +107,18 @@ fn follow(
 /// The edges in a circle that `follow` met.
 fn circle(
     alloc: Global,
-    graph: &[Vec<Edge>],
+    graph: &[Vec<Link>],
     visits: &[Visit],
     path: &[usize],
-) -> Result<Vec<Edge>, AllocError>
+) -> Result<Vec<Link>, AllocError>
     requires range { AreInRange graph.now }
     requires keeps { (order : List ℕ) × IsSearch graph.now visits.now path.now order }
     requires stuck { IsStuck graph.now visits.now path.now }
-    ensures { IfOk result (λ edges. IsCycle (HasEdge graph.now) edges.items) }
+    ensures { IfOk result (λ edges. IsRing (HasEdge graph.now) edges.items) }
 {
     let count = path.len();
     let top = path[count - 1];
-    let start = graph[top][visits[top].next].from as usize;
+    let start = graph[top][visits[top].next].from;
     let mut edges = Vec::new(alloc);
     for back in 0..count {
         let u = path[count - 1 - back];

@@ -12,10 +12,11 @@
 //! Proved: the edges are a cycle. That it is a shortest one is only tested: the edges of each cycle
 //! are read back and tested one by one, so that no proof speaks of the walks.
 ghost use Rattle.std.specs.Prelude.{◌≡◌, ◌<◌, IfOk, IfSome};
-ghost use Rattle.order_check.specs.Graphs.{AreInRange, HasEdge, IsCycle, IsFound};
+ghost use Rattle.order_check.specs.Graphs.{AreInRange, HasEdge, IsRing, IsFound};
 ghost use Rattle.order_check.specs.Timing.{Leads, since_in, time_edge};
 
-use crate::edge::{Edge, Kind};
+use crate::edge::Kind;
+use crate::link::Link;
 use crate::search::{Found, find_order};
 use crate::timing::time_edge;
 use std::alloc::{AllocError, Global};
@@ -81,7 +82,7 @@ struct Walks {
 /// times as many, or at a million.
 pub(crate) fn find_shortest(
     alloc: Global,
-    graph: &[Vec<Edge>],
+    graph: &[Vec<Link>],
     since: &[usize],
 ) -> Result<Found, AllocError>
     requires { AreInRange graph.now }
@@ -96,12 +97,12 @@ pub(crate) fn find_shortest(
 /// The least cycle that the walks find, or the one that was found.
 fn shorten(
     alloc: Global,
-    graph: &[Vec<Edge>],
+    graph: &[Vec<Link>],
     since: &[usize],
-    found: Vec<Edge>,
-) -> Result<Vec<Edge>, AllocError>
-    requires { IsCycle (HasEdge graph.now) found.items }
-    ensures { IfOk result (λ edges. IsCycle (Leads (since_in since.now) graph.now) edges.items) }
+    found: Vec<Link>,
+) -> Result<Vec<Link>, AllocError>
+    requires { IsRing (HasEdge graph.now) found.items }
+    ensures { IfOk result (λ edges. IsRing (Leads (since_in since.now) graph.now) edges.items) }
 {
     let mut walks = Walks::new(alloc, graph, cost_of(&found))?;
     let mut shortest = None;
@@ -121,7 +122,7 @@ fn shorten(
 }
 
 /// The cost of a cycle.
-fn cost_of(edges: &[Edge]) -> Cost {
+fn cost_of(edges: &[Link]) -> Cost {
     Cost {
         edges: edges.len(),
         is_timed: edges.iter().any(|edge| edge.kind == Kind::Began),
@@ -129,16 +130,16 @@ fn cost_of(edges: &[Edge]) -> Cost {
 }
 
 /// Where the walk of this turn begins: first at the edges of the cycle, then at each transaction.
-fn start_at(found: &[Edge], turn: usize) -> usize {
+fn start_at(found: &[Link], turn: usize) -> usize {
     match found.get(turn) {
-        Some(edge) => edge.from as usize,
+        Some(edge) => edge.from,
         None => turn.saturating_sub(found.len()),
     }
 }
 
 /// The number of edges that the walks may look at: four times as many as one walk looks at, or a
 /// million.
-fn most_looks(graph: &[Vec<Edge>]) -> usize {
+fn most_looks(graph: &[Vec<Link>]) -> usize {
     let mut looks: usize = 0;
     for row in graph {
         looks = looks.saturating_add(row.len().saturating_add(2));
@@ -148,7 +149,7 @@ fn most_looks(graph: &[Vec<Edge>]) -> usize {
 
 impl Walks {
     /// No walk yet. There is a cycle of this cost.
-    fn new(alloc: Global, graph: &[Vec<Edge>], least: Cost) -> Result<Walks, AllocError> {
+    fn new(alloc: Global, graph: &[Vec<Link>], least: Cost) -> Result<Walks, AllocError> {
         let nowhere = Reach {
             walk: 0,
             cost: least,
@@ -174,7 +175,7 @@ impl Walks {
     /// Walks from a transaction, and notes the edge that closes a cycle of a lesser cost.
     fn walk(
         &mut self,
-        graph: &[Vec<Edge>],
+        graph: &[Vec<Link>],
         since: &[usize],
         start: usize,
     ) -> Result<(), AllocError> {
@@ -227,7 +228,7 @@ impl Walks {
     }
 
     /// Follows the edges to a transaction, to which the way has this cost.
-    fn follow(&mut self, graph: &[Vec<Edge>], to: usize, cost: Cost) -> Result<(), AllocError> {
+    fn follow(&mut self, graph: &[Vec<Link>], to: usize, cost: Cost) -> Result<(), AllocError> {
         let Some(row) = graph.get(to) else {
             return Ok(());
         };
@@ -237,7 +238,7 @@ impl Walks {
                 to,
                 index: Some(index),
             };
-            self.meet(edge.from as usize, longer(cost, edge.kind), place)?;
+            self.meet(edge.from, longer(cost, edge.kind), place)?;
         }
         Ok(())
     }
@@ -296,11 +297,11 @@ impl Walks {
     fn cycle(
         &self,
         alloc: Global,
-        graph: &[Vec<Edge>],
+        graph: &[Vec<Link>],
         since: &[usize],
-    ) -> Result<Option<Vec<Edge>>, AllocError>
+    ) -> Result<Option<Vec<Link>>, AllocError>
         ensures { IfOk result (λ found. IfSome found
-            (λ edges. IsCycle (Leads (since_in since.now) graph.now) edges.items)) }
+            (λ edges. IsRing (Leads (since_in since.now) graph.now) edges.items)) }
     {
         let Some(closing) = self.closing else {
             return Ok(None);
@@ -332,7 +333,7 @@ fn longer(cost: Cost, kind: Kind) -> Cost {
 }
 
 /// The edge in this place, if there is one and it comes from this transaction.
-fn edge_at(graph: &[Vec<Edge>], since: &[usize], place: Place, from: usize) -> Option<Edge>
+fn edge_at(graph: &[Vec<Link>], since: &[usize], place: Place, from: usize) -> Option<Link>
     ensures { IfSome result (λ l. (l.from ≡ from)
         × Leads (since_in since.now) graph.now l place.to) }
 {
@@ -343,18 +344,18 @@ fn edge_at(graph: &[Vec<Edge>], since: &[usize], place: Place, from: usize) -> O
 }
 
 /// The edge with this index to a transaction, if there is one and it comes from this other one.
-fn listed_edge(graph: &[Vec<Edge>], to: usize, index: usize, from: usize) -> Option<Edge>
+fn listed_edge(graph: &[Vec<Link>], to: usize, index: usize, from: usize) -> Option<Link>
     ensures { IfSome result (λ l. (l.from ≡ from) × HasEdge graph.now l to) }
 {
     let row = graph.get(to)?;
     match row.get(index) {
-        Some(edge) if edge.from as usize == from => Some(*edge),
+        Some(edge) if edge.from == from => Some(*edge),
         _ => None,
     }
 }
 
 /// The edge of real time from one transaction to another, if there is one.
-fn edge_of_time(since: &[usize], to: usize, from: usize) -> Option<Edge>
+fn edge_of_time(since: &[usize], to: usize, from: usize) -> Option<Link>
     ensures { IfSome result (λ l. (l ≡ time_edge from) × (from < since_in since.now to)) }
 {
     match since.get(to) {

@@ -5,15 +5,16 @@
 ghost use Rattle.std.specs.Prelude.{◌≡◌, ◌<◌, length, vec_len, OnOk};
 ghost use Rattle.order_check.specs.Timing.{AddsTimes, AreTimed, IsTiming, since_in, time_edge};
 
-use crate::edge::{Edge, Kind};
+use crate::edge::Kind;
 use crate::graph::add;
+use crate::link::Link;
 use std::alloc::{AllocError, Global};
 
 /// Adds the edges of real time that do not follow from others. `since` says of each transaction how
 /// many had committed when it began.
 pub(crate) fn add_times(
     alloc: Global,
-    graph: &mut Vec<Vec<Edge>>,
+    graph: &mut Vec<Vec<Link>>,
     since: &[usize],
 ) -> Result<(), AllocError>
     requires { IsTiming (vec_len graph.old) since.now }
@@ -33,7 +34,7 @@ pub(crate) fn add_times(
 
 /// Adds an edge of real time from each transaction from `start` on, up to `end`.
 fn add_between(
-    graph: &mut Vec<Vec<Edge>>,
+    graph: &mut Vec<Vec<Link>>,
     start: usize,
     end: usize,
     to: usize,
@@ -48,13 +49,12 @@ fn add_between(
 }
 
 /// An edge of real time from a transaction.
-pub(crate) fn time_edge(from: usize) -> Edge
+pub(crate) fn time_edge(from: usize) -> Link
     ensures { result ≡ time_edge from }
 {
-    Edge {
-        from: from as u64,
+    Link {
+        from,
         kind: Kind::Began,
-        key: 0,
-        value: None,
+        index: 0,
     }
 }
