@@ -2,7 +2,7 @@
 // and on RocksDB's TransactionDB, which locks keys and not stripes, without a log on disk; for striped.sh. Each thread makes transactions of four operations: half puts, a quarter takes, a quarter gets, keys drawn
 // evenly, two keys in three there at the beginning. A tenth abort. A transaction that finds a stripe held aborts, and is not tried
 // again. The callers are joined one after the other, by one thread.
-// Usage: striped nothing|commits|entries|calls|run|tbb|rocksdb THREADS KEYS TRANSACTIONS shared|own. With `own` each thread has its own
+// Usage: striped nothing|apart|commits|entries|calls|run|tbb|rocksdb THREADS KEYS TRANSACTIONS shared|own. With `own` each thread has its own
 // stripes. `calls` and `run` make the same transactions on a map that keeps nothing, but none aborts: by the calls of its
 // operations, and as a whole by boostmap_striped_run.
 // Prints the transactions that were not busy a second, in millions, the nanoseconds of processor time of one, and the part that
@@ -73,12 +73,17 @@ public:
 class boosted {
 protected:
     std::vector<boostmap_caller> callers_;
+    std::vector<std::unique_ptr<char[]>> between_;
 
 public:
-    boosted(word threads, word, word keep) : callers_(threads + 1, boostmap_caller BOOSTMAP_INIT) {
+    // With `apart` not 0, so many bytes are allocated between two callers.
+    boosted(word threads, word, word keep, word apart = 0) : callers_(threads + 1, boostmap_caller BOOSTMAP_INIT) {
         word w;
         boostmap_status status = boostmap_striped_open(&callers_[0], threads + 1, STRIPES, 0, keep, 0, &w);
-        for (word i = 1; i <= threads && status == BOOSTMAP_DONE; i++) status = boostmap_striped_join(&callers_[0], &callers_[i], &w);
+        for (word i = 1; i <= threads && status == BOOSTMAP_DONE; i++) {
+            if (apart) between_.emplace_back(new char[apart]);
+            status = boostmap_striped_join(&callers_[0], &callers_[i], &w);
+        }
         if (status != BOOSTMAP_DONE) std::exit(3);
     }
     ~boosted() {
@@ -106,6 +111,12 @@ public:
         if (boostmap_striped_count(&callers_[me], &w) == BOOSTMAP_BUSY) return false;
         return boostmap_striped_commit(&callers_[me], &w) == BOOSTMAP_DONE;
     }
+};
+
+// Callers that lie far apart in memory.
+class far_apart : public boosted {
+public:
+    far_apart(word threads, word keys, word keep) : boosted(threads, keys, keep, 4096) {}
 };
 
 // Transactions that all commit.
@@ -302,6 +313,7 @@ int main(int argc, char **argv) {
     if (!std::strcmp(argv[1], "nothing")) measure<boosted>(threads, keys, count, own, BOOSTMAP_KEEP_NOTHING);
     else if (!std::strcmp(argv[1], "commits")) measure<boosted>(threads, keys, count, own, BOOSTMAP_KEEP_COMMITS);
     else if (!std::strcmp(argv[1], "entries")) measure<boosted>(threads, keys, count, own, BOOSTMAP_KEEP_ENTRIES);
+    else if (!std::strcmp(argv[1], "apart")) measure<far_apart>(threads, keys, count, own, BOOSTMAP_KEEP_NOTHING);
     else if (!std::strcmp(argv[1], "calls")) measure<by_calls>(threads, keys, count, own, BOOSTMAP_KEEP_NOTHING);
     else if (!std::strcmp(argv[1], "run")) measure<by_run>(threads, keys, count, own, BOOSTMAP_KEEP_NOTHING);
 #ifdef HAS_TBB

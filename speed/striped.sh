@@ -5,7 +5,8 @@
 # entries, of 40 bytes and some ten a transaction, a fifth. The programs take turns in random order in each round. Prints the medians: millions of transactions a second that were not busy, by
 # the clock; nanoseconds of processor time of one; and how many percent were busy. `own` gives each thread its own stripes.
 # With one thread all must give the same replies. Writes the table to striped.tsv, of which picture.py draws docs/striped.svg.
-# Then prints what one of these transactions takes by its calls and as a run, if all commit.
+# Then prints what one of these transactions takes by its calls and as a run, if all commit; and what one takes with 4 KB between
+# two callers, which shows whether callers share lines of the cache.
 # Usage: speed/striped.sh [TRANSACTIONS_A_THREAD [ROUNDS]]
 source "$(dirname "${BASH_SOURCE[0]}")/common.sh"
 count=${1:-1000000}
@@ -94,19 +95,19 @@ done
 for keys in 1000 100000; do
   for threads in 1 4; do
     for _ in $(seq "$rounds"); do
-      # The names are two.
+      # The names are four.
       # shellcheck disable=SC2046
-      for name in $(shuffled calls run); do run_one "$name" "$keys" shared "$threads"; done
+      for name in $(shuffled calls run nothing apart); do run_one "$name" "$keys" shared "$threads"; done
     done
   done
 done >"$work/runs"
-awk '$4 == 1 { print $2, $8 }' "$work/runs" | sort -u | awk 'END { exit NR != 2 }' || { echo 'the replies differ' >&2; exit 1; }
+awk '$4 == 1 && $1 ~ "calls|run" { print $2, $8 }' "$work/runs" | sort -u | awk 'END { exit NR != 2 }' || { echo 'the replies differ' >&2; exit 1; }
 for keys in 1000 100000; do
   for threads in 1 4; do
     row="$keys shared $threads"
     # The row has three words.
     # shellcheck disable=SC2086
     echo "$keys keys, $threads threads, a transaction that commits takes $(median calls $row 6) ns by its calls," \
-      "$(median run $row 6) ns as a run"
+      "$(median run $row 6) ns as a run; one of any end $(median nothing $row 6) ns, with callers far apart $(median apart $row 6) ns"
   done
 done

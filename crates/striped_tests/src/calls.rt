@@ -2,12 +2,13 @@
 //! play a table of requests with their answers. All other modules of this crate use them. The
 //! functions have no contracts, so a test that plays a table is proved within seconds.
 use std::alloc::Global;
+use std::fmt::Debug;
 use std::process::Abort;
 use striped_map::{Caller, Host, Keep, Opening, Stop};
 use txn_words::{Op, Refusal, Reply};
 
 /// A request to a caller.
-#[derive(Clone, Copy)]
+#[derive(Clone, Copy, Debug)]
 pub(crate) enum Ask {
     Begin,
     Do(Op),
@@ -21,7 +22,7 @@ pub(crate) enum Ask {
 /// The answer to a request: nothing, a reply, a number (a level, a count or a place), or the reason
 /// why the request was not carried out. A commit is answered by its place, if the map keeps its
 /// commits.
-#[derive(Clone, Copy, PartialEq, Eq)]
+#[derive(Clone, Copy, Debug, PartialEq, Eq)]
 pub(crate) enum Told {
     Done,
     Replied(Reply),
@@ -95,16 +96,25 @@ pub(crate) fn open<R: Abort>(rt: &R, alloc: Global, stripes: usize, callers: usi
     open_as(rt, alloc, counted(stripes, callers))
 }
 
-/// Fails the test with the number of the row if `is_so` is false. It is a separate function, since
-/// an `assert!` with a message makes a longer function slow to prove.
-pub(crate) fn must<R: Abort>(rt: &R, row: usize, is_so: bool) {
-    assert!(rt; is_so, "row {row}");
+/// Fails the test if what came is not what was due, and then prints the row: its number, what was
+/// asked, what came and what was due. It is a separate function, since an `assert!` with a message
+/// makes a longer function slow to prove.
+pub(crate) fn must_be<R: Abort, A: Debug, T: PartialEq + Debug>(
+    rt: &R,
+    row: usize,
+    asked: &A,
+    came: &T,
+    due: &T,
+) {
+    assert!(rt;
+        came == due,
+        "row {row}: {asked:?}: {came:?} came, {due:?} was due"
+    );
 }
 
-/// Makes a request to a caller, and compares the answer with `wanted`. If they differ, the test
-/// fails with the number of the row.
-pub(crate) fn ask_row<R: Abort>(rt: &R, caller: &mut Caller, row: usize, what: Ask, wanted: Told) {
-    must(rt, row, answer(caller, what) == wanted);
+/// Makes a request to a caller. Its answer must be `due`.
+pub(crate) fn ask_row<R: Abort>(rt: &R, caller: &mut Caller, row: usize, what: Ask, due: Told) {
+    must_be(rt, row, &what, &answer(caller, what), &due);
 }
 
 /// Makes the request of each row to the row's caller, in order. Each answer must be the row's

@@ -3,7 +3,7 @@
 //! By the contracts, any call may be refused memory. Here a call is refused only if its row says
 //! so.
 use crate::calls::{
-    Ask, Home, NEW, Row, Told, Worked, has_left, leaves, must, open, play, play_worked,
+    Ask, Home, NEW, Row, Told, Worked, has_left, leaves, must_be, open, play, play_worked,
 };
 use std::alloc::{AllocError, Global};
 use std::process::Abort;
@@ -39,7 +39,7 @@ const ROOMS: &[(usize, usize, usize, Option<Refusal>)] = &[
 fn room_for_keys(rt: HostRuntime) {
     for (row, &(stripes, callers, keys, wanted)) in ROOMS.iter().enumerate() {
         let found = why_not(rt.alloc(), stripes, callers, keys);
-        must(&rt, row, found == wanted);
+        must_be(&rt, row, &keys, &found, &wanted);
     }
 }
 

@@ -2,7 +2,7 @@
 //! answer as if nothing had been refused. A call that is refused twice ends the test with that
 //! error. `tests/refused.sh` refuses the memory. Without this script, the tests are plain
 //! worked runs.
-use crate::calls::{Ask, Home, NEW, Row, Told, answer, counted, must, reads};
+use crate::calls::{Ask, Home, NEW, Row, Told, answer, counted, must_be, reads};
 use std::alloc::Global;
 use std::process::Abort;
 use std::test::Fail;
@@ -38,7 +38,7 @@ fn play_again<R: Abort>(rt: &R, home: &mut Home, rows: &[Row]) -> Result<(), Ref
     for (row, &(place, what, wanted)) in rows.iter().enumerate() {
         assert!(rt; place < home.callers.len());
         let told = answer_again(&mut home.callers[place], what)?;
-        must(rt, row, told == wanted);
+        must_be(rt, row, &what, &told, &wanted);
     }
     Ok(())
 }

@@ -2,13 +2,13 @@
 //! calls. `Call` lists the calls of a transaction. `Ask` lacks five of them: `contains_key`,
 //! `swap`, `is_empty`, `pairs` and `pairs_with`. The first three are also tested on a caller. The
 //! values of each row were worked out by hand.
-use crate::calls::{Ask, Home, NEW, Row, Told, leaves, must, open, play};
+use crate::calls::{Ask, Home, NEW, Row, Told, leaves, must_be, open, play};
 use std::process::Abort;
 use striped_map::{Caller, Stop, Transaction};
 use txn_words::{Op, Refusal, Reply};
 
 /// A request to a transaction.
-#[derive(Clone, Copy)]
+#[derive(Clone, Copy, Debug)]
 enum Call {
     Do(Op),
     Has(u64),
@@ -23,7 +23,7 @@ enum Call {
 
 /// The answer to a request: done, a reply, a number (of pairs for `Pairs` and `PairsWith`), yes or no,
 /// or why the call stopped.
-#[derive(Clone, Copy, PartialEq, Eq)]
+#[derive(Clone, Copy, Debug, PartialEq, Eq)]
 enum Answer {
     Done,
     Replied(Reply),
@@ -113,7 +113,7 @@ fn told_by(t: &mut Transaction<'_>, what: Call) -> Answer {
 /// Makes the calls of the table on a transaction. Each must get the answer of its line.
 fn ask_all<R: Abort>(rt: &R, t: &mut Transaction<'_>, lines: &[Line]) {
     for (line, &(what, wanted)) in lines.iter().enumerate() {
-        must(rt, line, told_by(t, what) == wanted);
+        must_be(rt, line, &what, &told_by(t, what), &wanted);
     }
 }
 
