@@ -2,8 +2,9 @@
 // and on RocksDB's TransactionDB, which locks keys and not stripes, without a log on disk; for striped.sh. Each thread makes transactions of four operations: half puts, a quarter takes, a quarter gets, keys drawn
 // evenly, two keys in three there at the beginning. A tenth abort. A transaction that finds a stripe held aborts, and is not tried
 // again. The callers are joined one after the other, by one thread.
-// Usage: striped nothing|apart|commits|entries|calls|run|tbb|rocksdb THREADS KEYS TRANSACTIONS shared|own. With `own` each thread has its own
-// stripes. `calls` and `run` make the same transactions on a map that keeps nothing, but none aborts: by the calls of its
+// Usage: striped nothing|apart|commits|entries|calls|run|tbb|rocksdb THREADS KEYS TRANSACTIONS shared|own. With `own` each thread has
+// its own stripes; `apart` keeps nothing and has callers far apart. `calls` and `run` make the same transactions on a map that keeps
+// nothing, but none aborts: by the calls of its
 // operations, and as a whole by boostmap_striped_run.
 // Prints the transactions that were not busy a second, in millions, the nanoseconds of processor time of one, and the part that
 // was busy. Or: striped audit THREADS KEYS COUNTS, where one more thread counts all pairs so often beside the others' transactions,

@@ -2,8 +2,9 @@
 # Runs the same transactions of four operations on the striped map from C (striped.cpp), which keeps nothing, the number of its
 # commits, or its entries, on plain Rust (striped.rs: a mutex a stripe, and one mutex), and, where libtbb-dev and librocksdb-dev are
 # installed, on oneTBB boosted and on RocksDB's TransactionDB. RocksDB makes a tenth of the transactions, and the map that keeps its
-# entries, of 40 bytes and some ten a transaction, a fifth. The programs take turns in random order in each round. Prints the medians: millions of transactions a second that were not busy, by
-# the clock; nanoseconds of processor time of one; and how many percent were busy. `own` gives each thread its own stripes.
+# entries, of 40 bytes and some ten a transaction, a fifth. The programs take turns in random order in each round. Prints the
+# medians: millions of transactions a second that were not busy, by the clock; nanoseconds of processor time of one; and how many
+# percent were busy. `own` gives each thread its own stripes.
 # With one thread all must give the same replies. Writes the table to striped.tsv, of which picture.py draws docs/striped.svg.
 # Then prints what one of these transactions takes by its calls and as a run, if all commit; and what one takes with 4 KB between
 # two callers, which shows whether callers share lines of the cache.

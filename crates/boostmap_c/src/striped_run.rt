@@ -82,7 +82,8 @@ fn read_all(entries: &[CEntry]) -> Option<Named<'_>>
 ///
 /// - 13 if a `put if` ended the run. The last reply is its own.
 /// - 2 if another caller held the stripe of an operation's key. The word is that caller's number.
-/// - 30 (`NoMemory`) if the beginning or an operation is refused memory.
+/// - 30 (`NoMemory`) if an operation is refused memory, or if the beginning is, so that there was no
+///   transaction.
 /// - 20 (`AlreadyOpen`) if the caller is in a transaction, which then continues.
 /// - 7 if the array has fewer places than there are operations, and 8 if the entry of an operation
 ///   names none. Nothing was run.
