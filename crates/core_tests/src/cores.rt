@@ -167,14 +167,33 @@ fn play_savepoints(rt: &impl Abort, alloc: Global, core: &mut Core) -> Result<()
     Ok(())
 }
 
+/// Plays a run on a new small core. One core in a function: each one that is dropped is slow to
+/// prove.
+fn play_new(
+    rt: &impl Abort,
+    alloc: Global,
+    end: &[(Call, Answer)],
+    pairs: &[(u64, u64)],
+) -> Result<(), Fail> {
+    play_run(
+        rt,
+        alloc,
+        &mut small_core(rt, alloc),
+        &WIDE_KEYS,
+        end,
+        pairs,
+    )
+}
+
 #[test]
-fn worked_runs(rt: HostRuntime) -> Result<(), Fail> {
-    let alloc = rt.alloc();
-    play_savepoints(&rt, alloc, &mut small_core(&rt, alloc))?;
-    let core = &mut small_core(&rt, alloc);
-    play_run(&rt, alloc, core, &WIDE_KEYS, &COMMITTED, &WIDE_PAIRS)?;
-    let core = &mut small_core(&rt, alloc);
-    play_run(&rt, alloc, core, &WIDE_KEYS, &FIVE_UNDONE, &[])
+fn savepoints_on_a_small_core(rt: HostRuntime) -> Result<(), Fail> {
+    play_savepoints(&rt, rt.alloc(), &mut small_core(&rt, rt.alloc()))
+}
+
+#[test]
+fn keys_of_64_bits(rt: HostRuntime) -> Result<(), Fail> {
+    play_new(&rt, rt.alloc(), &COMMITTED, &WIDE_PAIRS)?;
+    play_new(&rt, rt.alloc(), &FIVE_UNDONE, &[])
 }
 
 /// Caller 0 begins the first transaction.
