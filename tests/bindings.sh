@@ -114,6 +114,7 @@ in_c() {
   c_test striped c99
   c_test run c99
   c_test stripe c99
+  c_test seeded c99
   c_test striped_threads c11 -D_GNU_SOURCE -pthread
   try 'striped_threads with 16' within "$work/striped_threads" 16
   c_test history c11 -pthread
