@@ -5,9 +5,9 @@
 # Library and twin must give the same replies.
 #
 # Then it measures the crossing from C, on each map with 1,000 keys: the same transactions inside Rattle, on the map with one owner
-# by owned.rt.txt and on the striped map by `bench striped`. It prints the median nanoseconds and, with valgrind, the instructions
-# of a transaction in both, and how much more each of its six calls takes from C; last, the nanoseconds of a call that is refused
-# at once.
+# by owned.rt.txt and on the striped map by `bench striped`, and as runs by runs.rt.txt (from C by striped.cpp). It prints the median
+# nanoseconds and, with valgrind, the instructions of a transaction in both, and how much more each of its six calls takes from C, or
+# its one call if it is a run; last, the nanoseconds of a call that is refused at once.
 #
 # BENCH and OWNED may name the programs `bench` and `owned`; otherwise they are proved and built. CXX may name another compiler
 # than `c++`: with clang++ both sides of the crossing are compiled by LLVM. Usage: speed/c.sh [ROUNDS]
@@ -15,6 +15,11 @@ source "$(dirname "${BASH_SOURCE[0]}")/common.sh"
 rounds=${1:-9}
 quietly bindings/install.sh "$work/usr"
 quietly "${CXX:-c++}" -std=c++17 -O2 -I"$work/usr/include" speed/c_map.cpp -L"$work/usr/lib" -lboostmap -pthread -o "$work/c_map"
+libraries=()
+[ ! -e /usr/include/tbb/concurrent_unordered_map.h ] || libraries+=(-ltbb)
+[ ! -e /usr/include/rocksdb/utilities/transaction_db.h ] || libraries+=(-lrocksdb)
+quietly "${CXX:-c++}" -std=c++17 -O2 -I"$work/usr/include" speed/striped.cpp -L"$work/usr/lib" -lboostmap "${libraries[@]}" -pthread \
+  -o "$work/striped"
 
 # The median of the first column of a file, and the sum that each line has in its second column, or the file's name if these
 # sums differ.
@@ -49,6 +54,8 @@ striped_inside() {
     sed 's/.* a second, \([0-9]*\) ns .* sum \([0-9]*\)$/\1 \2/'
 }
 striped_from_c() { "${@:2}" "$work/c_map" bench 1000 "$1"; }
+run_inside() { "${@:2}" "$work/runs" 1000 "$1"; }
+run_from_c() { "${@:2}" "$work/striped" run 1 1000 "$1" shared | awk '{ print $2, $4 }'; }
 
 # The instructions of a transaction: the difference between 60,000 and 20,000.
 instructions() {
@@ -62,7 +69,7 @@ instructions() {
 # A row of the second table: the map, what is counted, inside Rattle, and from C.
 crossing() {
   awk -v what="$1, $2" -v inside="$3" -v from_c="$4" 'BEGIN {
-    printf "%-21s %8.1f %8.1f %8.1f %8.1f\n", what, inside, from_c, (from_c - inside) / 6, 100 * (from_c / inside - 1) }'
+    printf "%-21s %8.1f %8.1f %8.1f %8.1f\n", what, inside, from_c, (from_c - inside) / (what ~ /^run/ ? 1 : 6), 100 * (from_c / inside - 1) }'
 }
 
 # The rows of a map.
@@ -91,6 +98,8 @@ if [ -n "${OWNED:-}" ]; then cp "$OWNED" "$work/owned"; else build_on_maps owned
 printf '\n%-21s %8s %8s %8s %8s\n' 'a transaction' inside 'from C' 'a call' percent
 crossings owned
 crossings striped
+build_on_maps runs ": txn_words striped_map anyhow" 1000 1000
+crossings run
 for _ in $(seq "$rounds"); do "$work/c_map" refusal 1 10000000 >>"$work/refusal"; done
 read -r refusal _ <<<"$(median "$work/refusal")"
 echo "a call that is refused at once: $refusal ns"
