@@ -5,7 +5,7 @@ A wrong body passes if the prover refuses the function that it changes, with thi
 function. One check of a crate, in a copy, tries many bodies, since the contract of a function hides its body
 from all others. The first body of a function changes the function. For each further one the copy has the
 function once more, under another name, with the same proof. Bodies of a function that cannot stand twice,
-such as a method of a trait, are tried in further checks (rounds). Refused means that a goal stays open. If
+such as a method of a trait or one that the page names so, are tried in further checks (rounds). Refused means that a goal stays open. If
 the prover could not tell, or if it has no proof to look at, the body fails. --copies tests that each of those
 copies is proved if the body is not put into it.
 
@@ -135,7 +135,9 @@ class Copy:
             self.text = self.text.replace(old, new)
         impl = next((line for line in reversed(text[:start].splitlines()) if OWNER.match(line)), "") if indent else ""
         is_whole = re.search(r"(\n|\{)\n$", text[:start])
-        if body.named or not is_whole or " for " in impl or "trait " in impl or "#[cycle" in self.text:
+        page = (crate / "must-fail/bodies.md").read_text(encoding="utf-8")
+        alone = re.findall(r"^Cannot stand twice: (.*)", page, re.M)
+        if body.named or not is_whole or " for " in impl or "trait " in impl or "#[cycle" in self.text or f"`{self.name}`" in "".join(alone):
             raise ValueError
         self.refused = {f"{owner}::{self.name}__{number}".removeprefix("::")}
         module = Path(self.file).relative_to("src").with_suffix("").parts
