@@ -46,5 +46,10 @@ pub fn transact<R: Wait, T: Drop, F: Fn(&mut Transaction<'_>) -> Result<T, Stop>
         × FailsBusy (on_callers (λ t. t.now.me.now) (F.post work)) busy caller.old b
         × FailsOrNot (on_callers (λ t. t.now.me.now) (F.post work)) b caller.new stop) }
 {
-    caller.transact_waiting(retry.times, |round: u64| retry.wait(rt, round), work)
+    let number = caller.number();
+    caller.transact_waiting(
+        retry.times,
+        |round: u64| retry.wait(rt, number, round),
+        work,
+    )
 }
