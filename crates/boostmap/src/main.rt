@@ -5,13 +5,19 @@
 #![tactic(auto)]
 
 use boostmap_program::run;
-use program_host::Host;
+use program_system::Process;
 use std::io;
 use std::process::ExitCode;
 
 fn main(rt: HostRuntime) -> ExitCode {
     let mut output = io::writer(&rt);
     let mut errors = rt.stderr();
-    let ending = run(&rt, rt.alloc(), &Host::new(&rt), &mut output, &mut errors);
+    let ending = run(
+        &rt,
+        rt.alloc(),
+        &Process::new(&rt),
+        &mut output,
+        &mut errors,
+    );
     ExitCode::from(ending.status)
 }

@@ -1,4 +1,4 @@
-//! The program `boostmap` as a library: from the words of a call to its exit status.
+//! The program `boostmap` as a library: from the words of a command line to the exit status.
 //!
 //! `run` does all that the program does, over any system that has words and opens files, and any
 //! two writers. `command_line` lists the commands. Proved: `Runs` of `unthreaded_program`, with

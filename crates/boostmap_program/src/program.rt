@@ -9,7 +9,7 @@ ghost use Rattle.unthreaded_program.specs.Runs.{RunsCommand, HasExited, Runs, Te
 use crate::threaded;
 use boostmap_engine::Fault;
 use command_line::Command;
-use program_host::{Ending, System};
+use program_system::{Ending, System};
 use std::alloc::Global;
 use std::io::{Read, Write};
 use std::sync::Wait;

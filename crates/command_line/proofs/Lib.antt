@@ -1,4 +1,4 @@
 pub mod Asking
-pub mod Calls
+pub mod Requests
 pub mod Seeds
 pub mod Worked

@@ -4,8 +4,8 @@ use Rattle.std.specs.Prelude.{if◌then◌else◌, nat_lt, slice_get}
 use Rattle.std.specs.Result.{OkIff, result_ok}
 use Rattle.std.specs.Str.Parse.{IsNumeral, digits_value, without_leading_plus, ParsesUnsigned}
 use Rattle.std.proofs.lemmas.Bool.{and_parts, and_from, false_from_ne_true, ltb-true, lt-ltb, ne_eqb}
-use Rattle.program_host.specs.Words.{is_numeral}
-use Rattle.program_host.proofs.Numerals.{numeral_to, numeral_from}
+use Rattle.program_system.specs.Words.{is_numeral}
+use Rattle.program_system.proofs.Numerals.{numeral_to, numeral_from}
 use Rattle.command_line.specs.Words.{seed_of}
 
 abbrev Fits : List ℕ → Type 0

@@ -1,5 +1,5 @@
 -- PROMISES from-words-and-bytes-to-bytes: asked
--- The call that a command line asks for. The rules of `clap` say how its words are read.
+-- The request that a command line makes. The rules of `clap` say how its words are read.
 use Rattle.std.specs.Prelude.{ℕ, ◌^◌, ◌&&◌, true, List, [], ◌∷◌, codes}
 use Rattle.std.specs.Prelude.{Option, Some, None, if◌then◌else◌, nat_lt, option_map}
 use Rattle.std.specs.Prelude.{option_and_then}
@@ -10,12 +10,12 @@ use Rattle.clap.specs.declared.builder.action.ArgAction.TheVariants.{Set}
 use Rattle.clap.specs.Words.{App, Rule, Row, Text, Kinds, fault_of, first_of, new_app}
 use Rattle.clap.specs.Words.{new_rule, subcommand_of, with_rule, with_subcommand}
 use Rattle.clap.specs.Simple.{on_top}
-use Rattle.program_host.specs.Words.{file_word, is_numeral}
-use Rattle.command_line.specs.declared.words.Call.{Call}
+use Rattle.program_system.specs.Words.{file_word, is_numeral}
+use Rattle.command_line.specs.declared.words.Request.{Request}
 use Rattle.command_line.specs.declared.words.Command.{Command}
 use Rattle.command_line.specs.declared.words.Command.TheVariants.{Replay, Run, Mix, Check}
 
--- A call: the name of its command, the seed of `mix`, and the name of its file.
+-- A request: the name of its command, the seed of `mix`, and the name of its file.
 abbrev pub Asked : Type 0
 Asked = Text × Option ℕ × Text
 
@@ -30,8 +30,8 @@ abbrev pub given_seed : Command → Option ℕ
 given_seed (Mix seed) = Some seed
 given_seed command = None
 
-abbrev pub asked_of : Call → Asked
-asked_of call = (name_of call.command, given_seed call.command, call.file.now)
+abbrev pub asked_of : Request → Asked
+asked_of request = (name_of request.command, given_seed request.command, request.file.now)
 
 -- The command line: `replay FILE`, `run FILE`, `mix --seed N FILE` and `check FILE`, each as an
 -- application of `clap`, whose rules say how words are read.
@@ -65,7 +65,7 @@ seed_of word =
     let seed = digits_value 10 word in
     if is_numeral word && nat_lt seed (2 ^ 64) then Some seed else None
 
--- The call of the command with this name, with this file and, for `mix`, with this seed. None if
+-- The request of the command with this name, with this file and, for `mix`, with this seed. None if
 -- there is no such command, or if `mix` has no seed.
 abbrev pub asked_for : Text → Option ℕ → Text → Option Asked
 asked_for name seed file =
@@ -73,18 +73,18 @@ asked_for name seed file =
     else if list_any (bytes_eq name) (codes "replay" ∷ codes "run" ∷ codes "check" ∷ [])
     then Some (name, None, file) else None
 
--- The call of the command with this name. `rows` has the values found for its arguments.
+-- The request of the command with this name. `rows` has the values found for its arguments.
 abbrev pub asked_in : Text → List Row → Option Asked
 asked_in name rows = option_and_then (λ file.
     asked_for name (option_and_then seed_of (first_of (codes "seed") rows)) file)
     (first_of (codes "FILE") rows)
 
--- The given call, or None if there is a fault.
+-- The given request, or None if there is a fault.
 abbrev pub unless : Kinds → Option Asked → Option Asked
 unless [] found = found
 unless (kind ∷ kinds) found = None
 
--- The call that the words ask for, or None if they are no call. The first word is the program's
+-- The request that the words make, or None if they make none. The first word is the program's
 -- name.
 abbrev pub asked : List Text → Option Asked
 asked words = unless (fault_of command_line words)

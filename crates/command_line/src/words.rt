@@ -1,16 +1,16 @@
-// PROMISES from-words-and-bytes-to-bytes: call_in
+// PROMISES from-words-and-bytes-to-bytes: request_in
 //! Reads the command line by the rules of `clap`: finds the command and the file that the words
-//! name. No file is opened here; a call borrows the name of its file from the words. Each command
+//! name. No file is opened here; a request borrows the name of its file from the words. Each command
 //! is made and added separately, which keeps the proof of `all_commands` cheap.
 ghost use Rattle.std.specs.Prelude.{◌≡◌, ◌⊎◌, Some, None, false, IfOk, IfErr, codes, map, option_map};
 ghost use Rattle.std.specs.String.{string_bytes};
 ghost use Rattle.clap.specs.Words.{found_of, rows_of, rule_of};
-ghost use Rattle.program_host.specs.Words.{IsApp, file_word};
+ghost use Rattle.program_system.specs.Words.{IsApp, file_word};
 ghost use Rattle.command_line.specs.Words.{asked, asked_in, asked_of, seed_of};
 ghost use Rattle.command_line.specs.Words.{command_line, over_file, seed_word, seeded};
-ghost use Rattle.command_line.specs.declared.no_call.NoCall.TheVariants as reasons;
+ghost use Rattle.command_line.specs.declared.no_request.NoRequest.TheVariants as reasons;
 
-use crate::no_call::NoCall;
+use crate::no_request::NoRequest;
 use clap::error::ErrorKind;
 use clap::{Arg, ArgAction, ArgMatches};
 use std::alloc::{AllocError, Global};
@@ -32,9 +32,9 @@ pub enum Command {
     Check,
 }
 
-/// A call of the program: a command, and the file that it runs on.
+/// A request of the program: a command, and the file that it runs on.
 #[derive(Clone, Copy, Debug, PartialEq, Eq)]
-pub struct Call<'a> {
+pub struct Request<'a> {
     /// The command.
     pub command: Command,
     /// The name of the file that the command runs on.
@@ -99,28 +99,28 @@ fn seed_in(word: &str) -> Option<u64>
     }
 }
 
-/// The call of the command with this name. `found` has the values of its arguments.
-fn call_named<'a>(name: &str, found: &ArgMatches<'a>) -> Option<Call<'a>>
+/// The request of the command with this name. `found` has the values of its arguments.
+fn request_named<'a>(name: &str, found: &ArgMatches<'a>) -> Option<Request<'a>>
     ensures { option_map asked_of result ≡ asked_in name.now (rows_of (found_of found.now)) }
 {
     let file = found.get_str("FILE")?;
     match name {
-        "replay" => Some(Call {
+        "replay" => Some(Request {
             command: Command::Replay,
             file,
         }),
-        "run" => Some(Call {
+        "run" => Some(Request {
             command: Command::Run,
             file,
         }),
         "mix" => {
             let seed = seed_in(found.get_str("seed")?)?;
-            Some(Call {
+            Some(Request {
                 command: Command::Mix { seed },
                 file,
             })
         }
-        "check" => Some(Call {
+        "check" => Some(Request {
             command: Command::Check,
             file,
         }),
@@ -128,21 +128,20 @@ fn call_named<'a>(name: &str, found: &ArgMatches<'a>) -> Option<Call<'a>>
     }
 }
 
-/// Reads the words of a command line by the rules of `clap`, and returns the call that they ask
-/// for. The first word is the program's name.
+/// Reads the words of a command line by the rules of `clap`, and returns the request that they
+/// make. The first word is the program's name.
 ///
 /// # Errors
 ///
 /// - `NoMemory` if memory is refused.
-/// - Otherwise `Usage`, exactly if the words are not a valid call of the program. Words that ask
-///   for help are not a valid call.
+/// - Otherwise `Usage`, exactly if the words make no request. A request for help is none.
 ///
 /// # Cost
 ///
 /// Time and memory in proportion to the words.
-pub fn call_in<'a>(alloc: Global, words: &'a [String]) -> Result<Call<'a>, NoCall>
-    ensures call { IfOk result (λ call.
-        asked (map string_bytes words.entry.now) ≡ Some (asked_of call)) }
+pub fn request_in<'a>(alloc: Global, words: &'a [String]) -> Result<Request<'a>, NoRequest>
+    ensures request { IfOk result (λ request.
+        asked (map string_bytes words.entry.now) ≡ Some (asked_of request)) }
     ensures err { IfErr result (λ reason. (reason ≡ reasons.NoMemory)
         ⊎ ((reason ≡ reasons.Usage) × (asked (map string_bytes words.entry.now) ≡ None))) }
 {
@@ -151,13 +150,13 @@ pub fn call_in<'a>(alloc: Global, words: &'a [String]) -> Result<Call<'a>, NoCal
         Ok(matches) => matches,
         Err(error) => {
             return Err(match error.kind() {
-                ErrorKind::OutOfMemory => NoCall::NoMemory,
-                _ => NoCall::Usage,
+                ErrorKind::OutOfMemory => NoRequest::NoMemory,
+                _ => NoRequest::Usage,
             });
         }
     };
     let Some((name, found)) = matches.subcommand() else {
-        return Err(NoCall::Usage);
+        return Err(NoRequest::Usage);
     };
-    call_named(name, found).ok_or(NoCall::Usage)
+    request_named(name, found).ok_or(NoRequest::Usage)
 }

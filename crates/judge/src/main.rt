@@ -3,13 +3,13 @@
 //! crate, so that tests can call it without a process.
 #![tactic(auto)]
 
-use judge_program::{Host, run};
+use judge_program::{Process, run};
 use std::io;
 use std::process::ExitCode;
 
 fn main(rt: HostRuntime) -> ExitCode {
     let mut output = io::writer(&rt);
     let mut errors = rt.stderr();
-    let ending = run(rt.alloc(), &Host::new(&rt), &mut output, &mut errors);
+    let ending = run(rt.alloc(), &Process::new(&rt), &mut output, &mut errors);
     ExitCode::from(ending.status)
 }

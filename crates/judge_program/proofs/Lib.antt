@@ -1,5 +1,5 @@
 pub mod Asking
-pub mod Calls
+pub mod Requests
 pub mod CommandEnds
 pub mod Running
 pub mod Sources

@@ -9,7 +9,7 @@ use Rattle.judge_engine.specs.declared.fault.Fault.TheVariants as faults
 use Rattle.judge_program.specs.declared.failure.Failure.{Failure}
 use Rattle.judge_program.specs.declared.failure.Failure.TheVariants.{Usage, Fault}
 use Rattle.judge_program.specs.Words.{Asked, Spells}
-use Rattle.judge_program.specs.Runs.{RunsCall, DoesNothing, Files, RunResult, Runs, memory_or}
+use Rattle.judge_program.specs.Runs.{Fulfils, DoesNothing, Files, RunResult, Runs, memory_or}
 use Rattle.judge_program.proofs.CommandEnds.{keeps_same}
 
 -- The result of `memory_or` is either `NoMemory` or the other failure.
@@ -30,16 +30,16 @@ no_words None files known kind is = inr (by_kind (memory_or_is kind Usage))
 no_words (Some words) files known kind is =
     subst (λ k. Runs (Some words) files known known (Err (memory_or k Usage))) (sym is) (inr (keeps_same known, refl))
 
-pub no_call : (spoken : Option (List Text)) (words : List Text) (files : Files) (known : Option (List ℕ)) (outcome : RunResult) (failure : Failure) → IfSome spoken (λ known. words ≡ known)
+pub no_request : (spoken : Option (List Text)) (words : List Text) (files : Files) (known : Option (List ℕ)) (outcome : RunResult) (failure : Failure) → IfSome spoken (λ known. words ≡ known)
     → (failure ≡ Fault faults.NoMemory) ⊎ ((failure ≡ Usage) × Spells words None) → IsErrAnd outcome (λ e. e ≡ failure) → Runs spoken files known known outcome
-no_call spoken words files known (Ok answer) failure same which err = absurd err
-no_call spoken words files known (Err e) failure same (inl memory) err = rw (err, memory) (inr (keeps_same known, refl))
-no_call spoken words files known (Err e) failure same (inr (usage, none)) err =
+no_request spoken words files known (Ok answer) failure same which err = absurd err
+no_request spoken words files known (Err e) failure same (inl memory) err = rw (err, memory) (inr (keeps_same known, refl))
+no_request spoken words files known (Err e) failure same (inr (usage, none)) err =
     rw (err, usage) (inr (keeps_same known, of_known spoken words (λ given. Spells given None) same none))
 
-pub runs_call : (spoken : Option (List Text)) (words : List Text) (files : Files) (what : Asked) (old new : Option (List ℕ)) (outcome : RunResult) → IfSome spoken (λ known. words ≡ known)
-    → Spells words (Some what) → RunsCall what files old new outcome → Runs spoken files old new outcome
-runs_call spoken words files what old new outcome same asks does = inl (record {
+pub fulfils : (spoken : Option (List Text)) (words : List Text) (files : Files) (what : Asked) (old new : Option (List ℕ)) (outcome : RunResult) → IfSome spoken (λ known. words ≡ known)
+    → Spells words (Some what) → Fulfils what files old new outcome → Runs spoken files old new outcome
+fulfils spoken words files what old new outcome same asks does = inl (record {
   what = what;
   asks = of_known spoken words (λ given. Spells given (Some what)) same asks;
   does = does;

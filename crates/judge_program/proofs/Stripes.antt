@@ -4,8 +4,8 @@ use Rattle.std.specs.Prelude.{if◌then◌else◌, nat_le, nat_lt, option_and_th
 use Rattle.std.specs.Result.{result_ok}
 use Rattle.std.specs.Str.Parse.{ParsesUnsigned, digits_value, without_leading_plus}
 use Rattle.std.proofs.lemmas.Bool.{and_parts, and_from, false_from_ne_true, le-leb, leb-true, lt-ltb, ltb-true}
-use Rattle.program_host.specs.Words.{is_numeral}
-use Rattle.program_host.proofs.Numerals.{numeral_to, numeral_from}
+use Rattle.program_system.specs.Words.{is_numeral}
+use Rattle.program_system.proofs.Numerals.{numeral_to, numeral_from}
 use Rattle.txn_words.specs.Sizes.{max_stripes}
 use Rattle.judge_program.specs.Words.{number_in_word, stripes_in_word}
 

@@ -1,4 +1,4 @@
--- Why a call has no verdict or no outcomes.
+-- Why a request has no verdict or no outcomes.
 use Rattle.std.specs.Prelude.{ℕ, List}
 use Rattle.judge_engine.specs.Faults as engine
 use Rattle.judge_engine.specs.Outcomes.{outcomes_message, outcomes_status}

@@ -1,5 +1,5 @@
 -- PROMISES entries-as-lines: Runs
--- What the program does for the words of a call, and how it ends.
+-- What the program does for its words, and how it ends.
 use Rattle.std.specs.Prelude.{◌≡◌, ◌⊎◌, ℕ, Bool, true, false, List, [], ◌∷◌, ◌++◌, Option, IfSome}
 use Rattle.std.specs.Prelude.{Some, None, Result, Ok, Err, MatchResult, codes}
 use Rattle.std.specs.Result.{IsErrAnd}
@@ -65,46 +65,46 @@ LeavesBoth scripts history old new (failures.Fault fault) =
     (fault ≡ faults.NoMemory) × Keeps old new
 LeavesBoth scripts history old new failures.Usage = ⊥
 
--- The output and the outcome of a call. `files` gives the bytes of the files.
-abbrev pub RunsCall : Asked → Files → Option (List ℕ) → Option (List ℕ) → RunResult → Type 0
-RunsCall (Check by_commits file) files old new = EndsWith
+-- The output and the outcome of a request. `files` gives the bytes of the files.
+abbrev pub Fulfils : Asked → Files → Option (List ℕ) → Option (List ℕ) → RunResult → Type 0
+Fulfils (Check by_commits file) files old new = EndsWith
     (ByWell (λ well. WritesLine (Checks by_commits (files file)) well old new))
     (LeavesOutput (Checks by_commits (files file)) (FailsToCheck (files file)) old new)
-RunsCall (CheckSerializable real_time most_branches shows file) files old new = EndsWith
+Fulfils (CheckSerializable real_time most_branches shows file) files old new = EndsWith
     (λ answer. WritesAnswer real_time (order_text real_time shows) (files file) answer old new)
     (LeavesText (IsAnswerText real_time (order_text real_time shows) (files file))
     (FailsToCheck (files file)) old new)
-RunsCall (Why by_commits file) files old new = EndsWith
+Fulfils (Why by_commits file) files old new = EndsWith
     (ByWell (λ well. WritesExplanation by_commits (files file) well old new))
     (LeavesExplanation (IsExplained by_commits) (files file) old new)
-RunsCall (WhySerializable real_time most_branches as_graph file) files old new = EndsWith
+Fulfils (WhySerializable real_time most_branches as_graph file) files old new = EndsWith
     (λ answer. WritesAnswer real_time (text_or_graph real_time as_graph) (files file) answer old new)
     (LeavesExplanation (IsTextFor real_time (text_or_graph real_time as_graph)) (files file) old new)
-RunsCall (Watch basis) files old new = EndsWith
+Fulfils (Watch basis) files old new = EndsWith
     (ByWell (λ well. WritesLine (Watches basis (files (codes "-"))) well old new))
     (LeavesOutput (Watches basis (files (codes "-")))
     (FailsToWatch basis (files (codes "-"))) old new)
-RunsCall (Outcomes scripts history) files old new = λ outcome. MatchResult outcome
+Fulfils (Outcomes scripts history) files old new = λ outcome. MatchResult outcome
     (ByWell (WritesOutcomes (files scripts) (files history) old new))
     (LeavesBoth (files scripts) (files history) old new)
-RunsCall Help files old new = EndsWith (Prints USAGE.now old new) (λ fault. fault ≡ faults.Write)
-RunsCall Version files old new = EndsWith (Prints VERSION.now old new)
+Fulfils Help files old new = EndsWith (Prints USAGE.now old new) (λ fault. fault ≡ faults.Write)
+Fulfils Version files old new = EndsWith (Prints VERSION.now old new)
     (λ fault. fault ≡ faults.Write)
 
 -- Nothing was done and nothing was written. The failure is that memory was refused, or it is
--- `Usage`. If it is `Usage` and the words are known, they ask for no call.
+-- `Usage`. If it is `Usage` and the words are known, they make no request.
 abbrev pub DoesNothing : Option (List Text) → Option (List ℕ) → Option (List ℕ) → Failure → Type 0
 DoesNothing spoken old new failures.Usage =
     Keeps old new × IfSome spoken (λ words. Spells words None)
 DoesNothing spoken old new (failures.Fault fault) = Keeps old new × (fault ≡ faults.NoMemory)
 DoesNothing spoken old new (failures.Outcomes fault) = ⊥
 
--- The call `what` was done. If the words are known, they ask for this call.
+-- The request `what` was done. If the words are known, they make this request.
 pub record DoesAsked (spoken : Option (List Text)) (files : Files) (old new : Option (List ℕ))
     (outcome : RunResult) : Type 0 where
   pub what : Asked
   pub asks : IfSome spoken (λ words. Spells words (Some what))
-  pub does : RunsCall what files old new outcome
+  pub does : Fulfils what files old new outcome
 
 -- The output and the outcome of a run.
 abbrev pub Runs : Option (List Text) → Files → Option (List ℕ) → Option (List ℕ) → RunResult

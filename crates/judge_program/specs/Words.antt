@@ -1,5 +1,5 @@
 -- PROMISES entries-as-lines: Spells
--- The call that the words of a command line ask for, by the rules of `clap`.
+-- The request that the words of a command line ask for, by the rules of `clap`.
 use Rattle.std.specs.Prelude.{◌≡◌, ℕ, ◌^◌, ◌&&◌, Bool, true, false, List, [], codes}
 use Rattle.std.specs.Prelude.{Option, Some, None, if◌then◌else◌, nat_le, nat_lt, option_map}
 use Rattle.std.specs.Prelude.{option_and_then}
@@ -11,16 +11,16 @@ use Rattle.clap.specs.declared.error.kind.ErrorKind.TheVariants.{DisplayHelp, Di
 use Rattle.clap.specs.Words.{App, IsAmong, Kinds, Rule, Row, Text, fault_of, first_of}
 use Rattle.clap.specs.Words.{new_app, new_rule, subcommand_of, with_rule, with_subcommand}
 use Rattle.clap.specs.Simple.{on_top}
-use Rattle.program_host.specs.Words.{file_word, is_numeral}
+use Rattle.program_system.specs.Words.{file_word, is_numeral}
 use Rattle.txn_words.specs.declared.holder.Holder.TheVariants.{Begun}
 use Rattle.txn_words.specs.Sizes.{max_stripes}
 use Rattle.judge_engine.specs.declared.basis.Basis.{Basis}
 use Rattle.judge_engine.specs.declared.basis.Basis.TheVariants.{Locks, Commits}
 use Rattle.judge_engine.specs.Bases.{HasStripes}
-use Rattle.judge_program.specs.declared.words.Call.{Call}
-use Rattle.judge_program.specs.declared.words.Call.TheVariants as calls
+use Rattle.judge_program.specs.declared.words.Request.{Request}
+use Rattle.judge_program.specs.declared.words.Request.TheVariants as requests
 
--- A call of the program. `Check` judges the history file with this name, by the order of commits or
+-- A request of the program. `Check` judges the history file with this name, by the order of commits or
 -- by locks. `CheckSerializable` says whether it is serializable in any order, with real time if the
 -- first flag is true, takes at most so many
 -- branches, and shows the order if the second flag is true. `Why` does what `Check` does,
@@ -38,19 +38,19 @@ pub data Asked : Type 0 where
   Help : Asked
   Version : Asked
 
-abbrev pub asked_of : Call → Asked
-asked_of (calls.Check by_commits file) = Check by_commits file.now
-asked_of (calls.CheckSerializable real_time most_branches shows file) =
+abbrev pub asked_of : Request → Asked
+asked_of (requests.Check by_commits file) = Check by_commits file.now
+asked_of (requests.CheckSerializable real_time most_branches shows file) =
     CheckSerializable real_time most_branches shows file.now
-asked_of (calls.Why by_commits file) = Why by_commits file.now
-asked_of (calls.WhySerializable real_time most_branches as_graph file) =
+asked_of (requests.Why by_commits file) = Why by_commits file.now
+asked_of (requests.WhySerializable real_time most_branches as_graph file) =
     WhySerializable real_time most_branches as_graph file.now
-asked_of (calls.Watch basis) = Watch basis
-asked_of (calls.Outcomes scripts history) = Outcomes scripts.now history.now
-asked_of calls.Help = Help
-asked_of calls.Version = Version
+asked_of (requests.Watch basis) = Watch basis
+asked_of (requests.Outcomes scripts history) = Outcomes scripts.now history.now
+asked_of requests.Help = Help
+asked_of requests.Version = Version
 
--- If the call judges entries by locks, there is at least one lock.
+-- If the request judges entries by locks, there is at least one lock.
 abbrev pub HasStripesIf : Asked → Type 0
 HasStripesIf (Watch basis) = HasStripes basis
 HasStripesIf asked = Unit {0}
@@ -130,7 +130,7 @@ abbrev pub branches_for : Option Text → Option ℕ
 branches_for None = Some 10000
 branches_for (Some word) = number_in_word word
 
--- The call to judge a file, given the flags for the order of commits, for any order, for real time,
+-- The request to judge a file, given the flags for the order of commits, for any order, for real time,
 -- and to show the order, and the word for the number of branches. If both rules are asked for, or if
 -- real time is to count, branches are counted or an order is to be shown and no order is looked for,
 -- the command line is a usage error.
@@ -143,7 +143,7 @@ check_for true true real_time shows word file = None
 check_for by_commits false true shows word file = None
 check_for by_commits false false true word file = None
 
--- The call to explain a verdict on a file, given the flags for the order of commits, for any order,
+-- The request to explain a verdict on a file, given the flags for the order of commits, for any order,
 -- for real time, and for a graph, and the word for the number of branches. If both rules are asked
 -- for, or real time, branches or a graph by a rule that has none, the command line is a usage error.
 abbrev pub why_for : Bool → Bool → Bool → Bool → Option Text → Text → Option Asked
@@ -163,13 +163,13 @@ basis_for true (Some word) = None
 basis_for false None = Some (Locks max_stripes Begun)
 basis_for false (Some word) = option_map (λ stripes. Locks stripes Begun) (stripes_in_word word)
 
--- The call for the outcomes of these files, or None if both files are standard input.
+-- The request for the outcomes of these files, or None if both files are standard input.
 abbrev pub outcomes_for : Text → Text → Option Asked
 outcomes_for scripts history =
     if bytes_eq scripts (codes "-") && bytes_eq history (codes "-")
     then None else Some (Outcomes scripts history)
 
--- The call of the command with this name, given the arguments that were found.
+-- The request of the command with this name, given the arguments that were found.
 abbrev pub asked_in : Text → List Row → Option Asked
 asked_in name rows =
     let by_commits = is_set (first_of (codes "commit-order") rows) in
@@ -191,7 +191,7 @@ asked_in name rows =
     (first_of (codes "FILE") rows)
     else None
 
--- The call that a command line asks for if `clap` returns an error of this kind. If the words ask
+-- The request that a command line makes if `clap` returns an error of this kind. If the words ask
 -- for help or for the version, `clap` returns an error too, with a kind of its own. For every other
 -- kind, the result is `None`.
 abbrev pub answer_to : ErrorKind → Option Asked
@@ -199,19 +199,19 @@ answer_to DisplayHelp = Some Help
 answer_to DisplayVersion = Some Version
 answer_to kind = None
 
--- `kind` is not the error that memory was refused. `what` is the call that `answer_to` gives for
--- errors of this kind, or `None` if the words ask for no call.
-abbrev pub IsCallOf : ErrorKind → Option Asked → Type 0
-IsCallOf kind what = (kind ≡ OutOfMemory → ⊥) × (what ≡ answer_to kind)
+-- `kind` is not the error that memory was refused. `what` is the request that `answer_to` gives for
+-- errors of this kind, or `None` if the words make no request.
+abbrev pub IsRequestOf : ErrorKind → Option Asked → Type 0
+IsRequestOf kind what = (kind ≡ OutOfMemory → ⊥) × (what ≡ answer_to kind)
 
--- If `clap` can return errors for the words, `what` is the call that `answer_to` gives for the kind
--- of one of these errors. If `clap` can return no error, `what` is the call of the command that was
+-- If `clap` can return errors for the words, `what` is the request that `answer_to` gives for the kind
+-- of one of these errors. If `clap` can return no error, `what` is the request of the command that was
 -- found.
 abbrev pub SpellsBy : Kinds → Option (Text × List Row) → Option Asked → Type 0
 SpellsBy [] found what = what ≡ option_and_then (λ command. asked_in command.0 command.1) found
 SpellsBy kinds found what = (kind : ErrorKind) × IsAmong kind kinds × (what ≡ answer_to kind)
 
--- The words ask for the call `what`, or for no call if `what` is `None`. The first word is the
+-- The words make the request `what`, or for no request if `what` is `None`. The first word is the
 -- program's name.
 abbrev pub Spells : List Text → Option Asked → Type 0
 Spells words what = SpellsBy (fault_of command_line words) (subcommand_of command_line words) what

@@ -1,4 +1,4 @@
-//! The reasons why a call of the program has no verdict or no outcomes, and the usage text. The
+//! The reasons why a request of the program has no verdict or no outcomes, and the usage text. The
 //! engines have two fault types, and do not read the command line. Here both types and the usage
 //! error become one type, with one text and one exit status for each value.
 ghost use Rattle.std.specs.Prelude.{◌≡◌};
@@ -41,7 +41,7 @@ write, 5 undecided. For 3 and 4, one line on standard error says why.
 
 Example: judge check examples/checked.json";
 
-/// Why a call has no verdict or no outcomes.
+/// Why a request has no verdict or no outcomes.
 #[derive(Clone, Copy, Debug, PartialEq, Eq)]
 pub enum Failure {
     /// The command line is not valid.

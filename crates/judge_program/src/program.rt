@@ -1,7 +1,7 @@
 // PROMISES entries-as-lines: run
-//! The whole call of `judge`: words, files, the engine, the line of a failure, the exit status. The
-//! engines take readers, so the files that a call names are opened here. The system and both
-//! outputs are type parameters, so that tests can run a call on words and files in memory.
+//! All of `judge`: words, files, the engine, the line of a failure, the exit status. The
+//! engines take readers, so the files that a request names are opened here. The system and both
+//! outputs are type parameters, so that tests can run it on words and files in memory.
 ghost use Rattle.std.specs.Prelude.{◌≡◌, ◌⊎◌, Result, Some, IfOk, IfErr, IfSome};
 ghost use Rattle.std.specs.IoError.{error_kind};
 ghost use Rattle.judge_engine.specs.declared.answer.Answer.{Answer};
@@ -9,22 +9,22 @@ ghost use Rattle.judge_engine.specs.declared.fault.Fault.TheVariants as faults;
 ghost use Rattle.judge_engine.specs.Bases.{HasStripes};
 ghost use Rattle.judge_program.specs.declared.failure.Failure.{Failure};
 ghost use Rattle.judge_program.specs.declared.failure.Failure.TheVariants as failures;
-ghost use Rattle.judge_program.specs.Runs.{RunsCall, EndsWith, Runs, Prints, TellsError, memory_or, status_after};
+ghost use Rattle.judge_program.specs.Runs.{Fulfils, EndsWith, Runs, Prints, TellsError, memory_or, status_after};
 ghost use Rattle.judge_program.specs.Words as asked;
 ghost use Rattle.judge_program.specs.Words.{HasStripesIf, asked_of};
 
 use crate::failure::{Failure, USAGE};
-use crate::words::{Call, STANDARD, call_in};
+use crate::words::{Request, STANDARD, request_in};
 use judge_engine::{
     Answer, Basis, Fault, OutcomesFault, check, check_serializable, tell_outcomes, watch, why,
     why_serializable,
 };
-use program_host::{Ending, System};
+use program_system::{Ending, System};
 use std::alloc::Global;
 use std::io;
 use std::io::{Read, Write};
 
-/// The text that is printed for a call that asks for the version.
+/// The text that is printed if the words ask for the version.
 const VERSION: &str = "judge 1.0.0";
 
 /// Writes a line. Returns `Yes` (all is well) if the write succeeds.
@@ -70,7 +70,7 @@ fn check_file<S: System, W: Write>(
     name: &str,
     output: &mut W,
 ) -> Result<Answer, Failure>
-    ensures { RunsCall (asked.Check by_commits name.now) (S.bytes system.now)
+    ensures { Fulfils (asked.Check by_commits name.now) (S.bytes system.now)
         (W.contents output.old) (W.contents output.new) result }
 {
     let source = open(system, name, Failure::Fault(Fault::Read))?;
@@ -87,7 +87,7 @@ fn check_order<S: System, W: Write>(
     name: &str,
     output: &mut W,
 ) -> Result<Answer, Failure>
-    ensures { RunsCall (asked.CheckSerializable real_time most_branches shows_order name.now)
+    ensures { Fulfils (asked.CheckSerializable real_time most_branches shows_order name.now)
         (S.bytes system.now) (W.contents output.old) (W.contents output.new) result }
 {
     let source = open(system, name, Failure::Fault(Fault::Read))?;
@@ -102,7 +102,7 @@ fn explain_file<S: System, W: Write>(
     name: &str,
     output: &mut W,
 ) -> Result<Answer, Failure>
-    ensures { RunsCall (asked.Why by_commits name.now) (S.bytes system.now)
+    ensures { Fulfils (asked.Why by_commits name.now) (S.bytes system.now)
         (W.contents output.old) (W.contents output.new) result }
 {
     let source = open(system, name, Failure::Fault(Fault::Read))?;
@@ -120,7 +120,7 @@ fn explain_order<S: System, W: Write>(
     name: &str,
     output: &mut W,
 ) -> Result<Answer, Failure>
-    ensures { RunsCall (asked.WhySerializable real_time most_branches as_graph name.now)
+    ensures { Fulfils (asked.WhySerializable real_time most_branches as_graph name.now)
         (S.bytes system.now) (W.contents output.old) (W.contents output.new) result }
 {
     let source = open(system, name, Failure::Fault(Fault::Read))?;
@@ -135,7 +135,7 @@ fn watch_standard<S: System, W: Write>(
     output: &mut W,
 ) -> Result<Answer, Failure>
     requires { HasStripes basis }
-    ensures { RunsCall (asked.Watch basis) (S.bytes system.now)
+    ensures { Fulfils (asked.Watch basis) (S.bytes system.now)
         (W.contents output.old) (W.contents output.new) result }
 {
     let mut source = open(system, STANDARD, Failure::Fault(Fault::Read))?;
@@ -150,7 +150,7 @@ fn outcomes_in<S: System, W: Write>(
     history: &str,
     output: &mut W,
 ) -> Result<Answer, Failure>
-    ensures { RunsCall (asked.Outcomes scripts.now history.now) (S.bytes system.now)
+    ensures { Fulfils (asked.Outcomes scripts.now history.now) (S.bytes system.now)
         (W.contents output.old) (W.contents output.new) result }
 {
     let no_scripts = Failure::Outcomes(OutcomesFault::ScriptsRead);
@@ -160,22 +160,22 @@ fn outcomes_in<S: System, W: Write>(
     Ok(Answer::from(tell_outcomes(alloc, scripts, history, output)?))
 }
 
-/// Does what a call asks for, and returns the answer.
+/// Does a request, and returns the answer.
 fn answer<S: System, W: Write>(
     alloc: Global,
     system: &S,
-    call: Call<'_>,
+    request: Request<'_>,
     output: &mut W,
 ) -> Result<Answer, Failure>
-    requires { HasStripesIf (asked_of call) }
-    ensures { RunsCall (asked_of call.entry) (S.bytes system.now)
+    requires { HasStripesIf (asked_of request) }
+    ensures { Fulfils (asked_of request.entry) (S.bytes system.now)
         (W.contents output.old) (W.contents output.new) result }
 {
-    match call {
-        Call::Help => show(output, USAGE),
-        Call::Version => show(output, VERSION),
-        Call::Check { by_commits, file } => check_file(alloc, system, by_commits, file, output),
-        Call::CheckSerializable {
+    match request {
+        Request::Help => show(output, USAGE),
+        Request::Version => show(output, VERSION),
+        Request::Check { by_commits, file } => check_file(alloc, system, by_commits, file, output),
+        Request::CheckSerializable {
             real_time,
             most_branches,
             shows_order,
@@ -189,12 +189,12 @@ fn answer<S: System, W: Write>(
             file,
             output,
         ),
-        Call::Outcomes { scripts, history } => {
+        Request::Outcomes { scripts, history } => {
             outcomes_in(alloc, system, scripts, history, output)
         }
-        Call::Watch { basis } => watch_standard(alloc, system, basis, output),
-        Call::Why { by_commits, file } => explain_file(alloc, system, by_commits, file, output),
-        Call::WhySerializable {
+        Request::Watch { basis } => watch_standard(alloc, system, basis, output),
+        Request::Why { by_commits, file } => explain_file(alloc, system, by_commits, file, output),
+        Request::WhySerializable {
             real_time,
             most_branches,
             as_graph,
@@ -224,8 +224,8 @@ fn run_words<S: System, W: Write>(
         Ok(words) => words,
         Err(error) => return Err(memory_or(&error, Failure::Usage)),
     };
-    let call = call_in(alloc, &words)?;
-    answer(alloc, system, call, output)
+    let request = request_in(alloc, &words)?;
+    answer(alloc, system, request, output)
 }
 
 /// The exit status after a run with this outcome. It is that of the answer: 0 if all is well; 1 if a
@@ -240,10 +240,10 @@ fn status_of(outcome: &Result<Answer, Failure>) -> u8
     }
 }
 
-/// Does all that the program does: reads the words of the call, and does what they ask for. The
-/// result is written to `output`. After a failure, its line is written to `errors`; for words that
-/// are no call, this is the usage. If this write fails, `is_told` is `false`, and the exit status
-/// stays the same.
+/// Does all that the program does: reads its words, and does what they ask for. The result is
+/// written to `output`. After a failure, its line is written to `errors`; for words that ask for no
+/// request, this is the usage. If this write fails, `is_told` is `false`, and the exit status stays
+/// the same.
 ///
 /// # Cost
 ///

@@ -1,7 +1,7 @@
-//! The system of a process: the `Host` of `program_host`, and standard input under the name `-`.
+//! The system of a process: the `Process` of `program_system`, and standard input under the name `-`.
 //! Only this module needs a process. The rest of the crate works with any `System`. The toolchain
 //! promises nothing about a process's words and files, so no contract says what they are.
-use program_host::System;
+use program_system::System;
 use std::alloc::Global;
 use std::env::Env;
 use std::fs::Files;
@@ -9,49 +9,49 @@ use std::io::{self, Input, Read};
 
 /// A file of the process's system, or its standard input.
 #[derive(Drop)]
-pub enum HostInput<F, I> {
+pub enum ProcessInput<F, I> {
     /// A file.
     File(F),
     /// Standard input.
     Standard(I),
 }
 
-impl<F: Read, I: Read> Read for HostInput<F, I> {
+impl<F: Read, I: Read> Read for ProcessInput<F, I> {
     fn read(&mut self, buf: &mut [u8]) -> io::Result<usize> {
         match self {
-            HostInput::File(file) => file.read(buf),
-            HostInput::Standard(input) => input.read(buf),
+            ProcessInput::File(file) => file.read(buf),
+            ProcessInput::Standard(input) => input.read(buf),
         }
     }
 }
 
 /// The system that a process runs on, with standard input as the file `-`.
 #[derive(Clone, Copy, Debug)]
-pub struct Host<'a, R> {
+pub struct Process<'a, R> {
     rt: &'a R,
-    files: program_host::Host<'a, R>,
+    files: program_system::Process<'a, R>,
 }
 
-impl<'a, R> Host<'a, R> {
+impl<'a, R> Process<'a, R> {
     /// Returns the system to which this runtime gives access. Takes constant time.
-    pub fn new(rt: &'a R) -> Host<'a, R> {
-        let files = program_host::Host::new(rt);
-        Host { rt, files }
+    pub fn new(rt: &'a R) -> Process<'a, R> {
+        let files = program_system::Process::new(rt);
+        Process { rt, files }
     }
 }
 
-impl<R: Env + Files + Input + AllocGlobal> System for Host<'_, R> {
-    type Input = HostInput<R::File, R::Reader>;
+impl<R: Env + Files + Input + AllocGlobal> System for Process<'_, R> {
+    type Input = ProcessInput<R::File, R::Reader>;
 
     fn words(&self, alloc: Global) -> io::Result<Vec<String>> {
         self.files.words(alloc)
     }
 
-    fn open(&self, name: &str) -> io::Result<HostInput<R::File, R::Reader>> {
+    fn open(&self, name: &str) -> io::Result<ProcessInput<R::File, R::Reader>> {
         if name == "-" {
-            return Ok(HostInput::Standard(self.rt.reader()));
+            return Ok(ProcessInput::Standard(self.rt.reader()));
         }
         let file = self.files.open(name)?;
-        Ok(HostInput::File(file))
+        Ok(ProcessInput::File(file))
     }
 }

@@ -1,16 +1,16 @@
-// PROMISES entries-as-lines: call_in
-//! Reads the command line of `judge`, by the rules of `clap`, and finds the call that the words ask
-//! for. Numbers are tested here, so an engine can run every call that is found (`HasStripesIf`):
-//! `watch` has 1 to 4,096 locks. Each command is made and added separately, which keeps the proof
-//! of `command` short.
+// PROMISES entries-as-lines: request_in
+//! Reads the command line of `judge`, by the rules of `clap`, and finds the request that the words
+//! make. Numbers are tested here, so an engine can run every request that is found
+//! (`HasStripesIf`): `watch` has 1 to 4,096 locks. Each command is made and added separately, which
+//! keeps the proof of `command` short.
 ghost use Rattle.std.specs.Prelude.{◌≡◌, ◌⊎◌, false, Some, None, IfOk, IfErr, IfSome, codes, map, option_map};
 ghost use Rattle.std.specs.String.{string_bytes};
 ghost use Rattle.clap.specs.Words.{first_of, found_of, rows_of, rule_of};
 ghost use Rattle.judge_engine.specs.declared.fault.Fault.TheVariants as faults;
 ghost use Rattle.judge_engine.specs.Bases.{HasStripes};
 ghost use Rattle.judge_program.specs.declared.failure.Failure.TheVariants as failures;
-ghost use Rattle.program_host.specs.Words.{IsApp, file_word};
-ghost use Rattle.judge_program.specs.Words.{Spells, IsCallOf, HasStripesIf, asked_in, asked_of, basis_for};
+ghost use Rattle.program_system.specs.Words.{IsApp, file_word};
+ghost use Rattle.judge_program.specs.Words.{Spells, IsRequestOf, HasStripesIf, asked_in, asked_of, basis_for};
 ghost use Rattle.judge_program.specs.Words.{branches_for, check_for, checking, command_line, explaining, flag_word};
 ghost use Rattle.judge_program.specs.Words.{flagged, is_set, outcomes_for, over_both, ruled};
 ghost use Rattle.judge_program.specs.Words.{number_word, stripes_in_word, watching, why_for};
@@ -22,9 +22,9 @@ use judge_engine::{Basis, Fault};
 use std::alloc::{AllocError, Global};
 use txn_words::Holder;
 
-/// A call of the program: the work that its words ask for.
+/// A request of the program: the work that its words ask for.
 #[derive(Clone, Copy, Debug, PartialEq, Eq)]
-pub enum Call<'a> {
+pub enum Request<'a> {
     /// Judge a history file.
     Check {
         /// True to judge by the order of commits, false to judge by locks.
@@ -229,7 +229,7 @@ fn basis_in(by_commits: bool, word: Option<&str>) -> Option<Basis>
     }
 }
 
-/// Returns the call to judge a file, given the flags and the word for the number of branches. Returns
+/// The request to judge a file, given the flags and the word for the number of branches. Returns
 /// `None` if two rules are asked for, if real time is to count, branches are counted or an order is
 /// to be shown, and no order is looked for, or if the word is no number.
 fn check_of<'a>(
@@ -239,15 +239,15 @@ fn check_of<'a>(
     shows_order: bool,
     branches: Option<&str>,
     file: &'a str,
-) -> Option<Call<'a>>
-    ensures call { option_map asked_of result
+) -> Option<Request<'a>>
+    ensures request { option_map asked_of result
         ≡ check_for by_commits is_serializable real_time shows_order
         (option_map (λ text. text.now) branches.entry) file.entry.now }
-    ensures stripes { IfSome result (λ call. HasStripesIf (asked_of call)) }
+    ensures stripes { IfSome result (λ request. HasStripesIf (asked_of request)) }
 {
     match (by_commits, is_serializable, real_time, shows_order) {
-        (_, false, false, false) if branches.is_none() => Some(Call::Check { by_commits, file }),
-        (false, true, _, _) => Some(Call::CheckSerializable {
+        (_, false, false, false) if branches.is_none() => Some(Request::Check { by_commits, file }),
+        (false, true, _, _) => Some(Request::CheckSerializable {
             real_time,
             most_branches: branches_in(branches)?,
             shows_order,
@@ -257,7 +257,7 @@ fn check_of<'a>(
     }
 }
 
-/// Returns the call to explain the verdict on a file, given the flags and the word for the number of
+/// The request to explain the verdict on a file, given the flags and the word for the number of
 /// branches. Returns `None` if two rules are asked for, real time, branches or a graph by a rule that
 /// has none, or if the word is no number.
 fn why_of<'a>(
@@ -267,15 +267,15 @@ fn why_of<'a>(
     as_graph: bool,
     branches: Option<&str>,
     file: &'a str,
-) -> Option<Call<'a>>
-    ensures call { option_map asked_of result
+) -> Option<Request<'a>>
+    ensures request { option_map asked_of result
         ≡ why_for by_commits is_serializable real_time as_graph
         (option_map (λ text. text.now) branches.entry) file.entry.now }
-    ensures stripes { IfSome result (λ call. HasStripesIf (asked_of call)) }
+    ensures stripes { IfSome result (λ request. HasStripesIf (asked_of request)) }
 {
     match (by_commits, is_serializable, real_time, as_graph) {
-        (_, false, false, false) if branches.is_none() => Some(Call::Why { by_commits, file }),
-        (false, true, _, _) => Some(Call::WhySerializable {
+        (_, false, false, false) if branches.is_none() => Some(Request::Why { by_commits, file }),
+        (false, true, _, _) => Some(Request::WhySerializable {
             real_time,
             most_branches: branches_in(branches)?,
             as_graph,
@@ -285,22 +285,22 @@ fn why_of<'a>(
     }
 }
 
-/// Returns the call for the outcomes of these files, or `None` if both are standard input.
-fn outcomes_of<'a>(scripts: &'a str, history: &'a str) -> Option<Call<'a>>
-    ensures call { option_map asked_of result ≡ outcomes_for scripts.entry.now history.entry.now }
-    ensures stripes { IfSome result (λ call. HasStripesIf (asked_of call)) }
+/// Returns the request for the outcomes of these files, or `None` if both are standard input.
+fn outcomes_of<'a>(scripts: &'a str, history: &'a str) -> Option<Request<'a>>
+    ensures request { option_map asked_of result ≡ outcomes_for scripts.entry.now history.entry.now }
+    ensures stripes { IfSome result (λ request. HasStripesIf (asked_of request)) }
 {
     if scripts == STANDARD && history == STANDARD {
         None
     } else {
-        Some(Call::Outcomes { scripts, history })
+        Some(Request::Outcomes { scripts, history })
     }
 }
 
-/// The call of the command with this name, given the arguments that were found.
-fn call_named<'a>(name: &str, found: &ArgMatches<'a>) -> Option<Call<'a>>
-    ensures call { option_map asked_of result ≡ asked_in name.now (rows_of (found_of found.now)) }
-    ensures stripes { IfSome result (λ call. HasStripesIf (asked_of call)) }
+/// The request of the command with this name, given the arguments that were found.
+fn request_named<'a>(name: &str, found: &ArgMatches<'a>) -> Option<Request<'a>>
+    ensures request { option_map asked_of result ≡ asked_in name.now (rows_of (found_of found.now)) }
+    ensures stripes { IfSome result (λ request. HasStripesIf (asked_of request)) }
 {
     let by_commits = has_flag(found, "commit-order");
     let is_serializable = has_flag(found, "serializable");
@@ -327,7 +327,7 @@ fn call_named<'a>(name: &str, found: &ArgMatches<'a>) -> Option<Call<'a>>
         }
         "watch" => {
             let basis = basis_in(by_commits, found.get_str("stripes"))?;
-            Some(Call::Watch { basis })
+            Some(Request::Watch { basis })
         }
         "why" => {
             let file = found.get_str("FILE")?;
@@ -344,48 +344,48 @@ fn call_named<'a>(name: &str, found: &ArgMatches<'a>) -> Option<Call<'a>>
     }
 }
 
-/// Returns the call that words ask for, given the error that `clap` returns for these words. For
-/// `clap`, words that ask for help or for the version are errors; here they are calls. Other errors
+/// Returns the request that words make, given the error that `clap` returns for these words. For
+/// `clap`, words that ask for help or for the version are errors; here they are requests. Other errors
 /// are failures here too.
-fn call_for<'a>(kind: ErrorKind) -> Result<Call<'a>, Failure>
-    ensures call { IfOk result (λ call. IsCallOf kind (Some (asked_of call))) }
-    ensures stripes { IfOk result (λ call. HasStripesIf (asked_of call)) }
+fn request_for<'a>(kind: ErrorKind) -> Result<Request<'a>, Failure>
+    ensures request { IfOk result (λ request. IsRequestOf kind (Some (asked_of request))) }
+    ensures stripes { IfOk result (λ request. HasStripesIf (asked_of request)) }
     ensures err { IfErr result (λ failure. (failure ≡ failures.Fault faults.NoMemory)
-        ⊎ ((failure ≡ failures.Usage) × IsCallOf kind None)) }
+        ⊎ ((failure ≡ failures.Usage) × IsRequestOf kind None)) }
 {
     match kind {
         ErrorKind::OutOfMemory => Err(Failure::Fault(Fault::NoMemory)),
-        ErrorKind::DisplayHelp => Ok(Call::Help),
-        ErrorKind::DisplayVersion => Ok(Call::Version),
+        ErrorKind::DisplayHelp => Ok(Request::Help),
+        ErrorKind::DisplayVersion => Ok(Request::Version),
         _ => Err(Failure::Usage),
     }
 }
 
-/// Returns the call that the words ask for, by the rules of `clap`. The first word is the program's
+/// Returns the request that the words make, by the rules of `clap`. The first word is the program's
 /// name.
 ///
 /// # Errors
 ///
 /// - `NoMemory` if memory is refused.
-/// - Otherwise `Usage`, exactly if the words are no call of the program.
+/// - Otherwise `Usage`, exactly if the words make no request.
 ///
 /// # Cost
 ///
 /// Time and memory in proportion to the length of the words.
-pub fn call_in<'a>(alloc: Global, words: &'a [String]) -> Result<Call<'a>, Failure>
-    ensures call { IfOk result (λ call.
-        Spells (map string_bytes words.entry.now) (Some (asked_of call))) }
-    ensures stripes { IfOk result (λ call. HasStripesIf (asked_of call)) }
+pub fn request_in<'a>(alloc: Global, words: &'a [String]) -> Result<Request<'a>, Failure>
+    ensures request { IfOk result (λ request.
+        Spells (map string_bytes words.entry.now) (Some (asked_of request))) }
+    ensures stripes { IfOk result (λ request. HasStripesIf (asked_of request)) }
     ensures err { IfErr result (λ failure. (failure ≡ failures.Fault faults.NoMemory)
         ⊎ ((failure ≡ failures.Usage) × Spells (map string_bytes words.entry.now) None)) }
 {
     let command = command(alloc)?;
     let matches = match command.try_get_matches_from(words) {
         Ok(matches) => matches,
-        Err(error) => return call_for(error.kind()),
+        Err(error) => return request_for(error.kind()),
     };
     let Some((name, found)) = matches.subcommand() else {
         return Err(Failure::Usage);
     };
-    call_named(name, found).ok_or(Failure::Usage)
+    request_named(name, found).ok_or(Failure::Usage)
 }

@@ -5,7 +5,7 @@
 
 use crate::devices::{Desk, Ended, Narrow, compare_ended};
 use boostmap_program::run;
-use program_host::Ending;
+use program_system::Ending;
 use std::alloc::Global;
 use std::io::ErrorKind;
 use std::process::Abort;

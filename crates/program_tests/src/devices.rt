@@ -2,7 +2,7 @@
 //! and writers that fail at a given call, and a system in memory. A reader or a writer takes no
 //! memory. So a test that is refused memory can still compare all that was written.
 
-use program_host::System;
+use program_system::System;
 use std::alloc::{AllocError, Global};
 use std::io;
 use std::io::{ErrorKind, Read, Write};

@@ -4,7 +4,7 @@
 //! `boostmap`.
 #![tactic(auto)]
 
-use program_host::Host;
+use program_system::Process;
 use std::io;
 use std::process::ExitCode;
 use unthreaded_program::run;
@@ -12,6 +12,6 @@ use unthreaded_program::run;
 fn main(rt: HostRuntime) -> ExitCode {
     let mut output = io::writer(&rt);
     let mut errors = rt.stderr();
-    let ending = run(rt.alloc(), &Host::new(&rt), &mut output, &mut errors);
+    let ending = run(rt.alloc(), &Process::new(&rt), &mut output, &mut errors);
     ExitCode::from(ending.status)
 }

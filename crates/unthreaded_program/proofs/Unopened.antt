@@ -1,12 +1,12 @@
--- The faults of a call whose words cannot be read or are no call, or whose file cannot be opened.
+-- The faults if the words cannot be read or make no request, or if their file cannot be opened.
 use Rattle.std.proofs.Common.{◌≡◌, ◌⊎◌, inl, inr, ℕ, List, Option, Some, None, ap, subst, true}
 use Rattle.std.specs.Prelude.{IfSome, is_some}
 use Rattle.std.specs.declared.io.ErrorKind.{ErrorKind}
 use Rattle.std.specs.declared.io.ErrorKind.TheVariants.{OutOfMemory}
 use Rattle.boostmap_engine.specs.declared.fault.Fault.TheVariants as faults
-use Rattle.command_line.specs.declared.words.Call.{Call}
-use Rattle.command_line.specs.declared.no_call.NoCall.{NoCall}
-use Rattle.command_line.specs.declared.no_call.NoCall.TheVariants as reasons
+use Rattle.command_line.specs.declared.words.Request.{Request}
+use Rattle.command_line.specs.declared.no_request.NoRequest.{NoRequest}
+use Rattle.command_line.specs.declared.no_request.NoRequest.TheVariants as reasons
 use Rattle.command_line.specs.Words.{asked, asked_of}
 use Rattle.unthreaded_program.specs.Opening.{IsUnopened, memory_or, of_words}
 
@@ -21,12 +21,12 @@ no_words None OutOfMemory is = tt
 no_words None kind is = tt
 no_words (Some words) kind is = rw is tt
 
-pub no_call : (spoken : Option (List (List ℕ))) (words : List (List ℕ)) (reason : NoCall) → IfSome spoken (λ known. words ≡ known)
+pub no_request : (spoken : Option (List (List ℕ))) (words : List (List ℕ)) (reason : NoRequest) → IfSome spoken (λ known. words ≡ known)
     → (reason ≡ reasons.NoMemory) ⊎ ((reason ≡ reasons.Usage) × (asked words ≡ None)) → IsUnopened spoken (of_words reason)
-no_call spoken words reason same (inl memory) = rw memory tt
-no_call spoken words reason same (inr (usage, none)) = rw usage (of_known spoken words (λ given. asked given ≡ None) same none)
+no_request spoken words reason same (inl memory) = rw memory tt
+no_request spoken words reason same (inr (usage, none)) = rw usage (of_known spoken words (λ given. asked given ≡ None) same none)
 
-pub not_opened : (spoken : Option (List (List ℕ))) (words : List (List ℕ)) (call : Call) (kind : ErrorKind) → IfSome spoken (λ known. words ≡ known) → asked words ≡ Some (asked_of call)
+pub not_opened : (spoken : Option (List (List ℕ))) (words : List (List ℕ)) (request : Request) (kind : ErrorKind) → IfSome spoken (λ known. words ≡ known) → asked words ≡ Some (asked_of request)
     → IsUnopened spoken (memory_or kind faults.Read)
-not_opened spoken words call OutOfMemory same spelled = tt
-not_opened spoken words call kind same spelled = of_known spoken words (λ given. is_some (asked given) ≡ true) same (ap is_some spelled)
+not_opened spoken words request OutOfMemory same spelled = tt
+not_opened spoken words request kind same spelled = of_known spoken words (λ given. is_some (asked given) ≡ true) same (ap is_some spelled)

@@ -1,5 +1,5 @@
 -- PROMISES from-words-and-bytes-to-bytes: Runs
--- What the program does, given the words of its call, and how it ends.
+-- What the program does, given its words, and how it ends.
 use Rattle.std.specs.Prelude.{◌≡◌, ◌⊎◌, ℕ, Bool, true, false, List, Option, Result, Ok, Err}
 use Rattle.std.specs.Io.KnownBytes.{Appends, Keeps}
 use Rattle.boostmap_engine.specs.declared.fault.Fault.{Fault}
@@ -12,7 +12,7 @@ use Rattle.boostmap_engine.specs.Judgement.{IsJudgement, IsJudgementOf, IsNoHist
 use Rattle.command_line.specs.declared.words.Command.{Command}
 use Rattle.command_line.specs.declared.words.Command.TheVariants.{Replay, Run, Mix, Check}
 use Rattle.unthreaded_program.specs.Opening.{SpellsCommand, IsUnopened}
-use Rattle.program_host.specs.declared.ending.Ending.{Ending}
+use Rattle.program_system.specs.declared.ending.Ending.{Ending}
 
 -- The outcome of a run: a fault, or a boolean that says whether all is well.
 abbrev pub RunResult : Type 0

@@ -1,11 +1,11 @@
-//! The end of a call of the program: the line of a fault on standard error, and the exit status.
+//! The end of the program: the line of a fault on standard error, and the exit status.
 //! The programs `boostmap` and `unthreaded` both end here, whatever ran before, so a status means
 //! the same in both. The status does not depend on whether the line could be written.
 ghost use Rattle.std.specs.Prelude.{◌≡◌};
 ghost use Rattle.unthreaded_program.specs.Runs.{TellsError, status_after};
 
 use boostmap_engine::Fault;
-use program_host::Ending;
+use program_system::Ending;
 use std::io::Write;
 
 /// The exit status after a run with this outcome: 0 if all is well, 1 for an illegal history,

@@ -1,4 +1,4 @@
-//! The program `boostmap` without an engine for the command `run`: from the words of a call to its
+//! The program `boostmap` without an engine for the command `run`: from the words of a command line to its
 //! exit status.
 //!
 //! A program opens the file that the words name (`open`), runs the command on the file
@@ -11,7 +11,7 @@
 //!
 //! - The engine of the command that the words ask for ran on the file that they name. Standard
 //!   output has exactly what this engine wrote.
-//! - No engine ran, and standard output is unchanged: the words are no call, their file was not
+//! - No engine ran, and standard output is unchanged: the words make no request, their file was not
 //!   opened, or memory was refused.
 //!
 //! Unless writing to standard error failed, it has exactly the line of the fault, or nothing if

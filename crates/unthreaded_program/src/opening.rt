@@ -1,13 +1,13 @@
-//! The beginning of a call: its words are read, and the file that they name is opened. The programs
+//! The beginning of the program: its words are read, and the file that they name is opened. The programs
 //! `boostmap` and `unthreaded` both begin here, before they choose an engine. Nothing is written
-//! here: if the call is refused, only `end` writes, and only to standard error.
+//! here: if they are refused, only `end` writes, and only to standard error.
 ghost use Rattle.std.specs.Prelude.{◌≡◌, IfOk, IfErr};
 ghost use Rattle.std.specs.IoError.{error_kind};
 ghost use Rattle.unthreaded_program.specs.Opening.{SpellsCommand, IsUnopened, memory_or, of_words};
 
 use boostmap_engine::Fault;
-use command_line::{Command, NoCall, call_in};
-use program_host::System;
+use command_line::{Command, NoRequest, request_in};
+use program_system::System;
 use std::alloc::Global;
 use std::io;
 
@@ -30,22 +30,22 @@ fn memory_or(error: &io::Error, other: Fault) -> Fault
     }
 }
 
-/// The fault that reports why the words give no call.
-fn fault_of(reason: NoCall) -> Fault
+/// The fault that reports why the words make no request.
+fn fault_of(reason: NoRequest) -> Fault
     ensures { result ≡ of_words reason }
 {
     match reason {
-        NoCall::Usage => Fault::Usage,
-        NoCall::NoMemory => Fault::NoMemory,
+        NoRequest::Usage => Fault::Usage,
+        NoRequest::NoMemory => Fault::NoMemory,
     }
 }
 
-/// Reads the words of the call and opens the file that they name. Returns the command and the open
+/// Reads the words of the command line and opens the file that they name. Returns the command and the open
 /// file.
 ///
 /// # Errors
 ///
-/// - `Usage` if the words are not texts, or not a valid call.
+/// - `Usage` if the words are not texts, or make no request.
 /// - `Read` if the file cannot be opened.
 /// - `NoMemory` if memory is refused.
 ///
@@ -61,13 +61,13 @@ pub fn open<S: System>(alloc: Global, system: &S) -> Result<Opened<S::Input>, Fa
         Ok(words) => words,
         Err(error) => return Err(memory_or(&error, Fault::Usage)),
     };
-    let call = match call_in(alloc, &words) {
-        Ok(call) => call,
+    let request = match request_in(alloc, &words) {
+        Ok(request) => request,
         Err(reason) => return Err(fault_of(reason)),
     };
-    match system.open(call.file) {
+    match system.open(request.file) {
         Ok(input) => Ok(Opened {
-            command: call.command,
+            command: request.command,
             input,
         }),
         Err(error) => Err(memory_or(&error, Fault::Read)),

@@ -1,6 +1,6 @@
 // PROMISES from-words-and-bytes-to-bytes: `run` without threads
 //! A command on an open file (`run_command`), and the whole program without threads (`run`), from
-//! the words of a call to the exit status. The system and both outputs are type parameters, so that
+//! the words of a command line to the exit status. The system and both outputs are type parameters, so that
 //! contracts and tests reach the whole program. `boostmap_program` calls `run_command` for every
 //! command except `run`.
 ghost use Rattle.std.specs.Prelude.{◌≡◌};
@@ -10,7 +10,7 @@ use crate::ending::end;
 use crate::opening::open;
 use boostmap_engine::{Fault, check, mix, replay};
 use command_line::Command;
-use program_host::{Ending, System};
+use program_system::{Ending, System};
 use std::alloc::Global;
 use std::io::{Read, Write};
 
@@ -57,8 +57,8 @@ fn run_words<S: System, W: Write>(alloc: Global, system: &S, output: &mut W) -> 
     run_command(alloc, opened.command, &mut opened.input, output)
 }
 
-/// Does all that the program without threads does: reads the words of the call, opens the file that
-/// they name, and runs the engine of the command on this file. The engine writes to `output`; the
+/// Does all that the program without threads does: reads its words, opens the file that they
+/// name, and runs the engine of the command on this file. The engine writes to `output`; the
 /// line of a fault is written to `errors`. The command `run` ends with `NoThread`.
 ///
 /// # Cost

@@ -1,8 +1,8 @@
 use Rattle.std.proofs.Common.{true, ap, ◌∙◌}
 use Rattle.std.proofs.lemmas.Result.{IfOk-weaker}
 use Rattle.clap.specs.Simple.{Shape, app_of_fields, on_top}
-use Rattle.program_host.specs.Words.{IsApp}
-use Rattle.program_host.proofs.Building.{added}
+use Rattle.program_system.specs.Words.{IsApp}
+use Rattle.program_system.proofs.Building.{added}
 use Rattle.command_line.specs.Words.{without_commands}
 use Rattle.command_line.proofs.words.all_commands.Goals as goal
 

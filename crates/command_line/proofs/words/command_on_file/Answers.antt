@@ -1,8 +1,8 @@
 use Rattle.std.proofs.Common.{codes}
 use Rattle.std.proofs.lemmas.Result.{IfOk-weaker}
 use Rattle.clap.specs.Words.{new_app}
-use Rattle.program_host.specs.Words.{IsApp, file_word}
-use Rattle.program_host.proofs.Building.{with_word}
+use Rattle.program_system.specs.Words.{IsApp, file_word}
+use Rattle.program_system.proofs.Building.{with_word}
 use Rattle.command_line.proofs.words.command_on_file.Goals as goal
 
 pub returns : goal.returns

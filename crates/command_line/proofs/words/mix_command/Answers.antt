@@ -1,7 +1,7 @@
 use Rattle.std.proofs.Common.{codes}
 use Rattle.std.proofs.lemmas.Result.{IfOk-weaker}
 use Rattle.command_line.specs.Words.{over_file, seed_word}
-use Rattle.program_host.proofs.Building.{with_word}
+use Rattle.program_system.proofs.Building.{with_word}
 use Rattle.command_line.proofs.words.mix_command.Goals as goal
 
 pub returns : goal.returns

@@ -3,9 +3,9 @@ use Rattle.std.proofs.lemmas.Result.{IfOk-weaker}
 use Rattle.clap.specs.declared.builder.command.Command.{Command}
 use Rattle.clap.specs.declared.builder.command.Command.TheOpen.{Command-F}
 use Rattle.clap.specs.Simple.{Shape, app_of_fields, on_top}
-use Rattle.program_host.specs.Words.{IsApp}
+use Rattle.program_system.specs.Words.{IsApp}
 use Rattle.judge_program.specs.Words.{without_commands}
-use Rattle.program_host.proofs.Building.{added}
+use Rattle.program_system.proofs.Building.{added}
 use Rattle.judge_program.proofs.words.command.Goals as goal
 
 pub returns : goal.returns

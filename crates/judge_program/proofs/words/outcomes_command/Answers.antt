@@ -1,8 +1,8 @@
 use Rattle.std.proofs.Common.{codes}
 use Rattle.std.proofs.lemmas.Result.{IfOk-weaker}
 use Rattle.clap.specs.Words.{new_app, with_rule}
-use Rattle.program_host.specs.Words.{IsApp, file_word}
-use Rattle.program_host.proofs.Building.{with_word}
+use Rattle.program_system.specs.Words.{IsApp, file_word}
+use Rattle.program_system.proofs.Building.{with_word}
 use Rattle.judge_program.proofs.words.outcomes_command.Goals as goal
 
 pub returns : goal.returns

@@ -1,7 +1,7 @@
 use Rattle.std.proofs.Common.{codes}
 use Rattle.std.proofs.lemmas.Result.{IfOk-weaker}
 use Rattle.judge_program.specs.Words.{flagged, number_word}
-use Rattle.program_host.proofs.Building.{with_word}
+use Rattle.program_system.proofs.Building.{with_word}
 use Rattle.judge_program.proofs.words.watch_command.Goals as goal
 
 pub returns : goal.returns

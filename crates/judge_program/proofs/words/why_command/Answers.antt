@@ -1,9 +1,9 @@
 use Rattle.std.proofs.Common.{codes}
 use Rattle.std.proofs.lemmas.Result.{IfOk-weaker}
 use Rattle.clap.specs.Words.{with_rule}
-use Rattle.program_host.specs.Words.{file_word}
+use Rattle.program_system.specs.Words.{file_word}
 use Rattle.judge_program.specs.Words.{flag_word, ruled}
-use Rattle.program_host.proofs.Building.{with_word}
+use Rattle.program_system.proofs.Building.{with_word}
 use Rattle.judge_program.proofs.words.why_command.Goals as goal
 
 pub returns : goal.returns

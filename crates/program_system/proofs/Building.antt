@@ -4,7 +4,7 @@ use Rattle.std.proofs.lemmas.Bool.{or_from}
 use Rattle.clap.specs.declared.builder.arg.Arg.{Arg}
 use Rattle.clap.specs.declared.builder.command.Command.{Command}
 use Rattle.clap.specs.Words.{App, AddsArg, AddsSubcommand, Rule, rule_of, with_rule, with_subcommand}
-use Rattle.program_host.specs.Words.{IsApp}
+use Rattle.program_system.specs.Words.{IsApp}
 
 -- Suppose that a command equals an application's definition. If a subcommand is added to the
 -- command, the new command equals the definition with this subcommand.

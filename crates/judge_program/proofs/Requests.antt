@@ -1,4 +1,4 @@
--- The call of a command, given what was found for its arguments.
+-- The request of a command, given what was found for its arguments.
 use Rattle.std.proofs.Common.{◌≡◌, Bool, Option, None, codes, refl, sym, ap, ap₂, ◌∙◌}
 use Rattle.std.specs.Prelude.{option_and_then, option_map}
 use Rattle.clap.specs.declared.parser.matches.Found.{Found}

@@ -2,8 +2,8 @@ use Rattle.std.proofs.Common.{codes, Some, None, refl, ap, ◌∙◌}
 use Rattle.std.specs.Prelude.{option_map}
 use Rattle.clap.specs.Words.{found_of}
 use Rattle.command_line.specs.Words.{asked_of}
-use Rattle.command_line.proofs.Calls.{over, over_seed, over_no_seed}
-use Rattle.command_line.proofs.words.call_named.Goals as goal
+use Rattle.command_line.proofs.Requests.{over, over_seed, over_no_seed}
+use Rattle.command_line.proofs.words.request_named.Goals as goal
 
 pub returns-in_err-file : goal.returns-in_err-file
 returns-in_err-file c =

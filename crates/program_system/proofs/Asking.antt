@@ -1,4 +1,4 @@
--- Lemmas that lead from the result of a parse by `clap` to the call that the words ask for. Both
+-- Lemmas that lead from the result of a parse by `clap` to the request that the words make. Both
 -- command lines cite them.
 use Rattle.std.proofs.Common.{◌≡◌, ◌⊎◌, inl, inr, true, List, [], Option, Some, None, Result, refl, sym, ap, ap₂, subst, ◌∙◌}
 use Rattle.std.specs.Prelude.{IfOk, IfErr, option_map}
@@ -45,9 +45,9 @@ pub together : (matches : ArgMatches) (name : Text) (rows : List Row) → Some n
     → subcommand_rows_of matches ≡ Some (name, rows)
 together matches = paired (λ b. (out-SubCommand (box_value b)).name.now) (λ b. rows_of (found_of (out-SubCommand (box_value b)).matches)) (out-ArgMatches matches).subcommand
 
--- If a call was found, the result is this call. Otherwise the result is the usage error, and the
--- words ask for no call.
+-- If a request was found, the result is this request. Otherwise the result is the usage error, and the
+-- words make no request.
 pub answered : {C A E : Type 0} (Asks : Option A → Type 0) (asked_of : C → A) (memory usage : E) (looked : Option C) (answer : Result C E) → answer ≡ ok_or looked usage → Asks (option_map asked_of looked)
-    → IfOk answer (λ call. Asks (Some (asked_of call))) × IfErr answer (λ reason. (reason ≡ memory) ⊎ ((reason ≡ usage) × Asks None))
-answered Asks asked_of memory usage (Some call) answer is asks = rw is (asks, tt)
+    → IfOk answer (λ request. Asks (Some (asked_of request))) × IfErr answer (λ reason. (reason ≡ memory) ⊎ ((reason ≡ usage) × Asks None))
+answered Asks asked_of memory usage (Some request) answer is asks = rw is (asks, tt)
 answered Asks asked_of memory usage None answer is asks = rw is (tt, inr (refl, asks))

@@ -1,4 +1,4 @@
--- Lemmas about the call that `asked_in` makes of a command and the values found for its arguments.
+-- Lemmas about the request that `asked_in` makes of a command and the values found for its arguments.
 use Rattle.std.proofs.Common.{◌≡◌, ℕ, Option, Some, None, codes, sym, ap, ◌∙◌}
 use Rattle.std.specs.Prelude.{option_and_then, option_map}
 use Rattle.clap.specs.declared.parser.matches.Found.{Found}
@@ -15,7 +15,7 @@ over name known found file named is =
     ap (option_and_then (asked_for known (seed_in found))) (is ∙ first_value-rows found (codes "FILE"))
     ∙ ap (λ given. asked_in given (rows_of found)) (sym named)
 
--- If a file and a seed are found for `mix`, `asked_in` gives the call of `mix` with this file and
+-- If a file and a seed are found for `mix`, `asked_in` gives the request of `mix` with this file and
 -- with the number that `seed_of` reads.
 pub over_seed : (name : Text) (found : Found) (seed file : Text) → name ≡ codes "mix" → Some file ≡ first_value found (codes "FILE") → Some seed ≡ first_value found (codes "seed")
     → option_map (λ n. (codes "mix", Some n, file)) (seed_of seed) ≡ asked_in name (rows_of found)

@@ -1,7 +1,7 @@
-//! The system that a program runs on, as a trait, and `Host`, the system that a process runs on.
+//! The system that a program runs on, as a trait, and `Process`, the system that a process runs on.
 //! Programs are written for the trait. Their contracts say more if the words and the files are
-//! known. The toolchain promises nothing about a process's words and files, so those of `Host` are
-//! unknown.
+//! known. The toolchain promises nothing about a process's words and files, so those of `Process`
+//! are unknown.
 ghost use Rattle.std.specs.Prelude.{◌≡◌, ℕ, List, Option, Some, None, IfOk, IfErr, IfSome, map};
 ghost use Rattle.std.specs.String.{string_bytes};
 ghost use Rattle.std.specs.IoError.{error_kind};
@@ -13,19 +13,18 @@ use std::fs::Files;
 use std::io::Read;
 use std::{env, fs, io};
 
-/// The services that a program needs of its system: the words of its call, which are its command
-/// line, and files.
+/// The services that a program needs of its system: the words of its command line, and files.
 pub trait System {
     /// A file that is open for reading.
     type Input: Read + Drop;
 
-    /// The words of the call, if they are known.
+    /// The words of the command line, if they are known.
     ghost spoken: { Self → Option (List (List ℕ)) } = { λ _. None };
 
     /// The bytes of the file with this name, if they are known.
     ghost bytes: { Self → List ℕ → Option (List ℕ) } = { λ _ _. None };
 
-    /// The words of the call. The first word is the program's name.
+    /// The words of the command line. The first word is the program's name.
     ///
     /// # Errors
     ///
@@ -58,18 +57,18 @@ pub trait System {
 
 /// The system that a process runs on.
 #[derive(Clone, Copy, Debug)]
-pub struct Host<'a, R> {
+pub struct Process<'a, R> {
     rt: &'a R,
 }
 
-impl<'a, R> Host<'a, R> {
+impl<'a, R> Process<'a, R> {
     /// The system of this process, which is used through the runtime `rt`.
-    pub fn new(rt: &'a R) -> Host<'a, R> {
-        Host { rt }
+    pub fn new(rt: &'a R) -> Process<'a, R> {
+        Process { rt }
     }
 }
 
-impl<R: Env + Files + AllocGlobal> System for Host<'_, R> {
+impl<R: Env + Files + AllocGlobal> System for Process<'_, R> {
     type Input = R::File;
 
     fn words(&self, alloc: Global) -> io::Result<Vec<String>> {

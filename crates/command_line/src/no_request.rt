@@ -1,16 +1,16 @@
-//! The reason why `call_in` returns no call, as an error with a text. It is not the `Fault` of the
+//! The reason why `request_in` returns no request, as an error with a text. It is not the `Fault` of the
 //! engines, since nothing in this crate depends on an engine. The programs turn the reason into a
-//! fault. `NoCall` has no fields, so making one takes no memory.
+//! fault. `NoRequest` has no fields, so making one takes no memory.
 ghost use Rattle.std.specs.Prelude.{◌≡◌};
-ghost use Rattle.command_line.specs.declared.no_call.NoCall.TheVariants.{NoMemory};
+ghost use Rattle.command_line.specs.declared.no_request.NoRequest.TheVariants.{NoMemory};
 
 use std::alloc::AllocError;
 use std::error::Error;
 use std::fmt;
 
-/// The reason why `call_in` returns no call.
+/// The reason why `request_in` returns no request.
 #[derive(Clone, Copy, Debug, PartialEq, Eq)]
-pub enum NoCall {
+pub enum NoRequest {
     /// The command line is not valid.
     Usage,
     /// Memory was refused.
@@ -18,7 +18,7 @@ pub enum NoCall {
 }
 
 /// A sentence without its full stop.
-impl fmt::Display for NoCall {
+impl fmt::Display for NoRequest {
     ghost use Rattle.std.specs.Prelude.{Some};
     ghost use Rattle.command_line.specs.Reasons.{text_of};
 
@@ -26,19 +26,19 @@ impl fmt::Display for NoCall {
 
     fn fmt<W: fmt::Write>(&self, f: &mut fmt::Formatter<W>) -> fmt::Result {
         match self {
-            NoCall::Usage => f.write_str("the command line is not valid"),
-            NoCall::NoMemory => f.write_str("memory was refused"),
+            NoRequest::Usage => f.write_str("the command line is not valid"),
+            NoRequest::NoMemory => f.write_str("memory was refused"),
         }
     }
 }
 
-impl Error for NoCall {}
+impl Error for NoRequest {}
 
 /// Refused memory becomes `NoMemory`; `?` does this conversion.
-impl From<AllocError> for NoCall {
+impl From<AllocError> for NoRequest {
     ghost from_gives = { λ _ reason. reason ≡ NoMemory };
 
-    fn from(_error: AllocError) -> NoCall {
-        NoCall::NoMemory
+    fn from(_error: AllocError) -> NoRequest {
+        NoRequest::NoMemory
     }
 }
