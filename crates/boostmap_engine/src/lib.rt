@@ -13,7 +13,7 @@
 //! (`specs/Written.antt`).
 //!
 //! The bytes of the file and the values read from them are in memory at the same time. A report is
-//! made as a whole before its first byte is written; a history is written in pieces, in memory that
+//! made as a whole before its first byte is written; a history is written in blocks, in memory that
 //! is taken before.
 //!
 //! Only tested: with enough memory no call fails with 1,000,000 steps or entries, nor with a report

@@ -8,11 +8,11 @@ ghost use Rattle.boostmap_engine.specs.Written.{LeavesText};
 use crate::fault::Fault;
 use std::alloc::Global;
 use std::io::Write;
-use txn_files::{HistoryPieces, Piece, write_text};
+use txn_files::{Block, HistoryBlocks, write_text};
 use txn_words::SmallEntry;
 
 /// Writes the text of a history, as `history_text` makes it, and a line feed. The text is written
-/// in pieces of 64 KB, so it is never in memory as a whole.
+/// in blocks of 64 KB, so it is never in memory as a whole.
 ///
 /// # Errors
 ///
@@ -24,7 +24,7 @@ use txn_words::SmallEntry;
 /// # Cost
 ///
 /// Time in proportion to the number of entries, and memory for 65,536 bytes. One call of the writer
-/// for each part of a piece that it takes.
+/// for each part of a block that it takes.
 pub fn write_history<W: Write>(
     alloc: Global,
     output: &mut W,
@@ -37,10 +37,10 @@ pub fn write_history<W: Write>(
     ensures err { IfErr result (LeavesText (W.contents output.old) (W.contents output.new)
         (line (text_of_history version stripes entries.now))) }
 {
-    let mut piece = Piece::new(alloc)?;
-    let mut pieces = HistoryPieces::new(version, stripes, entries);
-    while pieces.next_piece(&mut piece) {
-        write_text(output, piece.text())?;
+    let mut block = Block::new(alloc)?;
+    let mut blocks = HistoryBlocks::new(version, stripes, entries);
+    while blocks.next_block(&mut block) {
+        write_text(output, block.text())?;
     }
     Ok(())
 }

@@ -1,6 +1,6 @@
-//! The reason why `request_in` returns no request, as an error with a text. It is not the `Fault` of the
-//! engines, since nothing in this crate depends on an engine. The programs turn the reason into a
-//! fault. `NoRequest` has no fields, so making one takes no memory.
+//! The reason why `request_in` returns no request, as an error with a text. It is not the `Fault`
+//! of the engines, since nothing in this crate depends on an engine. The programs turn the reason
+//! into a fault. `NoRequest` has no fields, so making one takes no memory.
 ghost use Rattle.std.specs.Prelude.{◌≡◌};
 ghost use Rattle.command_line.specs.declared.no_request.NoRequest.TheVariants.{NoMemory};
 

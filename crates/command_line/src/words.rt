@@ -1,7 +1,7 @@
 // PROMISES from-words-and-bytes-to-bytes: request_in
 //! Reads the command line by the rules of `clap`: finds the command and the file that the words
-//! name. No file is opened here; a request borrows the name of its file from the words. Each command
-//! is made and added separately, which keeps the proof of `all_commands` cheap.
+//! name. No file is opened here; a request borrows the name of its file from the words. Each
+//! command is made and added separately, which keeps the proof of `all_commands` cheap.
 ghost use Rattle.std.specs.Prelude.{◌≡◌, ◌⊎◌, Some, None, false, IfOk, IfErr, codes, map, option_map};
 ghost use Rattle.std.specs.String.{string_bytes};
 ghost use Rattle.clap.specs.Words.{found_of, rows_of, rule_of};

@@ -20,14 +20,14 @@ use Rattle.judge_engine.specs.Bases.{HasStripes}
 use Rattle.judge_program.specs.declared.words.Request.{Request}
 use Rattle.judge_program.specs.declared.words.Request.TheVariants as requests
 
--- A request of the program. `Check` judges the history file with this name, by the order of commits or
--- by locks. `CheckSerializable` says whether it is serializable in any order, with real time if the
--- first flag is true, takes at most so many
--- branches, and shows the order if the second flag is true. `Why` does what `Check` does,
--- and says what leads to the bad entry. `WhySerializable` does what `CheckSerializable` does, and
--- says what leads to the reason, in lines or as a graph if the second flag is true. `Watch` judges
--- the entries of standard input by these rules. `Outcomes` reads a script file and a history file,
--- and says what became of each script. `Help` and `Version` show the usage and the version.
+-- A request of the program. `Check` judges the history file with this name, by the order of commits
+-- or by locks. `CheckSerializable` says whether it is serializable in any order, with real time if
+-- the first flag is true, takes at most so many branches, and shows the order if the second flag is
+-- true. `Why` does what `Check` does, and says what leads to the bad entry. `WhySerializable` does
+-- what `CheckSerializable` does, and says what leads to the reason, in lines or as a graph if the
+-- second flag is true. `Watch` judges the entries of standard input by these rules. `Outcomes`
+-- reads a script file and a history file, and says what became of each script. `Help` and `Version`
+-- show the usage and the version.
 pub data Asked : Type 0 where
   Check : Bool → Text → Asked
   CheckSerializable : Bool → ℕ → Bool → Text → Asked
@@ -57,8 +57,8 @@ HasStripesIf asked = Unit {0}
 
 -- The command line: `check [RULES] [--show-order] FILE`, `outcomes SCRIPTS HISTORY`,
 -- `watch [--commit-order] [--stripes N]` and `why [RULES] [--dot] FILE`, where RULES are
--- `[--commit-order] [--serializable] [--real-time] [--most-branches N]`. Each command is an application
--- of `clap`, and the definitions of `clap` say how its words are read.
+-- `[--commit-order] [--serializable] [--real-time] [--most-branches N]`. Each command is an
+-- application of `clap`, and the definitions of `clap` say how its words are read.
 abbrev pub flag_word : Text → Rule
 flag_word name = record (new_rule name) { long = Some name; action = Some SetTrue }
 
@@ -130,10 +130,10 @@ abbrev pub branches_for : Option Text → Option ℕ
 branches_for None = Some 10000
 branches_for (Some word) = number_in_word word
 
--- The request to judge a file, given the flags for the order of commits, for any order, for real time,
--- and to show the order, and the word for the number of branches. If both rules are asked for, or if
--- real time is to count, branches are counted or an order is to be shown and no order is looked for,
--- the command line is a usage error.
+-- The request to judge a file, given the flags for the order of commits, for any order, for real
+-- time, and to show the order, and the word for the number of branches. If both rules are asked
+-- for, or if real time is to count, branches are counted or an order is to be shown and no order is
+-- looked for, the command line is a usage error.
 abbrev pub check_for : Bool → Bool → Bool → Bool → Option Text → Text → Option Asked
 check_for by_commits false false false None file = Some (Check by_commits file)
 check_for by_commits false false false (Some word) file = None
@@ -143,9 +143,10 @@ check_for true true real_time shows word file = None
 check_for by_commits false true shows word file = None
 check_for by_commits false false true word file = None
 
--- The request to explain a verdict on a file, given the flags for the order of commits, for any order,
--- for real time, and for a graph, and the word for the number of branches. If both rules are asked
--- for, or real time, branches or a graph by a rule that has none, the command line is a usage error.
+-- The request to explain a verdict on a file, given the flags for the order of commits, for any
+-- order, for real time, and for a graph, and the word for the number of branches. If both rules are
+-- asked for, or real time, branches or a graph by a rule that has none, the command line is a usage
+-- error.
 abbrev pub why_for : Bool → Bool → Bool → Bool → Option Text → Text → Option Asked
 why_for by_commits false false false None file = Some (Why by_commits file)
 why_for by_commits false false false (Some word) file = None
@@ -204,9 +205,9 @@ answer_to kind = None
 abbrev pub IsRequestOf : ErrorKind → Option Asked → Type 0
 IsRequestOf kind what = (kind ≡ OutOfMemory → ⊥) × (what ≡ answer_to kind)
 
--- If `clap` can return errors for the words, `what` is the request that `answer_to` gives for the kind
--- of one of these errors. If `clap` can return no error, `what` is the request of the command that was
--- found.
+-- If `clap` can return errors for the words, `what` is the request that `answer_to` gives for the
+-- kind of one of these errors. If `clap` can return no error, `what` is the request of the command
+-- that was found.
 abbrev pub SpellsBy : Kinds → Option (Text × List Row) → Option Asked → Type 0
 SpellsBy [] found what = what ≡ option_and_then (λ command. asked_in command.0 command.1) found
 SpellsBy kinds found what = (kind : ErrorKind) × IsAmong kind kinds × (what ≡ answer_to kind)

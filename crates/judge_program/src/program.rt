@@ -228,9 +228,9 @@ fn run_words<S: System, W: Write>(
     answer(alloc, system, request, output)
 }
 
-/// The exit status after a run with this outcome. It is that of the answer: 0 if all is well; 1 if a
-/// history is illegal or not serializable, or a script that has no `abort` was given up; 5 if it is
-/// undecided whether a history is serializable. After a failure it is the failure's status.
+/// The exit status after a run with this outcome. It is that of the answer: 0 if all is well; 1 if
+/// a history is illegal or not serializable, or a script that has no `abort` was given up; 5 if it
+/// is undecided whether a history is serializable. After a failure it is the failure's status.
 fn status_of(outcome: &Result<Answer, Failure>) -> u8
     ensures { result ≡ status_after outcome.now }
 {

@@ -1,6 +1,6 @@
-//! The system of a process: the `Process` of `program_system`, and standard input under the name `-`.
-//! Only this module needs a process. The rest of the crate works with any `System`. The toolchain
-//! promises nothing about a process's words and files, so no contract says what they are.
+//! The system of a process: the `Process` of `program_system`, and standard input under the name
+//! `-`. Only this module needs a process. The rest of the crate works with any `System`. The
+//! toolchain promises nothing about a process's words and files, so no contract says what they are.
 use program_system::System;
 use std::alloc::Global;
 use std::env::Env;

@@ -120,8 +120,8 @@ fn flagged_command<'a>(alloc: Global, name: &'a str) -> Result<Command<'a>, Allo
     Command::new(alloc, name).arg(flag(alloc, "commit-order"))
 }
 
-/// Makes a command with this name that has the flags to judge by the order of commits, by any order,
-/// and with real time, and the option for the number of branches.
+/// Makes a command with this name that has the flags to judge by the order of commits, by any
+/// order, and with real time, and the option for the number of branches.
 fn ruled_command<'a>(alloc: Global, name: &'a str) -> Result<Command<'a>, AllocError>
     ensures { IfOk result (λ command. IsApp command (ruled name.entry.now)) }
 {
@@ -258,8 +258,8 @@ fn check_of<'a>(
 }
 
 /// The request to explain the verdict on a file, given the flags and the word for the number of
-/// branches. Returns `None` if two rules are asked for, real time, branches or a graph by a rule that
-/// has none, or if the word is no number.
+/// branches. Returns `None` if two rules are asked for, real time, branches or a graph by a rule
+/// that has none, or if the word is no number.
 fn why_of<'a>(
     by_commits: bool,
     is_serializable: bool,
@@ -345,8 +345,8 @@ fn request_named<'a>(name: &str, found: &ArgMatches<'a>) -> Option<Request<'a>>
 }
 
 /// Returns the request that words make, given the error that `clap` returns for these words. For
-/// `clap`, words that ask for help or for the version are errors; here they are requests. Other errors
-/// are failures here too.
+/// `clap`, words that ask for help or for the version are errors; here they are requests. Other
+/// errors are failures here too.
 fn request_for<'a>(kind: ErrorKind) -> Result<Request<'a>, Failure>
     ensures request { IfOk result (λ request. IsRequestOf kind (Some (asked_of request))) }
     ensures stripes { IfOk result (λ request. HasStripesIf (asked_of request)) }

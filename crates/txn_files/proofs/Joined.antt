@@ -14,7 +14,7 @@ join_with_byte_cons c f x (y ∷ ys) = ap (λ (rest : List ℕ). f x ++ (c ∷ r
 regrouped : (a x s y v b c : List ℕ) → ((a ++ codes "]") ++ (x ++ (s ++ (y ++ (v ++ b))))) ++ c ≡ a ++ (codes "]" ++ (x ++ (s ++ (y ++ (v ++ (b ++ c))))))
 regrouped a x s y v b c = simp append_assoc refl
 
--- Before `HistoryPieces` hands out any part of a history's line, the rest of the line is the text
+-- Before `HistoryBlocks` hands out any part of a history's line, the rest of the line is the text
 -- of the history and a line feed.
 pub whole_line : (version stripes : ℕ) (entries : List Entry) → rest_of false false version stripes entries ≡ text_of_history version stripes entries ++ 10 ∷ []
 whole_line version stripes entries =

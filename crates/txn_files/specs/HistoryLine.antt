@@ -1,4 +1,4 @@
--- The line of a history, and the part of the line that `HistoryPieces` has not handed out yet.
+-- The line of a history, and the part of the line that `HistoryBlocks` has not handed out yet.
 use Rattle.std.specs.Prelude.{ℕ, Bool, true, false, List, [], ◌∷◌, ◌++◌, map, codes, decimal}
 use Rattle.std.specs.List.{flat_map, join_with_byte}
 use Rattle.txn_words.specs.declared.entry.Entry.{Entry}
@@ -8,7 +8,7 @@ use Rattle.txn_files.specs.HistoryText.{comma, entry_text}
 abbrev pub further_text : List Entry → List ℕ
 further_text entries = flat_map (λ e. comma ∷ entry_text e) entries
 
--- The part of the line that `HistoryPieces` has not handed out yet, up to the last entry. `entries`
+-- The part of the line that `HistoryBlocks` has not handed out yet, up to the last entry. `entries`
 -- are the entries of this part. If nothing of the line was handed out (`false`), the part also has
 -- the start of the line. Otherwise (`true`) an entry was handed out before, so a comma precedes
 -- each of these entries.
@@ -22,7 +22,7 @@ end_text version stripes =
     codes "],\"stripes\":" ++ (decimal stripes
     ++ (codes ",\"version\":" ++ (decimal version ++ codes "}\n")))
 
--- The part of the line that `HistoryPieces` has not handed out yet. The first flag says whether
+-- The part of the line that `HistoryBlocks` has not handed out yet. The first flag says whether
 -- some of the line was handed out, the second whether all of it was. `entries` are the entries of
 -- this part.
 abbrev pub rest_of : Bool → Bool → ℕ → ℕ → List Entry → List ℕ

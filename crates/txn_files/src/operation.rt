@@ -1,6 +1,6 @@
 //! Reads and writes an operation as elements of an array in JSON. Step files, script files and
 //! history files share this module, so an operation has the same form in all of them. Reading takes
-//! constant time and no memory. The written elements take at most 80 bytes of a line.
+//! constant time and no memory. The written elements take at most 80 bytes.
 
 ghost use Rattle.std.specs.Prelude.{◌≡◌, ◌+◌, ◌≤◌, ◌++◌, length, map, option_map};
 ghost use Rattle.std.specs.List.{join_with_byte};
@@ -8,7 +8,7 @@ ghost use Rattle.piece_files.specs.Plain.{data_of};
 ghost use Rattle.txn_files.specs.HistoryText.{comma};
 ghost use Rattle.txn_files.specs.Operations.{is_old_op, op_at, op_of, put_if_at, elements_of_op};
 
-use crate::line::Line;
+use crate::short_text::ShortText;
 use piece_files::{Plain, leading_optional_in, number_in, word_in};
 use txn_words::Op;
 
@@ -73,41 +73,41 @@ pub fn is_old_op(op: Op) -> bool
     !matches!(op, Op::PutIf(..))
 }
 
-/// Puts the elements of an operation in front of the text of a line. Commas separate the elements.
+/// Puts the elements of an operation in front of a text. Commas separate the elements.
 #[inline(always)]
-pub(crate) fn put_op(line: &mut Line, op: Op)
-    requires { 80 + length line.old ≤ 160 }
-    ensures text { line.new ≡ join_with_byte comma (elements_of_op op) ++ line.old }
-    ensures short { length line.new ≤ 80 + length line.old }
+pub(crate) fn put_op(buffer: &mut ShortText, op: Op)
+    requires { 80 + length buffer.old ≤ 160 }
+    ensures text { buffer.new ≡ join_with_byte comma (elements_of_op op) ++ buffer.old }
+    ensures short { length buffer.new ≤ 80 + length buffer.old }
 {
     match op {
         Op::Put(key, value) => {
-            line.put_number(value);
-            line.put(",");
-            line.put_number(key);
-            line.put("\"put\",");
+            buffer.put_number(value);
+            buffer.put(",");
+            buffer.put_number(key);
+            buffer.put("\"put\",");
         }
         Op::Take(key) => {
-            line.put_number(key);
-            line.put("\"take\",");
+            buffer.put_number(key);
+            buffer.put("\"take\",");
         }
         Op::Get(key) => {
-            line.put_number(key);
-            line.put("\"get\",");
+            buffer.put_number(key);
+            buffer.put("\"get\",");
         }
         Op::PutIf(key, None, value) => {
-            line.put_number(value);
-            line.put(",null,");
-            line.put_number(key);
-            line.put("\"put_if\",");
+            buffer.put_number(value);
+            buffer.put(",null,");
+            buffer.put_number(key);
+            buffer.put("\"put_if\",");
         }
         Op::PutIf(key, Some(expected), value) => {
-            line.put_number(value);
-            line.put(",");
-            line.put_number(expected);
-            line.put(",");
-            line.put_number(key);
-            line.put("\"put_if\",");
+            buffer.put_number(value);
+            buffer.put(",");
+            buffer.put_number(expected);
+            buffer.put(",");
+            buffer.put_number(key);
+            buffer.put("\"put_if\",");
         }
     }
 }

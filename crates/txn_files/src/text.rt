@@ -3,8 +3,8 @@
 //! `text_of_history` defines the text from the version, the number of stripes and the entries.
 //! Making the text takes time and memory in proportion to its length.
 //!
-//! An entry is written into a `Line`, from its end to its start. The line is then added to the text
-//! as a whole, so each entry needs one test for room.
+//! An entry is written into a `ShortText`, from its end to its start, and then added to the text as
+//! a whole, so each entry needs one test for room.
 ghost use Rattle.std.specs.Prelude.{◌≡◌, ◌≤◌, ◌∷◌, ◌++◌, codes, decimal, length, map};
 ghost use Rattle.std.specs.Prelude.{OnOk, IfOk, string_bytes};
 ghost use Rattle.std.specs.List.{join_with_byte};
@@ -14,126 +14,127 @@ ghost use Rattle.txn_files.specs.HistoryText.{comma, entry_text, optional_text, 
 ghost use Rattle.txn_words.specs.declared.entry.Entry.{Entry};
 ghost use Rattle.txn_words.specs.declared.entry.Entry.TheVariants as entries;
 
-use crate::line::Line;
 use crate::operation::put_op;
+use crate::short_text::ShortText;
 use std::alloc::{AllocError, Global};
 use txn_words::{Entry, Op};
 
-/// Sets a line to an array that has a name and a caller. `head` is the text of the array up to the
-/// caller.
+/// Sets the buffer to an array that has a name and a caller. `head` is the text of the array up to
+/// the caller.
 #[inline(always)]
-fn set_short(line: &mut Line, head: &str, caller: u64)
+fn set_short(buffer: &mut ShortText, head: &str, caller: u64)
     requires { length head.now ≤ 30 }
-    ensures text { line.new ≡ head.now ++ (decimal caller ++ codes "]") }
-    ensures short { length line.new ≤ 159 }
+    ensures text { buffer.new ≡ head.now ++ (decimal caller ++ codes "]") }
+    ensures short { length buffer.new ≤ 159 }
 {
-    line.clear();
-    line.put("]");
-    line.put_number(caller);
-    line.put(head);
+    buffer.clear();
+    buffer.put("]");
+    buffer.put_number(caller);
+    buffer.put(head);
 }
 
-/// Sets a line to an array that has a name, a caller and a number. `head` is the text of the array
-/// up to the caller.
+/// Sets the buffer to an array that has a name, a caller and a number. `head` is the text of the
+/// array up to the caller.
 #[inline(always)]
-fn set_numbered(line: &mut Line, head: &str, caller: u64, number: u64)
+fn set_numbered(buffer: &mut ShortText, head: &str, caller: u64, number: u64)
     requires { length head.now ≤ 30 }
-    ensures text { line.new
+    ensures text { buffer.new
         ≡ head.now ++ ((decimal caller ++ comma ∷ decimal number) ++ codes "]") }
-    ensures short { length line.new ≤ 159 }
+    ensures short { length buffer.new ≤ 159 }
 {
-    line.clear();
-    line.put("]");
-    line.put_number(number);
-    line.put(",");
-    line.put_number(caller);
-    line.put(head);
+    buffer.clear();
+    buffer.put("]");
+    buffer.put_number(number);
+    buffer.put(",");
+    buffer.put_number(caller);
+    buffer.put(head);
 }
 
-/// Sets a line to an array that has a name, a caller, and a number or null. `head` is the text of
-/// the array up to the caller.
+/// Sets the buffer to an array that has a name, a caller, and a number or null. `head` is the text
+/// of the array up to the caller.
 #[inline(always)]
-fn set_optional(line: &mut Line, head: &str, caller: u64, number: Option<u64>)
+fn set_optional(buffer: &mut ShortText, head: &str, caller: u64, number: Option<u64>)
     requires { length head.now ≤ 30 }
-    ensures text { line.new
+    ensures text { buffer.new
         ≡ head.now ++ ((decimal caller ++ comma ∷ optional_text number) ++ codes "]") }
-    ensures short { length line.new ≤ 159 }
+    ensures short { length buffer.new ≤ 159 }
 {
     match number {
-        Some(number) => set_numbered(line, head, caller, number),
+        Some(number) => set_numbered(buffer, head, caller, number),
         None => {
-            line.clear();
-            line.put(",null]");
-            line.put_number(caller);
-            line.put(head);
+            buffer.clear();
+            buffer.put(",null]");
+            buffer.put_number(caller);
+            buffer.put(head);
         }
     }
 }
 
-/// Sets a line to an Asked entry, which names a caller and the operation that the caller asks for.
+/// Sets the buffer to an Asked entry, which names a caller and the operation that the caller asks
+/// for.
 #[inline(always)]
-fn set_asked(line: &mut Line, caller: u64, op: Op)
-    ensures text { line.new ≡ entry_text (entries.Asked caller op) }
-    ensures short { length line.new ≤ 159 }
+fn set_asked(buffer: &mut ShortText, caller: u64, op: Op)
+    ensures text { buffer.new ≡ entry_text (entries.Asked caller op) }
+    ensures short { length buffer.new ≤ 159 }
 {
-    line.clear();
-    line.put("]");
-    put_op(line, op);
-    line.put(",");
-    line.put_number(caller);
-    line.put("[\"asked\",");
+    buffer.clear();
+    buffer.put("]");
+    put_op(buffer, op);
+    buffer.put(",");
+    buffer.put_number(caller);
+    buffer.put("[\"asked\",");
 }
 
-/// Sets a line to a Busy entry, which names a caller, the operation that the caller asked for, and
-/// the holder of the operation's stripe.
+/// Sets the buffer to a Busy entry, which names a caller, the operation that the caller asked for,
+/// and the holder of the operation's stripe.
 #[inline(always)]
-fn set_busy(line: &mut Line, caller: u64, op: Op, holder: u64)
-    ensures text { line.new ≡ entry_text (entries.Busy caller op holder) }
-    ensures short { length line.new ≤ 159 }
+fn set_busy(buffer: &mut ShortText, caller: u64, op: Op, holder: u64)
+    ensures text { buffer.new ≡ entry_text (entries.Busy caller op holder) }
+    ensures short { length buffer.new ≤ 159 }
 {
-    line.clear();
-    line.put("]");
-    line.put_number(holder);
-    line.put(",");
-    put_op(line, op);
-    line.put(",");
-    line.put_number(caller);
-    line.put("[\"busy\",");
+    buffer.clear();
+    buffer.put("]");
+    buffer.put_number(holder);
+    buffer.put(",");
+    put_op(buffer, op);
+    buffer.put(",");
+    buffer.put_number(caller);
+    buffer.put("[\"busy\",");
 }
 
-/// Sets a line to an entry, as an array.
+/// Sets the buffer to an entry, as an array.
 #[inline(always)]
-pub(crate) fn set_entry(line: &mut Line, entry: Entry)
-    ensures text { line.new ≡ entry_text entry }
-    ensures short { length line.new ≤ 159 }
+pub(crate) fn set_entry(buffer: &mut ShortText, entry: Entry)
+    ensures text { buffer.new ≡ entry_text entry }
+    ensures short { length buffer.new ≤ 159 }
 {
     match entry {
-        Entry::Began(caller, txn) => set_numbered(line, "[\"began\",", caller, txn),
-        Entry::Asked(caller, op) => set_asked(line, caller, op),
-        Entry::Did(caller, reply) => set_optional(line, "[\"did\",", caller, reply),
-        Entry::Saved(caller) => set_short(line, "[\"saved\",", caller),
-        Entry::Leave(caller, level) => set_optional(line, "[\"leave\",", caller, level),
-        Entry::Undone(caller) => set_short(line, "[\"undone\",", caller),
-        Entry::Returned(caller, level) => set_numbered(line, "[\"returned\",", caller, level),
-        Entry::Committed(caller, place) => set_numbered(line, "[\"committed\",", caller, place),
-        Entry::Busy(caller, op, holder) => set_busy(line, caller, op, holder),
-        Entry::Aborted(caller) => set_short(line, "[\"aborted\",", caller),
+        Entry::Began(caller, txn) => set_numbered(buffer, "[\"began\",", caller, txn),
+        Entry::Asked(caller, op) => set_asked(buffer, caller, op),
+        Entry::Did(caller, reply) => set_optional(buffer, "[\"did\",", caller, reply),
+        Entry::Saved(caller) => set_short(buffer, "[\"saved\",", caller),
+        Entry::Leave(caller, level) => set_optional(buffer, "[\"leave\",", caller, level),
+        Entry::Undone(caller) => set_short(buffer, "[\"undone\",", caller),
+        Entry::Returned(caller, level) => set_numbered(buffer, "[\"returned\",", caller, level),
+        Entry::Committed(caller, place) => set_numbered(buffer, "[\"committed\",", caller, place),
+        Entry::Busy(caller, op, holder) => set_busy(buffer, caller, op, holder),
+        Entry::Aborted(caller) => set_short(buffer, "[\"aborted\",", caller),
     }
 }
 
 /// Adds each entry to the text, with a comma in front of it.
 fn put_further_entries(
     text: &mut String,
-    line: &mut Line,
+    buffer: &mut ShortText,
     entries: &[Entry],
 ) -> Result<(), AllocError>
     ensures { OnOk result (string_bytes text.new
         ≡ string_bytes text.old ++ further_text entries.now) }
 {
     for entry in entries {
-        set_entry(line, *entry);
-        line.put(",");
-        text.push_str(line.text())?;
+        set_entry(buffer, *entry);
+        buffer.put(",");
+        text.push_str(buffer.text())?;
     }
     Ok(())
 }
@@ -146,18 +147,18 @@ fn put_entries(text: &mut String, entries: &[Entry]) -> Result<(), AllocError>
     let Some((first, rest)) = entries.split_first() else {
         return Ok(());
     };
-    let mut line = Line::new();
-    set_entry(&mut line, *first);
-    text.push_str(line.text())?;
-    put_further_entries(text, &mut line, rest)
+    let mut buffer = ShortText::new();
+    set_entry(&mut buffer, *first);
+    text.push_str(buffer.text())?;
+    put_further_entries(text, &mut buffer, rest)
 }
 
 /// Writes a history as compact JSON: an object with the entries, the number of stripes and the
 /// version of the file, in this order, such as
 /// `{"entries":[["began",0,1]],"stripes":8,"version":1}`. The text has no line feed. `read_history`
 /// can read the text back if the text has at most 16,777,216 bytes, all its numbers are in range,
-/// and it has no `put_if` in version 1. `HistoryPieces` hands out the same text and a line feed,
-/// piece by piece.
+/// and it has no `put_if` in version 1. `HistoryBlocks` hands out the same text and a line feed,
+/// block by block.
 ///
 /// # Errors
 ///
@@ -198,10 +199,10 @@ pub fn history_lines(alloc: Global, entries: &[Entry]) -> Result<String, AllocEr
     ensures { IfOk result (λ text. string_bytes text ≡ text_of_lines entries.now) }
 {
     let mut text = String::new(alloc);
-    let mut line = Line::new();
+    let mut buffer = ShortText::new();
     for entry in entries {
-        set_entry(&mut line, *entry);
-        writeln!(text, "{}", line.text())?;
+        set_entry(&mut buffer, *entry);
+        writeln!(text, "{}", buffer.text())?;
     }
     Ok(text)
 }

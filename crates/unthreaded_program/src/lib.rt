@@ -1,5 +1,5 @@
-//! The program `boostmap` without an engine for the command `run`: from the words of a command line to its
-//! exit status.
+//! The program `boostmap` without an engine for the command `run`: from the words of a command line
+//! to its exit status.
 //!
 //! A program opens the file that the words name (`open`), runs the command on the file
 //! (`run_command`), and ends with an exit status and, after a fault, with the line of the fault

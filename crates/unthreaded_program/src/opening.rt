@@ -1,4 +1,5 @@
-//! The beginning of the program: its words are read, and the file that they name is opened. The programs
+//! The beginning of the program: its words are read, and the file that they name is opened. The
+//! programs
 //! `boostmap` and `unthreaded` both begin here, before they choose an engine. Nothing is written
 //! here: if they are refused, only `end` writes, and only to standard error.
 ghost use Rattle.std.specs.Prelude.{◌≡◌, IfOk, IfErr};
@@ -40,8 +41,8 @@ fn fault_of(reason: NoRequest) -> Fault
     }
 }
 
-/// Reads the words of the command line and opens the file that they name. Returns the command and the open
-/// file.
+/// Reads the words of the command line and opens the file that they name. Returns the command and
+/// the open file.
 ///
 /// # Errors
 ///

@@ -1,8 +1,8 @@
 // PROMISES from-words-and-bytes-to-bytes: `run` without threads
 //! A command on an open file (`run_command`), and the whole program without threads (`run`), from
-//! the words of a command line to the exit status. The system and both outputs are type parameters, so that
-//! contracts and tests reach the whole program. `boostmap_program` calls `run_command` for every
-//! command except `run`.
+//! the words of a command line to the exit status. The system and both outputs are type parameters,
+//! so that contracts and tests reach the whole program. `boostmap_program` calls `run_command` for
+//! every command except `run`.
 ghost use Rattle.std.specs.Prelude.{◌≡◌};
 ghost use Rattle.unthreaded_program.specs.Runs.{RunsCommand, HasExited, Runs, StartsNone, TellsError};
 

@@ -2,7 +2,7 @@ use Rattle.std.proofs.Common.{sym, subst}
 use Rattle.txn_files.specs.HistoryText.{text_of_history}
 use Rattle.boostmap_engine.specs.Report.{line}
 use Rattle.boostmap_engine.specs.Mixture.{IsMixtureOf, IsNoScriptFile}
-use Rattle.boostmap_engine.proofs.WrittenPieces.{on_ok, if_err, leaves_of}
+use Rattle.boostmap_engine.proofs.WrittenBlocks.{on_ok, if_err, leaves_of}
 use Rattle.boostmap_engine.proofs.engine.mix.Goals as goal
 
 pub returns-clause-mixes : goal.returns-clause-mixes

@@ -4,9 +4,9 @@ use Rattle.txn_files.specs.HistoryText.{text_of_history}
 use Rattle.boostmap_engine.specs.Report.{line}
 use Rattle.boostmap_engine.proofs.output.write_history.Given as goal
 
-abbrev pub invariant-loop-pieces : goal.invariant-loop-pieces
-invariant-loop-pieces g l =
-    (done : List ℕ) × (line (text_of_history l.fn.version l.fn.stripes l.fn.entries) ≡ done ++ l.pieces) × Appends (g.W.Write.contents l.fn.output) (g.W.Write.contents l.output) done
+abbrev pub invariant-loop-blocks : goal.invariant-loop-blocks
+invariant-loop-blocks g l =
+    (done : List ℕ) × (line (text_of_history l.fn.version l.fn.stripes l.fn.entries) ≡ done ++ l.blocks) × Appends (g.W.Write.contents l.fn.output) (g.W.Write.contents l.output) done
 
-abbrev pub decreases-loop-pieces : goal.decreases-loop-pieces
-decreases-loop-pieces g l = length l.pieces
+abbrev pub decreases-loop-blocks : goal.decreases-loop-blocks
+decreases-loop-blocks g l = length l.blocks

@@ -1,4 +1,4 @@
--- A text that is written piece by piece.
+-- A text that is written block by block.
 use Rattle.std.proofs.Common.{◌≡◌, ◌⊎◌, inl, inr, ℕ, ◌+◌, ◌<◌, ◌≤◌, Bool, true, false, List, [], ◌∷◌, ◌++◌, length, take, Option, Result, Ok, Err, refl, sym, ap, ◌∙◌, append_assoc, arith, length-append}
 use Rattle.std.specs.Prelude.{◌↔◌, IsTrue, OnOk, IfErr}
 use Rattle.std.proofs.Math.Seq.{take-add}
@@ -14,25 +14,25 @@ use Rattle.txn_files.proofs.Writes.{Appends-then}
 take-past : (xs ys : List ℕ) (n : ℕ) → take (length xs + n) (xs ++ ys) ≡ xs ++ take n ys
 take-past xs ys n = rw (take-add, take_at xs ys (length xs) refl, drop_at xs ys (length xs) refl) refl
 
--- After one more piece is written, the whole text is what has been written, followed by the rest.
-pub piece_written : (whole done left piece rest : List ℕ) → whole ≡ done ++ left → left ≡ piece ++ rest → whole ≡ (done ++ piece) ++ rest
-piece_written whole done left piece rest is is_left =
-    is ∙ ap (λ (xs : List ℕ). done ++ xs) is_left ∙ sym (append_assoc done piece rest)
+-- After one more block is written, the whole text is what has been written, followed by the rest.
+pub block_written : (whole done left block rest : List ℕ) → whole ≡ done ++ left → left ≡ block ++ rest → whole ≡ (done ++ block) ++ rest
+block_written whole done left block rest is is_left =
+    is ∙ ap (λ (xs : List ℕ). done ++ xs) is_left ∙ sym (append_assoc done block rest)
 
--- If a proper prefix of the next piece was written, a proper prefix of the whole text was written.
-pub part_written : (a b c : Option (List ℕ)) (whole done left piece rest : List ℕ) → whole ≡ done ++ left → left ≡ piece ++ rest → Appends a b done → AppendsPart b c piece → AppendsPart a c whole
-part_written a b c whole done left piece rest is is_left before part =
-    let split : whole ≡ done ++ (piece ++ rest) = is ∙ ap (λ (xs : List ℕ). done ++ xs) is_left in
-    let few : part.0 ≤ length piece = omega (arith, part.1) in
-    let begins : take (length done + part.0) whole ≡ done ++ take part.0 piece =
-    ap (take (length done + part.0)) split ∙ take-past done (piece ++ rest) part.0 ∙ ap (λ (xs : List ℕ). done ++ xs) (take-append-le part.0 piece rest few) in (
+-- If a proper prefix of the next block was written, a proper prefix of the whole text was written.
+pub part_written : (a b c : Option (List ℕ)) (whole done left block rest : List ℕ) → whole ≡ done ++ left → left ≡ block ++ rest → Appends a b done → AppendsPart b c block → AppendsPart a c whole
+part_written a b c whole done left block rest is is_left before part =
+    let split : whole ≡ done ++ (block ++ rest) = is ∙ ap (λ (xs : List ℕ). done ++ xs) is_left in
+    let few : part.0 ≤ length block = omega (arith, part.1) in
+    let begins : take (length done + part.0) whole ≡ done ++ take part.0 block =
+    ap (take (length done + part.0)) split ∙ take-past done (block ++ rest) part.0 ∙ ap (λ (xs : List ℕ). done ++ xs) (take-append-le part.0 block rest few) in (
       length done + part.0,
-      omega (arith, part.1, ap length split, length-append done (piece ++ rest), length-append piece rest),
-      rw begins (Appends-then a b c done (take part.0 piece) before part.2),
+      omega (arith, part.1, ap length split, length-append done (block ++ rest), length-append block rest),
+      rw begins (Appends-then a b c done (take part.0 block) before part.2),
     )
 
--- If the next piece is empty, the whole text has been written.
-pub nothing_left : (found : Bool) (left piece rest : List ℕ) (n : ℕ) → found ≡ false → IsTrue found ↔ (0 < length piece) → (rest ≡ []) ⊎ (n < length piece) → left ≡ piece ++ rest → left ≡ []
+-- If the next block is empty, the whole text has been written.
+pub nothing_left : (found : Bool) (left block rest : List ℕ) (n : ℕ) → found ≡ false → IsTrue found ↔ (0 < length block) → (rest ≡ []) ⊎ (n < length block) → left ≡ block ++ rest → left ≡ []
 nothing_left found left [] rest n is some (inl none) whole = whole ∙ none
 nothing_left found left [] rest n is some (inr full) whole = absurd (omega (arith, full))
 nothing_left true left (x ∷ xs) rest n is some full whole = absurd (cc is)

@@ -2,7 +2,7 @@ use Rattle.std.proofs.Common.{◌-◌, drop, arith, sym, subst, length-drop}
 use Rattle.std.specs.Str.{IsUtf8}
 use Rattle.std.proofs.lemmas.List.{take_all}
 use Rattle.std.proofs.lemmas.Str.{IsUtf8-had}
-use Rattle.txn_files.proofs.line.Line.text.Goals as goal
+use Rattle.txn_files.proofs.short_text.ShortText.text.Goals as goal
 
 pub from_utf8_unchecked-requires : goal.from_utf8_unchecked-requires
 from_utf8_unchecked-requires c =

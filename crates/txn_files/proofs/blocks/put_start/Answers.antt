@@ -1,7 +1,7 @@
 use Rattle.std.proofs.Common.{refl}
 use Rattle.txn_files.proofs.Joined.{join_with_byte_cons}
 use Rattle.txn_files.specs.HistoryText.{comma, entry_text}
-use Rattle.txn_files.proofs.pieces.put_start.Goals as goal
+use Rattle.txn_files.proofs.blocks.put_start.Goals as goal
 
 pub returns : goal.returns
 returns c =

@@ -1,33 +1,33 @@
-//! A buffer for a part of a text. Its memory is allocated once, when it is made, so no `put` takes
-//! memory. A `HistoryPieces` fills the same buffer again and again, so a text of any length needs
-//! no further memory. A buffer holds 65,536 bytes, and one comparison shows whether a line of 160
+//! A buffer for a block of a text. Its memory is allocated once, when it is made, so no `put` takes
+//! memory. A `HistoryBlocks` fills the same buffer again and again, so a text of any length needs
+//! no further memory. A buffer holds 65,536 bytes, and one comparison shows whether a text of 160
 //! bytes surely fits.
 ghost use Rattle.std.specs.Prelude.{◌≡◌, ◌↔◌, ◌+◌, ◌<◌, ◌≤◌, [], ◌++◌, IfOk, IsTrue, length};
 
 use std::alloc::{AllocError, Global};
 use std::marker::Model;
 
-/// The number of bytes that a piece has room for.
+/// The number of bytes that a block has room for.
 const SIZE: usize = 65_536;
 
-/// A piece with at most this number of bytes surely has room for a line of 160 bytes.
+/// A block with at most this number of bytes surely has room for a text of 160 bytes.
 pub(crate) const FULL: usize = 65_376;
 
-/// As many zero bytes as a piece has room for.
+/// As many zero bytes as a block has room for.
 fn zeros(alloc: Global) -> Result<Vec<u8>, AllocError>
     ensures { IfOk result (λ zeros. length zeros.items ≡ SIZE) }
 {
     vec![in alloc; 0u8; SIZE]
 }
 
-/// A part of a text, of at most 65,536 bytes. In contracts its value is the list of its bytes.
+/// A block of a text, of at most 65,536 bytes. In contracts its value is the list of its bytes.
 #[derive(Drop)]
-pub struct Piece {
+pub struct Block {
     bytes: Vec<u8>,
     count: usize,
 }
 
-impl Model for Piece {
+impl Model for Block {
     ghost use Rattle.std.specs.Prelude.{◌≡◌, ℕ, List, ◌≤◌, length, take};
 
     ghost Value = { List ℕ };
@@ -37,8 +37,8 @@ impl Model for Piece {
     ghost invariant = { λ s. (length s.bytes.items ≡ 65536) × (s.count ≤ 65536) };
 }
 
-impl Piece {
-    /// An empty piece.
+impl Block {
+    /// An empty block.
     ///
     /// # Errors
     ///
@@ -47,11 +47,11 @@ impl Piece {
     /// # Cost
     ///
     /// Time and memory for 65,536 bytes.
-    pub fn new(alloc: Global) -> Result<Piece, AllocError>
-        ensures { IfOk result (λ piece. piece ≡ []) }
+    pub fn new(alloc: Global) -> Result<Block, AllocError>
+        ensures { IfOk result (λ block. block ≡ []) }
     {
         let bytes = zeros(alloc)?;
-        Ok(Piece { bytes, count: 0 })
+        Ok(Block { bytes, count: 0 })
     }
 
     /// Makes the text empty.

@@ -1,4 +1,4 @@
-//! A piece of text on the stack, which is written from its end to its start: each `put` writes in
+//! A short text on the stack, which is written from its end to its start: each `put` writes in
 //! front of the existing text. The last digit of a number is computed first, so no digit has to be
 //! moved. The `put` functions do not test for room, since their contracts require it.
 ghost use Rattle.std.specs.Prelude.{◌≡◌, ◌+◌, ◌≤◌, [], ◌++◌, length, decimal};
@@ -9,12 +9,12 @@ use std::str::from_utf8_unchecked;
 
 /// A text of at most 160 bytes. In contracts its value is the list of its bytes.
 #[derive(Drop)]
-pub(crate) struct Line {
+pub(crate) struct ShortText {
     bytes: [u8; 160],
     start: usize,
 }
 
-impl Model for Line {
+impl Model for ShortText {
     ghost use Rattle.std.specs.Prelude.{ℕ, List, ◌≤◌, drop};
     ghost use Rattle.std.specs.Str.{IsUtf8};
 
@@ -25,12 +25,12 @@ impl Model for Line {
     ghost invariant = { λ s. (s.start ≤ 160) × ∥ IsUtf8 (drop s.start s.bytes) ∥₁ };
 }
 
-impl Line {
-    /// A line with no text.
-    pub(crate) fn new() -> Line
+impl ShortText {
+    /// An empty text.
+    pub(crate) fn new() -> ShortText
         ensures { result ≡ [] }
     {
-        Line {
+        ShortText {
             bytes: [0; 160],
             start: 160,
         }
