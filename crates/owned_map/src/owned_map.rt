@@ -14,9 +14,9 @@ ghost use Rattle.txn_words.specs.declared.step.Step.TheVariants as steps;
 ghost use Rattle.boost_core.specs.Machine.{Happens, Move, Moves};
 ghost use Rattle.boost_core.specs.State.{start};
 ghost use Rattle.boost_core.specs.Plain.{Aborts, Helps, Operates, Returns};
-ghost use Rattle.owned_map.specs.Effects.{HasAborted, HasBegun, HasOperated, IsNotCommitted, IsStopped};
+ghost use Rattle.owned_map.specs.Effects.{DoesOp, HasAborted, HasBegun, IsNotCommitted, IsStopped};
 ghost use Rattle.owned_map.specs.Taken.{asks_well};
-ghost use Rattle.owned_map.specs.Within.{CanAbort, GoesOn, HasDone, IsBackAt, OnlyWorked, IsCommitted, IsGrown, IsRun, IsSameMap, IsSaved, IsTakenBack, KeepsSavepoints, OnlyDid, initialising};
+ghost use Rattle.owned_map.specs.Within.{CanAbort, GoesOn, IsBackAt, OnlyWorked, IsCommitted, IsGrown, IsRun, IsSameMap, IsSaved, IsTakenBack, OnlyDid, initialising};
 
 use crate::transaction::Transaction;
 use boost_core::Core;
@@ -160,16 +160,8 @@ impl OwnedMap {
     /// # Cost
     ///
     /// The cost of `Transaction::get` or `Transaction::put`.
-    #[tactic(auto, using(crate::proofs::Savepoints::keeps_operated))]
     pub fn operate(&mut self, caller: u64, op: Op) -> Result<Reply, Stop>
-        ensures goes_on { GoesOn caller self.old.core self.new.core }
-        ensures savepoints { KeepsSavepoints caller self.old.core self.new.core }
-        ensures ok { IfOk result (λ reply. HasDone op reply self.old.core self.new.core) }
-        ensures err { OnErr result (now self.new.core.history ≡ now self.old.core.history) }
-        ensures did { IfOk result (λ reply. HasOperated caller op reply
-            self.old.core self.new.core) }
-        ensures stopped { IfErr result (λ stop. IsStopped self.old.core (steps.Ask caller op) stop
-            self.new.core) }
+        ensures { DoesOp op caller self.old.core result self.new.core }
     {
         // For the proof: the history is legal.
         let _legal = self.core.trace();
