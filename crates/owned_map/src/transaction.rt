@@ -2,19 +2,18 @@
 //! A transaction as a value: its operations, and its end.
 //!
 //! A transaction borrows the map, so no other call can be made on the map while the transaction is
-//! open. Each call ensures `Keeps`, and so does a work of several calls. What an operation does is
-//! said once, of states of the core (`DoesOp` in `specs/Effects.antt`), and lifted to the
-//! transaction (`Lifts`).
-ghost use Rattle.std.specs.Prelude.{◌≡◌, ◌==◌, nat_eq, is_some, IfErr, IfOk, OnErr, OnOk};
+//! open. Each call ensures `Keeps`, and so does a work of several calls. What a call does is said
+//! once, of states of the core (`DoesOp`, `DoesSave` and `DoesBack` in `specs/Effects.antt`), and
+//! lifted to the transaction (`Lifts`).
+ghost use Rattle.std.specs.Prelude.{◌≡◌, ◌==◌, nat_eq, is_some, IfErr, IfOk, OnErr};
 ghost use Rattle.std.specs.Option.{option_eq};
 ghost use Rattle.txn_words.specs.declared.answer.Answer.TheVariants as answers;
 ghost use Rattle.txn_words.specs.declared.step.Step.TheVariants as steps;
 ghost use Rattle.txn_words.specs.Map.{count_of};
 ghost use Rattle.txn_trace.specs.Now.{now};
 ghost use Rattle.boost_core.specs.Machine.{Happens};
-ghost use Rattle.boost_core.specs.Plain.{Returns};
-ghost use Rattle.owned_map.specs.Effects.{DoesOp, HasAborted, IsNotCommitted, IsStopped, Tells};
-ghost use Rattle.owned_map.specs.Within.{IsBackAt, IsCommitted, IsSaved, IsTakenBack};
+ghost use Rattle.owned_map.specs.Effects.{DoesBack, DoesOp, DoesSave, HasAborted, IsNotCommitted, Tells};
+ghost use Rattle.owned_map.specs.Within.{IsCommitted, IsTakenBack};
 
 use crate::owned_map::OwnedMap;
 use txn_trace::{Op, Reply};
@@ -29,7 +28,7 @@ pub struct Transaction<'a> {
 }
 
 impl Transaction<'_> {
-    ghost use Rattle.owned_map.specs.Keeps.{Keeps, Lifts};
+    ghost use Rattle.owned_map.specs.Keeps.{Lifts};
 
     /// Returns the value at a key, or `None` if the key is absent.
     ///
@@ -171,16 +170,9 @@ impl Transaction<'_> {
     /// # Cost
     ///
     /// Amortized constant time. May take memory.
-    #[tactic(auto, using(crate::proofs::Calls::keeps_by))]
+    #[tactic(auto, using(crate::proofs::Operations::lifted))]
     pub fn save(&mut self) -> Result<u64, Stop>
-        ensures keeps { Keeps self.old self.new }
-        ensures ok { IfOk result (λ level. IsSaved self.old.caller level
-            self.old.map.now.core self.new.map.now.core) }
-        ensures same { now self.new.map.now.core.history ≡ now self.old.map.now.core.history }
-        ensures did { IfOk result (λ level. Happens self.old.map.now.core
-            (steps.Save self.old.caller) (answers.Saved level) self.new.map.now.core) }
-        ensures stopped { IfErr result (λ stop. IsStopped self.old.map.now.core
-            (steps.Save self.old.caller) stop self.new.map.now.core) }
+        ensures { Lifts DoesSave self.old result self.new }
     {
         let caller = self.caller;
         self.map.save(caller)
@@ -202,17 +194,9 @@ impl Transaction<'_> {
     ///
     /// A seek and an act for each change that is taken back, and a step for each savepoint that is
     /// dropped. May take memory for the history.
-    #[tactic(auto, using(crate::proofs::Calls::keeps_by))]
+    #[tactic(auto, using(crate::proofs::Operations::lifted))]
     pub fn back(&mut self, level: u64) -> Result<(), Stop>
-        ensures keeps { Keeps self.old self.new }
-        ensures ok { OnOk result (IsBackAt self.old.caller level
-            self.old.map.now.core self.new.map.now.core) }
-        ensures err { OnErr result (now self.new.map.now.core.history
-            ≡ now self.old.map.now.core.history) }
-        ensures did { OnOk result (Returns self.old.map.now.core self.old.caller level
-            (answers.Returned level) self.new.map.now.core) }
-        ensures stopped { IfErr result (λ stop. IsStopped self.old.map.now.core
-            (steps.Back self.old.caller level) stop self.new.map.now.core) }
+        ensures { Lifts (DoesBack level) self.old result self.new }
     {
         let caller = self.caller;
         self.map.back(caller, level)
