@@ -1,7 +1,7 @@
--- PROMISES callers-in-threads: IsHeld, WentOn
+-- PROMISES callers-in-threads: IsHeld, WentOn, DoesOp
 -- The holds of a shared call, and the caller after the call.
-use Rattle.std.specs.Prelude.{ℕ, zero, suc, ◌≡◌, ◌≤◌, ◌⊎◌, true, false, List, ◌++◌, length, Some, None, is_some, Result, Ok, Err}
-use Rattle.locked_map.specs.Vocabulary.{Call, CommitNothing, Drive, End, Entry, IsMade, IsSameSide, NoMemory, OutOfStep, Refusal, State}
+use Rattle.std.specs.Prelude.{ℕ, zero, suc, ◌≡◌, ◌≤◌, ◌⊎◌, true, false, List, [], ◌∷◌, ◌++◌, length, Option, Some, None, is_some, Result, Ok, Err, IfOk, OnOk}
+use Rattle.locked_map.specs.Vocabulary.{Call, CommitNothing, Drive, End, Entry, IsMade, IsSameSide, NoMemory, Op, OutOfStep, Refusal, State}
 use Rattle.locked_map.specs.Vocabulary.{Stop, new_drive, seat_after}
 use Rattle.txn_drive.specs.declared.call.Call.TheVariants as calls
 use Rattle.txn_drive.specs.declared.«end».End.TheVariants as ends
@@ -11,6 +11,7 @@ use Rattle.locked_map.specs.Ready.{refused_by}
 use Rattle.locked_map.specs.Ready.{MovesSide}
 use Rattle.locked_map.specs.Suits.{may_refuse}
 use Rattle.locked_map.specs.Tokens.{Token, IsSameCaller, IsSameSeen}
+use Rattle.txn_words.specs.declared.entry.Entry.TheVariants as entries
 use Rattle.txn_words.specs.declared.stop.Stop.TheVariants as stops
 
 -- A call has had this number of holds, none of which has ended the call. Each hold finds the core
@@ -154,3 +155,13 @@ pub record EndsCall {S T : Type 0} (words : S → List ℕ) (k : Token S) (call 
     (result : Result T Stop) (l : Token S) : Type 0 where
   pub by_result : LeavesBy words k call result l
   pub stays : k.broken ≡ true → (result ≡ Err (stops.Refused OutOfStep)) × (l ≡ k)
+
+-- An operation with this result. If it was done, the token has seen two more entries, and the side
+-- value is unchanged.
+pub record DoesOp {S : Type 0} (words : S → List ℕ) (k : Token S) (op : Op)
+    (result : Result (Option ℕ) Stop) (l : Token S) : Type 0 where
+  pub ok : IfOk result (λ reply. l.seen
+      ≡ k.seen ++ entries.Asked k.number op ∷ entries.Did k.number reply ∷ [])
+  pub side : OnOk result (IsSameSide k.side l.side)
+  pub claims : OnOk result (Readies k.claims (calls.Op op) l.claims)
+  pub leaves : EndsCall words k (calls.Op op) result l

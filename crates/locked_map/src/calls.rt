@@ -7,7 +7,8 @@
 //! that applies. The token is then unchanged. If the core gives an answer that is impossible in the
 //! token's state, the call ends with `OutOfStep`. The token is then broken, and what the call has
 //! done is not undone: `seen` keeps the entries that the call has added, and `close` compares them
-//! with the history. Each call but `side` has the clauses
+//! with the history. Each call but `side` has these clauses. Those of an operation are the fields of
+//! one clause, `DoesOp` in `specs/Calls.antt`:
 //! - `ok`: if the call did what it was asked to do, the entries that it has added. `save` also has
 //!   the clause `level`, about the number that it returns; `help` has `helped` and `bad_key`, about
 //!   its holds and its refusal.
@@ -25,11 +26,11 @@ ghost use Rattle.txn_words.specs.declared.entry.Entry.TheVariants as entries;
 ghost use Rattle.txn_words.specs.Shape.{Seat, seat_after};
 ghost use Rattle.txn_words.specs.Sizes.{is_bad_key};
 ghost use Rattle.txn_drive.specs.Made.{undone_by};
-ghost use Rattle.locked_map.specs.Claims.{Readies, given_back};
+ghost use Rattle.locked_map.specs.Claims.{given_back};
 ghost use Rattle.locked_map.specs.Noted.{last_txn};
 ghost use Rattle.locked_map.specs.Ready.{refused_side};
 ghost use Rattle.locked_map.specs.Tokens.{IsSameButSide};
-ghost use Rattle.locked_map.specs.Calls.{EndsCall, WentOn};
+ghost use Rattle.locked_map.specs.Calls.{DoesOp, EndsCall, WentOn};
 ghost use Rattle.undo_log.specs.Sides.{HasLevel, IsBackAt, IsSameSide, IsSettled};
 
 use crate::caller::Caller;
@@ -113,13 +114,7 @@ impl<L: Ledger> SharedMap<L> {
         key: u64,
         value: u64,
     ) -> Result<Reply, Stop>
-        ensures ok { IfOk result (λ reply. me.new.seen ≡ me.old.seen
-            ++ entries.Asked me.old.number (Op.Put key value)
-            ∷ entries.Did me.old.number reply ∷ []) }
-        ensures side { OnOk result (IsSameSide me.old.side me.new.side) }
-        ensures claims { OnOk result (Readies me.old.claims (Call.Op (Op.Put key value))
-            me.new.claims) }
-        ensures leaves { EndsCall S.words_of me.old (Call.Op (Op.Put key value)) result me.new }
+        ensures { DoesOp S.words_of me.old (Op.Put key value) result me.new }
     {
         self.operate(rt, me, Op::Put(key, value))
     }
@@ -144,11 +139,7 @@ impl<L: Ledger> SharedMap<L> {
         me: &mut Caller<L, S>,
         key: u64,
     ) -> Result<Reply, Stop>
-        ensures ok { IfOk result (λ reply. me.new.seen ≡ me.old.seen
-            ++ entries.Asked me.old.number (Op.Take key) ∷ entries.Did me.old.number reply ∷ []) }
-        ensures side { OnOk result (IsSameSide me.old.side me.new.side) }
-        ensures claims { OnOk result (Readies me.old.claims (Call.Op (Op.Take key)) me.new.claims) }
-        ensures leaves { EndsCall S.words_of me.old (Call.Op (Op.Take key)) result me.new }
+        ensures { DoesOp S.words_of me.old (Op.Take key) result me.new }
     {
         self.operate(rt, me, Op::Take(key))
     }
@@ -176,14 +167,7 @@ impl<L: Ledger> SharedMap<L> {
         expected: Option<u64>,
         value: u64,
     ) -> Result<Reply, Stop>
-        ensures ok { IfOk result (λ reply. me.new.seen ≡ me.old.seen
-            ++ entries.Asked me.old.number (Op.PutIf key expected value)
-            ∷ entries.Did me.old.number reply ∷ []) }
-        ensures side { OnOk result (IsSameSide me.old.side me.new.side) }
-        ensures claims { OnOk result (Readies me.old.claims
-            (Call.Op (Op.PutIf key expected value)) me.new.claims) }
-        ensures leaves { EndsCall S.words_of me.old (Call.Op (Op.PutIf key expected value))
-            result me.new }
+        ensures { DoesOp S.words_of me.old (Op.PutIf key expected value) result me.new }
     {
         self.operate(rt, me, Op::PutIf(key, expected, value))
     }
@@ -225,11 +209,7 @@ impl<L: Ledger> SharedMap<L> {
         me: &mut Caller<L, S>,
         key: u64,
     ) -> Result<Reply, Stop>
-        ensures ok { IfOk result (λ reply. me.new.seen ≡ me.old.seen
-            ++ entries.Asked me.old.number (Op.Get key) ∷ entries.Did me.old.number reply ∷ []) }
-        ensures side { OnOk result (IsSameSide me.old.side me.new.side) }
-        ensures claims { OnOk result (Readies me.old.claims (Call.Op (Op.Get key)) me.new.claims) }
-        ensures leaves { EndsCall S.words_of me.old (Call.Op (Op.Get key)) result me.new }
+        ensures { DoesOp S.words_of me.old (Op.Get key) result me.new }
     {
         self.operate(rt, me, Op::Get(key))
     }
@@ -466,11 +446,7 @@ impl<L: Ledger> SharedMap<L> {
         me: &mut Caller<L, S>,
         op: Op,
     ) -> Result<Reply, Stop>
-        ensures ok { IfOk result (λ reply. me.new.seen ≡ me.old.seen
-            ++ entries.Asked me.old.number op ∷ entries.Did me.old.number reply ∷ []) }
-        ensures side { OnOk result (IsSameSide me.old.side me.new.side) }
-        ensures claims { OnOk result (Readies me.old.claims (Call.Op op) me.new.claims) }
-        ensures leaves { EndsCall S.words_of me.old (Call.Op op) result me.new }
+        ensures { DoesOp S.words_of me.old op result me.new }
     {
         match self.call(rt, me, Call::Op(op))? {
             End::Answered(Answer::Done(reply)) => Ok(reply),

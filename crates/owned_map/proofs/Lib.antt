@@ -8,3 +8,4 @@ pub mod Levels
 pub mod RefusedKeys
 pub mod FirstTransaction
 pub mod Savepoints
+pub mod Operations

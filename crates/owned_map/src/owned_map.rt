@@ -13,10 +13,10 @@ ghost use Rattle.txn_words.specs.declared.answer.Answer.TheVariants as answers;
 ghost use Rattle.txn_words.specs.declared.step.Step.TheVariants as steps;
 ghost use Rattle.boost_core.specs.Machine.{Happens, Move, Moves};
 ghost use Rattle.boost_core.specs.State.{start};
-ghost use Rattle.boost_core.specs.Plain.{Aborts, Helps, Operates, Returns};
-ghost use Rattle.owned_map.specs.Effects.{HasAborted, HasBegun, HasOperated, IsNotCommitted, IsStopped};
+ghost use Rattle.boost_core.specs.Plain.{Aborts, Helps, Operates};
+ghost use Rattle.owned_map.specs.Effects.{DoesBack, DoesOp, DoesSave, HasAborted, HasBegun, IsNotCommitted, IsStopped};
 ghost use Rattle.owned_map.specs.Taken.{asks_well};
-ghost use Rattle.owned_map.specs.Within.{CanAbort, GoesOn, HasDone, IsBackAt, OnlyWorked, IsCommitted, IsGrown, IsRun, IsSameMap, IsSaved, IsTakenBack, KeepsSavepoints, OnlyDid, initialising};
+ghost use Rattle.owned_map.specs.Within.{CanAbort, GoesOn, OnlyWorked, IsCommitted, IsGrown, IsRun, IsSameMap, IsTakenBack, OnlyDid, initialising};
 
 use crate::transaction::Transaction;
 use boost_core::Core;
@@ -160,16 +160,8 @@ impl OwnedMap {
     /// # Cost
     ///
     /// The cost of `Transaction::get` or `Transaction::put`.
-    #[tactic(auto, using(crate::proofs::Savepoints::keeps_operated))]
     pub fn operate(&mut self, caller: u64, op: Op) -> Result<Reply, Stop>
-        ensures goes_on { GoesOn caller self.old.core self.new.core }
-        ensures savepoints { KeepsSavepoints caller self.old.core self.new.core }
-        ensures ok { IfOk result (λ reply. HasDone op reply self.old.core self.new.core) }
-        ensures err { OnErr result (now self.new.core.history ≡ now self.old.core.history) }
-        ensures did { IfOk result (λ reply. HasOperated caller op reply
-            self.old.core self.new.core) }
-        ensures stopped { IfErr result (λ stop. IsStopped self.old.core (steps.Ask caller op) stop
-            self.new.core) }
+        ensures { DoesOp op caller self.old.core result self.new.core }
     {
         // For the proof: the history is legal.
         let _legal = self.core.trace();
@@ -210,13 +202,7 @@ impl OwnedMap {
     ///
     /// The cost of `Transaction::save`.
     pub fn save(&mut self, caller: u64) -> Result<u64, Stop>
-        ensures goes_on { GoesOn caller self.old.core self.new.core }
-        ensures ok { IfOk result (λ level. IsSaved caller level self.old.core self.new.core) }
-        ensures same { now self.new.core.history ≡ now self.old.core.history }
-        ensures did { IfOk result (λ level. Happens self.old.core (steps.Save caller)
-            (answers.Saved level) self.new.core) }
-        ensures stopped { IfErr result (λ stop. IsStopped self.old.core (steps.Save caller) stop
-            self.new.core) }
+        ensures { DoesSave caller self.old.core result self.new.core }
     {
         // For the proof: the history is legal.
         let _legal = self.core.trace();
@@ -239,13 +225,7 @@ impl OwnedMap {
     /// The cost of `Transaction::back`.
     #[tactic(auto, using(crate::proofs::RefusedKeys::returned))]
     pub fn back(&mut self, caller: u64, level: u64) -> Result<(), Stop>
-        ensures goes_on { GoesOn caller self.old.core self.new.core }
-        ensures ok { OnOk result (IsBackAt caller level self.old.core self.new.core) }
-        ensures err { OnErr result (now self.new.core.history ≡ now self.old.core.history) }
-        ensures did { OnOk result (Returns self.old.core caller level (answers.Returned level)
-            self.new.core) }
-        ensures stopped { IfErr result (λ stop. IsStopped self.old.core (steps.Back caller level)
-            stop self.new.core) }
+        ensures { DoesBack level caller self.old.core result self.new.core }
     {
         // For the proof: the history is legal before and after the call of `back`.
         let _before = self.core.trace();

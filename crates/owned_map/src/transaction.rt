@@ -2,17 +2,18 @@
 //! A transaction as a value: its operations, and its end.
 //!
 //! A transaction borrows the map, so no other call can be made on the map while the transaction is
-//! open. Each operation ensures `Keeps`, and so does a work of several operations.
-ghost use Rattle.std.specs.Prelude.{◌≡◌, ◌==◌, ℕ, Option, nat_eq, is_some, IfErr, IfOk, OnErr, OnOk};
+//! open. Each call ensures `Keeps`, and so does a work of several calls. What a call does is said
+//! once, of states of the core (`DoesOp`, `DoesSave` and `DoesBack` in `specs/Effects.antt`), and
+//! lifted to the transaction (`Lifts`).
+ghost use Rattle.std.specs.Prelude.{◌≡◌, ◌==◌, nat_eq, is_some, IfErr, IfOk, OnErr};
 ghost use Rattle.std.specs.Option.{option_eq};
 ghost use Rattle.txn_words.specs.declared.answer.Answer.TheVariants as answers;
 ghost use Rattle.txn_words.specs.declared.step.Step.TheVariants as steps;
-ghost use Rattle.txn_words.specs.Map.{after, count_of, get as value_at};
+ghost use Rattle.txn_words.specs.Map.{count_of};
 ghost use Rattle.txn_trace.specs.Now.{now};
 ghost use Rattle.boost_core.specs.Machine.{Happens};
-ghost use Rattle.boost_core.specs.Plain.{Returns};
-ghost use Rattle.owned_map.specs.Effects.{HasAborted, HasOperated, IsNotCommitted, IsStopped};
-ghost use Rattle.owned_map.specs.Within.{HasDone, IsBackAt, IsCommitted, IsSaved, IsTakenBack, KeepsSavepoints};
+ghost use Rattle.owned_map.specs.Effects.{DoesBack, DoesOp, DoesSave, HasAborted, IsNotCommitted, Tells};
+ghost use Rattle.owned_map.specs.Within.{IsCommitted, IsTakenBack};
 
 use crate::owned_map::OwnedMap;
 use txn_trace::{Op, Reply};
@@ -27,7 +28,7 @@ pub struct Transaction<'a> {
 }
 
 impl Transaction<'_> {
-    ghost use Rattle.owned_map.specs.Keeps.{Keeps};
+    ghost use Rattle.owned_map.specs.Keeps.{Lifts};
 
     /// Returns the value at a key, or `None` if the key is absent.
     ///
@@ -48,17 +49,7 @@ impl Transaction<'_> {
     /// position. If the key is absent and the table has too few buckets, the call also takes up to
     /// four steps of the table. May take memory for the history, the log and the growth.
     pub fn get(&mut self, key: u64) -> Result<Reply, Stop>
-        ensures keeps { Keeps self.old self.new }
-        ensures savepoints { KeepsSavepoints self.old.caller
-            self.old.map.now.core self.new.map.now.core }
-        ensures ok { IfOk result (λ reply. HasDone (Op.Get key) reply
-            self.old.map.now.core self.new.map.now.core) }
-        ensures err { OnErr result (now self.new.map.now.core.history
-            ≡ now self.old.map.now.core.history) }
-        ensures did { IfOk result (λ reply. HasOperated self.old.caller (Op.Get key) reply
-            self.old.map.now.core self.new.map.now.core) }
-        ensures stopped { IfErr result (λ stop. IsStopped self.old.map.now.core
-            (steps.Ask self.old.caller (Op.Get key)) stop self.new.map.now.core) }
+        ensures { Lifts (DoesOp (Op.Get key)) self.old result self.new }
     {
         self.operate(Op::Get(key))
     }
@@ -73,17 +64,9 @@ impl Transaction<'_> {
     ///
     /// The cost of `get`.
     pub fn contains_key(&mut self, key: u64) -> Result<bool, Stop>
-        ensures keeps { Keeps self.old self.new }
-        ensures savepoints { KeepsSavepoints self.old.caller
-            self.old.map.now.core self.new.map.now.core }
-        ensures ok { IfOk result (λ there. there
-            ≡ is_some (value_at (now self.old.map.now.core.history) key)) }
+        ensures tells { Lifts (Tells (λ reply there. there ≡ is_some reply) (Op.Get key))
+            self.old result self.new }
         ensures same { now self.new.map.now.core.history ≡ now self.old.map.now.core.history }
-        ensures did { IfOk result (λ there. (reply : Option ℕ) × (there ≡ is_some reply)
-            × HasOperated self.old.caller (Op.Get key) reply
-            self.old.map.now.core self.new.map.now.core) }
-        ensures stopped { IfErr result (λ stop. IsStopped self.old.map.now.core
-            (steps.Ask self.old.caller (Op.Get key)) stop self.new.map.now.core) }
     {
         Ok(self.get(key)?.is_some())
     }
@@ -99,17 +82,7 @@ impl Transaction<'_> {
     ///
     /// The cost of `get`. May also take memory for a node.
     pub fn put(&mut self, key: u64, value: u64) -> Result<Reply, Stop>
-        ensures keeps { Keeps self.old self.new }
-        ensures savepoints { KeepsSavepoints self.old.caller
-            self.old.map.now.core self.new.map.now.core }
-        ensures ok { IfOk result (λ reply. HasDone (Op.Put key value) reply
-            self.old.map.now.core self.new.map.now.core) }
-        ensures err { OnErr result (now self.new.map.now.core.history
-            ≡ now self.old.map.now.core.history) }
-        ensures did { IfOk result (λ reply. HasOperated self.old.caller (Op.Put key value) reply
-            self.old.map.now.core self.new.map.now.core) }
-        ensures stopped { IfErr result (λ stop. IsStopped self.old.map.now.core
-            (steps.Ask self.old.caller (Op.Put key value)) stop self.new.map.now.core) }
+        ensures { Lifts (DoesOp (Op.Put key value)) self.old result self.new }
     {
         self.operate(Op::Put(key, value))
     }
@@ -124,17 +97,7 @@ impl Transaction<'_> {
     ///
     /// The cost of `get`. May also take memory for a node.
     pub fn take(&mut self, key: u64) -> Result<Reply, Stop>
-        ensures keeps { Keeps self.old self.new }
-        ensures savepoints { KeepsSavepoints self.old.caller
-            self.old.map.now.core self.new.map.now.core }
-        ensures ok { IfOk result (λ reply. HasDone (Op.Take key) reply
-            self.old.map.now.core self.new.map.now.core) }
-        ensures err { OnErr result (now self.new.map.now.core.history
-            ≡ now self.old.map.now.core.history) }
-        ensures did { IfOk result (λ reply. HasOperated self.old.caller (Op.Take key) reply
-            self.old.map.now.core self.new.map.now.core) }
-        ensures stopped { IfErr result (λ stop. IsStopped self.old.map.now.core
-            (steps.Ask self.old.caller (Op.Take key)) stop self.new.map.now.core) }
+        ensures { Lifts (DoesOp (Op.Take key)) self.old result self.new }
     {
         self.operate(Op::Take(key))
     }
@@ -151,17 +114,7 @@ impl Transaction<'_> {
     ///
     /// The cost of `put`.
     pub fn put_if(&mut self, key: u64, expected: Option<u64>, value: u64) -> Result<Reply, Stop>
-        ensures keeps { Keeps self.old self.new }
-        ensures savepoints { KeepsSavepoints self.old.caller
-            self.old.map.now.core self.new.map.now.core }
-        ensures ok { IfOk result (λ reply. HasDone (Op.PutIf key expected value) reply
-            self.old.map.now.core self.new.map.now.core) }
-        ensures err { OnErr result (now self.new.map.now.core.history
-            ≡ now self.old.map.now.core.history) }
-        ensures did { IfOk result (λ reply. HasOperated self.old.caller (Op.PutIf key expected value) reply
-            self.old.map.now.core self.new.map.now.core) }
-        ensures stopped { IfErr result (λ stop. IsStopped self.old.map.now.core
-            (steps.Ask self.old.caller (Op.PutIf key expected value)) stop self.new.map.now.core) }
+        ensures { Lifts (DoesOp (Op.PutIf key expected value)) self.old result self.new }
     {
         self.operate(Op::PutIf(key, expected, value))
     }
@@ -177,20 +130,8 @@ impl Transaction<'_> {
     ///
     /// The cost of `put`.
     pub fn swap(&mut self, key: u64, expected: Option<u64>, value: u64) -> Result<Swapped, Stop>
-        ensures keeps { Keeps self.old self.new }
-        ensures savepoints { KeepsSavepoints self.old.caller
-            self.old.map.now.core self.new.map.now.core }
-        ensures ok { IfOk result (λ swapped. (swapped.0
-            ≡ option_eq nat_eq (value_at (now self.old.map.now.core.history) key) expected)
-            × (now self.new.map.now.core.history
-            ≡ after (now self.old.map.now.core.history) (Op.PutIf key expected value))) }
-        ensures err { OnErr result (now self.new.map.now.core.history
-            ≡ now self.old.map.now.core.history) }
-        ensures did { IfOk result (λ swapped. (reply : Option ℕ)
-            × HasOperated self.old.caller (Op.PutIf key expected value) reply
-            self.old.map.now.core self.new.map.now.core) }
-        ensures stopped { IfErr result (λ stop. IsStopped self.old.map.now.core
-            (steps.Ask self.old.caller (Op.PutIf key expected value)) stop self.new.map.now.core) }
+        ensures { Lifts (Tells (λ had swapped. swapped.0 ≡ option_eq nat_eq had expected)
+            (Op.PutIf key expected value)) self.old result self.new }
     {
         let had = self.put_if(key, expected, value)?;
         Ok(Swapped(had == expected))
@@ -229,16 +170,9 @@ impl Transaction<'_> {
     /// # Cost
     ///
     /// Amortized constant time. May take memory.
-    #[tactic(auto, using(crate::proofs::Calls::keeps_by))]
+    #[tactic(auto, using(crate::proofs::Operations::lifted))]
     pub fn save(&mut self) -> Result<u64, Stop>
-        ensures keeps { Keeps self.old self.new }
-        ensures ok { IfOk result (λ level. IsSaved self.old.caller level
-            self.old.map.now.core self.new.map.now.core) }
-        ensures same { now self.new.map.now.core.history ≡ now self.old.map.now.core.history }
-        ensures did { IfOk result (λ level. Happens self.old.map.now.core
-            (steps.Save self.old.caller) (answers.Saved level) self.new.map.now.core) }
-        ensures stopped { IfErr result (λ stop. IsStopped self.old.map.now.core
-            (steps.Save self.old.caller) stop self.new.map.now.core) }
+        ensures { Lifts DoesSave self.old result self.new }
     {
         let caller = self.caller;
         self.map.save(caller)
@@ -260,36 +194,18 @@ impl Transaction<'_> {
     ///
     /// A seek and an act for each change that is taken back, and a step for each savepoint that is
     /// dropped. May take memory for the history.
-    #[tactic(auto, using(crate::proofs::Calls::keeps_by))]
+    #[tactic(auto, using(crate::proofs::Operations::lifted))]
     pub fn back(&mut self, level: u64) -> Result<(), Stop>
-        ensures keeps { Keeps self.old self.new }
-        ensures ok { OnOk result (IsBackAt self.old.caller level
-            self.old.map.now.core self.new.map.now.core) }
-        ensures err { OnErr result (now self.new.map.now.core.history
-            ≡ now self.old.map.now.core.history) }
-        ensures did { OnOk result (Returns self.old.map.now.core self.old.caller level
-            (answers.Returned level) self.new.map.now.core) }
-        ensures stopped { IfErr result (λ stop. IsStopped self.old.map.now.core
-            (steps.Back self.old.caller level) stop self.new.map.now.core) }
+        ensures { Lifts (DoesBack level) self.old result self.new }
     {
         let caller = self.caller;
         self.map.back(caller, level)
     }
 
     /// Does an operation by a call of `OwnedMap::operate`.
-    #[tactic(auto, using(crate::proofs::Calls::keeps_by))]
+    #[tactic(auto, using(crate::proofs::Operations::lifted))]
     fn operate(&mut self, op: Op) -> Result<Reply, Stop>
-        ensures keeps { Keeps self.old self.new }
-        ensures savepoints { KeepsSavepoints self.old.caller
-            self.old.map.now.core self.new.map.now.core }
-        ensures ok { IfOk result (λ reply. HasDone op reply
-            self.old.map.now.core self.new.map.now.core) }
-        ensures err { OnErr result (now self.new.map.now.core.history
-            ≡ now self.old.map.now.core.history) }
-        ensures did { IfOk result (λ reply. HasOperated self.old.caller op reply
-            self.old.map.now.core self.new.map.now.core) }
-        ensures stopped { IfErr result (λ stop. IsStopped self.old.map.now.core
-            (steps.Ask self.old.caller op) stop self.new.map.now.core) }
+        ensures { Lifts (DoesOp op) self.old result self.new }
     {
         let caller = self.caller;
         self.map.operate(caller, op)

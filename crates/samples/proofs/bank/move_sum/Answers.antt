@@ -11,7 +11,7 @@ returns-clause-moved c =
     let has = c.in_ok-has.ensures.has ∙ ap (λ m. balance m c.args.to) c.in_ok-had.ensures.same in
     transferred c.args.from c.args.to c.args.sum c.in-Some.less c.in-Some-checked_add.more (now c.args.t.now.map.now.core.history) _ c.requires
     (omega (arith, had, c.in-Some.ensures)) (omega (arith, has, c.in-Some-checked_add.ensures))
-    (c.in_ok-put-2.ensures.ok.changed ∙ ap (λ m. insert m c.args.to c.in-Some-checked_add.more) (c.in_ok-put.ensures.ok.changed ∙ ap (λ m. insert m c.args.from c.in-Some.less) (c.in_ok-has.ensures.same ∙ c.in_ok-had.ensures.same)))
+    (c.in_ok-put-2.ensures.does.ok.changed ∙ ap (λ m. insert m c.args.to c.in-Some-checked_add.more) (c.in_ok-put.ensures.does.ok.changed ∙ ap (λ m. insert m c.args.from c.in-Some.less) (c.in_ok-has.ensures.same ∙ c.in_ok-had.ensures.same)))
 
 pub returns-in_err-put-clause-keeps : goal.returns-in_err-put-clause-keeps
 returns-in_err-put-clause-keeps c = keeps_on _ _ _ c.read.ensures.keeps (keeps_on _ _ _ c.read-2.ensures.keeps c.put.ensures.keeps)
