@@ -2,18 +2,19 @@
 use Rattle.std.proofs.Common.{rules, true, false, ◌≡◌, Bool, ℕ, ◌+◌, ◌<◌, List, [], ◌∷◌, ◌++◌, Option, Some, length, map, slice_get, slice_set, take, drop, sym, subst, refl, ap}
 use Rattle.std.proofs.lemmas.List.{length-append, take_more}
 use Rattle.std.proofs.lemmas.Option.{get_or_from_slice_get, slice_get_within}
-use Rattle.txn_words.specs.declared.entry.Entry.TheVariants.{Began, Asked, Did, Committed}
+use Rattle.txn_words.specs.declared.entry.Entry.TheVariants.{Began, Committed}
 use Rattle.txn_words.specs.declared.op.Op.{Op}
 use Rattle.txn_words.specs.declared.stop.Stop.{Stop}
 use Rattle.striped_map.specs.declared.caller.Caller.{Caller}
 use Rattle.striped_map.specs.Callers.{IsStep, IsStopped, keeps, number, seen}
+use Rattle.striped_map.specs.Calls.{HasDone}
 use Rattle.striped_map.specs.Lone.{RunsAlone}
 use Rattle.striped_map.specs.Runs.{DoesAll, DoesToMiss, DoesUntil, LieIn, RunsAll, is_miss}
 use Rattle.striped_map.specs.Steps.{told_of}
 
-does_then : (strict : Bool) (ops : List Op) (replies : List (Option ℕ)) (op : Op) (reply : Option ℕ) (a b c : Caller) → DoesAll strict ops replies a b → IsStep b (Asked (number b) op ∷ Did (number b) reply ∷ []) c → is_miss strict op reply ≡ false
+does_then : (strict : Bool) (ops : List Op) (replies : List (Option ℕ)) (op : Op) (reply : Option ℕ) (a b c : Caller) → DoesAll strict ops replies a b → HasDone op reply b c → is_miss strict op reply ≡ false
     → DoesAll strict (ops ++ op ∷ []) (replies ++ reply ∷ []) a c
-does_then strict [] [] op reply a b c same step goes_on = (c, subst (λ (k : Caller). IsStep k (Asked (number k) op ∷ Did (number k) reply ∷ []) c) same step, goes_on, refl)
+does_then strict [] [] op reply a b c same step goes_on = (c, subst (λ (k : Caller). HasDone op reply k c) same step, goes_on, refl)
 does_then strict (o ∷ ops) (r ∷ replies) op reply a b c does step goes_on = (does.0, does.1, does.2, does_then strict ops replies op reply does.0 b c does.3 step goes_on)
 does_then strict _ _ op reply a b c does step goes_on = absurd does
 
@@ -23,12 +24,12 @@ take_one_more ops i op at = subst (λ (o : Op). take (i + 1) ops ≡ take i ops 
 
 -- One more operation is done.
 pub does_next : (strict : Bool) (ops : List Op) (i : ℕ) (op : Op) (replies : List (Option ℕ)) (reply : Option ℕ) (a b c : Caller) → slice_get ops i ≡ Some op → DoesAll strict (take i ops) replies a b
-    → IsStep b (Asked (number b) op ∷ Did (number b) reply ∷ []) c → is_miss strict op reply ≡ false → DoesAll strict (take (i + 1) ops) (replies ++ reply ∷ []) a c
+    → HasDone op reply b c → is_miss strict op reply ≡ false → DoesAll strict (take (i + 1) ops) (replies ++ reply ∷ []) a c
 does_next strict ops i op replies reply a b c at does step goes_on = rw (take_one_more ops i op at) (does_then strict (take i ops) replies op reply a b c does step goes_on)
 
 -- One more operation is done, and ends the run.
 pub does_to_miss : (strict : Bool) (ops : List Op) (i : ℕ) (op : Op) (before replies : List (Option ℕ)) (reply : Option ℕ) (a b c : Caller) → slice_get ops i ≡ Some op → length before ≡ i → replies ≡ before ++ reply ∷ []
-    → DoesAll strict (take i ops) before a b → IsStep b (Asked (number b) op ∷ Did (number b) reply ∷ []) c → is_miss strict op reply ≡ true → DoesToMiss strict ops replies a c
+    → DoesAll strict (take i ops) before a b → HasDone op reply b c → is_miss strict op reply ≡ true → DoesToMiss strict ops replies a c
 does_to_miss strict ops i op before replies reply a b c at len are does step miss = (before, reply, are, b, op, subst (λ (j : ℕ). DoesAll strict (take j ops) before a b) (sym len) does, subst (λ (j : ℕ). slice_get ops j ≡ Some op) (sym len) at, miss, step)
 
 -- The next operation fails.

@@ -1,7 +1,7 @@
 -- A whole transaction that is run by one call.
 use Rattle.std.specs.Prelude.{◌≡◌, ◌⊎◌, ◌&&◌, ◌++◌, not, nat_eq, ℕ, Bool, List, [], ◌∷◌, Option, Some, Result, Ok, Err, true, false, take, drop, map, length, slice_get}
 use Rattle.std.specs.Option.{option_eq}
-use Rattle.txn_words.specs.declared.entry.Entry.TheVariants.{Began, Asked, Did, Committed}
+use Rattle.txn_words.specs.declared.entry.Entry.TheVariants.{Began, Committed}
 use Rattle.txn_words.specs.declared.op.Op.{Op}
 use Rattle.txn_words.specs.declared.op.Op.TheVariants.{PutIf}
 use Rattle.txn_words.specs.declared.refusal.Refusal.TheVariants.{AlreadyOpen, NoMemory}
@@ -9,6 +9,7 @@ use Rattle.txn_words.specs.declared.stop.Stop.{Stop}
 use Rattle.txn_words.specs.declared.stop.Stop.TheVariants.{Refused}
 use Rattle.striped_map.specs.declared.caller.Caller.{Caller}
 use Rattle.striped_map.specs.Callers.{IsSame, IsStep, IsStopped, IsTakenBack, keeps, number, seen}
+use Rattle.striped_map.specs.Calls.{HasDone}
 use Rattle.striped_map.specs.declared.runs.RunEnd.{RunEnd}
 use Rattle.striped_map.specs.declared.runs.RunEnd.TheVariants.{Committed as CommittedEnd, Missed}
 use Rattle.striped_map.specs.Lone.{RunsAlone}
@@ -24,8 +25,7 @@ is_miss strict op reply = false
 -- of them ends the run.
 abbrev pub DoesAll : Bool → List Op → List (Option ℕ) → Caller → Caller → Type 0
 DoesAll strict [] [] a b = b ≡ a
-DoesAll strict (op ∷ ops) (reply ∷ replies) a c = (b : Caller)
-    × IsStep a (Asked (number a) op ∷ Did (number a) reply ∷ []) b
+DoesAll strict (op ∷ ops) (reply ∷ replies) a c = (b : Caller) × HasDone op reply a b
     × (is_miss strict op reply ≡ false) × DoesAll strict ops replies b c
 DoesAll strict ops replies a b = ⊥
 
@@ -43,7 +43,7 @@ DoesToMiss strict ops replies a c = (before : List (Option ℕ)) × (reply : Opt
     × (replies ≡ before ++ reply ∷ []) × (b : Caller) × (op : Op)
     × DoesAll strict (take (length before) ops) before a b
     × (slice_get ops (length before) ≡ Some op) × (is_miss strict op reply ≡ true)
-    × IsStep b (Asked (number b) op ∷ Did (number b) reply ∷ []) c
+    × HasDone op reply b c
 
 -- From `a` to `b`, the caller did these operations, with these replies: all of them, those up to the
 -- one that ends the run, or those before the one that failed.

@@ -1,7 +1,6 @@
 //! Defines `Caller::run`, which runs a whole transaction by one call.
-ghost use Rattle.txn_words.specs.declared.entry.Entry.TheVariants.{Asked, Did};
-ghost use Rattle.striped_map.specs.Callers.{IsStep, IsStopped, number};
-ghost use Rattle.std.specs.Prelude.{◌≡◌, ◌≤◌, ℕ, List, Option, [], ◌∷◌, true, false, IfOk, IfErr, length, vec_len, OnErr, OnOk};
+ghost use Rattle.striped_map.specs.Calls.{Operates};
+ghost use Rattle.std.specs.Prelude.{◌≡◌, ◌≤◌, ℕ, List, Option, true, false, IfOk, IfErr, length, vec_len, OnOk};
 ghost use Rattle.striped_map.specs.Runs.{Does, IsNotRun, IsRunTo, LieIn, Runs, is_miss};
 
 use crate::caller::Caller;
@@ -103,11 +102,8 @@ impl Caller {
     /// Does an operation. There is an arm for each kind, because the compiler optimises each.
     #[inline(always)]
     fn operate_by_kind(&mut self, op: Op) -> Result<Reply, Stop>
-        ensures open { OnOk result ((self.old.is_open ≡ true) × (self.new.is_open ≡ true)) }
         ensures map { self.new.map ≡ self.old.map }
-        ensures ok { IfOk result (λ reply. IsStep self.old
-            (Asked (number self.old) op ∷ Did (number self.old) reply ∷ []) self.new) }
-        ensures err { IfErr result (IsStopped self.old op self.new) }
+        ensures does { Operates op self.old result self.new }
     {
         match op {
             Op::Put(key, value) => self.operate(Op::Put(key, value)),

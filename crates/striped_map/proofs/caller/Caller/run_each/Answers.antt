@@ -26,7 +26,7 @@ returns-in-Ok-false-clause-runs g c =
         began = begun.3;
         c = c.do_all.new.self;
         does = does;
-        back = taken_back_by c.do_all.new.self c.abort.new.self c.abort.result c.abort.ensures.closed c.abort.ensures.ok c.abort.ensures.err;
+        back = taken_back_by c.do_all.new.self c.abort.new.self c.abort.result c.abort.ensures;
       },
     )
 
@@ -43,7 +43,7 @@ returns-in-Err-clause-runs g c =
           began = begun.3;
           c = c.do_all.new.self;
           does = did.2;
-          back = taken_back_by c.do_all.new.self c.abort-in-Err.new.self c.abort-in-Err.result c.abort-in-Err.ensures.closed c.abort-in-Err.ensures.ok c.abort-in-Err.ensures.err;
+          back = taken_back_by c.do_all.new.self c.abort-in-Err.new.self c.abort-in-Err.result c.abort-in-Err.ensures;
         })),
         λ was. search rules,
       ),
