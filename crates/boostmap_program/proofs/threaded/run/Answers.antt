@@ -1,7 +1,7 @@
 use Rattle.std.proofs.Common.{sym, subst}
 use Rattle.txn_files.specs.HistoryText.{text_of_history}
 use Rattle.boostmap_engine.specs.Report.{line}
-use Rattle.boostmap_engine.proofs.WrittenPieces.{on_ok, if_err}
+use Rattle.boostmap_engine.proofs.WrittenBlocks.{on_ok, if_err}
 use Rattle.boostmap_program.specs.Threaded.{IsThreadedOf}
 use Rattle.boostmap_program.proofs.Threading.{leaves_threaded}
 use Rattle.boostmap_program.proofs.threaded.run.Goals as goal
