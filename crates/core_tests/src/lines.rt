@@ -92,6 +92,13 @@ fn add(all: &mut Vec<Line>, lines: &[Line]) -> Result<(), AllocError> {
     Ok(())
 }
 
+/// Lines that set a savepoint, take a key and return to the savepoint.
+const SAVED: [Line; 3] = [
+    (Call::Save, Told::Level(1)),
+    (Call::Do(Op::Take(0)), MOST),
+    (Call::Back(1), Told::Done),
+];
+
 /// Lines that make each kind of call on the keys 0, 2^63 - 1, 2^63 and 2^64 - 1. All four keys are
 /// in the map at the end.
 pub(crate) fn whole_keys(alloc: Global) -> Result<Vec<Line>, AllocError> {
@@ -99,6 +106,7 @@ pub(crate) fn whole_keys(alloc: Global) -> Result<Vec<Line>, AllocError> {
     for key in [0, HALF - 1, HALF, u64::MAX] {
         add(&mut all, each_call(key).as_slice())?;
     }
+    add(&mut all, SAVED.as_slice())?;
     Ok(all)
 }
 
@@ -113,54 +121,5 @@ pub(crate) fn half_keys(alloc: Global) -> Result<Vec<Line>, AllocError> {
         add(&mut all, each_refused(key).as_slice())?;
     }
     add(&mut all, each_refused(HALF).as_slice())?;
-    Ok(all)
-}
-
-/// The answer to a return to a level that does not exist.
-const NO_LEVEL: Told = Told::Stopped(Stop::Refused(Refusal::NoSuchLevel));
-
-/// Lines that return to levels. At level `n`, key 1 has the value `n`, and key 10,000 + `n` has the
-/// value 1. At the end, key 2 is the only key.
-const LEVELS: [Line; 24] = [
-    (Call::Do(Op::Take(1)), Told::Replied(Some(1000))),
-    (Call::Back(1001), NO_LEVEL),
-    (Call::Back(u64::MAX), NO_LEVEL),
-    (Call::Do(Op::Get(1)), NONE),
-    (Call::Back(1000), Told::Done),
-    (Call::Do(Op::Get(1)), Told::Replied(Some(1000))),
-    (Call::Do(Op::Get(11_000)), Told::Replied(Some(1))),
-    (Call::Back(500), Told::Done),
-    (Call::Do(Op::Get(1)), Told::Replied(Some(500))),
-    (Call::Do(Op::Get(10_500)), Told::Replied(Some(1))),
-    (Call::Do(Op::Get(10_501)), NONE),
-    (Call::Back(501), NO_LEVEL),
-    (Call::Save, Told::Level(501)),
-    (Call::Back(1), Told::Done),
-    (Call::Do(Op::Get(1)), Told::Replied(Some(1))),
-    (Call::Do(Op::Get(10_001)), Told::Replied(Some(1))),
-    (Call::Do(Op::Get(10_002)), NONE),
-    (Call::Back(2), NO_LEVEL),
-    (Call::Back(0), Told::Done),
-    (Call::Do(Op::Get(1)), NONE),
-    (Call::Do(Op::Get(10_001)), NONE),
-    (Call::Back(1), NO_LEVEL),
-    (Call::Do(Op::Put(2, 20)), NONE),
-    (Call::Save, Told::Level(1)),
-];
-
-/// Lines that set a thousand savepoints, and return to levels. Before each savepoint, they put the
-/// savepoint's level at key 1, and one new key.
-pub(crate) fn a_thousand_savepoints(alloc: Global) -> Result<Vec<Line>, AllocError> {
-    let mut all = Vec::new(alloc);
-    for level in 1..1001u64 {
-        let had = (level > 1).then_some(level - 1);
-        let lines = [
-            (Call::Do(Op::Put(1, level)), Told::Replied(had)),
-            (Call::Do(Op::Put(10_000 + level, 1)), NONE),
-            (Call::Save, Told::Level(level)),
-        ];
-        add(&mut all, lines.as_slice())?;
-    }
-    add(&mut all, LEVELS.as_slice())?;
     Ok(all)
 }

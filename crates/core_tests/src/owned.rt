@@ -1,14 +1,13 @@
-//! Tests of the map with one owner: its table grows, its history is cut off, and a transaction
-//! returns to a savepoint. Each test is also run while memory is refused to some allocations: to
-//! one, to eight in a row, or to one and all later ones.
-ghost use Rattle.std.specs.Prelude.{◌≡◌};
-ghost use Rattle.owned_map.specs.Keeps.{Keeps};
-
+//! Tests of the map with one owner: its table grows, and its history is cut off. Each test is also
+//! run while memory is refused to some allocations: to one, to eight in a row, or to one and all
+//! later ones. `runs` of `striped_tests` has the worked runs of this map.
+use crate::lines::{Call, Told};
+use crate::owned_limits::make_call;
 use boost_core::Core;
 use owned_map::{OwnedMap, Stop, Transaction};
 use std::alloc::Global;
 use std::process::Abort;
-use txn_words::{Limits, Refusal, Reply};
+use txn_words::{Limits, Op, Refusal};
 
 /// How many keys are put. The keys are 0, 3, 6 and so on.
 const KEYS: u64 = 40;
@@ -18,78 +17,9 @@ fn map_of(rt: &impl Abort, alloc: Global) -> Option<OwnedMap> {
     OwnedMap::new(alloc, Limits::new(2, 8, 64).expect(rt, "limits in range")).ok()
 }
 
-fn put(t: &mut Transaction<'_>, key: u64, value: u64) -> Result<Reply, Stop>
-    ensures { Keeps t.old t.new }
-{
-    t.put(key, value)
-}
-
-/// Returns 1 if the key is in the map, and `None` if it is not.
-fn contains(t: &mut Transaction<'_>, key: u64) -> Result<Reply, Stop>
-    ensures { Keeps t.old t.new }
-{
-    Ok(t.contains_key(key)?.then_some(1))
-}
-
-/// Puts 1 at a key, and sets a savepoint.
-fn put_and_save(t: &mut Transaction<'_>, key: u64) -> Result<u64, Stop>
-    ensures { Keeps t.old t.new }
-{
-    t.put(key, 1)?;
-    t.save()
-}
-
-/// Puts 2 at a key, and goes back to a level.
-fn put_and_back(t: &mut Transaction<'_>, key: u64, level: u64) -> Result<(), Stop>
-    ensures { Keeps t.old t.new }
-{
-    t.put(key, 2)?;
-    t.back(level)
-}
-
-/// Puts 1 at a key, sets a savepoint, puts 2 at the key, and goes back to the savepoint.
-#[tactic(auto, using(owned_map::proofs::Calls::keeps_on))]
-fn put_and_go_back(t: &mut Transaction<'_>, key: u64) -> Result<Reply, Stop>
-    ensures { Keeps t.old t.new }
-{
-    let level = put_and_save(t, key)?;
-    put_and_back(t, key, level)?;
-    Ok(None)
-}
-
-fn get(t: &mut Transaction<'_>, key: u64) -> Result<Reply, Stop>
-    ensures { Keeps t.old t.new }
-{
-    t.get(key)
-}
-
-/// A transaction's work.
-#[derive(Clone, Copy)]
-enum Work {
-    /// Puts a value at a key.
-    Put(u64, u64),
-    /// Replies 1 if the key is in the map.
-    Contains(u64),
-    /// Puts 1 at a key, sets a savepoint, puts 2 at the key, and goes back to the savepoint.
-    GoBack(u64),
-    /// Gets the value of a key.
-    Get(u64),
-}
-
-fn do_work(t: &mut Transaction<'_>, work: Work) -> Result<Reply, Stop>
-    ensures { Keeps t.old t.new }
-{
-    match work {
-        Work::Put(key, value) => put(t, key, value),
-        Work::Contains(key) => contains(t, key),
-        Work::GoBack(key) => put_and_go_back(t, key),
-        Work::Get(key) => get(t, key),
-    }
-}
-
-/// Does the work in a transaction of the caller with this number.
-fn work_in(map: &mut OwnedMap, caller: u64, work: Work) -> Result<Reply, Stop> {
-    map.transact(caller, |t: &mut Transaction<'_>| do_work(t, work))
+/// Makes a call in a transaction of a caller.
+fn call_in(map: &mut OwnedMap, caller: u64, what: Call) -> Result<Told, Stop> {
+    map.transact(caller, |t: &mut Transaction<'_>| make_call(t, what))
 }
 
 /// Cuts the history off, and returns how many entries were cut off.
@@ -115,6 +45,9 @@ fn entries_in(map: &OwnedMap) -> u64 {
     length_of(map.core())
 }
 
+/// The pairs of a map, if there is memory for their list.
+type Pairs = Option<Vec<(u64, u64)>>;
+
 /// The pairs of the map in the order of its list, or `None` if memory for them is refused.
 fn pairs_of(alloc: Global, map: &OwnedMap) -> Pairs {
     map.core().regular_list(alloc).ok()
@@ -124,8 +57,8 @@ fn pairs_of(alloc: Global, map: &OwnedMap) -> Pairs {
 /// keys were put.
 fn fill(rt: &impl Abort, map: &mut OwnedMap) -> u64 {
     for done in 0..KEYS {
-        match work_in(map, 0, Work::Put(done.wrapping_mul(3), done)) {
-            Ok(reply) => assert_eq!(rt; reply, None),
+        match call_in(map, 0, Call::Do(Op::Put(done.wrapping_mul(3), done))) {
+            Ok(told) => assert!(rt; told == Told::Replied(None)),
             Err(stop) => {
                 assert_eq!(rt; stop, Stop::Refused(Refusal::NoMemory));
                 assert_eq!(rt; counts_of(map).0, done);
@@ -140,8 +73,8 @@ fn fill(rt: &impl Abort, map: &mut OwnedMap) -> u64 {
 fn has_keys(rt: &impl Abort, map: &mut OwnedMap, count: u64) {
     for key in 0..KEYS.wrapping_mul(3) {
         let is_there = key % 3 == 0 && key / 3 < count;
-        match work_in(map, 1, Work::Contains(key)) {
-            Ok(found) => assert_eq!(rt; found, is_there.then_some(1), "at {key}"),
+        match call_in(map, 1, Call::Has(key)) {
+            Ok(told) => assert!(rt; told == Told::Is(is_there), "at {key}"),
             Err(stop) => assert_eq!(rt; stop, Stop::Refused(Refusal::NoMemory)),
         }
     }
@@ -185,9 +118,6 @@ fn trim_in(rt: &impl Abort, alloc: Global, map: &mut OwnedMap) {
     }
 }
 
-/// The pairs of a map, if there is memory for their list.
-type Pairs = Option<Vec<(u64, u64)>>;
-
 /// Checks that both lists have the same pairs, if there was memory for both.
 fn are_same(rt: &impl Abort, before: &Pairs, after: &Pairs) {
     if let (Some(before), Some(after)) = (before, after) {
@@ -213,29 +143,5 @@ fn fill_and_trim(rt: &impl Abort, alloc: Global, map: &mut OwnedMap) {
 fn a_history_is_cut_off(rt: HostRuntime) {
     if let Some(mut map) = map_of(&rt, rt.alloc()) {
         fill_and_trim(&rt, rt.alloc(), &mut map);
-    }
-}
-
-/// Does `GoBack` with key 7, and checks the value of key 7 and the number of keys. If memory for
-/// `GoBack` is refused, the map must have no key.
-fn go_back(rt: &impl Abort, map: &mut OwnedMap) {
-    let is_back = match work_in(map, 0, Work::GoBack(7)) {
-        Ok(_) => true,
-        Err(stop) => {
-            assert_eq!(rt; stop, Stop::Refused(Refusal::NoMemory));
-            false
-        }
-    };
-    match work_in(map, 0, Work::Get(7)) {
-        Ok(reply) => assert_eq!(rt; reply, is_back.then_some(1)),
-        Err(stop) => assert_eq!(rt; stop, Stop::Refused(Refusal::NoMemory)),
-    }
-    assert_eq!(rt; counts_of(map).0, u64::from(is_back));
-}
-
-#[test]
-fn a_savepoint_is_gone_back_to(rt: HostRuntime) {
-    if let Some(mut map) = map_of(&rt, rt.alloc()) {
-        go_back(&rt, &mut map);
     }
 }

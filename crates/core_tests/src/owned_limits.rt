@@ -1,11 +1,11 @@
-//! Tests of transactions on the map with one owner, at the limits of keys, values and savepoints.
-//! By contract, a call at a limit may give up. In these tests no call may. The tables are those of
-//! `lines`. Each function that gets a transaction ensures `Keeps`, because a closure that is passed
-//! to `transact` must ensure it.
+//! Tests of transactions on the map with one owner, at the limits of keys and values. By contract,
+//! a call at a limit may give up. In these tests no call may. The tables are those of `lines`. Each
+//! function that gets a transaction ensures `Keeps`, because a closure that is passed to `transact`
+//! must ensure it. `limits` of `striped_tests` sets a thousand savepoints on this map.
 ghost use Rattle.std.specs.Prelude.{◌≡◌};
 ghost use Rattle.owned_map.specs.Keeps.{Keeps};
 
-use crate::lines::{Call, Line, Told, a_thousand_savepoints, half_keys, whole_keys};
+use crate::lines::{Call, Line, Told, half_keys, whole_keys};
 use owned_map::{OwnedMap, Stop, Transaction};
 use std::alloc::Global;
 use std::process::Abort;
@@ -25,7 +25,7 @@ fn operate(t: &mut Transaction<'_>, op: Op) -> Result<Reply, Stop>
 }
 
 /// Makes a call.
-fn make_call(t: &mut Transaction<'_>, what: Call) -> Result<Told, Stop>
+pub(crate) fn make_call(t: &mut Transaction<'_>, what: Call) -> Result<Told, Stop>
     ensures { Keeps t.old t.new }
 {
     match what {
@@ -94,7 +94,7 @@ fn play_new(rt: &impl Abort, alloc: Global, limits: Limits, lines: &[Line], left
 }
 
 #[test]
-fn every_key(rt: HostRuntime) -> Result<(), Fail> {
+fn every_key_is_taken(rt: HostRuntime) -> Result<(), Fail> {
     let limits = Limits::new(64, 4096, 65536)?;
     let lines = whole_keys(rt.alloc())?;
     play_new(&rt, rt.alloc(), limits, lines.as_slice(), 4);
@@ -102,18 +102,9 @@ fn every_key(rt: HostRuntime) -> Result<(), Fail> {
 }
 
 #[test]
-fn only_half_keys(rt: HostRuntime) -> Result<(), Fail> {
+fn half_keys_are_taken_and_others_refused(rt: HostRuntime) -> Result<(), Fail> {
     let limits = Limits::new(2, 8, 64)?.half_keys();
     let lines = half_keys(rt.alloc())?;
     play_new(&rt, rt.alloc(), limits, lines.as_slice(), 2);
-    Ok(())
-}
-
-#[test]
-fn savepoints(rt: HostRuntime) -> Result<(), Fail> {
-    let lines = a_thousand_savepoints(rt.alloc())?;
-    for limits in [Limits::new(1, 1, 2)?, Limits::new(64, 4096, 65536)?] {
-        play_new(&rt, rt.alloc(), limits, lines.as_slice(), 1);
-    }
     Ok(())
 }

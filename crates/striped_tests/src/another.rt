@@ -2,10 +2,11 @@
 //! and commit numbers were worked out by hand, and do not depend on the order of the threads.
 ghost use Rattle.std.specs.Prelude.{◌≡◌};
 
-use crate::calls::{Ask, NEW, Row, Told, counted, leaves, open_as, play};
+use crate::calls::{counted, leaves, open_as, play};
 use crate::kept::{hands_out, hands_out_nothing};
 use crate::meets::{merge, moves_three, with_host};
 use crate::threads::{Work, in_threads};
+use crate::worked::{Ask, NEW, Row, Told};
 use samples::accounts::transfer;
 use std::alloc::Global;
 use std::process::Abort;

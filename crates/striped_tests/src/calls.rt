@@ -1,45 +1,18 @@
-//! This module defines requests to a caller (`Ask`), their answers (`Told`), and functions that
-//! play a table of requests with their answers. All other modules of this crate use them. The
-//! functions have no contracts, so a test that plays a table is proved within seconds.
+//! The striped map as a map that plays rows. All other modules of this crate use this one. `answer`
+//! ensures only that the caller stays a caller of its map; most other functions have no contract,
+//! so a test that plays rows is proved within seconds.
+ghost use Rattle.std.specs.Prelude.{◌≡◌};
+
+use crate::worked::{Ask, Map, NO_CALLER, Row, Told, must_be, told_of};
 use std::alloc::Global;
-use std::fmt::Debug;
 use std::process::Abort;
 use striped_map::{Caller, Host, Keep, Opening, Stop};
-use txn_words::{Op, Refusal, Reply};
-
-/// A request to a caller.
-#[derive(Clone, Copy, Debug)]
-pub(crate) enum Ask {
-    Begin,
-    Do(Op),
-    Save,
-    Back(u64),
-    Len,
-    Commit,
-    Abort,
-}
-
-/// The answer to a request: nothing, a reply, a number (a level, a count or a place), or the reason
-/// why the request was not carried out. A commit is answered by its place, if the map keeps its
-/// commits.
-#[derive(Clone, Copy, Debug, PartialEq, Eq)]
-pub(crate) enum Told {
-    Done,
-    Replied(Reply),
-    Number(u64),
-    Busy(u64),
-    Refused(Refusal),
-}
-
-/// A row of a table: the place of a caller in the list of callers, the request to this caller, and
-/// the answer that the caller must give.
-pub(crate) type Row = (usize, Ask, Told);
-
-/// The reply to an operation on a key that had no value.
-pub(crate) const NEW: Told = Told::Replied(None);
+use txn_words::Op;
 
 /// Does an operation.
-fn operate(caller: &mut Caller, op: Op) -> Result<Told, Stop> {
+fn operate(caller: &mut Caller, op: Op) -> Result<Told, Stop>
+    ensures map { caller.new.map ≡ caller.old.map }
+{
     Ok(Told::Replied(match op {
         Op::Put(key, value) => caller.put(key, value)?,
         Op::Take(key) => caller.take(key)?,
@@ -48,27 +21,43 @@ fn operate(caller: &mut Caller, op: Op) -> Result<Told, Stop> {
     }))
 }
 
-/// Calls the method that the request stands for, and returns its result.
-fn call(caller: &mut Caller, what: Ask) -> Result<Told, Stop> {
+/// Makes a call that looks at the map. No other map has such calls.
+fn look(caller: &mut Caller, what: Ask) -> Result<Told, Stop>
+    ensures map { caller.new.map ≡ caller.old.map }
+{
+    match what {
+        Ask::Has(key) => Ok(Told::Is(caller.contains_key(key)?)),
+        Ask::Swap(key, expected, value) => Ok(Told::Is(caller.swap(key, expected, value)?.0)),
+        Ask::Len => Ok(Told::Number(caller.len()?)),
+        Ask::Empty => Ok(Told::Is(caller.is_empty()?)),
+        Ask::Pairs => Ok(Told::Number(caller.pairs()?.len() as u64)),
+        Ask::PairsWith(key) => Ok(Told::Number(caller.pairs_with(key)?.len() as u64)),
+        _ => Ok(Told::Unknown),
+    }
+}
+
+/// Makes the call that the request stands for. A commit is answered by its place, if the map keeps
+/// its commits.
+fn call(caller: &mut Caller, what: Ask) -> Result<Told, Stop>
+    ensures map { caller.new.map ≡ caller.old.map }
+{
     match what {
         Ask::Begin => caller.begin()?,
         Ask::Do(op) => return operate(caller, op),
         Ask::Save => return Ok(Told::Number(caller.save()?)),
         Ask::Back(level) => caller.back(level)?,
-        Ask::Len => return Ok(Told::Number(caller.len()?)),
         Ask::Commit => return Ok(caller.commit()?.map_or(Told::Done, Told::Number)),
         Ask::Abort => caller.abort()?,
+        _ => return look(caller, what),
     }
     Ok(Told::Done)
 }
 
 /// Makes a request to a caller, and returns the answer.
-pub(crate) fn answer(caller: &mut Caller, what: Ask) -> Told {
-    match call(caller, what) {
-        Ok(told) => told,
-        Err(Stop::Busy { holder }) => Told::Busy(holder),
-        Err(Stop::Refused(refusal)) => Told::Refused(refusal),
-    }
+pub(crate) fn answer(caller: &mut Caller, what: Ask) -> Told
+    ensures map { caller.new.map ≡ caller.old.map }
+{
+    told_of(call(caller, what), Home::FIRST)
 }
 
 /// A map: its host, and those of its callers that are not dropped yet.
@@ -76,6 +65,35 @@ pub(crate) fn answer(caller: &mut Caller, what: Ask) -> Told {
 pub(crate) struct Home {
     pub(crate) host: Host,
     pub(crate) callers: Vec<Caller>,
+}
+
+/// Makes the call that the request stands for, by the caller at this place.
+fn call_at(home: &mut Home, place: usize, what: Ask) -> Result<Told, Stop> {
+    call(home.callers.get_mut(place).ok_or(NO_CALLER)?, what)
+}
+
+impl Map for Home {
+    const FIRST: u64 = 1;
+
+    fn begin(&mut self, place: usize) -> Result<Told, Stop> {
+        call_at(self, place, Ask::Begin)
+    }
+
+    fn operate(&mut self, place: usize, op: Op) -> Result<Told, Stop> {
+        call_at(self, place, Ask::Do(op))
+    }
+
+    fn save(&mut self, place: usize) -> Result<Told, Stop> {
+        call_at(self, place, Ask::Save)
+    }
+
+    fn back(&mut self, place: usize, level: u64) -> Result<Told, Stop> {
+        call_at(self, place, Ask::Back(level))
+    }
+
+    fn end(&mut self, place: usize, commits: bool) -> Result<Told, Stop> {
+        call_at(self, place, if commits { Ask::Commit } else { Ask::Abort })
+    }
 }
 
 /// How to open a map with these numbers of stripes and callers, which keeps its commits.
@@ -96,33 +114,22 @@ pub(crate) fn open<R: Abort>(rt: &R, alloc: Global, stripes: usize, callers: usi
     open_as(rt, alloc, counted(stripes, callers))
 }
 
-/// Fails the test if what came is not what was due, and then prints the row: its number, what was
-/// asked, what came and what was due. It is a separate function, since an `assert!` with a message
-/// makes a longer function slow to prove.
-pub(crate) fn must_be<R: Abort, A: Debug, T: PartialEq + Debug>(
-    rt: &R,
-    row: usize,
-    asked: &A,
-    came: &T,
-    due: &T,
-) {
-    assert!(rt;
-        came == due,
-        "row {row}: {asked:?}: {came:?} came, {due:?} was due"
-    );
-}
+/// A request to a caller or to a transaction, and the answer that is due.
+pub(crate) type Line = (Ask, Told);
 
-/// Makes a request to a caller. Its answer must be `due`.
-pub(crate) fn ask_row<R: Abort>(rt: &R, caller: &mut Caller, row: usize, what: Ask, due: Told) {
-    must_be(rt, row, &what, &answer(caller, what), &due);
+/// Makes the requests to a caller, in order. Each answer must be the one that is due.
+pub(crate) fn asks<R: Abort>(rt: &R, caller: &mut Caller, lines: &[Line]) {
+    for (line, &(what, due)) in lines.iter().enumerate() {
+        must_be(rt, line, &what, &answer(caller, what), &due);
+    }
 }
 
 /// Makes the request of each row to the row's caller, in order. Each answer must be the row's
 /// answer.
 pub(crate) fn play<R: Abort>(rt: &R, home: &mut Home, rows: &[Row]) {
-    for (row, &(place, what, wanted)) in rows.iter().enumerate() {
-        assert!(rt; place < home.callers.len());
-        ask_row(rt, &mut home.callers[place], row, what, wanted);
+    for (row, &(place, what, due)) in rows.iter().enumerate() {
+        let came = told_of(call_at(home, place, what), Home::FIRST);
+        must_be(rt, row, &(place, what), &came, &due);
     }
 }
 
@@ -142,23 +149,13 @@ pub(crate) fn leaves<R: Abort>(rt: &R, home: &mut Home, left: &[(u64, u64)]) {
     has_left(rt, &mut home.host, left);
 }
 
-/// A run on a new map: how many stripes and callers the map has, the calls with their answers, and
-/// the pairs that remain after the callers are dropped.
-#[derive(Clone, Copy)]
-pub(crate) struct Worked<'a> {
-    pub(crate) stripes: usize,
-    pub(crate) callers: usize,
-    pub(crate) rows: &'a [Row],
-    pub(crate) left: &'a [(u64, u64)],
-}
-
-/// Makes the calls of the run on this map, drops the callers, and checks the pairs that remain.
-fn play_in<R: Abort>(rt: &R, home: &mut Home, run: &Worked) {
-    play(rt, home, run.rows);
-    leaves(rt, home, run.left);
-}
-
-/// Plays the run on a new map.
-pub(crate) fn play_worked<R: Abort>(rt: &R, alloc: Global, run: &Worked) {
-    play_in(rt, &mut open(rt, alloc, run.stripes, run.callers), run);
+/// Plays the rows, drops the callers, and checks the pairs that remain.
+pub(crate) fn play_to_the_end<R: Abort>(
+    rt: &R,
+    home: &mut Home,
+    rows: &[Row],
+    left: &[(u64, u64)],
+) {
+    play(rt, home, rows);
+    leaves(rt, home, left);
 }

@@ -14,8 +14,9 @@
 //! - Operation that finds its stripe held: at the later one of two stamps. One is the first stamp
 //!   of the call. The other is the second stamp of the first begin of the caller that holds the
 //!   stripe.
-use crate::calls::{Ask, Home, Told, answer, open};
+use crate::calls::{Home, answer, open};
 use crate::threads::must_start;
+use crate::worked::{Ask, Told};
 use history_check::{Checker, Verdict};
 use std::alloc::{AllocError, Global};
 use std::process::Abort;
@@ -292,7 +293,8 @@ impl Merge {
                 self.put(noted.after, 0, Entry::Asked(caller, op))?;
                 self.put(noted.after, 0, Entry::Did(caller, reply))
             }
-            Told::Busy(holder) => {
+            Told::Busy(place) => {
+                let holder = place.wrapping_add(1);
                 let stamp = noted.before.max(stamp_at(&self.firsts, holder));
                 let busy = Entry::Busy(caller, op, holder);
                 self.put_undone(stamp, busy, 0, Entry::Aborted(caller))
@@ -353,12 +355,12 @@ impl Merge {
             Ask::Do(op) => self.put_op(noted, op),
             Ask::Save => self.put_level(noted, None),
             Ask::Back(level) => self.put_level(noted, Some(level)),
-            Ask::Len => Ok(()),
             Ask::Commit => self.put_commit(noted),
             Ask::Abort => {
                 let leave = Entry::Leave(caller, None);
                 self.put_undone(noted.before, leave, 0, Entry::Aborted(caller))
             }
+            _ => Ok(()),
         }
     }
 

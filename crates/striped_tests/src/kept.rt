@@ -2,63 +2,16 @@
 //! judged by `history_check`. How many transactions it commits was worked out by hand.
 ghost use Rattle.std.specs.Prelude.{◌≡◌};
 
+use crate::calls::answer;
 use crate::meets::{merge, moves_three, with_host};
+use crate::worked::Ask;
 use history_check::{Checker, Verdict};
 use std::alloc::{AllocError, Global};
 use std::process::Abort;
 use std::thread;
 use std::thread::Threads;
 use striped_map::{Caller, Host, Keep, NoHistory, Opening};
-use txn_words::{Entry, Holder};
-
-/// Makes a call, whatever its answer. The call's map stays.
-fn begins(caller: &mut Caller)
-    ensures map { caller.new.map ≡ caller.old.map }
-{
-    let _begun = caller.begin();
-}
-
-/// The same for a put.
-fn puts(caller: &mut Caller, key: u64, value: u64)
-    ensures map { caller.new.map ≡ caller.old.map }
-{
-    let _put = caller.put(key, value);
-}
-
-/// The same for a take.
-fn takes(caller: &mut Caller, key: u64)
-    ensures map { caller.new.map ≡ caller.old.map }
-{
-    let _taken = caller.take(key);
-}
-
-/// The same for a savepoint.
-fn saves(caller: &mut Caller)
-    ensures map { caller.new.map ≡ caller.old.map }
-{
-    let _saved = caller.save();
-}
-
-/// The same for a return to a level.
-fn goes_back(caller: &mut Caller, level: u64)
-    ensures map { caller.new.map ≡ caller.old.map }
-{
-    let _gone = caller.back(level);
-}
-
-/// The same for a commit.
-fn commits(caller: &mut Caller)
-    ensures map { caller.new.map ≡ caller.old.map }
-{
-    let _committed = caller.commit();
-}
-
-/// The same for an abort.
-fn aborts(caller: &mut Caller)
-    ensures map { caller.new.map ≡ caller.old.map }
-{
-    let _aborted = caller.abort();
-}
+use txn_words::{Entry, Holder, Op};
 
 /// Fills account 1 and commits. Then changes a key twice, goes back, changes it again, and aborts.
 /// Returns the caller.
@@ -66,16 +19,16 @@ fn takes_part(mut caller: Caller) -> Caller
     ensures same_map { result.map.value ≡ caller.map.value }
 {
     let one = &mut caller;
-    begins(one);
-    puts(one, 1, 100);
-    commits(one);
-    begins(one);
-    puts(one, 9, 1);
-    saves(one);
-    takes(one, 9);
-    goes_back(one, 1);
-    puts(one, 9, 2);
-    aborts(one);
+    answer(one, Ask::Begin);
+    answer(one, Ask::Do(Op::Put(1, 100)));
+    answer(one, Ask::Commit);
+    answer(one, Ask::Begin);
+    answer(one, Ask::Do(Op::Put(9, 1)));
+    answer(one, Ask::Save);
+    answer(one, Ask::Do(Op::Take(9)));
+    answer(one, Ask::Back(1));
+    answer(one, Ask::Do(Op::Put(9, 2)));
+    answer(one, Ask::Abort);
     caller
 }
 
@@ -180,12 +133,12 @@ fn a_kept_history_is_legal(rt: HostRuntime) {
 /// The caller at a place commits a put of its own key. If it is the one that stays in a transaction,
 /// it then begins another, and changes the key again.
 fn puts_its_key(caller: &mut Caller, key: u64, is_open: bool) {
-    begins(caller);
-    puts(caller, key, 1);
-    commits(caller);
+    answer(caller, Ask::Begin);
+    answer(caller, Ask::Do(Op::Put(key, 1)));
+    answer(caller, Ask::Commit);
     if is_open {
-        begins(caller);
-        puts(caller, key, 2);
+        answer(caller, Ask::Begin);
+        answer(caller, Ask::Do(Op::Put(key, 2)));
     }
 }
 
@@ -229,8 +182,8 @@ fn passes_on<R: Abort>(rt: &R, alloc: Global, caller: Caller) {
         caller = moves_three(caller);
         caller = caller.another(alloc).expect(rt, "another caller");
     }
-    begins(&mut caller);
-    puts(&mut caller, 3, 3);
+    answer(&mut caller, Ask::Begin);
+    answer(&mut caller, Ask::Do(Op::Put(3, 3)));
 }
 
 /// Two threads make callers and drop them. The third caller is merged, or dropped.

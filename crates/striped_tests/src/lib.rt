@@ -1,8 +1,8 @@
-//! Tests of `striped_map`, and of `transfer` of `samples::accounts`. They test what no contract
-//! says: as long as there is memory, each call succeeds. A worked run lists each call with its
-//! answer, and the pairs that remain at the end.
+//! Worked runs of every map (`runs`), and tests of `striped_map` and of `transfer` of
+//! `samples::accounts`. They test what no contract says: as long as there is memory, each call
+//! succeeds. A run lists each request with the answer that is due.
 //!
-//! Most functions that make calls have no contract; `calls` says why.
+//! Most functions that make calls have no contract; `worked` says why.
 #![tactic(auto)]
 
 #[cfg(test)]
@@ -22,6 +22,8 @@ mod limits;
 #[cfg(test)]
 mod meets;
 #[cfg(test)]
+mod other_maps;
+#[cfg(test)]
 mod refused;
 #[cfg(test)]
 mod runs;
@@ -31,3 +33,5 @@ mod threads;
 mod transfers;
 #[cfg(test)]
 mod values;
+#[cfg(test)]
+mod worked;

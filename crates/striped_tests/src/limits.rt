@@ -2,9 +2,8 @@
 //! also test the order of the pairs. Most rows are made by loops, up to a hundred thousand of them.
 //! By the contracts, any call may be refused memory. Here a call is refused only if its row says
 //! so.
-use crate::calls::{
-    Ask, Home, NEW, Row, Told, Worked, has_left, leaves, must_be, open, play, play_worked,
-};
+use crate::calls::{Home, has_left, leaves, open, play, play_to_the_end};
+use crate::worked::{Ask, Map, NEW, Row, Told, must_be, play_run};
 use std::alloc::{AllocError, Global};
 use std::process::Abort;
 use std::test::Fail;
@@ -43,25 +42,21 @@ fn room_for_keys(rt: HostRuntime) {
     }
 }
 
-/// The last of 4,096 callers has the number 4,096, which another caller's busy call reports.
-static LAST_CALLER: Worked<'static> = Worked {
-    stripes: 4096,
-    callers: 4096,
-    rows: &[
-        (4095, Ask::Begin, Told::Done),
-        (4095, Ask::Do(Op::Put(4095, 1)), NEW),
-        (0, Ask::Begin, Told::Done),
-        (0, Ask::Do(Op::Put(4094, 2)), NEW),
-        (0, Ask::Do(Op::Get(8191)), Told::Busy(4096)),
-        (4095, Ask::Do(Op::Get(4094)), NEW),
-        (4095, Ask::Commit, Told::Number(1)),
-    ],
-    left: &[(4095, 1)],
-};
+/// The first of 4,096 callers finds a stripe held by the last.
+const LAST_CALLER: &[Row] = &[
+    (4095, Ask::Begin, Told::Done),
+    (4095, Ask::Do(Op::Put(4095, 1)), NEW),
+    (0, Ask::Begin, Told::Done),
+    (0, Ask::Do(Op::Put(4094, 2)), NEW),
+    (0, Ask::Do(Op::Get(8191)), Told::Busy(4095)),
+    (4095, Ask::Do(Op::Get(4094)), NEW),
+    (4095, Ask::Commit, Told::Number(1)),
+];
 
 #[test]
-fn last_caller(rt: HostRuntime) {
-    play_worked(&rt, rt.alloc(), &LAST_CALLER);
+fn the_last_of_4096_callers_is_named_as_holder(rt: HostRuntime) {
+    let home = &mut open(&rt, rt.alloc(), 4096, 4096);
+    play_to_the_end(&rt, home, LAST_CALLER, &[(4095, 1)]);
 }
 
 /// Rows that do each operation on a key, with the values 0 and 2^64 - 1. At the end the key has the
@@ -117,40 +112,45 @@ fn widest_keys(rt: HostRuntime) {
     }
 }
 
-/// Sets a thousand savepoints. Before each savepoint, puts the savepoint's level at key 1.
-fn save_a_thousand<R: Abort>(rt: &R, home: &mut Home) {
+/// Sets a thousand savepoints. Before each, puts its level at key 1, and a new key.
+fn save_a_thousand<R: Abort, M: Map>(rt: &R, map: &mut M) {
     for level in 1..1001u64 {
         let had = (level > 1).then_some(level - 1);
         let rows = [
             (0, Ask::Do(Op::Put(1, level)), Told::Replied(had)),
+            (0, Ask::Do(Op::Put(10_000 + level, 1)), NEW),
             (0, Ask::Save, Told::Number(level)),
         ];
-        play(rt, home, rows.as_slice());
+        play_run(rt, map, "a thousand savepoints", rows.as_slice());
     }
 }
 
 /// Rows that return to levels, and get the value of key 1 after each return.
 const LEVELS: &[Row] = &[
+    (0, Ask::Do(Op::Take(1)), Told::Replied(Some(1000))),
     (0, Ask::Back(1001), Told::Refused(Refusal::NoSuchLevel)),
     (0, Ask::Back(u64::MAX), Told::Refused(Refusal::NoSuchLevel)),
+    (0, Ask::Do(Op::Get(1)), NEW),
     (0, Ask::Back(1000), Told::Done),
     (0, Ask::Do(Op::Get(1)), Told::Replied(Some(1000))),
-    (0, Ask::Back(999), Told::Done),
-    (0, Ask::Do(Op::Get(1)), Told::Replied(Some(999))),
-    (0, Ask::Back(1000), Told::Refused(Refusal::NoSuchLevel)),
-    (0, Ask::Back(2), Told::Done),
-    (0, Ask::Do(Op::Get(1)), Told::Replied(Some(2))),
-    (0, Ask::Save, Told::Number(3)),
+    (0, Ask::Back(500), Told::Done),
+    (0, Ask::Do(Op::Get(1)), Told::Replied(Some(500))),
+    (0, Ask::Do(Op::Get(10_500)), Told::Replied(Some(1))),
+    (0, Ask::Do(Op::Get(10_501)), NEW),
+    (0, Ask::Back(501), Told::Refused(Refusal::NoSuchLevel)),
+    (0, Ask::Save, Told::Number(501)),
     (0, Ask::Back(0), Told::Done),
     (0, Ask::Do(Op::Get(1)), NEW),
+    (0, Ask::Do(Op::Get(10_001)), NEW),
     (0, Ask::Save, Told::Number(1)),
+    (0, Ask::Commit, Told::Number(1)),
 ];
 
 /// Sets a thousand savepoints, and returns to some of their levels.
-fn play_savepoints<R: Abort>(rt: &R, home: &mut Home) {
-    play(rt, home, &[(0, Ask::Begin, Told::Done)]);
-    save_a_thousand(rt, home);
-    play(rt, home, LEVELS);
+pub(crate) fn play_savepoints<R: Abort, M: Map>(rt: &R, map: &mut M) {
+    play_run(rt, map, "begin", &[(0, Ask::Begin, Told::Done)]);
+    save_a_thousand(rt, map);
+    play_run(rt, map, "levels", LEVELS);
 }
 
 #[test]

@@ -4,8 +4,9 @@
 //! were worked out by hand, and do not depend on the order of the threads.
 ghost use Rattle.std.specs.Prelude.{◌≡◌, ◌<◌, ℕ, length, HoldsAt};
 
-use crate::calls::{Ask, Home, NEW, Told, ask_row, has_left, leaves, play};
+use crate::calls::{Home, Line, asks, has_left, leaves, play};
 use crate::transfers::FILLED;
+use crate::worked::{Ask, NEW, Told};
 use samples::accounts::transfer;
 use std::alloc::Global;
 use std::process::Abort;
@@ -123,13 +124,6 @@ pub(crate) fn with_host<R: Abort>(
     (host, first, second, third)
 }
 
-/// Makes the requests to a caller, in order, and compares the answers.
-fn asks<R: Abort>(rt: &R, caller: &mut Caller, rows: &[(Ask, Told)]) {
-    for (row, &(what, wanted)) in rows.iter().enumerate() {
-        ask_row(rt, caller, row, what, wanted);
-    }
-}
-
 /// Merges a caller, which must be in no transaction.
 pub(crate) fn merge<R: Abort>(rt: &R, host: &mut Host, caller: Caller)
     requires same_map { caller.map.value ≡ host.old.map.value }
@@ -148,7 +142,7 @@ fn moves<R: Abort>(rt: &R, caller: &mut Caller, sum: u64, wanted: Result<bool, S
 }
 
 /// The third caller makes the first commit.
-const FILLS: &[(Ask, Told)] = &[
+const FILLS: &[Line] = &[
     (Ask::Begin, Told::Done),
     (Ask::Do(Op::Put(1, 10)), NEW),
     (Ask::Commit, Told::Number(1)),
@@ -168,7 +162,7 @@ fn merges_first<R: Abort>(rt: &R, host: &mut Host, mut first: Caller, third: &mu
 /// Commit 2 was that of the first caller. The host's `gather` has committed nothing and put
 /// nothing, and it holds no stripe: the third caller gets every stripe, finds two pairs, and makes
 /// commit 3. Its next transaction holds the stripe of account 1.
-const HOLDS_ACCOUNT_1: &[(Ask, Told)] = &[
+const HOLDS_ACCOUNT_1: &[Line] = &[
     (Ask::Begin, Told::Done),
     (Ask::Len, Told::Number(2)),
     (Ask::Do(Op::Get(2)), Told::Replied(Some(4))),
@@ -196,14 +190,14 @@ fn reads_nothing<R: Abort>(rt: &R, host: &mut Host) {
 
 /// Neither the second caller nor the host has committed, and the host's failed read has left no
 /// stripe held: the third caller gets every stripe, and makes commit 4.
-const COMMITS_FOURTH: &[(Ask, Told)] = &[
+const COMMITS_FOURTH: &[Line] = &[
     (Ask::Do(Op::Put(3, 30)), NEW),
     (Ask::Len, Told::Number(3)),
     (Ask::Commit, Told::Number(4)),
 ];
 
 /// The host has read the map without a commit, and holds no stripe.
-const COMMITS_FIFTH: &[(Ask, Told)] = &[
+const COMMITS_FIFTH: &[Line] = &[
     (Ask::Begin, Told::Done),
     (Ask::Len, Told::Number(3)),
     (Ask::Commit, Told::Number(5)),

@@ -2,7 +2,8 @@
 //! answer as if nothing had been refused. A call that is refused twice ends the test with that
 //! error. `tests/refused.sh` refuses the memory. Without this script, the tests are plain
 //! worked runs.
-use crate::calls::{Ask, Home, NEW, Row, Told, answer, counted, must_be, reads};
+use crate::calls::{Home, answer, counted, reads};
+use crate::worked::{Ask, NEW, Row, Told, must_be};
 use std::alloc::Global;
 use std::process::Abort;
 use std::test::Fail;

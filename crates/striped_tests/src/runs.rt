@@ -1,133 +1,248 @@
-//! Worked runs of one or two callers on one thread. A run lists each call with its answer, and the
-//! pairs that remain at the end. All values were worked out by hand. By the contracts, any call may
-//! be refused memory, or be busy although the stripe is free. Here a call is refused or busy only
-//! if its row says so.
-use crate::calls::{Ask, Home, NEW, Row, Told, Worked, open, play, play_worked};
-use std::process::Abort;
-use txn_words::{Op, Refusal};
+//! The worked runs that every map must pass, and a run of the striped map alone. All answers were
+//! worked out by hand, from the rules of ANSWERS and of the words of `txn_words`. By the contracts,
+//! any call may be refused memory, or be busy although the stripe is free. Here a call is refused
+//! or busy only if its row says so.
+use crate::calls::{open, play_to_the_end};
+use crate::worked::Ask::{Abort, Back, Begin, Commit, Do, Empty, Len, Save};
+use crate::worked::Told::{Busy, Done, Is, Number, Refused, Replied};
+use crate::worked::{CALLERS, NEW, NOT_OPEN, Row, Run, STRIPES, Told, play_run};
+use txn_words::Op::{Get, Put, PutIf, Take};
+use txn_words::Refusal::{AlreadyOpen, NoSuchLevel};
 
-/// The reply to an operation on a key that had the value 10.
-const TEN: Told = Told::Replied(Some(10));
+/// The replies to operations on keys that had the values 10, 11 and 20.
+const TEN: Told = Replied(Some(10));
 
-/// Caller 2 finds caller 1's stripe held, begins again, and commits before caller 1.
-static BUSY_BETWEEN_CALLERS: Worked<'static> = Worked {
-    stripes: 8,
-    callers: 2,
-    rows: &[
-        (0, Ask::Begin, Told::Done),
-        (0, Ask::Do(Op::Put(1, 10)), NEW),
-        (1, Ask::Begin, Told::Done),
-        (1, Ask::Do(Op::Get(9)), Told::Busy(1)),
-        (1, Ask::Begin, Told::Done),
-        (1, Ask::Commit, Told::Number(1)),
-        (0, Ask::Commit, Told::Number(2)),
-    ],
-    left: &[(1, 10)],
-};
+const ELEVEN: Told = Replied(Some(11));
 
-/// A transaction gives its stripes back at its end and not before. Keys 1, 9 and 17 are in one
-/// stripe. Caller 1 still holds this stripe after it sets a savepoint and returns to it. An abort,
-/// a commit and a busy call each give back all stripes of the caller.
-static RIGHTS_COME_BACK: Worked<'static> = Worked {
-    stripes: 8,
-    callers: 2,
-    rows: &[
-        (0, Ask::Begin, Told::Done),
-        (0, Ask::Do(Op::Put(1, 10)), NEW),
-        (0, Ask::Save, Told::Number(1)),
-        (0, Ask::Do(Op::Put(9, 90)), NEW),
-        (0, Ask::Back(1), Told::Done),
-        (1, Ask::Begin, Told::Done),
-        (1, Ask::Do(Op::Put(2, 20)), NEW),
-        (1, Ask::Do(Op::Get(17)), Told::Busy(1)),
-        (0, Ask::Do(Op::Put(2, 21)), NEW),
-        (0, Ask::Abort, Told::Done),
-        (1, Ask::Begin, Told::Done),
-        (1, Ask::Do(Op::Put(9, 91)), NEW),
-        (0, Ask::Begin, Told::Done),
-        (0, Ask::Do(Op::Get(1)), Told::Busy(2)),
-        (1, Ask::Commit, Told::Number(1)),
-        (0, Ask::Begin, Told::Done),
-        (0, Ask::Do(Op::Get(9)), Told::Replied(Some(91))),
-        (0, Ask::Commit, Told::Number(2)),
-    ],
-    left: &[(9, 91)],
-};
+const TWENTY: Told = Replied(Some(20));
 
-/// The refusals of a caller in each phase. A call that finds a stripe busy ends its transaction. A
-/// stripe is never busy for the caller that holds it.
-static REFUSALS_IN_ORDER: Worked<'static> = Worked {
-    stripes: 4,
-    callers: 2,
-    rows: &[
-        (0, Ask::Commit, Told::Refused(Refusal::NotOpen)),
-        (0, Ask::Abort, Told::Refused(Refusal::NotOpen)),
-        (0, Ask::Save, Told::Refused(Refusal::NotOpen)),
-        (0, Ask::Back(0), Told::Refused(Refusal::NotOpen)),
-        (0, Ask::Len, Told::Refused(Refusal::NotOpen)),
-        (0, Ask::Do(Op::Get(1)), Told::Refused(Refusal::NotOpen)),
-        (0, Ask::Begin, Told::Done),
-        (0, Ask::Begin, Told::Refused(Refusal::AlreadyOpen)),
-        (0, Ask::Do(Op::Put(1, 10)), NEW),
-        (0, Ask::Do(Op::Put(5, 50)), NEW),
-        (1, Ask::Begin, Told::Done),
-        (1, Ask::Len, Told::Busy(1)),
-        (1, Ask::Do(Op::Get(2)), Told::Refused(Refusal::NotOpen)),
-        (1, Ask::Abort, Told::Refused(Refusal::NotOpen)),
-        (0, Ask::Len, Told::Number(2)),
-        (1, Ask::Begin, Told::Done),
-        (1, Ask::Do(Op::Get(2)), Told::Busy(1)),
-        (0, Ask::Commit, Told::Number(1)),
-    ],
-    left: &[(1, 10), (5, 50)],
-};
+/// The answer to a return to a level that does not exist.
+const NO_LEVEL: Told = Refused(NoSuchLevel);
 
-#[test]
-fn busy_between_callers(rt: HostRuntime) {
-    play_worked(&rt, rt.alloc(), &BUSY_BETWEEN_CALLERS)
-}
-
-#[test]
-fn rights_come_back(rt: HostRuntime) {
-    play_worked(&rt, rt.alloc(), &RIGHTS_COME_BACK)
-}
-
-#[test]
-fn refusals_in_order(rt: HostRuntime) {
-    play_worked(&rt, rt.alloc(), &REFUSALS_IN_ORDER)
-}
-
-/// Caller 1 puts a key, in a map with three stripes.
-const PUTS_ONE: &[Row] = &[
-    (0, Ask::Begin, Told::Done),
-    (0, Ask::Do(Op::Put(1, 10)), NEW),
+/// The runs. The map is new and has eight stripes, so keys 1, 9 and 17 share a stripe.
+pub(crate) static WORKED: [Run; 11] = [
+    (
+        "an_operation_replies_with_the_value_before_it",
+        &[
+            (0, Begin, Done),
+            (0, Do(Get(1)), NEW),
+            (0, Do(Take(1)), NEW),
+            (0, Do(Put(1, 10)), NEW),
+            (0, Do(Put(1, 11)), TEN),
+            (0, Do(Get(1)), ELEVEN),
+            (0, Do(Take(1)), ELEVEN),
+            (0, Do(Get(1)), NEW),
+            (0, Do(Put(1, 20)), NEW),
+            (0, Commit, Number(1)),
+            (1, Begin, Done),
+            (1, Do(Get(1)), TWENTY),
+            (1, Commit, Number(2)),
+        ],
+    ),
+    (
+        "put_if_puts_only_if_the_value_is_the_expected_one",
+        &[
+            (0, Begin, Done),
+            (0, Do(PutIf(1, Some(10), 12)), NEW),
+            (0, Do(PutIf(1, None, 10)), NEW),
+            (0, Do(PutIf(1, None, 12)), TEN),
+            (0, Do(PutIf(1, Some(11), 12)), TEN),
+            (0, Do(PutIf(1, Some(10), 11)), TEN),
+            (0, Do(Get(1)), ELEVEN),
+        ],
+    ),
+    (
+        "keys_share_a_stripe_if_they_leave_the_same_remainder",
+        &[
+            (0, Begin, Done),
+            (0, Do(Put(1, 10)), NEW),
+            (0, Do(Put(9, 20)), NEW),
+            (1, Begin, Done),
+            (1, Do(Get(2)), NEW),
+            (1, Do(Get(8)), NEW),
+            (1, Do(Get(17)), Busy(0)),
+            (0, Do(Get(1)), TEN),
+            (0, Do(Get(9)), TWENTY),
+        ],
+    ),
+    (
+        "busy_aborts_and_names_the_holder",
+        &[
+            (2, Begin, Done),
+            (2, Do(Put(1, 10)), NEW),
+            (1, Begin, Done),
+            (1, Do(Get(2)), NEW),
+            (0, Begin, Done),
+            (0, Do(Get(9)), Busy(2)),
+            (0, Do(Get(3)), NOT_OPEN),
+            (0, Begin, Done),
+            (0, Do(Put(2, 20)), Busy(1)),
+            (0, Begin, Done),
+            (0, Commit, Number(1)),
+            (2, Do(Get(1)), TEN),
+            (2, Commit, Number(2)),
+        ],
+    ),
+    (
+        "busy_takes_every_change_back_and_frees_every_stripe",
+        &[
+            (0, Begin, Done),
+            (0, Do(Put(1, 10)), NEW),
+            (0, Commit, Number(1)),
+            (1, Begin, Done),
+            (1, Do(Get(3)), NEW),
+            (0, Begin, Done),
+            (0, Do(Put(1, 11)), TEN),
+            (0, Do(Put(2, 20)), NEW),
+            (0, Do(PutIf(3, None, 30)), Busy(1)),
+            (2, Begin, Done),
+            (2, Do(Get(1)), TEN),
+            (2, Do(Get(2)), NEW),
+        ],
+    ),
+    (
+        "commit_and_abort_free_every_stripe_and_a_return_frees_none",
+        &[
+            (0, Begin, Done),
+            (0, Save, Number(1)),
+            (0, Do(Put(1, 10)), NEW),
+            (0, Back(1), Done),
+            (1, Begin, Done),
+            (1, Do(Get(9)), Busy(0)),
+            (0, Abort, Done),
+            (1, Begin, Done),
+            (1, Do(Put(9, 11)), NEW),
+            (0, Begin, Done),
+            (0, Do(Get(1)), Busy(1)),
+            (1, Commit, Number(1)),
+            (0, Begin, Done),
+            (0, Do(Get(1)), NEW),
+            (0, Do(Get(9)), ELEVEN),
+        ],
+    ),
+    (
+        "an_abort_takes_every_change_back",
+        &[
+            (0, Begin, Done),
+            (0, Do(Put(1, 10)), NEW),
+            (0, Commit, Number(1)),
+            (1, Begin, Done),
+            (1, Do(Take(1)), TEN),
+            (1, Save, Number(1)),
+            (1, Do(Put(1, 11)), NEW),
+            (1, Do(PutIf(2, None, 20)), NEW),
+            (1, Abort, Done),
+            (0, Begin, Done),
+            (0, Do(Get(1)), TEN),
+            (0, Do(Get(2)), NEW),
+        ],
+    ),
+    (
+        "a_return_takes_back_what_came_after_its_level",
+        &[
+            (0, Begin, Done),
+            (0, Do(Put(1, 10)), NEW),
+            (0, Save, Number(1)),
+            (0, Do(Put(1, 11)), TEN),
+            (0, Do(Put(2, 20)), NEW),
+            (0, Save, Number(2)),
+            (0, Do(Take(1)), ELEVEN),
+            (0, Do(PutIf(2, Some(20), 21)), TWENTY),
+            (0, Back(2), Done),
+            (0, Do(Get(1)), ELEVEN),
+            (0, Do(Take(2)), TWENTY),
+            (0, Back(2), Done),
+            (0, Do(Get(2)), TWENTY),
+            (0, Back(1), Done),
+            (0, Do(Get(1)), TEN),
+            (0, Do(Get(2)), NEW),
+            (0, Save, Number(2)),
+            (0, Back(0), Done),
+            (0, Do(Get(1)), NEW),
+            (0, Save, Number(1)),
+        ],
+    ),
+    (
+        "a_return_to_a_missing_level_is_refused_and_changes_nothing",
+        &[
+            (0, Begin, Done),
+            (0, Back(1), NO_LEVEL),
+            (0, Do(Put(1, 10)), NEW),
+            (0, Save, Number(1)),
+            (0, Do(Put(1, 11)), TEN),
+            (0, Back(2), NO_LEVEL),
+            (0, Back(u64::MAX), NO_LEVEL),
+            (0, Do(Get(1)), ELEVEN),
+            (0, Back(0), Done),
+            (0, Back(1), NO_LEVEL),
+            (0, Do(Get(1)), NEW),
+        ],
+    ),
+    (
+        "without_a_transaction_each_call_is_refused",
+        &[
+            (0, Do(Get(1)), NOT_OPEN),
+            (0, Do(Put(1, 10)), NOT_OPEN),
+            (0, Do(Take(1)), NOT_OPEN),
+            (0, Do(PutIf(1, None, 10)), NOT_OPEN),
+            (0, Save, NOT_OPEN),
+            (0, Back(0), NOT_OPEN),
+            (0, Commit, NOT_OPEN),
+            (0, Abort, NOT_OPEN),
+            (0, Begin, Done),
+            (0, Commit, Number(1)),
+            (0, Do(Get(1)), NOT_OPEN),
+            (0, Begin, Done),
+            (0, Abort, Done),
+            (0, Commit, NOT_OPEN),
+        ],
+    ),
+    (
+        "a_second_begin_is_refused_and_the_transaction_goes_on",
+        &[
+            (0, Begin, Done),
+            (0, Do(Put(1, 10)), NEW),
+            (0, Begin, Refused(AlreadyOpen)),
+            (0, Do(Get(1)), TEN),
+            (0, Commit, Number(1)),
+        ],
+    ),
 ];
 
-/// Caller 2 is busy with a key of each stripe until caller 1 commits.
-const EVERY_STRIPE_IS_HELD: &[Row] = &[
-    (1, Ask::Begin, Told::Done),
-    (1, Ask::Do(Op::Get(0)), Told::Busy(1)),
-    (1, Ask::Begin, Told::Done),
-    (1, Ask::Do(Op::Get(1)), Told::Busy(1)),
-    (1, Ask::Begin, Told::Done),
-    (1, Ask::Do(Op::Get(2)), Told::Busy(1)),
-    (0, Ask::Commit, Told::Number(1)),
-    (1, Ask::Begin, Told::Done),
-    (1, Ask::Do(Op::Get(2)), NEW),
-    (1, Ask::Do(Op::Get(1)), TEN),
-    (1, Ask::Commit, Told::Number(2)),
-];
-
-/// Caller 1 asks whether the map has no keys. From then until its commit it holds every stripe.
-fn asks_if_empty<R: Abort>(rt: &R, home: &mut Home) {
-    play(rt, home, PUTS_ONE);
-    assert!(rt; 0 < home.callers.len());
-    let is_empty = home.callers[0].is_empty();
-    assert!(rt; is_empty == Ok(false));
-    play(rt, home, EVERY_STRIPE_IS_HELD);
+#[test]
+fn the_striped_map_passes_every_run(rt: HostRuntime) {
+    for (name, rows) in &WORKED {
+        play_run(
+            &rt,
+            &mut open(&rt, rt.alloc(), STRIPES, CALLERS),
+            name,
+            rows,
+        );
+    }
 }
 
+/// On a map with three stripes. Caller 1 holds one of them, and all from its `Empty` to its commit.
+const COUNTED: &[Row] = &[
+    (0, Len, NOT_OPEN),
+    (0, Begin, Done),
+    (0, Do(Put(1, 10)), NEW),
+    (1, Begin, Done),
+    (1, Len, Busy(0)),
+    (1, Do(Get(2)), NOT_OPEN),
+    (0, Empty, Is(false)),
+    (1, Begin, Done),
+    (1, Do(Get(0)), Busy(0)),
+    (1, Begin, Done),
+    (1, Do(Get(2)), Busy(0)),
+    (0, Len, Number(1)),
+    (0, Commit, Number(1)),
+    (1, Begin, Done),
+    (1, Len, Number(1)),
+    (1, Commit, Number(2)),
+];
+
 #[test]
-fn is_empty_holds_every_stripe(rt: HostRuntime) {
-    asks_if_empty(&rt, &mut open(&rt, rt.alloc(), 3, 2));
+fn len_and_is_empty_take_every_stripe_or_are_busy(rt: HostRuntime) {
+    let home = &mut open(&rt, rt.alloc(), 3, 2);
+    play_to_the_end(&rt, home, COUNTED, &[(1, 10)]);
 }

@@ -1,8 +1,9 @@
 //! Tests of `transfer` of `samples::accounts`, by one caller and by several in their threads. No
 //! contract says that a transfer is made as soon as its stripes are free. The balances were worked
 //! out by hand. After four threads have moved sums that look random, only the total is known.
-use crate::calls::{Ask, Home, NEW, Row, Told, answer, leaves, open, play};
+use crate::calls::{Home, answer, leaves, open, play};
 use crate::threads::{Work, in_threads};
+use crate::worked::{Ask, NEW, Row, Told};
 use samples::accounts::transfer;
 use std::process::Abort;
 use std::sync::Wait;
@@ -43,14 +44,8 @@ pub(crate) const FILLED: &[Row] = &[
 
 /// A caller puts 15 in account 1 and does not commit, so it holds the stripe of this account.
 fn holds<R: Abort>(rt: &R, home: &mut Home, place: usize) {
-    play(
-        rt,
-        home,
-        &[
-            (place, Ask::Begin, Told::Done),
-            (place, Ask::Do(Op::Put(1, 15)), NEW),
-        ],
-    );
+    play(rt, home, &[(place, Ask::Begin, Told::Done)]);
+    play(rt, home, &[(place, Ask::Do(Op::Put(1, 15)), NEW)]);
 }
 
 /// Caller 2 holds the stripe of account 1 until it commits. Until then caller 1's transfer is busy.

@@ -7,14 +7,14 @@ ghost use Rattle.txn_words.specs.Kinds.{caller_of};
 
 use boost_core::{Call, Core, End};
 use history_check::{Verdict, check};
-use locked_map::{Caller, Closed, NoSide, OnRelease, Pass, Receipt, SharedMap, Stop, Unclosed};
+use locked_map::{Caller, Closed, NoSide, OnRelease, Pass, SharedMap, Unclosed};
 use std::alloc::{AllocError, Global};
 use std::marker::{Brand, PhantomData};
 use std::process::Abort;
 use std::sync::Wait;
 use std::sync::ledger::{Blank, Ledger};
 use std::test::Fail;
-use txn_words::{Entry, Holder, Limits, Op, Reply, SmallEntry, Unpacked};
+use txn_words::{Entry, Holder, Limits, SmallEntry, Unpacked};
 use undo_log::Side;
 
 /// The number of a ledger's parts.
@@ -209,65 +209,6 @@ pub(crate) fn run_heard<L: Ledger, S: Side, H: OnRelease, R: Wait>(
     hears: &H,
 ) -> End {
     shared.map.run(rt, me, call, hears)
-}
-
-/// What `make` returns for a call that was carried out.
-#[derive(Clone, Copy, Debug, PartialEq, Eq)]
-pub(crate) enum Told {
-    /// The number of a transaction or of a savepoint.
-    Number(u64),
-    /// The reply to an operation.
-    Replied(Reply),
-    /// The receipt of a commit: the number of the transaction, and the place of the commit in the
-    /// commit order.
-    Committed(u64, u64),
-    /// No value.
-    Done,
-}
-
-/// Makes a call with the method that has the call's name, such as `SharedMap::begin`.
-pub(crate) fn make<L: Ledger, R: Wait>(
-    rt: &R,
-    shared: &Shared<L>,
-    me: &mut Caller<L, NoSide>,
-    call: Call,
-) -> Result<Told, Stop> {
-    let map = &shared.map;
-    match call {
-        Call::Begin => Ok(Told::Number(map.begin(rt, me)?)),
-        Call::Op(op) => Ok(Told::Replied(operate(rt, map, me, op)?)),
-        Call::Save => Ok(Told::Number(map.save(rt, me)?)),
-        Call::Back(level) => {
-            map.back(rt, me, level)?;
-            Ok(Told::Done)
-        }
-        Call::Commit => {
-            let Receipt { txn, place } = map.commit(rt, me)?;
-            Ok(Told::Committed(txn, place))
-        }
-        Call::Abort => {
-            map.abort(rt, me)?;
-            Ok(Told::Done)
-        }
-        Call::Help(key) => {
-            map.help(rt, me, key)?;
-            Ok(Told::Done)
-        }
-    }
-}
-
-fn operate<L: Ledger, R: Wait>(
-    rt: &R,
-    map: &SharedMap<L>,
-    me: &mut Caller<L, NoSide>,
-    op: Op,
-) -> Result<Reply, Stop> {
-    match op {
-        Op::Put(key, value) => map.put(rt, me, key, value),
-        Op::Take(key) => map.take(rt, me, key),
-        Op::Get(key) => map.get(rt, me, key),
-        Op::PutIf(key, expected, value) => map.put_if(rt, me, key, expected, value),
-    }
 }
 
 /// The error of `close_or_miss`. If a caller is missing or was passed in twice, the error has the

@@ -1,8 +1,10 @@
 //! These tests drive calls by hand, one hold of the lock at a time. `into_booked` takes the core
-//! out of its lock. Each hold is then a call of the method `hold`. The ends of the calls and the entries were worked out by hand.
+//! out of its lock. Each hold is then a call of the method `hold`. The ends of the calls and the
+//! entries are those of `rows`.
 ghost use Rattle.std.specs.Prelude.{◌≡◌};
 ghost use Rattle.locked_map.specs.Tokens.{HasTried};
 
+use super::rows::{BETWEEN, HISTORY};
 use crate::devices::{Play, Shared, callers_in, has_seen, play_with};
 use boost_core::{Call, Drive, End};
 use locked_map::{Booked, Caller, NoSide, Pass};
@@ -11,7 +13,7 @@ use std::process::Abort;
 use std::sync::Wait;
 use std::sync::ledger::Ledger;
 use std::test::Fail;
-use txn_words::{Answer, Entry, Op, Refusal};
+use txn_words::{Entry, Op, Refusal};
 
 /// Makes the holds of a call until the call has ended. Returns `None` if it has not ended after
 /// nine holds.
@@ -37,47 +39,27 @@ fn end_of<L: Ledger>(
     Ok(drive(booked, me, call))
 }
 
-/// Each row has the number of a caller, its call, and the end that the call must have.
-static TURNS: [(usize, Call, End); 5] = [
-    (0, Call::Begin, End::Answered(Answer::Began(1))),
-    (
-        0,
-        Call::Op(Op::Put(1, 10)),
-        End::Answered(Answer::Done(None)),
-    ),
-    (1, Call::Begin, End::Answered(Answer::Began(2))),
-    (1, Call::Op(Op::Get(9)), End::Busy(0)),
-    (0, Call::Commit, End::Answered(Answer::Committed(1))),
-];
-
-/// The entries that caller 0 has seen after `TURNS`.
+/// The entries that caller 0 has seen after `BETWEEN`.
 static FIRST: [Entry; 4] = [
     Entry::Began(0, 1),
     Entry::Asked(0, Op::Put(1, 10)),
     Entry::Did(0, None),
-    Entry::Committed(0, 1),
+    Entry::Committed(0, 2),
 ];
 
-/// The entries that caller 1 has seen after `TURNS`.
-static SECOND: [Entry; 3] = [
-    Entry::Began(1, 2),
-    Entry::Busy(1, Op::Get(9), 0),
-    Entry::Aborted(1),
-];
-
-/// Makes the calls of `TURNS`, and checks their ends and what the callers have seen.
+/// Makes the calls of `BETWEEN`, and checks their ends and what the callers have seen.
 fn take_turns<L: Ledger, R: Abort>(
     rt: &R,
     booked: &mut Booked<L>,
     callers: &mut [Caller<L, NoSide>],
 ) -> Result<(), Fail> {
-    for &(place, call, wanted) in &TURNS {
+    for &(place, call, wanted) in &BETWEEN {
         let me = callers.get_mut(place).ok_or("a caller")?;
         let end = end_of(booked, me, call)?;
         assert!(rt; end == Some(wanted), "caller {place}: {call:?}");
     }
     assert!(rt; has_seen(callers, 0, FIRST.as_slice()));
-    assert!(rt; has_seen(callers, 1, SECOND.as_slice()));
+    assert!(rt; has_seen(callers, 1, &HISTORY[3..8]));
     Ok(())
 }
 

@@ -2,9 +2,9 @@
 //! is like. Other modules test the calls of a map. In this module the core itself takes steps,
 //! which show its buckets, its helpers and the nodes that are still to be swept. All steps are on
 //! one thread.
-use super::rows::{Row, play_rows};
-use crate::devices::{Play, Shared, Told, callers_in, closed_of, play_with};
-use boost_core::{Call, Core};
+use super::rows::{DONE, HAD, Row, play_rows};
+use crate::devices::{Play, Shared, callers_in, closed_of, play_with};
+use boost_core::{Call, Core, End};
 use locked_map::Pass;
 use std::alloc::Global;
 use std::process::Abort;
@@ -78,10 +78,10 @@ fn new_core(rt: HostRuntime) -> Result<(), Fail> {
 
 /// A key is put and taken.
 static TAKEN: [Row; 4] = [
-    (0, Call::Begin, Ok(Told::Number(1))),
-    (0, Call::Op(Op::Put(1, 10)), Ok(Told::Replied(None))),
-    (0, Call::Op(Op::Take(1)), Ok(Told::Replied(Some(10)))),
-    (0, Call::Commit, Ok(Told::Committed(1, 1))),
+    (0, Call::Begin, End::Answered(Answer::Began(1))),
+    (0, Call::Op(Op::Put(1, 10)), DONE),
+    (0, Call::Op(Op::Take(1)), HAD),
+    (0, Call::Commit, End::Answered(Answer::Committed(1))),
 ];
 
 /// Each row has a step and its answer. The first step sweeps the node of the taken key.

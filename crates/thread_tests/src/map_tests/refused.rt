@@ -2,6 +2,7 @@
 //! memory. Without this script, the tests are plain worked runs, whose ends were worked out by
 //! hand. No contract says that a refused call leaves its caller unchanged, or that a call gets
 //! memory as long as memory is free.
+use super::rows::{BETWEEN, DONE, HAD, Row};
 use crate::devices::{
     Play, Shared, TRIES, callers_of, closed_of, has_left, is_refused, play_where_made, run, seen_by,
 };
@@ -13,10 +14,6 @@ use std::sync::Wait;
 use std::sync::ledger::Ledger;
 use std::test::Fail;
 use txn_words::{Answer, Op, Refusal};
-
-/// Each row has the position of a caller, its call, and the end that the call has if there is
-/// memory.
-type Wanted = (usize, Call, End);
 
 /// Makes a call, and makes it again while it is refused memory, `TRIES` times in all. Returns the
 /// end of the last try. Checks that a try that is refused memory does not change the number of
@@ -45,7 +42,7 @@ fn is_whole<L: Ledger, R: Wait + Abort>(
     alloc: Global,
     shared: &Shared<L>,
     callers: &mut [Caller<L, NoSide>],
-    calls: &[Wanted],
+    calls: &[Row],
 ) -> bool {
     for &(place, call, wanted) in calls {
         assert!(rt; place < callers.len());
@@ -77,12 +74,13 @@ fn give_up<L: Ledger, R: Wait + Abort>(
     }
 }
 
-/// A test that makes the calls, and stops at the first one that is refused memory in all tries.
-/// Then all callers abort. If a call was refused memory, the closed map has no key. Otherwise the
-/// map has one key, and its history has `entries` entries.
+/// A test that makes the calls, and stops at the first one that is refused memory in all tries. The
+/// ends of the rows are those for which there is memory. Then all callers abort. If a call was
+/// refused memory, the closed map has no key. Otherwise the map has one key, and its history has
+/// `entries` entries.
 #[derive(Drop)]
 struct Refused {
-    calls: &'static [Wanted],
+    calls: &'static [Row],
     entries: usize,
 }
 
@@ -115,19 +113,7 @@ impl Play for Refused {
 
 /// The calls of `busy_between_callers`.
 static BETWEEN_CALLERS: Refused = Refused {
-    calls: &[
-        (0, Call::Begin, End::Answered(Answer::Began(1))),
-        (
-            0,
-            Call::Op(Op::Put(1, 10)),
-            End::Answered(Answer::Done(None)),
-        ),
-        (1, Call::Begin, End::Answered(Answer::Began(2))),
-        (1, Call::Op(Op::Get(9)), End::Busy(0)),
-        (1, Call::Begin, End::Answered(Answer::Began(3))),
-        (1, Call::Commit, End::Answered(Answer::Committed(1))),
-        (0, Call::Commit, End::Answered(Answer::Committed(2))),
-    ],
+    calls: &BETWEEN,
     entries: 9,
 };
 
@@ -135,12 +121,6 @@ static BETWEEN_CALLERS: Refused = Refused {
 fn refused_memory_between_callers(rt: HostRuntime) -> Result<(), Fail> {
     play_where_made(&rt, rt.alloc(), 2, &BETWEEN_CALLERS)
 }
-
-/// The end of an operation on a key that is not there.
-const DONE: End = End::Answered(Answer::Done(None));
-
-/// The end of an operation on a key with the value 10.
-const HAD: End = End::Answered(Answer::Done(Some(10)));
 
 /// Rows with each kind of call. One of them is a help that doubles the table and stores buckets.
 static EACH_CALL: Refused = Refused {

@@ -1,12 +1,13 @@
-//! Calls that are made in the order of a table. Each call must get the answer in the table. No
+//! Calls that are made in the order of a table. Each call must have the end in the table. No
 //! contract says that a call gets memory as long as memory is free, or that `help` grows the table
-//! of the map. The answers were worked out by hand. `cores` and `threads` also play rows.
+//! of the map. The ends were worked out by hand. `by_hand`, `cores`, `refused` and `threads` also
+//! play rows. `runs` of `striped_tests` has the worked runs of this map.
 use super::cores::step;
 use crate::devices::{
-    Play, Shared, Told, callers_in, close, close_or_miss, closed_of, has_seen, is_history,
-    is_settled, make, number_of, play_with, seen_by,
+    Play, Shared, callers_in, close, close_or_miss, closed_of, has_seen, is_history, is_settled,
+    number_of, play_with, run, seen_by,
 };
-use boost_core::{Call, Core};
+use boost_core::{Call, Core, End};
 use locked_map::{Caller, Closed, NoSide, Pass, Stop};
 use std::alloc::Global;
 use std::process::Abort;
@@ -15,10 +16,16 @@ use std::sync::ledger::Ledger;
 use std::test::Fail;
 use txn_words::{Answer, Entry, Op, Step};
 
-/// Each row has the position of a caller, its call, and the answer that the call must get.
-pub(super) type Row = (usize, Call, Result<Told, Stop>);
+/// Each row has the position of a caller, its call, and the end that the call must have.
+pub(super) type Row = (usize, Call, End);
 
-/// Makes the calls of the rows, in order. Each call must get the row's answer.
+/// The end of an operation on a key that has no value.
+pub(super) const DONE: End = End::Answered(Answer::Done(None));
+
+/// The end of an operation on a key with the value 10.
+pub(super) const HAD: End = End::Answered(Answer::Done(Some(10)));
+
+/// Makes the calls of the rows, in order. Each call must have the row's end.
 pub(super) fn play_rows<L: Ledger, R: Wait + Abort>(
     rt: &R,
     shared: &Shared<L>,
@@ -31,16 +38,33 @@ pub(super) fn play_rows<L: Ledger, R: Wait + Abort>(
     }
 }
 
-/// Makes the call of a row. The call must get the answer `wanted`.
+/// Makes the call of a row. The call must have the end `wanted`.
 pub(super) fn play_row<L: Ledger, R: Wait + Abort>(
     rt: &R,
     shared: &Shared<L>,
     me: &mut Caller<L, NoSide>,
     call: Call,
-    wanted: Result<Told, Stop>,
+    wanted: End,
 ) {
-    let told = make(rt, shared, me, call);
-    assert_eq!(rt; told, wanted, "caller {}: {call:?}", number_of(me));
+    let end = match call {
+        Call::Help(key) => help(rt, shared, me, key),
+        _ => run(rt, shared, me, call),
+    };
+    assert_eq!(rt; end, wanted, "caller {}: {call:?}", number_of(me));
+}
+
+/// Helps by the method `help`. `runs` of `striped_tests` calls the other methods.
+fn help<L: Ledger, R: Wait>(
+    rt: &R,
+    shared: &Shared<L>,
+    me: &mut Caller<L, NoSide>,
+    key: u64,
+) -> End {
+    match shared.map.help(rt, me, key) {
+        Ok(()) => End::Helped,
+        Err(Stop::Busy { holder }) => End::Busy(holder),
+        Err(Stop::Refused(refusal)) => End::Refused(refusal),
+    }
 }
 
 /// Tries to close a map with caller 1 alone. This must return the map and caller 1, since caller 0
@@ -63,30 +87,19 @@ fn close_missing_caller<L: Ledger, R: Abort>(
     close(shared, callers)
 }
 
-/// Caller 1 finds caller 0's stripe held.
-static BUSY: [Row; 4] = [
-    (0, Call::Begin, Ok(Told::Number(1))),
-    (0, Call::Op(Op::Put(1, 10)), Ok(Told::Replied(None))),
-    (1, Call::Begin, Ok(Told::Number(2))),
-    (1, Call::Op(Op::Get(9)), Err(Stop::Busy { holder: 0 })),
+/// Caller 1 finds caller 0's stripe held, with its second call. It begins again, and both commit.
+pub(super) const BETWEEN: [Row; 7] = [
+    (0, Call::Begin, End::Answered(Answer::Began(1))),
+    (0, Call::Op(Op::Put(1, 10)), DONE),
+    (1, Call::Begin, End::Answered(Answer::Began(2))),
+    (1, Call::Op(Op::Get(9)), End::Busy(0)),
+    (1, Call::Begin, End::Answered(Answer::Began(3))),
+    (1, Call::Commit, End::Answered(Answer::Committed(1))),
+    (0, Call::Commit, End::Answered(Answer::Committed(2))),
 ];
 
-/// The entries that caller 1 has seen after `BUSY`.
-static SEEN: [Entry; 3] = [
-    Entry::Began(1, 2),
-    Entry::Busy(1, Op::Get(9), 0),
-    Entry::Aborted(1),
-];
-
-/// Caller 1 begins again, and both callers commit.
-static REST: [Row; 3] = [
-    (1, Call::Begin, Ok(Told::Number(3))),
-    (1, Call::Commit, Ok(Told::Committed(3, 1))),
-    (0, Call::Commit, Ok(Told::Committed(1, 2))),
-];
-
-/// The whole history after `BUSY` and `REST`.
-static BETWEEN: [Entry; 9] = [
+/// The whole history. Caller 1 has seen the entries from index 3 to index 7.
+pub(super) static HISTORY: [Entry; 9] = [
     Entry::Began(0, 1),
     Entry::Asked(0, Op::Put(1, 10)),
     Entry::Did(0, None),
@@ -104,9 +117,9 @@ fn play_between<L: Ledger, R: Wait + Abort>(
     shared: &Shared<L>,
     callers: &mut [Caller<L, NoSide>],
 ) {
-    play_rows(rt, shared, callers, BUSY.as_slice());
-    assert!(rt; has_seen(callers, 1, SEEN.as_slice()));
-    play_rows(rt, shared, callers, REST.as_slice());
+    play_rows(rt, shared, callers, &BETWEEN[..4]);
+    assert!(rt; has_seen(callers, 1, &HISTORY[3..6]));
+    play_rows(rt, shared, callers, &BETWEEN[4..]);
 }
 
 struct BusyBetween;
@@ -131,10 +144,10 @@ impl Play for BusyBetween {
     }
 }
 
-/// Checks that the history is `BETWEEN`, that caller 0 saw four of its nine entries, and that
+/// Checks that the history is `HISTORY`, that caller 0 saw four of its nine entries, and that
 /// caller 1 saw the other five.
 fn counted_entries<L: Ledger, R: Abort>(rt: &R, closed: &Closed<L, NoSide>) {
-    assert!(rt; is_history(closed.core.trace(), BETWEEN.as_slice()));
+    assert!(rt; is_history(closed.core.trace(), HISTORY.as_slice()));
     assert_eq!(rt; closed.callers.len(), 2);
     for (place, count) in [(0, 4), (1, 5)] {
         let me = figures_of(closed.callers.as_slice(), place);
@@ -197,14 +210,14 @@ impl Play for Worked {
 
 static HELP_GROWS: Worked = Worked {
     rows: &[
-        (0, Call::Begin, Ok(Told::Number(1))),
-        (0, Call::Op(Op::Put(1, 1)), Ok(Told::Replied(None))),
-        (0, Call::Op(Op::Put(2, 2)), Ok(Told::Replied(None))),
-        (0, Call::Op(Op::Put(3, 3)), Ok(Told::Replied(None))),
-        (0, Call::Op(Op::Put(4, 4)), Ok(Told::Replied(None))),
-        (0, Call::Op(Op::Put(5, 5)), Ok(Told::Replied(None))),
-        (0, Call::Help(3), Ok(Told::Done)),
-        (0, Call::Commit, Ok(Told::Committed(1, 1))),
+        (0, Call::Begin, End::Answered(Answer::Began(1))),
+        (0, Call::Op(Op::Put(1, 1)), DONE),
+        (0, Call::Op(Op::Put(2, 2)), DONE),
+        (0, Call::Op(Op::Put(3, 3)), DONE),
+        (0, Call::Op(Op::Put(4, 4)), DONE),
+        (0, Call::Op(Op::Put(5, 5)), DONE),
+        (0, Call::Help(3), End::Helped),
+        (0, Call::Commit, End::Answered(Answer::Committed(1))),
     ],
     size: 4,
     list: &[(4, 4), (2, 2), (1, 1), (5, 5), (3, 3)],
@@ -219,31 +232,15 @@ fn help_grows(rt: HostRuntime) -> Result<(), Fail> {
 
 static KEYS_OF_64_BITS: Worked = Worked {
     rows: &[
-        (0, Call::Begin, Ok(Told::Number(1))),
-        (
-            0,
-            Call::Op(Op::Put(9_223_372_036_854_775_809, 11)),
-            Ok(Told::Replied(None)),
-        ),
-        (0, Call::Op(Op::Put(1, 10)), Ok(Told::Replied(None))),
-        (
-            0,
-            Call::Op(Op::PutIf(1, None, 12)),
-            Ok(Told::Replied(Some(10))),
-        ),
-        (
-            0,
-            Call::Op(Op::PutIf(1, Some(10), 12)),
-            Ok(Told::Replied(Some(10))),
-        ),
-        (0, Call::Op(Op::PutIf(2, None, 20)), Ok(Told::Replied(None))),
-        (
-            0,
-            Call::Op(Op::PutIf(3, Some(5), 6)),
-            Ok(Told::Replied(None)),
-        ),
-        (0, Call::Op(Op::Put(u64::MAX, 7)), Ok(Told::Replied(None))),
-        (0, Call::Commit, Ok(Told::Committed(1, 1))),
+        (0, Call::Begin, End::Answered(Answer::Began(1))),
+        (0, Call::Op(Op::Put(9_223_372_036_854_775_809, 11)), DONE),
+        (0, Call::Op(Op::Put(1, 10)), DONE),
+        (0, Call::Op(Op::PutIf(1, None, 12)), HAD),
+        (0, Call::Op(Op::PutIf(1, Some(10), 12)), HAD),
+        (0, Call::Op(Op::PutIf(2, None, 20)), DONE),
+        (0, Call::Op(Op::PutIf(3, Some(5), 6)), DONE),
+        (0, Call::Op(Op::Put(u64::MAX, 7)), DONE),
+        (0, Call::Commit, End::Answered(Answer::Committed(1))),
     ],
     size: 2,
     list: &[
@@ -259,38 +256,4 @@ static KEYS_OF_64_BITS: Worked = Worked {
 #[test]
 fn keys_of_64_bits(rt: HostRuntime) -> Result<(), Fail> {
     play_with(&rt, rt.alloc(), 2, &KEYS_OF_64_BITS)
-}
-
-static RIGHTS_COME_BACK: Worked = Worked {
-    rows: &[
-        (0, Call::Begin, Ok(Told::Number(1))),
-        (0, Call::Op(Op::Put(1, 10)), Ok(Told::Replied(None))),
-        (0, Call::Save, Ok(Told::Number(1))),
-        (0, Call::Op(Op::Put(9, 90)), Ok(Told::Replied(None))),
-        (0, Call::Back(1), Ok(Told::Done)),
-        (1, Call::Begin, Ok(Told::Number(2))),
-        (1, Call::Op(Op::Put(2, 20)), Ok(Told::Replied(None))),
-        (1, Call::Op(Op::Get(17)), Err(Stop::Busy { holder: 0 })),
-        (0, Call::Op(Op::Put(2, 21)), Ok(Told::Replied(None))),
-        (0, Call::Abort, Ok(Told::Done)),
-        (1, Call::Begin, Ok(Told::Number(3))),
-        (1, Call::Op(Op::Put(9, 91)), Ok(Told::Replied(None))),
-        (0, Call::Begin, Ok(Told::Number(4))),
-        (0, Call::Op(Op::Get(1)), Err(Stop::Busy { holder: 1 })),
-        (1, Call::Commit, Ok(Told::Committed(3, 1))),
-        (0, Call::Begin, Ok(Told::Number(5))),
-        (0, Call::Op(Op::Get(9)), Ok(Told::Replied(Some(91)))),
-        (0, Call::Commit, Ok(Told::Committed(5, 2))),
-    ],
-    size: 2,
-    list: &[(9, 91)],
-    seeks: &[],
-};
-
-/// A transaction gives its rights to stripes back at its end and not before. Keys 1, 9 and 17 have
-/// the same stripe. Caller 0 sets a savepoint and returns to it, and then still has its right. An
-/// abort, a commit and a busy call each give back all rights of the caller.
-#[test]
-fn rights_come_back(rt: HostRuntime) -> Result<(), Fail> {
-    play_with(&rt, rt.alloc(), 2, &RIGHTS_COME_BACK)
 }

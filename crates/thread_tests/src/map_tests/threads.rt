@@ -4,12 +4,12 @@
 //! depends on the threads. The checker then only judges it.
 ghost use Rattle.std.specs.Prelude.{◌≡◌};
 
-use super::rows::play_row;
+use super::rows::{DONE, play_row};
 use crate::devices::{
-    Shared, Told, callers_in, closed_of, has_seen, is_history, is_settled, make, number_of, open,
+    Shared, callers_in, closed_of, has_seen, is_history, is_settled, number_of, open, run,
 };
-use boost_core::Call;
-use locked_map::{Caller, Closed, NoSide, Stop};
+use boost_core::{Call, End};
+use locked_map::{Caller, Closed, NoSide};
 use std::alloc::Global;
 use std::marker::Brand;
 use std::process::Abort;
@@ -18,7 +18,7 @@ use std::sync::ledger::{Blank, Ledger};
 use std::test::Fail;
 use std::thread;
 use std::thread::Threads;
-use txn_words::{Entry, Limits, Op};
+use txn_words::{Answer, Entry, Limits, Op};
 
 /// The work of a map's callers in their threads.
 #[derive(Clone, Copy)]
@@ -31,36 +31,36 @@ enum Plan {
 }
 
 /// The calls of `two_threads_in_turn`: those of caller 0, then those of caller 1.
-static TWO_IN_TURN: [[(Call, Told); 3]; 2] = [
+static TWO_IN_TURN: [[(Call, End); 3]; 2] = [
     [
-        (Call::Begin, Told::Number(1)),
-        (Call::Op(Op::Put(6, 60)), Told::Replied(None)),
-        (Call::Commit, Told::Committed(1, 1)),
+        (Call::Begin, End::Answered(Answer::Began(1))),
+        (Call::Op(Op::Put(6, 60)), DONE),
+        (Call::Commit, End::Answered(Answer::Committed(1))),
     ],
     [
-        (Call::Begin, Told::Number(2)),
-        (Call::Op(Op::Get(6)), Told::Replied(Some(60))),
-        (Call::Commit, Told::Committed(2, 2)),
+        (Call::Begin, End::Answered(Answer::Began(2))),
+        (Call::Op(Op::Get(6)), End::Answered(Answer::Done(Some(60)))),
+        (Call::Commit, End::Answered(Answer::Committed(2))),
     ],
 ];
 
 /// The calls of the caller with this number.
-fn calls_of(number: u64) -> &'static [(Call, Told)] {
+fn calls_of(number: u64) -> &'static [(Call, End)] {
     match number {
         0 => &TWO_IN_TURN[0],
         _ => &TWO_IN_TURN[1],
     }
 }
 
-/// Makes these calls. Each must get its answer.
+/// Makes these calls. Each must have its end.
 fn play_own<L: Ledger, R: Wait + Abort>(
     rt: &R,
     shared: &Shared<L>,
     me: &mut Caller<L, NoSide>,
-    calls: &[(Call, Told)],
+    calls: &[(Call, End)],
 ) {
     for &(call, wanted) in calls {
-        play_row(rt, shared, me, call, Ok(wanted));
+        play_row(rt, shared, me, call, wanted);
     }
 }
 
@@ -108,6 +108,19 @@ impl Dice {
     }
 }
 
+/// Makes a call. `Err` has the end of a call that was refused or busy.
+fn make<L: Ledger, R: Wait>(
+    rt: &R,
+    shared: &Shared<L>,
+    me: &mut Caller<L, NoSide>,
+    call: Call,
+) -> Result<End, End> {
+    match run(rt, shared, me, call) {
+        end @ (End::Busy(_) | End::Refused(_)) => Err(end),
+        end => Ok(end),
+    }
+}
+
 /// Runs one transaction, in which no call may be refused. The transaction ends with a commit, with
 /// an abort, or with a call that finds its stripe held.
 fn transact<L: Ledger, R: Wait>(
@@ -115,7 +128,7 @@ fn transact<L: Ledger, R: Wait>(
     shared: &Shared<L>,
     me: &mut Caller<L, NoSide>,
     dice: &mut Dice,
-) -> Result<Told, Stop> {
+) -> Result<End, End> {
     make(rt, shared, me, Call::Begin)?;
     for _ in 0..dice.roll(6) {
         make(rt, shared, me, dice.call())?;
@@ -140,11 +153,8 @@ fn work<L: Ledger, R: Wait + Abort>(
 ) {
     let mut dice = Dice { state: seed };
     for _ in 0..4 {
-        let stopped = transact(rt, shared, me, &mut dice);
-        assert!(rt;
-            matches!(stopped, Ok(_) | Err(Stop::Busy { .. })),
-            "{stopped:?}"
-        );
+        let end = transact(rt, shared, me, &mut dice);
+        assert!(rt; matches!(end, Ok(_) | Err(End::Busy(_))), "{end:?}");
     }
 }
 
