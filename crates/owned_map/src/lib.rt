@@ -25,9 +25,9 @@
 //! Cost: that of the core. After an operation on an absent key the table grows by at most one
 //! bucket, in at most four steps. If their memory is refused, no bucket is initialised.
 //!
-//! Only tested (`core_tests`, `striped_tests`): with enough memory no call fails, with the least and greatest
-//! keys and values, 64 callers, 4,096 stripes, 65,536 buckets and 1,000 savepoints; and the table
-//! grows as far as it should. No contract says when.
+//! Only tested (`core_tests`, `striped_tests`): with enough memory no call fails, with the least
+//! and greatest keys and values, 64 callers, 4,096 stripes, 65,536 buckets and 1,000 savepoints;
+//! and the table grows as far as it should. No contract says when.
 #![tactic(auto)]
 
 mod owned_map;
