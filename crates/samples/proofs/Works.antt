@@ -1,5 +1,5 @@
 -- The sums of two accounts after a transfer, and the map after a transfer's entries are run alone.
-use Rattle.std.proofs.Common.{◌≡◌, ◌≢◌, ℕ, ◌+◌, cond, Some, sym, ap, subst, ◌∙◌, arith, ◌-◌, Bool, true, false, List, [], ◌∷◌, ◌++◌, Option}
+use Rattle.std.proofs.Common.{◌≡◌, ◌≢◌, ℕ, ◌+◌, cond, Some, sym, ap, subst, ◌∙◌, arith, Bool, true, false, List, [], ◌∷◌, ◌++◌, Option}
 use Rattle.std.proofs.Common.{None, IsSome, refl, unwrap_or}
 use Rattle.std.specs.Prelude.{unwrap_or, Result, Ok, Err, IfOk, OnOk, nat_eq}
 use Rattle.samples.specs.Vocabulary.{Map, get, insert, AloneRun, Asked, Began, Committed, Did, Entry, Get, Op, Put, act, alone, fold}
