@@ -3,10 +3,7 @@
 -- owns before and after. Only `MakesMap` gives a map to a handle that has none. For every other call
 -- on such a handle the status says that the handle is empty.
 use Rattle.std.specs.Prelude.{◌≡◌, ℕ, ◌/◌, ◌&&◌, not, nat_eq, nat_lt, Bool, true, false, length, Option, Some, None, Result, Ok, Err}
-use Rattle.txn_words.specs.declared.answer.Answer.{Answer}
 use Rattle.txn_words.specs.declared.answer.Answer.TheVariants as answers
-use Rattle.txn_words.specs.declared.op.Op.{Op}
-use Rattle.txn_words.specs.declared.step.Step.{Step}
 use Rattle.txn_words.specs.declared.step.Step.TheVariants as steps
 use Rattle.txn_words.specs.declared.refusal.Refusal.{Refusal}
 use Rattle.txn_words.specs.declared.refusal.Refusal.TheVariants.{NoMemory}
@@ -16,22 +13,16 @@ use Rattle.txn_trace.specs.Now.{now}
 use Rattle.txn_words.specs.declared.stop.Stop.{Stop}
 use Rattle.boost_core.specs.Machine.{State, Happens, start}
 use Rattle.boost_core.specs.Plain as plain
-use Rattle.owned_map.specs.Effects.{HasOperated, IsStopped}
+use Rattle.owned_map.specs.Effects.{IsStopped}
 use Rattle.owned_map.specs.Trimmed.{IsNotTrimmed, IsTrimmed}
 use Rattle.boostmap_c.specs.declared.held_map.HeldMap.{HeldMap}
 use Rattle.boostmap_c.specs.Replies.{done, empty_handle, full, refused, status_of_result}
 use Rattle.boostmap_c.specs.Stops.{status_of_reply, word_of_reply, status_of_number, word_of_number}
 
--- A caller takes this step. Either the core's answer tells a number, or the step is stopped.
-abbrev pub Takes : Step → (ℕ → Answer) → State → Result ℕ Stop → State → Type 0
-Takes step told old (Ok number) new = Happens old step (told number) new
-Takes step told old (Err stop) new = IsStopped old step stop new
-
--- A caller does an operation once, and the table may then grow by a bucket. Or the operation is
--- stopped.
-abbrev pub Operates : ℕ → Op → State → Result (Option ℕ) Stop → State → Type 0
-Operates c op old (Ok reply) new = HasOperated c op reply old new
-Operates c op old (Err stop) new = IsStopped old (steps.Ask c op) stop new
+-- A caller begins a transaction, or is stopped.
+abbrev pub Begins : ℕ → State → Result ℕ Stop → State → Type 0
+Begins c old (Ok txn) new = Happens old (steps.Begin c) (answers.Began txn) new
+Begins c old (Err stop) new = IsStopped old (steps.Begin c) stop new
 
 -- A caller takes back its changes above a level, or is stopped.
 abbrev pub Returns : ℕ → ℕ → State → Result ℕ Stop → State → Type 0

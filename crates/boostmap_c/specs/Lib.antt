@@ -9,12 +9,10 @@ pub mod Judges
 pub mod Contents
 pub mod Histories
 pub mod Stops
-pub mod Striped
 pub mod Counting
 pub mod Counted
 pub mod Members
 pub mod Keepers
 pub mod Options
-pub mod StripedContents
 pub mod StripedRuns
 pub mod AnyOrders

@@ -1,8 +1,9 @@
--- PROMISES from-c: Joins, MakesAnother
+-- PROMISES from-c: Tells, TellsPairs, Joins, MakesAnother
 -- The effect of a striped map's call on a handle, in terms of the member that the handle owns
 -- before and after. Only `Opens`, `Joins` and `MakesAnother` give a member to an empty handle. For
 -- every other call on an empty handle the status says that the handle is empty.
-use Rattle.std.specs.Prelude.{◌≡◌, ℕ, ◌&&◌, nat_eq, nat_le, is_some, Bool, true, [], ◌∷◌, ◌++◌, length, Option, Some, None, Result, if◌then◌else◌}
+use Rattle.std.specs.Prelude.{◌≡◌, ℕ, ◌&&◌, nat_eq, nat_le, is_some, Bool, true, List, [], ◌∷◌, ◌++◌, length, Option, Some, None, Result, Vec, if◌then◌else◌}
+use Rattle.std.specs.Global.{Global}
 use Rattle.txn_words.specs.declared.refusal.Refusal.{Refusal}
 use Rattle.txn_words.specs.declared.refusal.Refusal.TheVariants.{NoMemory, NoSuchCaller, Limit}
 use Rattle.striped_map.specs.declared.caller.Caller.{Caller}
@@ -10,49 +11,55 @@ use Rattle.txn_words.specs.declared.stop.Stop.{Stop}
 use Rattle.striped_map.specs.declared.host.Host.{Host}
 use Rattle.striped_map.specs.declared.keep.Keep.{Keep}
 use Rattle.striped_map.specs.declared.keep.Keep.TheVariants.{Nothing, Commits as KeepCommits, Entries as KeepEntries}
+use Rattle.striped_map.specs.Calls.{Aborts}
 use Rattle.striped_map.specs.Callers.{number, keeps, numbers_seen, IsAnother, IsMaker}
 use Rattle.striped_map.specs.Hosts.{IsOpened}
 use Rattle.striped_map.specs.Rule.{most}
 use Rattle.boostmap_c.specs.declared.counts.Counts.{Counts}
 use Rattle.boostmap_c.specs.declared.member.Group.{Group}
 use Rattle.boostmap_c.specs.declared.member.Member.{Member}
+use Rattle.boostmap_c.specs.declared.read.CPair.{CPair}
+use Rattle.boostmap_c.specs.Contents.{LaysAnswer}
 use Rattle.boostmap_c.specs.Counting.{committed, counted, goes_on, none_ended}
 use Rattle.boostmap_c.specs.Replies.{done, empty_handle, full, refused}
-use Rattle.boostmap_c.specs.Striped.{Aborts}
 use Rattle.boostmap_c.specs.Stops.{status_of_reply, word_of_reply, status_of_number, word_of_number, status_of_place, word_of_place, status_of_end}
 
--- The member's caller makes a call that returns a value or none. The status and the word report
--- the result to C. The group is unchanged.
+-- The member's caller makes a call. The status and the word report its answer to C, by `status_of`
+-- and `word_of`, and `ends` gives the counts after a call that was done. The group is unchanged.
+abbrev pub Tells : {A : Type 0} → (Result A Stop → ℕ) → (ℕ → Result A Stop → ℕ)
+    → (Counts → Counts) → (Caller → Result A Stop → Caller → Type 0) → Option Member → ℕ → ℕ → ℕ
+    → Option Member → Type 0
+Tells {A} status_of word_of ends Calls (Some old) status before after (Some new) =
+    (answer : Result A Stop) × Calls old.caller answer new.caller
+    × (new.group ≡ old.group) × (new.counts ≡ counted ends old.counts answer)
+    × (status ≡ status_of answer) × (after ≡ word_of before answer)
+Tells status_of word_of ends Calls None status before after None =
+    (status ≡ empty_handle) × (after ≡ before)
+Tells status_of word_of ends Calls old status before after new = ⊥
+
+-- The call returns a value or none, a number, or the place of a commit.
 abbrev pub TellsReply : (Caller → Result (Option ℕ) Stop → Caller → Type 0) → Option Member → ℕ → ℕ
     → ℕ → Option Member → Type 0
-TellsReply Calls (Some old) status before after (Some new) =
-    (answer : Result (Option ℕ) Stop) × Calls old.caller answer new.caller
-    × (new.group ≡ old.group) × (new.counts ≡ counted goes_on old.counts answer)
-    × (status ≡ status_of_reply answer) × (after ≡ word_of_reply before answer)
-TellsReply Calls None status before after None = (status ≡ empty_handle) × (after ≡ before)
-TellsReply Calls old status before after new = ⊥
+TellsReply Calls = Tells status_of_reply word_of_reply goes_on Calls
 
--- The member's caller makes a call that returns a number. The status and the word report the
--- result to C. The group is unchanged.
 abbrev pub TellsNumber : (Caller → Result ℕ Stop → Caller → Type 0) → Option Member → ℕ → ℕ → ℕ
     → Option Member → Type 0
-TellsNumber Calls (Some old) status before after (Some new) =
-    (answer : Result ℕ Stop) × Calls old.caller answer new.caller
-    × (new.group ≡ old.group) × (new.counts ≡ counted goes_on old.counts answer)
-    × (status ≡ status_of_number answer) × (after ≡ word_of_number before answer)
-TellsNumber Calls None status before after None = (status ≡ empty_handle) × (after ≡ before)
-TellsNumber Calls old status before after new = ⊥
+TellsNumber Calls = Tells status_of_number word_of_number goes_on Calls
 
--- The member's caller commits. The status and the word report the result to C. The group is
--- unchanged.
 abbrev pub TellsPlace : (Caller → Result (Option ℕ) Stop → Caller → Type 0) → Option Member → ℕ → ℕ
     → ℕ → Option Member → Type 0
-TellsPlace Calls (Some old) status before after (Some new) =
-    (answer : Result (Option ℕ) Stop) × Calls old.caller answer new.caller
-    × (new.group ≡ old.group) × (new.counts ≡ counted committed old.counts answer)
-    × (status ≡ status_of_place answer) × (after ≡ word_of_place before answer)
-TellsPlace Calls None status before after None = (status ≡ empty_handle) × (after ≡ before)
-TellsPlace Calls old status before after new = ⊥
+TellsPlace Calls = Tells status_of_place word_of_place committed Calls
+
+-- The call returns pairs of the map, which C gets in an array.
+abbrev pub TellsPairs : (Caller → Result (Vec (ℕ × ℕ) Global) Stop → Caller → Type 0)
+    → Option Member → ℕ → List CPair → List CPair → ℕ → ℕ → Option Member → Type 0
+TellsPairs Calls (Some old) status before after was word (Some new) =
+    (answer : Result (Vec (ℕ × ℕ) Global) Stop) × Calls old.caller answer new.caller
+    × (new.group ≡ old.group) × (new.counts ≡ counted goes_on old.counts answer)
+    × LaysAnswer answer status before after was word
+TellsPairs Calls None status before after was word None =
+    (status ≡ empty_handle) × (after ≡ before) × (word ≡ was)
+TellsPairs Calls old status before after was word new = ⊥
 
 -- The member's caller makes a call that returns no value. The status reports the result to C. The
 -- group is unchanged. `ends` gives the counts after a call that was done.

@@ -6,7 +6,6 @@ ghost use Rattle.boostmap_c.specs.Counted.{TellsCounts};
 use crate::member_handle::CallerHandle;
 use crate::status::{DONE, EMPTY};
 use striped_map::{RunEnd, Stop};
-use txn_trace::Reply;
 
 /// How many of a caller's transactions ended by a commit, by an abort, and by a busy answer, which
 /// aborts too. Each number is modulo 2^64.
@@ -41,26 +40,8 @@ impl Counts {
         }
     }
 
-    /// Counts the answer of an operation.
-    pub(crate) fn see_reply(&mut self, answer: &Result<Reply, Stop>)
-        ensures { self.new ≡ counted goes_on self.old answer.now }
-    {
-        if let Err(stop) = answer {
-            self.see_stop(stop);
-        }
-    }
-
-    /// Counts the answer of a call that takes every stripe, or of a savepoint.
-    pub(crate) fn see_number(&mut self, answer: &Result<u64, Stop>)
-        ensures { self.new ≡ counted goes_on self.old answer.now }
-    {
-        if let Err(stop) = answer {
-            self.see_stop(stop);
-        }
-    }
-
-    /// Counts the answer of a begin, or of the return to a level.
-    pub(crate) fn see_end(&mut self, answer: &Result<(), Stop>)
+    /// Counts the answer of a call that ends no transaction unless it is busy.
+    pub(crate) fn see<T>(&mut self, answer: &Result<T, Stop>)
         ensures { self.new ≡ counted goes_on self.old answer.now }
     {
         if let Err(stop) = answer {

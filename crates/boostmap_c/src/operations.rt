@@ -2,7 +2,8 @@
 //! be busy: each takes a stripe, which the transaction then holds until it ends. An operation that
 //! finds its key absent may add a bucket to the table, so a table grows with its keys.
 ghost use Rattle.std.specs.Prelude.{Some, None};
-ghost use Rattle.boostmap_c.specs.Calls.{Operates, TellsReply};
+ghost use Rattle.boostmap_c.specs.Calls.{TellsReply};
+ghost use Rattle.owned_map.specs.Effects.{DoesOp};
 
 use crate::handle::Handle;
 use crate::status::EMPTY;
@@ -37,7 +38,7 @@ pub extern "C" fn boostmap_put(
     value: u64,
     word: &mut u64,
 ) -> u32
-    ensures { TellsReply (Operates caller (Op.Put key value)) map.old.held.map result word.old word.new
+    ensures { TellsReply (DoesOp (Op.Put key value) caller) map.old.held.map result word.old word.new
         map.new.held.map }
 {
     if !map.is_live() {
@@ -66,7 +67,7 @@ pub extern "C" fn boostmap_put_if_absent(
     value: u64,
     word: &mut u64,
 ) -> u32
-    ensures { TellsReply (Operates caller (Op.PutIf key None value)) map.old.held.map result word.old word.new
+    ensures { TellsReply (DoesOp (Op.PutIf key None value) caller) map.old.held.map result word.old word.new
         map.new.held.map }
 {
     if !map.is_live() {
@@ -96,7 +97,7 @@ pub extern "C" fn boostmap_put_if_equal(
     value: u64,
     word: &mut u64,
 ) -> u32
-    ensures { TellsReply (Operates caller (Op.PutIf key (Some expected) value)) map.old.held.map result word.old word.new
+    ensures { TellsReply (DoesOp (Op.PutIf key (Some expected) value) caller) map.old.held.map result word.old word.new
         map.new.held.map }
 {
     if !map.is_live() {
@@ -120,7 +121,7 @@ pub extern "C" fn boostmap_put_if_equal(
 /// The cost of `boostmap_put`.
 #[unsafe(no_mangle)]
 pub extern "C" fn boostmap_take(map: &mut Handle, caller: u64, key: u64, word: &mut u64) -> u32
-    ensures { TellsReply (Operates caller (Op.Take key)) map.old.held.map result word.old word.new
+    ensures { TellsReply (DoesOp (Op.Take key) caller) map.old.held.map result word.old word.new
         map.new.held.map }
 {
     if !map.is_live() {
@@ -142,7 +143,7 @@ pub extern "C" fn boostmap_take(map: &mut Handle, caller: u64, key: u64, word: &
 /// The cost of `boostmap_put`, without the memory for a node.
 #[unsafe(no_mangle)]
 pub extern "C" fn boostmap_get(map: &mut Handle, caller: u64, key: u64, word: &mut u64) -> u32
-    ensures { TellsReply (Operates caller (Op.Get key)) map.old.held.map result word.old word.new
+    ensures { TellsReply (DoesOp (Op.Get key) caller) map.old.held.map result word.old word.new
         map.new.held.map }
 {
     if !map.is_live() {

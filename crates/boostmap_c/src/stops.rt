@@ -1,9 +1,11 @@
 //! Functions that report the result of a map's call to C: a status, and for some results a word. If
 //! a result has no word, C's word is unchanged.
 ghost use Rattle.std.specs.Prelude.{◌≡◌};
+ghost use Rattle.boostmap_c.specs.Contents.{LaysAnswer};
 ghost use Rattle.boostmap_c.specs.Keepers.{status_of_no_history, word_of_no_history};
 ghost use Rattle.boostmap_c.specs.Stops.{status_of_end, status_of_number, status_of_place, status_of_reply, status_of_run, status_of_stop, word_of_number, word_of_place, word_of_reply, word_of_run, word_of_stop};
 
+use crate::read::{CPair, lay_all};
 use crate::status::{ABSENT, BUSY, DONE, MISSED, MISSING, NOT_KEPT, refused};
 use striped_map::{NoHistory, RunEnd, Stop};
 use txn_trace::{Refusal, Reply};
@@ -77,6 +79,20 @@ pub(crate) fn tell_run(answer: Result<RunEnd, Stop>, word: &mut u64) -> u32
     match answer {
         Ok(RunEnd::Committed(found)) => tell_place(Ok(found), word),
         Ok(RunEnd::Missed) => MISSED,
+        Err(stop) => tell_stop(stop, word),
+    }
+}
+
+/// Writes the pairs and their number, or the holder, if there is one, and returns the status.
+pub(crate) fn tell_pairs(
+    answer: Result<Vec<(u64, u64)>, Stop>,
+    pairs: &mut [CPair],
+    word: &mut u64,
+) -> u32
+    ensures { LaysAnswer answer result pairs.old pairs.new word.old word.new }
+{
+    match answer {
+        Ok(listed) => lay_all(&listed, pairs, word),
         Err(stop) => tell_stop(stop, word),
     }
 }

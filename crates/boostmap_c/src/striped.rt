@@ -4,7 +4,7 @@
 //! for its member. Any caller can make another later.
 ghost use Rattle.std.specs.Prelude.{◌≡◌, ◌≤◌, ◌++◌, [], ◌∷◌, IfOk, IfErr, OnOk, OnErr, Some, true, false, length, nat_le, if◌then◌else◌};
 ghost use Rattle.txn_words.specs.declared.refusal.Refusal.TheVariants.{NoMemory, NoSuchCaller, Limit};
-ghost use Rattle.boostmap_c.specs.Striped.{Aborts};
+ghost use Rattle.striped_map.specs.Calls.{Aborts};
 ghost use Rattle.striped_map.specs.Hosts.{IsOpened};
 ghost use Rattle.boostmap_c.specs.Counting.{none_ended};
 ghost use Rattle.striped_map.specs.Callers.{IsAnother, IsMaker};

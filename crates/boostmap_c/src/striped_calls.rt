@@ -5,7 +5,7 @@
 ghost use Rattle.std.specs.Prelude.{Some, None};
 ghost use Rattle.boostmap_c.specs.Counting.{aborted, goes_on};
 ghost use Rattle.boostmap_c.specs.Members.{TellsEnd, TellsNumber, TellsPlace, TellsReply};
-ghost use Rattle.boostmap_c.specs.Striped.{Aborts, Begins, Commits, Operates, Returns, Saves};
+ghost use Rattle.striped_map.specs.Calls.{Aborts, Begins, Commits, GoesBack, Operates, Saves};
 
 use crate::member_handle::CallerHandle;
 use crate::status::EMPTY;
@@ -28,7 +28,7 @@ pub extern "C" fn boostmap_striped_begin(caller: &mut CallerHandle) -> u32
     }
     let member = caller.held.get_mut();
     let answer = member.caller.begin();
-    member.counts.see_end(&answer);
+    member.counts.see(&answer);
     tell_end(answer)
 }
 
@@ -58,7 +58,7 @@ pub extern "C" fn boostmap_striped_get(caller: &mut CallerHandle, key: u64, word
     }
     let member = caller.held.get_mut();
     let answer = member.caller.get(key);
-    member.counts.see_reply(&answer);
+    member.counts.see(&answer);
     tell_reply(answer, word)
 }
 
@@ -86,7 +86,7 @@ pub extern "C" fn boostmap_striped_put(
     }
     let member = caller.held.get_mut();
     let answer = member.caller.put(key, value);
-    member.counts.see_reply(&answer);
+    member.counts.see(&answer);
     tell_reply(answer, word)
 }
 
@@ -109,7 +109,7 @@ pub extern "C" fn boostmap_striped_take(caller: &mut CallerHandle, key: u64, wor
     }
     let member = caller.held.get_mut();
     let answer = member.caller.take(key);
-    member.counts.see_reply(&answer);
+    member.counts.see(&answer);
     tell_reply(answer, word)
 }
 
@@ -138,7 +138,7 @@ pub extern "C" fn boostmap_striped_put_if_absent(
     }
     let member = caller.held.get_mut();
     let answer = member.caller.put_if(key, None, value);
-    member.counts.see_reply(&answer);
+    member.counts.see(&answer);
     tell_reply(answer, word)
 }
 
@@ -168,7 +168,7 @@ pub extern "C" fn boostmap_striped_put_if_equal(
     }
     let member = caller.held.get_mut();
     let answer = member.caller.put_if(key, Some(expected), value);
-    member.counts.see_reply(&answer);
+    member.counts.see(&answer);
     tell_reply(answer, word)
 }
 
@@ -192,7 +192,7 @@ pub extern "C" fn boostmap_striped_save(caller: &mut CallerHandle, word: &mut u6
     }
     let member = caller.held.get_mut();
     let answer = member.caller.save();
-    member.counts.see_number(&answer);
+    member.counts.see(&answer);
     tell_number(answer, word)
 }
 
@@ -210,14 +210,14 @@ pub extern "C" fn boostmap_striped_save(caller: &mut CallerHandle, word: &mut u6
 /// A step for each change that is taken back; takes no memory.
 #[unsafe(no_mangle)]
 pub extern "C" fn boostmap_striped_back(caller: &mut CallerHandle, level: u64) -> u32
-    ensures { TellsEnd (Returns level) goes_on caller.old.held.member result caller.new.held.member }
+    ensures { TellsEnd (GoesBack level) goes_on caller.old.held.member result caller.new.held.member }
 {
     if !caller.is_live() {
         return EMPTY;
     }
     let member = caller.held.get_mut();
     let answer = member.caller.back(level);
-    member.counts.see_end(&answer);
+    member.counts.see(&answer);
     tell_end(answer)
 }
 

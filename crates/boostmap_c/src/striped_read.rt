@@ -2,13 +2,13 @@
 //! stripe. This takes time in proportion to the stripes. The read also walks over each stripe's
 //! hash map, and sorts the pairs. After such a call that returns 0 or 7, the transaction holds every
 //! stripe. Until this transaction ends, no operation of another caller succeeds.
-ghost use Rattle.boostmap_c.specs.Members.{TellsNumber};
-ghost use Rattle.boostmap_c.specs.StripedContents.{Counts, ReadsMap, ReadsStripe};
+ghost use Rattle.boostmap_c.specs.Members.{TellsNumber, TellsPairs};
+ghost use Rattle.striped_map.specs.Calls.{Counts, ReadsAll, ReadsStripe};
 
 use crate::member_handle::CallerHandle;
-use crate::read::{CPair, lay_all};
+use crate::read::CPair;
 use crate::status::EMPTY;
-use crate::stops::{tell_number, tell_stop};
+use crate::stops::{tell_number, tell_pairs};
 
 /// Takes every stripe. The word is the number of keys of the map, including the transaction's own
 /// changes. The stripes stay held until the transaction ends.
@@ -37,7 +37,7 @@ pub extern "C" fn boostmap_striped_count(caller: &mut CallerHandle, word: &mut u
     }
     let member = caller.held.get_mut();
     let answer = member.caller.len();
-    member.counts.see_number(&answer);
+    member.counts.see(&answer);
     tell_number(answer, word)
 }
 
@@ -59,7 +59,7 @@ pub extern "C" fn boostmap_striped_read(
     pairs: &mut [CPair],
     word: &mut u64,
 ) -> u32
-    ensures { ReadsMap caller.old.held.member result pairs.old pairs.new word.old word.new
+    ensures { TellsPairs ReadsAll caller.old.held.member result pairs.old pairs.new word.old word.new
         caller.new.held.member }
 {
     if !caller.is_live() {
@@ -67,13 +67,8 @@ pub extern "C" fn boostmap_striped_read(
     }
     let member = caller.held.get_mut();
     let answer = member.caller.pairs();
-    match answer {
-        Ok(listed) => lay_all(&listed, pairs, word),
-        Err(stop) => {
-            member.counts.see_stop(&stop);
-            tell_stop(stop, word)
-        }
-    }
+    member.counts.see(&answer);
+    tell_pairs(answer, pairs, word)
 }
 
 /// Takes the stripe of a key, and writes the pairs of the map whose keys are in this stripe,
@@ -98,7 +93,7 @@ pub extern "C" fn boostmap_striped_read_stripe(
     pairs: &mut [CPair],
     word: &mut u64,
 ) -> u32
-    ensures { ReadsStripe key caller.old.held.member result pairs.old pairs.new word.old word.new
+    ensures { TellsPairs (ReadsStripe key) caller.old.held.member result pairs.old pairs.new word.old word.new
         caller.new.held.member }
 {
     if !caller.is_live() {
@@ -106,11 +101,6 @@ pub extern "C" fn boostmap_striped_read_stripe(
     }
     let member = caller.held.get_mut();
     let answer = member.caller.pairs_with(key);
-    match answer {
-        Ok(listed) => lay_all(&listed, pairs, word),
-        Err(stop) => {
-            member.counts.see_stop(&stop);
-            tell_stop(stop, word)
-        }
-    }
+    member.counts.see(&answer);
+    tell_pairs(answer, pairs, word)
 }

@@ -3,13 +3,13 @@
 //! are never refused with `NoMemory`. So a transaction can be ended even while other calls are
 //! refused memory.
 ghost use Rattle.std.specs.Prelude.{◌≡◌};
-ghost use Rattle.boostmap_c.specs.Calls.{Aborts, Commits, Returns, Takes, TellsEnd, TellsNumber};
+ghost use Rattle.boostmap_c.specs.Calls.{Aborts, Begins, Commits, Returns, TellsEnd, TellsNumber};
+ghost use Rattle.owned_map.specs.Effects.{DoesSave};
 
 use crate::handle::Handle;
 use crate::status::{EMPTY, status_of};
 use crate::stops::tell_number;
 use std::alloc::Global;
-use txn_trace::{Answer, Step};
 
 /// Begins a transaction. The word is the transaction's number, counted from 1.
 ///
@@ -28,7 +28,7 @@ use txn_trace::{Answer, Step};
 /// Amortized constant time; may take memory for the history.
 #[unsafe(no_mangle)]
 pub extern "C" fn boostmap_begin(map: &mut Handle, caller: u64, word: &mut u64) -> u32
-    ensures { TellsNumber (λ bound. Takes (Step.Begin caller) Answer.Began) map.old.held.map
+    ensures { TellsNumber (λ bound. Begins caller) map.old.held.map
         result word.old word.new map.new.held.map }
 {
     if !map.is_live() {
@@ -56,7 +56,7 @@ pub extern "C" fn boostmap_begin(map: &mut Handle, caller: u64, word: &mut u64) 
 /// Amortized constant time; may take memory for the history and the level.
 #[unsafe(no_mangle)]
 pub extern "C" fn boostmap_save(map: &mut Handle, caller: u64, word: &mut u64) -> u32
-    ensures { TellsNumber (λ bound. Takes (Step.Save caller) Answer.Saved) map.old.held.map
+    ensures { TellsNumber (λ bound. DoesSave caller) map.old.held.map
         result word.old word.new map.new.held.map }
 {
     if !map.is_live() {

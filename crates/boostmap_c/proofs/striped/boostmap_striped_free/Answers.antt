@@ -1,7 +1,7 @@
 use Rattle.std.proofs.Common.{Option, refl, sym, subst}
 use Rattle.boostmap_c.specs.declared.member.Member.{Member}
 use Rattle.boostmap_c.specs.Members.{LeavesMap}
-use Rattle.boostmap_c.specs.Striped.{Aborts}
+use Rattle.striped_map.specs.Calls.{Aborts}
 use Rattle.boostmap_c.proofs.striped.boostmap_striped_free.Goals as goal
 
 pub returns-in-Some : goal.returns-in-Some
