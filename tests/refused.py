@@ -48,6 +48,7 @@ core_tests cores::refused::five_callers_undone
 core_tests cores::refused::segments
 core_tests owned::the_table_grows_by_itself
 core_tests owned::a_history_is_cut_off
+core_tests owned::a_savepoint_is_gone_back_to
 core_tests histories::fed_entry_by_entry
 core_tests histories::fed_with_savepoints
 thread_tests map_tests::refused::refused_memory_between_callers

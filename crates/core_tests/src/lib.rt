@@ -15,13 +15,9 @@ mod drives;
 #[cfg(test)]
 mod histories;
 #[cfg(test)]
-mod lines;
-#[cfg(test)]
 mod outcomes;
 #[cfg(test)]
 mod owned;
-#[cfg(test)]
-mod owned_limits;
 #[cfg(test)]
 mod texts;
 #[cfg(test)]

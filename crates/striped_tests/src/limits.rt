@@ -1,5 +1,5 @@
 //! Tests at the limits of the map: stripes, callers, keys, values, savepoints and changes. They
-//! also test the order of the pairs. Most rows are made by loops, up to a hundred thousand of them.
+//! also test the order of the pairs. `other_maps` plays some of the rows on other maps. Most rows are made by loops, up to a hundred thousand of them.
 //! By the contracts, any call may be refused memory. Here a call is refused only if its row says
 //! so.
 use crate::calls::{Home, has_left, leaves, open, play, play_to_the_end};
@@ -78,17 +78,18 @@ fn each_operation(key: u64) -> [Row; 11] {
     ]
 }
 
-/// Does each operation on each of these keys, in one transaction.
-fn play_keys<R: Abort>(rt: &R, home: &mut Home, keys: &[u64]) {
-    play(rt, home, &[(0, Ask::Begin, Told::Done)]);
+/// Does each operation on each of these keys, in one transaction. At the end each of them must have
+/// the value 0.
+pub(crate) fn play_keys<R: Abort, M: Map>(rt: &R, map: &mut M, keys: &[u64]) {
+    play_run(rt, map, "begin", &[(0, Ask::Begin, Told::Done)]);
     for key in keys {
-        play(rt, home, &each_operation(*key));
+        play_run(rt, map, "each operation", &each_operation(*key));
     }
-    play(rt, home, &[(0, Ask::Commit, Told::Number(1))]);
+    play_run(rt, map, "commit", &[(0, Ask::Commit, Told::Number(1))]);
 }
 
 /// The keys 0, 2^63 and 2^64 - 1, with their neighbours.
-const WIDEST: [u64; 7] = [
+pub(crate) const WIDEST: [u64; 7] = [
     0,
     1,
     9_223_372_036_854_775_807,
@@ -98,9 +99,9 @@ const WIDEST: [u64; 7] = [
     18_446_744_073_709_551_615,
 ];
 
-/// Does each operation on each of the widest keys. At the end each of them must have the value 0.
+/// Does each operation on each of the widest keys.
 fn play_widest<R: Abort>(rt: &R, home: &mut Home) {
-    play_keys(rt, home, WIDEST.as_slice());
+    play_keys(rt, home, &WIDEST);
     leaves(rt, home, &WIDEST.map(|key| (key, 0)));
 }
 

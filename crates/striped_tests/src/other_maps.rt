@@ -2,9 +2,9 @@
 //! are played, and the map is dropped, in one function: the drop of a core is slow to prove.
 ghost use Rattle.std.specs.Prelude.{◌≡◌};
 
-use crate::limits::play_savepoints;
+use crate::limits::{WIDEST, play_keys, play_savepoints};
 use crate::runs::WORKED;
-use crate::worked::{CALLERS, Map, NO_CALLER, Run, STRIPES, Told, play_run};
+use crate::worked::{Ask, CALLERS, Map, NO_CALLER, Row, Run, STRIPES, Told, play_run};
 use locked_map::{Caller, NoSide, SharedMap};
 use owned_map::OwnedMap;
 use std::alloc::Global;
@@ -13,7 +13,7 @@ use std::process::Abort;
 use std::sync::Wait;
 use std::sync::ledger::{Blank, Ledger};
 use std::test::Fail;
-use txn_words::{Limits, Op, Stop};
+use txn_words::{Limits, Op, Refusal, Stop};
 
 /// A map with one owner, who makes each call for a caller with a number.
 #[derive(Drop)]
@@ -63,28 +63,74 @@ fn limits<R: Abort>(rt: &R) -> Limits
     Limits::new(CALLERS as u64, STRIPES as u64, 8).expect(rt, "limits in range")
 }
 
-/// Plays a run on a new map with one owner, or sets a thousand savepoints if there is no run.
-fn play_owned<R: Abort>(rt: &R, alloc: Global, limits: Limits, run: Option<Run>) {
+/// The answer to an operation on a key of 2^63 or more, if the map takes only keys below 2^63.
+const BAD: Told = Told::Refused(Refusal::BadKey);
+
+/// Rows with operations on a key that is refused.
+fn each_refused(key: u64) -> [Row; 5] {
+    [
+        (0, Ask::Do(Op::Get(key)), BAD),
+        (0, Ask::Do(Op::Put(key, 0)), BAD),
+        (0, Ask::Do(Op::Take(key)), BAD),
+        (0, Ask::Do(Op::PutIf(key, None, 0)), BAD),
+        (0, Ask::Do(Op::PutIf(key, Some(0), 1)), BAD),
+    ]
+}
+
+/// Does each operation on the least and the greatest key below 2^63, and on keys from 2^63 on.
+fn play_half_keys<R: Abort>(rt: &R, owned: &mut Owned) {
+    let half = 9_223_372_036_854_775_808;
+    play_keys(rt, owned, &[0, half - 1]);
+    play_run(rt, owned, "begin", &[(0, Ask::Begin, Told::Done)]);
+    for key in [half, u64::MAX] {
+        play_run(rt, owned, "a key that is refused", &each_refused(key));
+    }
+    play_run(rt, owned, "commit", &[(0, Ask::Commit, Told::Number(2))]);
+}
+
+/// What is played on a map with one owner.
+#[derive(Clone, Copy)]
+enum Played {
+    Worked(Run),
+    Savepoints,
+    Widest,
+    HalfKeys,
+}
+
+/// Plays rows on a new map with one owner. Returns the number of its keys.
+fn play_owned<R: Abort>(rt: &R, alloc: Global, limits: Limits, played: Played) -> u64 {
     let map = OwnedMap::new(alloc, limits).expect(rt, "a map");
     let mut owned = Owned { map };
-    match run {
-        Some((name, rows)) => play_run(rt, &mut owned, name, rows),
-        None => play_savepoints(rt, &mut owned),
+    match played {
+        Played::Worked((name, rows)) => play_run(rt, &mut owned, name, rows),
+        Played::Savepoints => play_savepoints(rt, &mut owned),
+        Played::Widest => play_keys(rt, &mut owned, &WIDEST),
+        Played::HalfKeys => play_half_keys(rt, &mut owned),
     }
+    owned.map.len()
 }
 
 #[test]
 fn the_map_with_one_owner_passes_every_run(rt: HostRuntime) {
     for run in &WORKED {
-        play_owned(&rt, rt.alloc(), limits(&rt), Some(*run));
+        play_owned(&rt, rt.alloc(), limits(&rt), Played::Worked(*run));
     }
 }
 
 #[test]
 fn the_map_with_one_owner_sets_a_thousand_savepoints(rt: HostRuntime) -> Result<(), Fail> {
     for limits in [Limits::new(1, 1, 2)?, Limits::new(64, 4096, 65536)?] {
-        play_owned(&rt, rt.alloc(), limits, None);
+        play_owned(&rt, rt.alloc(), limits, Played::Savepoints);
     }
+    Ok(())
+}
+
+#[test]
+fn the_map_with_one_owner_takes_every_key_or_only_half_keys(rt: HostRuntime) -> Result<(), Fail> {
+    let limits = Limits::new(64, 4096, 65536)?;
+    assert_eq!(rt; play_owned(&rt, rt.alloc(), limits, Played::Widest), 7);
+    let limits = Limits::new(2, 8, 64)?.half_keys();
+    assert_eq!(rt; play_owned(&rt, rt.alloc(), limits, Played::HalfKeys), 2);
     Ok(())
 }
 
