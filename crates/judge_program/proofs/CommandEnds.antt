@@ -21,6 +21,8 @@ use Rattle.judge_engine.specs.Watching.{FailsToWatch, Watches}
 use Rattle.judge_engine.specs.Whys.{IsExplained, LeavesExplanation, WritesExplanation}
 use Rattle.judge_program.specs.declared.failure.Failure.{Failure}
 use Rattle.judge_program.specs.declared.failure.Failure.TheVariants.{Fault, Outcomes}
+use Rattle.judge_program.specs.declared.words.Order.{Order}
+use Rattle.judge_program.specs.declared.words.Order.TheVariants.{Given, Any}
 use Rattle.judge_program.specs.Words as asked
 use Rattle.judge_program.specs.Runs.{ByFault, ByWell, Fulfils, EndsWith, Files, LeavesBoth, RunResult}
 use Rattle.judge_program.proofs.Sources.{Holds, of_file, of_all, writes_line, writes_explanation, leaves, leaves_explanation, fails_to_check, fails_to_watch, writes_outcomes, leaves_outcomes}
@@ -46,73 +48,67 @@ not_opened IsDone P (Ok answer) failure memory read which err = absurd err
 not_opened IsDone P (Err e) failure memory read (inl is) err = subst (ByFault P) (sym (err ∙ is)) memory
 not_opened IsDone P (Err e) failure memory read (inr is) err = subst (ByFault P) (sym (err ∙ is)) read
 
+pub check_not_opened : (order : Order) (shows : Bool) (name : Text) (files : Files) (old : Option (List ℕ)) (outcome : RunResult) (failure : Failure) → (failure ≡ Fault faults.NoMemory) ⊎ (failure ≡ Fault faults.Read)
+    → IsErrAnd outcome (λ e. e ≡ failure) → Fulfils (asked.Check order shows name) files old old outcome
+check_not_opened (Given by_commits) shows name files old outcome failure =
+    not_opened (ByWell (λ well. WritesLine (Checks by_commits (files name)) well old old)) (LeavesOutput (Checks by_commits (files name)) (FailsToCheck (files name)) old old) outcome failure (keeps_same old) (keeps_same old)
+check_not_opened (Any real_time most) shows name files old outcome failure =
+    not_opened (λ answer. WritesAnswer real_time (order_text real_time shows) (files name) answer old old) (LeavesText (IsAnswerText real_time (order_text real_time shows) (files name)) (FailsToCheck (files name)) old old) outcome failure (keeps_same old) (keeps_same old)
+
+pub why_not_opened : (order : Order) (as_graph : Bool) (name : Text) (files : Files) (old : Option (List ℕ)) (outcome : RunResult) (failure : Failure) → (failure ≡ Fault faults.NoMemory) ⊎ (failure ≡ Fault faults.Read)
+    → IsErrAnd outcome (λ e. e ≡ failure) → Fulfils (asked.Why order as_graph name) files old old outcome
+why_not_opened (Given by_commits) as_graph name files old outcome failure =
+    not_opened (ByWell (λ well. WritesExplanation by_commits (files name) well old old)) (LeavesExplanation (IsExplained by_commits) (files name) old old) outcome failure (keeps_same old) (keeps_same old)
+why_not_opened (Any real_time most) as_graph name files old outcome failure =
+    not_opened (λ answer. WritesAnswer real_time (text_or_graph real_time as_graph) (files name) answer old old) (LeavesExplanation (IsTextFor real_time (text_or_graph real_time as_graph)) (files name) old old) outcome failure (keeps_same old) (keeps_same old)
+
 -- If `check` has written the line of a verdict on the source with this name, `Fulfils` holds for
 -- this run.
-pub check_done : (by_commits : Bool) (name : Text) (files : Files) (bytes old new : Option (List ℕ)) (well : Bool) → Holds (files name) bytes → WritesLine (Checks by_commits bytes) well old new
-    → Fulfils (asked.Check by_commits name) files old new (Ok (answer_if well))
-check_done by_commits name files bytes old new well same wrote =
+pub check_done : (by_commits shows : Bool) (name : Text) (files : Files) (bytes old new : Option (List ℕ)) (well : Bool) → Holds (files name) bytes → WritesLine (Checks by_commits bytes) well old new
+    → Fulfils (asked.Check (Given by_commits) shows name) files old new (Ok (answer_if well))
+check_done by_commits shows name files bytes old new well same wrote =
     by_well (λ w. WritesLine (Checks by_commits (files name)) w old new) well (writes_line _ _ well old new (λ v. of_file (files name) bytes _ same) wrote)
 
-pub check_failed : (by_commits : Bool) (name : Text) (files : Files) (bytes old new : Option (List ℕ)) (outcome : RunResult) (fault : EngineFault) → Holds (files name) bytes
-    → LeavesOutput (Checks by_commits bytes) (FailsToCheck bytes) old new fault → IsErrAnd outcome (λ e. e ≡ Fault fault) → Fulfils (asked.Check by_commits name) files old new outcome
-check_failed by_commits name files bytes old new outcome fault same left =
+pub check_failed : (by_commits shows : Bool) (name : Text) (files : Files) (bytes old new : Option (List ℕ)) (outcome : RunResult) (fault : EngineFault) → Holds (files name) bytes
+    → LeavesOutput (Checks by_commits bytes) (FailsToCheck bytes) old new fault → IsErrAnd outcome (λ e. e ≡ Fault fault) → Fulfils (asked.Check (Given by_commits) shows name) files old new outcome
+check_failed by_commits shows name files bytes old new outcome fault same left =
     failed (ByWell (λ well. WritesLine (Checks by_commits (files name)) well old new)) (LeavesOutput (Checks by_commits (files name)) (FailsToCheck (files name)) old new) outcome fault
     (leaves (IsLineOf (Checks by_commits bytes)) (IsLineOf (Checks by_commits (files name))) (FailsToCheck bytes) _ old new fault (λ text (v, right, is). (v, of_file (files name) bytes _ same right, is)) (λ f. fails_to_check (files name) bytes f same) left)
-
-pub check_not_opened : (by_commits : Bool) (name : Text) (files : Files) (old : Option (List ℕ)) (outcome : RunResult) (failure : Failure) → (failure ≡ Fault faults.NoMemory) ⊎ (failure ≡ Fault faults.Read)
-    → IsErrAnd outcome (λ e. e ≡ failure) → Fulfils (asked.Check by_commits name) files old old outcome
-check_not_opened by_commits name files old outcome failure =
-    not_opened (ByWell (λ well. WritesLine (Checks by_commits (files name)) well old old)) (LeavesOutput (Checks by_commits (files name)) (FailsToCheck (files name)) old old) outcome failure (keeps_same old) (keeps_same old)
 
 -- If `check_serializable` has written its text for the source with this name, `Fulfils` holds for
 -- this run.
 pub order_done : (real_time : Bool) (most : ℕ) (shows : Bool) (name : Text) (files : Files) (bytes old new : Option (List ℕ)) (answer : Answer) → Holds (files name) bytes → WritesAnswer real_time (order_text real_time shows) bytes answer old new
-    → Fulfils (asked.CheckSerializable real_time most shows name) files old new (Ok answer)
+    → Fulfils (asked.Check (Any real_time most) shows name) files old new (Ok answer)
 order_done real_time most shows name files bytes old new answer same = of_file (files name) bytes _ same
 
 pub order_failed : (real_time : Bool) (most : ℕ) (shows : Bool) (name : Text) (files : Files) (bytes old new : Option (List ℕ)) (outcome : RunResult) (fault : EngineFault) → Holds (files name) bytes
-    → LeavesText (IsAnswerText real_time (order_text real_time shows) bytes) (FailsToCheck bytes) old new fault → IsErrAnd outcome (λ e. e ≡ Fault fault) → Fulfils (asked.CheckSerializable real_time most shows name) files old new outcome
+    → LeavesText (IsAnswerText real_time (order_text real_time shows) bytes) (FailsToCheck bytes) old new fault → IsErrAnd outcome (λ e. e ≡ Fault fault) → Fulfils (asked.Check (Any real_time most) shows name) files old new outcome
 order_failed real_time most shows name files bytes old new outcome fault same left =
     failed (λ answer. WritesAnswer real_time (order_text real_time shows) (files name) answer old new) (LeavesText (IsAnswerText real_time (order_text real_time shows) (files name)) (FailsToCheck (files name)) old new) outcome fault
     (leaves (IsAnswerText real_time (order_text real_time shows) bytes) (IsAnswerText real_time (order_text real_time shows) (files name)) (FailsToCheck bytes) _ old new fault (λ text. of_file (files name) bytes _ same) (λ f. fails_to_check (files name) bytes f same) left)
 
-pub order_not_opened : (real_time : Bool) (most : ℕ) (shows : Bool) (name : Text) (files : Files) (old : Option (List ℕ)) (outcome : RunResult) (failure : Failure) → (failure ≡ Fault faults.NoMemory) ⊎ (failure ≡ Fault faults.Read)
-    → IsErrAnd outcome (λ e. e ≡ failure) → Fulfils (asked.CheckSerializable real_time most shows name) files old old outcome
-order_not_opened real_time most shows name files old outcome failure =
-    not_opened (λ answer. WritesAnswer real_time (order_text real_time shows) (files name) answer old old) (LeavesText (IsAnswerText real_time (order_text real_time shows) (files name)) (FailsToCheck (files name)) old old) outcome failure (keeps_same old) (keeps_same old)
-
 -- If `why` has written an explanation of the source with this name, `Fulfils` holds for
 -- this run.
-pub why_done : (by_commits : Bool) (name : Text) (files : Files) (bytes old new : Option (List ℕ)) (well : Bool) → Holds (files name) bytes → WritesExplanation by_commits bytes well old new
-    → Fulfils (asked.Why by_commits name) files old new (Ok (answer_if well))
-why_done by_commits name files bytes old new well same wrote =
+pub why_done : (by_commits as_graph : Bool) (name : Text) (files : Files) (bytes old new : Option (List ℕ)) (well : Bool) → Holds (files name) bytes → WritesExplanation by_commits bytes well old new
+    → Fulfils (asked.Why (Given by_commits) as_graph name) files old new (Ok (answer_if well))
+why_done by_commits as_graph name files bytes old new well same wrote =
     by_well (λ w. WritesExplanation by_commits (files name) w old new) well (writes_explanation by_commits (files name) bytes old new well same wrote)
 
-pub why_failed : (by_commits : Bool) (name : Text) (files : Files) (bytes old new : Option (List ℕ)) (outcome : RunResult) (fault : EngineFault) → Holds (files name) bytes → LeavesExplanation (IsExplained by_commits) bytes old new fault
-    → IsErrAnd outcome (λ e. e ≡ Fault fault) → Fulfils (asked.Why by_commits name) files old new outcome
-why_failed by_commits name files bytes old new outcome fault same fails =
+pub why_failed : (by_commits as_graph : Bool) (name : Text) (files : Files) (bytes old new : Option (List ℕ)) (outcome : RunResult) (fault : EngineFault) → Holds (files name) bytes → LeavesExplanation (IsExplained by_commits) bytes old new fault
+    → IsErrAnd outcome (λ e. e ≡ Fault fault) → Fulfils (asked.Why (Given by_commits) as_graph name) files old new outcome
+why_failed by_commits as_graph name files bytes old new outcome fault same fails =
     failed (ByWell (λ well. WritesExplanation by_commits (files name) well old new)) (LeavesExplanation (IsExplained by_commits) (files name) old new) outcome fault (leaves_explanation (IsExplained by_commits) (files name) bytes old new fault same fails)
-
-pub why_not_opened : (by_commits : Bool) (name : Text) (files : Files) (old : Option (List ℕ)) (outcome : RunResult) (failure : Failure) → (failure ≡ Fault faults.NoMemory) ⊎ (failure ≡ Fault faults.Read)
-    → IsErrAnd outcome (λ e. e ≡ failure) → Fulfils (asked.Why by_commits name) files old old outcome
-why_not_opened by_commits name files old outcome failure =
-    not_opened (ByWell (λ well. WritesExplanation by_commits (files name) well old old)) (LeavesExplanation (IsExplained by_commits) (files name) old old) outcome failure (keeps_same old) (keeps_same old)
 
 -- If `why_serializable` has written its text for the source with this name, `Fulfils` holds for
 -- this run.
 pub reason_done : (real_time : Bool) (most : ℕ) (as_graph : Bool) (name : Text) (files : Files) (bytes old new : Option (List ℕ)) (answer : Answer) → Holds (files name) bytes → WritesAnswer real_time (text_or_graph real_time as_graph) bytes answer old new
-    → Fulfils (asked.WhySerializable real_time most as_graph name) files old new (Ok answer)
+    → Fulfils (asked.Why (Any real_time most) as_graph name) files old new (Ok answer)
 reason_done real_time most as_graph name files bytes old new answer same = of_file (files name) bytes _ same
 
 pub reason_failed : (real_time : Bool) (most : ℕ) (as_graph : Bool) (name : Text) (files : Files) (bytes old new : Option (List ℕ)) (outcome : RunResult) (fault : EngineFault) → Holds (files name) bytes → LeavesExplanation (IsTextFor real_time (text_or_graph real_time as_graph)) bytes old new fault
-    → IsErrAnd outcome (λ e. e ≡ Fault fault) → Fulfils (asked.WhySerializable real_time most as_graph name) files old new outcome
+    → IsErrAnd outcome (λ e. e ≡ Fault fault) → Fulfils (asked.Why (Any real_time most) as_graph name) files old new outcome
 reason_failed real_time most as_graph name files bytes old new outcome fault same fails =
     failed (λ answer. WritesAnswer real_time (text_or_graph real_time as_graph) (files name) answer old new) (LeavesExplanation (IsTextFor real_time (text_or_graph real_time as_graph)) (files name) old new) outcome fault (leaves_explanation (IsTextFor real_time (text_or_graph real_time as_graph)) (files name) bytes old new fault same fails)
-
-pub reason_not_opened : (real_time : Bool) (most : ℕ) (as_graph : Bool) (name : Text) (files : Files) (old : Option (List ℕ)) (outcome : RunResult) (failure : Failure) → (failure ≡ Fault faults.NoMemory) ⊎ (failure ≡ Fault faults.Read)
-    → IsErrAnd outcome (λ e. e ≡ failure) → Fulfils (asked.WhySerializable real_time most as_graph name) files old old outcome
-reason_not_opened real_time most as_graph name files old outcome failure =
-    not_opened (λ answer. WritesAnswer real_time (text_or_graph real_time as_graph) (files name) answer old old) (LeavesExplanation (IsTextFor real_time (text_or_graph real_time as_graph)) (files name) old old) outcome failure (keeps_same old) (keeps_same old)
 
 -- If `watch` has written the line of a verdict on the entries of standard input, `Fulfils` holds
 -- for this run.

@@ -6,28 +6,29 @@ use Rattle.clap.specs.Words.{Text}
 use Rattle.clap.proofs.OnLiterals.{clap_on_literals}
 use Rattle.txn_words.specs.declared.holder.Holder.TheVariants.{Begun}
 use Rattle.judge_engine.specs.declared.basis.Basis.TheVariants.{Locks, Commits}
-use Rattle.judge_program.specs.Words.{Spells, Check, CheckSerializable, Why, WhySerializable, Watch, Outcomes, Help, Version}
+use Rattle.judge_program.specs.declared.words.Order.TheVariants.{Given, Any}
+use Rattle.judge_program.specs.Words.{Spells, Check, Why, Watch, Outcomes, Help, Version}
 
 abbrev request : List Text → List Text
 request words = codes "judge" ∷ words
 
-check : Spells (request (codes "check" ∷ codes "a.json" ∷ [])) (Some (Check false (codes "a.json")))
+check : Spells (request (codes "check" ∷ codes "a.json" ∷ [])) (Some (Check (Given false) false (codes "a.json")))
 unfolding clap_on_literals
 check = refl
 
-check_by_commits : Spells (request (codes "check" ∷ codes "--commit-order" ∷ codes "a.json" ∷ [])) (Some (Check true (codes "a.json")))
+check_by_commits : Spells (request (codes "check" ∷ codes "--commit-order" ∷ codes "a.json" ∷ [])) (Some (Check (Given true) false (codes "a.json")))
 unfolding clap_on_literals
 check_by_commits = refl
 
-serializable : Spells (request (codes "check" ∷ codes "--serializable" ∷ codes "a.json" ∷ [])) (Some (CheckSerializable false 10000 false (codes "a.json")))
+serializable : Spells (request (codes "check" ∷ codes "--serializable" ∷ codes "a.json" ∷ [])) (Some (Check (Any false 10000) false (codes "a.json")))
 unfolding clap_on_literals
 serializable = refl
 
-show_order : Spells (request (codes "check" ∷ codes "--show-order" ∷ codes "a.json" ∷ codes "--serializable" ∷ [])) (Some (CheckSerializable false 10000 true (codes "a.json")))
+show_order : Spells (request (codes "check" ∷ codes "--show-order" ∷ codes "a.json" ∷ codes "--serializable" ∷ [])) (Some (Check (Any false 10000) true (codes "a.json")))
 unfolding clap_on_literals
 show_order = refl
 
-in_time : Spells (request (codes "check" ∷ codes "--real-time" ∷ codes "a.json" ∷ codes "--serializable" ∷ [])) (Some (CheckSerializable true 10000 false (codes "a.json")))
+in_time : Spells (request (codes "check" ∷ codes "--real-time" ∷ codes "a.json" ∷ codes "--serializable" ∷ [])) (Some (Check (Any true 10000) false (codes "a.json")))
 unfolding clap_on_literals
 in_time = refl
 
@@ -39,15 +40,15 @@ commits_in_time : Spells (request (codes "check" ∷ codes "--commit-order" ∷ 
 unfolding clap_on_literals
 commits_in_time = refl
 
-why_in_time : Spells (request (codes "why" ∷ codes "--serializable" ∷ codes "--real-time" ∷ codes "--dot" ∷ codes "a.json" ∷ [])) (Some (WhySerializable true 10000 true (codes "a.json")))
+why_in_time : Spells (request (codes "why" ∷ codes "--serializable" ∷ codes "--real-time" ∷ codes "--dot" ∷ codes "a.json" ∷ [])) (Some (Why (Any true 10000) true (codes "a.json")))
 unfolding clap_on_literals
 why_in_time = refl
 
-most_branches : Spells (request (codes "check" ∷ codes "--serializable" ∷ codes "--most-branches" ∷ codes "0" ∷ codes "a.json" ∷ [])) (Some (CheckSerializable false 0 false (codes "a.json")))
+most_branches : Spells (request (codes "check" ∷ codes "--serializable" ∷ codes "--most-branches" ∷ codes "0" ∷ codes "a.json" ∷ [])) (Some (Check (Any false 0) false (codes "a.json")))
 unfolding clap_on_literals
 most_branches = refl
 
-all_branches : Spells (request (codes "why" ∷ codes "--most-branches=18446744073709551615" ∷ codes "--serializable" ∷ codes "a.json" ∷ [])) (Some (WhySerializable false 18446744073709551615 false (codes "a.json")))
+all_branches : Spells (request (codes "why" ∷ codes "--most-branches=18446744073709551615" ∷ codes "--serializable" ∷ codes "a.json" ∷ [])) (Some (Why (Any false 18446744073709551615) false (codes "a.json")))
 unfolding clap_on_literals
 all_branches = refl
 
@@ -71,23 +72,23 @@ watched_in_any_order : Spells (request (codes "watch" ∷ codes "--serializable"
 unfolding clap_on_literals
 watched_in_any_order = (UnknownArgument, inl refl, refl)
 
-flag_behind : Spells (request (codes "check" ∷ codes "-" ∷ codes "--commit-order" ∷ [])) (Some (Check true (codes "-")))
+flag_behind : Spells (request (codes "check" ∷ codes "-" ∷ codes "--commit-order" ∷ [])) (Some (Check (Given true) false (codes "-")))
 unfolding clap_on_literals
 flag_behind = refl
 
-why : Spells (request (codes "why" ∷ codes "--" ∷ codes "-a" ∷ [])) (Some (Why false (codes "-a")))
+why : Spells (request (codes "why" ∷ codes "--" ∷ codes "-a" ∷ [])) (Some (Why (Given false) false (codes "-a")))
 unfolding clap_on_literals
 why = refl
 
-why_by_commits : Spells (request (codes "why" ∷ codes "--commit-order" ∷ codes "a.json" ∷ [])) (Some (Why true (codes "a.json")))
+why_by_commits : Spells (request (codes "why" ∷ codes "--commit-order" ∷ codes "a.json" ∷ [])) (Some (Why (Given true) false (codes "a.json")))
 unfolding clap_on_literals
 why_by_commits = refl
 
-why_serializable : Spells (request (codes "why" ∷ codes "--serializable" ∷ codes "a.json" ∷ [])) (Some (WhySerializable false 10000 false (codes "a.json")))
+why_serializable : Spells (request (codes "why" ∷ codes "--serializable" ∷ codes "a.json" ∷ [])) (Some (Why (Any false 10000) false (codes "a.json")))
 unfolding clap_on_literals
 why_serializable = refl
 
-graph : Spells (request (codes "why" ∷ codes "--dot" ∷ codes "a.json" ∷ codes "--serializable" ∷ [])) (Some (WhySerializable false 10000 true (codes "a.json")))
+graph : Spells (request (codes "why" ∷ codes "--dot" ∷ codes "a.json" ∷ codes "--serializable" ∷ [])) (Some (Why (Any false 10000) true (codes "a.json")))
 unfolding clap_on_literals
 graph = refl
 

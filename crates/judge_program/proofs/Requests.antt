@@ -4,7 +4,8 @@ use Rattle.std.specs.Prelude.{option_and_then, option_map}
 use Rattle.clap.specs.declared.parser.matches.Found.{Found}
 use Rattle.clap.specs.Words.{Text, first_of, first_value, rows_of}
 use Rattle.clap.proofs.WalkLemmas.{first_value-rows}
-use Rattle.judge_program.specs.Words.{Asked, Watch, asked_in, basis_for, check_for, is_set, outcomes_for, why_for}
+use Rattle.judge_program.specs.declared.words.Order.{Order}
+use Rattle.judge_program.specs.Words.{Asked, Check, Watch, Why, asked_in, basis_for, is_set, judging, outcomes_for}
 
 abbrev pub set_in : Text → Found → Bool
 set_in name found = is_set (first_of name (rows_of found))
@@ -12,21 +13,25 @@ set_in name found = is_set (first_of name (rows_of found))
 abbrev pub flag_in : Found → Bool
 flag_in found = set_in (codes "commit-order") found
 
+abbrev pub judged_in : (Order → Bool → Text → Asked) → Text → Found → Option Asked
+judged_in Judge extra found = option_and_then (judging Judge (flag_in found) (set_in (codes "serializable") found) (set_in (codes "real-time") found) (set_in extra found) (first_of (codes "most-branches") (rows_of found))) (first_of (codes "FILE") (rows_of found))
+
+judged : (Judge : Order → Bool → Text → Asked) (name : Text) (found : Found) (flag any time extra : Bool) (word file : Option Text) → flag ≡ flag_in found → any ≡ set_in (codes "serializable") found → time ≡ set_in (codes "real-time") found → extra ≡ set_in name found
+    → word ≡ first_value found (codes "most-branches") → file ≡ first_value found (codes "FILE") → option_and_then (judging Judge flag any time extra word) file ≡ judged_in Judge name found
+judged Judge name found flag any time extra word file set any_set time_set extra_set word_is is =
+    ap₂ (λ (b t : Bool). option_and_then (judging Judge b any t extra word) file) set time_set
+    ∙ ap₂ (λ (b e : Bool). option_and_then (judging Judge (flag_in found) b (set_in (codes "real-time") found) e word) file) any_set extra_set
+    ∙ ap₂ (λ (w f : Option Text). option_and_then (judging Judge (flag_in found) (set_in (codes "serializable") found) (set_in (codes "real-time") found) (set_in name found) w) f) (word_is ∙ first_value-rows found (codes "most-branches")) (is ∙ first_value-rows found (codes "FILE"))
+
 pub check_is : (name : Text) (found : Found) (flag any time shows : Bool) (word file : Option Text) → name ≡ codes "check" → flag ≡ flag_in found → any ≡ set_in (codes "serializable") found → time ≡ set_in (codes "real-time") found → shows ≡ set_in (codes "show-order") found
-    → word ≡ first_value found (codes "most-branches") → file ≡ first_value found (codes "FILE") → option_and_then (check_for flag any time shows word) file ≡ asked_in name (rows_of found)
+    → word ≡ first_value found (codes "most-branches") → file ≡ first_value found (codes "FILE") → option_and_then (judging Check flag any time shows word) file ≡ asked_in name (rows_of found)
 check_is name found flag any time shows word file named set any_set time_set shows_set word_is is =
-    ap₂ (λ (b t : Bool). option_and_then (check_for b any t shows word) file) set time_set
-    ∙ ap₂ (λ (b s : Bool). option_and_then (check_for (flag_in found) b (set_in (codes "real-time") found) s word) file) any_set shows_set
-    ∙ ap₂ (λ (w f : Option Text). option_and_then (check_for (flag_in found) (set_in (codes "serializable") found) (set_in (codes "real-time") found) (set_in (codes "show-order") found) w) f) (word_is ∙ first_value-rows found (codes "most-branches")) (is ∙ first_value-rows found (codes "FILE"))
-    ∙ ap (λ given. asked_in given (rows_of found)) (sym named)
+    judged Check (codes "show-order") found flag any time shows word file set any_set time_set shows_set word_is is ∙ ap (λ given. asked_in given (rows_of found)) (sym named)
 
 pub why_is : (name : Text) (found : Found) (flag any time graph : Bool) (word file : Option Text) → name ≡ codes "why" → flag ≡ flag_in found → any ≡ set_in (codes "serializable") found → time ≡ set_in (codes "real-time") found → graph ≡ set_in (codes "dot") found
-    → word ≡ first_value found (codes "most-branches") → file ≡ first_value found (codes "FILE") → option_and_then (why_for flag any time graph word) file ≡ asked_in name (rows_of found)
+    → word ≡ first_value found (codes "most-branches") → file ≡ first_value found (codes "FILE") → option_and_then (judging Why flag any time graph word) file ≡ asked_in name (rows_of found)
 why_is name found flag any time graph word file named set any_set time_set graph_set word_is is =
-    ap₂ (λ (b t : Bool). option_and_then (why_for b any t graph word) file) set time_set
-    ∙ ap₂ (λ (b g : Bool). option_and_then (why_for (flag_in found) b (set_in (codes "real-time") found) g word) file) any_set graph_set
-    ∙ ap₂ (λ (w f : Option Text). option_and_then (why_for (flag_in found) (set_in (codes "serializable") found) (set_in (codes "real-time") found) (set_in (codes "dot") found) w) f) (word_is ∙ first_value-rows found (codes "most-branches")) (is ∙ first_value-rows found (codes "FILE"))
-    ∙ ap (λ given. asked_in given (rows_of found)) (sym named)
+    judged Why (codes "dot") found flag any time graph word file set any_set time_set graph_set word_is is ∙ ap (λ given. asked_in given (rows_of found)) (sym named)
 
 pub watch_is : (name : Text) (found : Found) (flag : Bool) (word : Option Text) → name ≡ codes "watch" → flag ≡ flag_in found → word ≡ first_value found (codes "stripes")
     → option_map Watch (basis_for flag word) ≡ asked_in name (rows_of found)

@@ -25,7 +25,8 @@ use Rattle.judge_program.specs.declared.failure.Failure.{Failure}
 use Rattle.judge_program.specs.declared.failure.Failure.TheVariants as failures
 use Rattle.judge_program.specs.declared.program.TheConstants.{VERSION}
 use Rattle.judge_program.specs.Failures.{message_of, status_of}
-use Rattle.judge_program.specs.Words.{Asked, Spells, Check, CheckSerializable, Why, WhySerializable, Watch, Outcomes, Help, Version}
+use Rattle.judge_program.specs.declared.words.Order.TheVariants.{Given, Any}
+use Rattle.judge_program.specs.Words.{Asked, Spells, Check, Why, Watch, Outcomes, Help, Version}
 
 -- The outcome of a run: an answer or a failure.
 abbrev pub RunResult : Type 0
@@ -67,17 +68,17 @@ LeavesBoth scripts history old new failures.Usage = ⊥
 
 -- The output and the outcome of a request. `files` gives the bytes of the files.
 abbrev pub Fulfils : Asked → Files → Option (List ℕ) → Option (List ℕ) → RunResult → Type 0
-Fulfils (Check by_commits file) files old new = EndsWith
+Fulfils (Check (Given by_commits) shows file) files old new = EndsWith
     (ByWell (λ well. WritesLine (Checks by_commits (files file)) well old new))
     (LeavesOutput (Checks by_commits (files file)) (FailsToCheck (files file)) old new)
-Fulfils (CheckSerializable real_time most_branches shows file) files old new = EndsWith
+Fulfils (Check (Any real_time most_branches) shows file) files old new = EndsWith
     (λ answer. WritesAnswer real_time (order_text real_time shows) (files file) answer old new)
     (LeavesText (IsAnswerText real_time (order_text real_time shows) (files file))
     (FailsToCheck (files file)) old new)
-Fulfils (Why by_commits file) files old new = EndsWith
+Fulfils (Why (Given by_commits) as_graph file) files old new = EndsWith
     (ByWell (λ well. WritesExplanation by_commits (files file) well old new))
     (LeavesExplanation (IsExplained by_commits) (files file) old new)
-Fulfils (WhySerializable real_time most_branches as_graph file) files old new = EndsWith
+Fulfils (Why (Any real_time most_branches) as_graph file) files old new = EndsWith
     (λ answer. WritesAnswer real_time (text_or_graph real_time as_graph) (files file) answer old new)
     (LeavesExplanation (IsTextFor real_time (text_or_graph real_time as_graph)) (files file) old new)
 Fulfils (Watch basis) files old new = EndsWith

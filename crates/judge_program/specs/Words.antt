@@ -17,34 +17,27 @@ use Rattle.txn_words.specs.Sizes.{max_stripes}
 use Rattle.judge_engine.specs.declared.basis.Basis.{Basis}
 use Rattle.judge_engine.specs.declared.basis.Basis.TheVariants.{Locks, Commits}
 use Rattle.judge_engine.specs.Bases.{HasStripes}
+use Rattle.judge_program.specs.declared.words.Order.{Order}
+use Rattle.judge_program.specs.declared.words.Order.TheVariants.{Given, Any}
 use Rattle.judge_program.specs.declared.words.Request.{Request}
 use Rattle.judge_program.specs.declared.words.Request.TheVariants as requests
 
--- A request of the program. `Check` judges the history file with this name, by the order of commits
--- or by locks. `CheckSerializable` says whether it is serializable in any order, with real time if
--- the first flag is true, takes at most so many branches, and shows the order if the second flag is
--- true. `Why` does what `Check` does, and says what leads to the bad entry. `WhySerializable` does
--- what `CheckSerializable` does, and says what leads to the reason, in lines or as a graph if the
--- second flag is true. `Watch` judges the entries of standard input by these rules. `Outcomes`
--- reads a script file and a history file, and says what became of each script. `Help` and `Version`
--- show the usage and the version.
+-- A request of the program. `Check` judges the history file with this name by an order, and shows
+-- the order if the flag is true and one was looked for. `Why` does what `Check` does, and says what leads
+-- to the bad entry or to the reason, in lines or as a graph if the flag is true. `Watch` judges the
+-- entries of standard input by these rules. `Outcomes` reads a script file and a history file, and
+-- says what became of each script. `Help` and `Version` show the usage and the version.
 pub data Asked : Type 0 where
-  Check : Bool → Text → Asked
-  CheckSerializable : Bool → ℕ → Bool → Text → Asked
-  Why : Bool → Text → Asked
-  WhySerializable : Bool → ℕ → Bool → Text → Asked
+  Check : Order → Bool → Text → Asked
+  Why : Order → Bool → Text → Asked
   Watch : Basis → Asked
   Outcomes : Text → Text → Asked
   Help : Asked
   Version : Asked
 
 abbrev pub asked_of : Request → Asked
-asked_of (requests.Check by_commits file) = Check by_commits file.now
-asked_of (requests.CheckSerializable real_time most_branches shows file) =
-    CheckSerializable real_time most_branches shows file.now
-asked_of (requests.Why by_commits file) = Why by_commits file.now
-asked_of (requests.WhySerializable real_time most_branches as_graph file) =
-    WhySerializable real_time most_branches as_graph file.now
+asked_of (requests.Check order shows file) = Check order shows file.now
+asked_of (requests.Why order as_graph file) = Why order as_graph file.now
 asked_of (requests.Watch basis) = Watch basis
 asked_of (requests.Outcomes scripts history) = Outcomes scripts.now history.now
 asked_of requests.Help = Help
@@ -130,31 +123,23 @@ abbrev pub branches_for : Option Text → Option ℕ
 branches_for None = Some 10000
 branches_for (Some word) = number_in_word word
 
--- The request to judge a file, given the flags for the order of commits, for any order, for real
--- time, and to show the order, and the word for the number of branches. If both rules are asked
--- for, or if real time is to count, branches are counted or an order is to be shown and no order is
--- looked for, the command line is a usage error.
-abbrev pub check_for : Bool → Bool → Bool → Bool → Option Text → Text → Option Asked
-check_for by_commits false false false None file = Some (Check by_commits file)
-check_for by_commits false false false (Some word) file = None
-check_for false true real_time shows word file =
-    option_map (λ most. CheckSerializable real_time most shows file) (branches_for word)
-check_for true true real_time shows word file = None
-check_for by_commits false true shows word file = None
-check_for by_commits false false true word file = None
+-- The order to judge a file by, given the flags for the order of commits, for any order, for real
+-- time, and for an extra (the order or the graph), and the word for the number of branches. If both
+-- rules are asked for, or if real time is to count, branches are counted or there is an extra and no
+-- order is looked for, the command line is a usage error.
+abbrev pub order_for : Bool → Bool → Bool → Bool → Option Text → Option Order
+order_for by_commits false false false None = Some (Given by_commits)
+order_for by_commits false false false (Some word) = None
+order_for false true real_time extra word = option_map (Any real_time) (branches_for word)
+order_for true true real_time extra word = None
+order_for by_commits false true extra word = None
+order_for by_commits false false true word = None
 
--- The request to explain a verdict on a file, given the flags for the order of commits, for any
--- order, for real time, and for a graph, and the word for the number of branches. If both rules are
--- asked for, or real time, branches or a graph by a rule that has none, the command line is a usage
--- error.
-abbrev pub why_for : Bool → Bool → Bool → Bool → Option Text → Text → Option Asked
-why_for by_commits false false false None file = Some (Why by_commits file)
-why_for by_commits false false false (Some word) file = None
-why_for false true real_time as_graph word file =
-    option_map (λ most. WhySerializable real_time most as_graph file) (branches_for word)
-why_for true true real_time as_graph word file = None
-why_for by_commits false true as_graph word file = None
-why_for by_commits false false true word file = None
+-- The request `Judge` for a file, given the same.
+abbrev pub judging : (Order → Bool → Text → Asked) → Bool → Bool → Bool → Bool → Option Text → Text
+    → Option Asked
+judging Judge by_commits any real_time extra word file =
+    option_map (λ order. Judge order extra file) (order_for by_commits any real_time extra word)
 
 -- The rules to judge by. The arguments are the flag, and the word for the number of locks if there
 -- is one. If both the flag and the word are given, the command line is a usage error.
@@ -180,7 +165,7 @@ asked_in name rows =
     let shows = is_set (first_of (codes "show-order") rows) in
     let as_graph = is_set (first_of (codes "dot") rows) in
     if bytes_eq name (codes "check")
-    then option_and_then (check_for by_commits is_serializable real_time shows branches)
+    then option_and_then (judging Check by_commits is_serializable real_time shows branches)
     (first_of (codes "FILE") rows)
     else if bytes_eq name (codes "outcomes")
     then option_and_then (λ scripts. option_and_then (outcomes_for scripts)
@@ -188,7 +173,7 @@ asked_in name rows =
     else if bytes_eq name (codes "watch")
     then option_map Watch (basis_for by_commits (first_of (codes "stripes") rows))
     else if bytes_eq name (codes "why")
-    then option_and_then (why_for by_commits is_serializable real_time as_graph branches)
+    then option_and_then (judging Why by_commits is_serializable real_time as_graph branches)
     (first_of (codes "FILE") rows)
     else None
 

@@ -14,7 +14,7 @@ ghost use Rattle.judge_program.specs.Words as asked;
 ghost use Rattle.judge_program.specs.Words.{HasStripesIf, asked_of};
 
 use crate::failure::{Failure, USAGE};
-use crate::words::{Request, STANDARD, request_in};
+use crate::words::{Order, Request, STANDARD, request_in};
 use judge_engine::{
     Answer, Basis, Fault, OutcomesFault, check, check_serializable, tell_outcomes, watch, why,
     why_serializable,
@@ -62,69 +62,49 @@ fn open<S: System>(system: &S, name: &str, failure: Failure) -> Result<S::Input,
     }
 }
 
-/// Judges the history file with this name.
+/// Judges the history file with this name by an order.
 fn check_file<S: System, W: Write>(
     alloc: Global,
     system: &S,
-    by_commits: bool,
-    name: &str,
-    output: &mut W,
-) -> Result<Answer, Failure>
-    ensures { Fulfils (asked.Check by_commits name.now) (S.bytes system.now)
-        (W.contents output.old) (W.contents output.new) result }
-{
-    let source = open(system, name, Failure::Fault(Fault::Read))?;
-    Ok(Answer::from(check(alloc, by_commits, source, output)?))
-}
-
-/// Judges the history file with this name by any order of its transactions.
-fn check_order<S: System, W: Write>(
-    alloc: Global,
-    system: &S,
-    real_time: bool,
-    most_branches: u64,
+    order: Order,
     shows_order: bool,
     name: &str,
     output: &mut W,
 ) -> Result<Answer, Failure>
-    ensures { Fulfils (asked.CheckSerializable real_time most_branches shows_order name.now)
-        (S.bytes system.now) (W.contents output.old) (W.contents output.new) result }
-{
-    let source = open(system, name, Failure::Fault(Fault::Read))?;
-    Ok(check_serializable(alloc, real_time, most_branches, shows_order, source, output)?)
-}
-
-/// Judges the history file with this name, and writes what leads to its bad entry.
-fn explain_file<S: System, W: Write>(
-    alloc: Global,
-    system: &S,
-    by_commits: bool,
-    name: &str,
-    output: &mut W,
-) -> Result<Answer, Failure>
-    ensures { Fulfils (asked.Why by_commits name.now) (S.bytes system.now)
+    ensures { Fulfils (asked.Check order shows_order name.now) (S.bytes system.now)
         (W.contents output.old) (W.contents output.new) result }
 {
     let source = open(system, name, Failure::Fault(Fault::Read))?;
-    Ok(Answer::from(why(alloc, by_commits, source, output)?))
+    match order {
+        Order::Given { by_commits } => Ok(Answer::from(check(alloc, by_commits, source, output)?)),
+        Order::Any {
+            real_time,
+            most_branches,
+        } => Ok(check_serializable(alloc, real_time, most_branches, shows_order, source, output)?),
+    }
 }
 
-/// Judges the history file with this name by any order of its transactions, and writes what leads
-/// to the reason.
-fn explain_order<S: System, W: Write>(
+/// Judges the history file with this name by an order, and writes what leads to its bad entry or to
+/// the reason.
+fn explain_file<S: System, W: Write>(
     alloc: Global,
     system: &S,
-    real_time: bool,
-    most_branches: u64,
+    order: Order,
     as_graph: bool,
     name: &str,
     output: &mut W,
 ) -> Result<Answer, Failure>
-    ensures { Fulfils (asked.WhySerializable real_time most_branches as_graph name.now)
-        (S.bytes system.now) (W.contents output.old) (W.contents output.new) result }
+    ensures { Fulfils (asked.Why order as_graph name.now) (S.bytes system.now)
+        (W.contents output.old) (W.contents output.new) result }
 {
     let source = open(system, name, Failure::Fault(Fault::Read))?;
-    Ok(why_serializable(alloc, real_time, most_branches, as_graph, source, output)?)
+    match order {
+        Order::Given { by_commits } => Ok(Answer::from(why(alloc, by_commits, source, output)?)),
+        Order::Any {
+            real_time,
+            most_branches,
+        } => Ok(why_serializable(alloc, real_time, most_branches, as_graph, source, output)?),
+    }
 }
 
 /// Judges the entries on standard input.
@@ -174,40 +154,20 @@ fn answer<S: System, W: Write>(
     match request {
         Request::Help => show(output, USAGE),
         Request::Version => show(output, VERSION),
-        Request::Check { by_commits, file } => check_file(alloc, system, by_commits, file, output),
-        Request::CheckSerializable {
-            real_time,
-            most_branches,
+        Request::Check {
+            order,
             shows_order,
             file,
-        } => check_order(
-            alloc,
-            system,
-            real_time,
-            most_branches,
-            shows_order,
-            file,
-            output,
-        ),
+        } => check_file(alloc, system, order, shows_order, file, output),
         Request::Outcomes { scripts, history } => {
             outcomes_in(alloc, system, scripts, history, output)
         }
         Request::Watch { basis } => watch_standard(alloc, system, basis, output),
-        Request::Why { by_commits, file } => explain_file(alloc, system, by_commits, file, output),
-        Request::WhySerializable {
-            real_time,
-            most_branches,
+        Request::Why {
+            order,
             as_graph,
             file,
-        } => explain_order(
-            alloc,
-            system,
-            real_time,
-            most_branches,
-            as_graph,
-            file,
-            output,
-        ),
+        } => explain_file(alloc, system, order, as_graph, file, output),
     }
 }
 

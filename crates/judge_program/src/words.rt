@@ -11,9 +11,9 @@ ghost use Rattle.judge_engine.specs.Bases.{HasStripes};
 ghost use Rattle.judge_program.specs.declared.failure.Failure.TheVariants as failures;
 ghost use Rattle.program_system.specs.Words.{IsApp, file_word};
 ghost use Rattle.judge_program.specs.Words.{Spells, IsRequestOf, HasStripesIf, asked_in, asked_of, basis_for};
-ghost use Rattle.judge_program.specs.Words.{branches_for, check_for, checking, command_line, explaining, flag_word};
-ghost use Rattle.judge_program.specs.Words.{flagged, is_set, outcomes_for, over_both, ruled};
-ghost use Rattle.judge_program.specs.Words.{number_word, stripes_in_word, watching, why_for};
+ghost use Rattle.judge_program.specs.Words.{branches_for, checking, command_line, explaining, flag_word, flagged};
+ghost use Rattle.judge_program.specs.Words.{is_set, number_word, outcomes_for, order_for, over_both, ruled};
+ghost use Rattle.judge_program.specs.Words.{stripes_in_word, watching};
 
 use crate::failure::Failure;
 use clap::error::ErrorKind;
@@ -22,23 +22,31 @@ use judge_engine::{Basis, Fault};
 use std::alloc::{AllocError, Global};
 use txn_words::Holder;
 
+/// The order of transactions by which a history file is judged.
+#[derive(Clone, Copy, Debug, PartialEq, Eq)]
+pub enum Order {
+    /// The order that the history gives.
+    Given {
+        /// True for the order of commits, false for locks.
+        by_commits: bool,
+    },
+    /// Any order.
+    Any {
+        /// True if real time counts.
+        real_time: bool,
+        /// The number of branches that the search for an order may take.
+        most_branches: u64,
+    },
+}
+
 /// A request of the program: the work that its words ask for.
 #[derive(Clone, Copy, Debug, PartialEq, Eq)]
 pub enum Request<'a> {
     /// Judge a history file.
     Check {
-        /// True to judge by the order of commits, false to judge by locks.
-        by_commits: bool,
-        /// The file's name.
-        file: &'a str,
-    },
-    /// Say whether the history of a file is serializable, in any order.
-    CheckSerializable {
-        /// True if real time counts.
-        real_time: bool,
-        /// The number of branches that the search for an order may take.
-        most_branches: u64,
-        /// True to show the order.
+        /// The order to judge by.
+        order: Order,
+        /// True to show the order, if one was looked for.
         shows_order: bool,
         /// The file's name.
         file: &'a str,
@@ -59,20 +67,11 @@ pub enum Request<'a> {
         /// The rules to judge by.
         basis: Basis,
     },
-    /// Judge a history file and explain its first bad entry.
+    /// Judge a history file, and say what leads to its bad entry, or to the reason why it is not
+    /// serializable.
     Why {
-        /// True to judge by the order of commits, false to judge by locks.
-        by_commits: bool,
-        /// The file's name.
-        file: &'a str,
-    },
-    /// Say whether the history of a file is serializable, in any order, and what leads to the
-    /// reason if it is not.
-    WhySerializable {
-        /// True if real time counts.
-        real_time: bool,
-        /// The number of branches that the search for an order may take.
-        most_branches: u64,
+        /// The order to judge by.
+        order: Order,
         /// True for the graph of a cycle, false for lines.
         as_graph: bool,
         /// The file's name.
@@ -229,59 +228,27 @@ fn basis_in(by_commits: bool, word: Option<&str>) -> Option<Basis>
     }
 }
 
-/// The request to judge a file, given the flags and the word for the number of branches. Returns
-/// `None` if two rules are asked for, if real time is to count, branches are counted or an order is
-/// to be shown, and no order is looked for, or if the word is no number.
-fn check_of<'a>(
+/// Returns the order to judge a file by, given the flags and the word for the number of branches.
+/// `extra` is the flag to show the order or the graph. Returns `None` if two rules are asked for, if
+/// there is an extra, real time is to count or branches are counted, and no order is looked for, or if
+/// the word is no number.
+fn order_of(
     by_commits: bool,
     is_serializable: bool,
     real_time: bool,
-    shows_order: bool,
+    extra: bool,
     branches: Option<&str>,
-    file: &'a str,
-) -> Option<Request<'a>>
-    ensures request { option_map asked_of result
-        ≡ check_for by_commits is_serializable real_time shows_order
-        (option_map (λ text. text.now) branches.entry) file.entry.now }
-    ensures stripes { IfSome result (λ request. HasStripesIf (asked_of request)) }
+) -> Option<Order>
+    ensures { result ≡ order_for by_commits is_serializable real_time extra
+        (option_map (λ text. text.now) branches.entry) }
 {
-    match (by_commits, is_serializable, real_time, shows_order) {
-        (_, false, false, false) if branches.is_none() => Some(Request::Check { by_commits, file }),
-        (false, true, _, _) => Some(Request::CheckSerializable {
+    match (by_commits, is_serializable, real_time, extra) {
+        (_, false, false, false) if branches.is_none() => Some(Order::Given { by_commits }),
+        (false, true, _, _) => Some(Order::Any {
             real_time,
             most_branches: branches_in(branches)?,
-            shows_order,
-            file,
         }),
         (true, true, _, _) | (_, false, _, _) => None,
-    }
-}
-
-/// The request to explain the verdict on a file, given the flags and the word for the number of
-/// branches. Returns `None` if two rules are asked for, real time, branches or a graph by a rule
-/// that has none, or if the word is no number.
-fn why_of<'a>(
-    by_commits: bool,
-    is_serializable: bool,
-    real_time: bool,
-    as_graph: bool,
-    branches: Option<&str>,
-    file: &'a str,
-) -> Option<Request<'a>>
-    ensures request { option_map asked_of result
-        ≡ why_for by_commits is_serializable real_time as_graph
-        (option_map (λ text. text.now) branches.entry) file.entry.now }
-    ensures stripes { IfSome result (λ request. HasStripesIf (asked_of request)) }
-{
-    match (by_commits, is_serializable, real_time, as_graph) {
-        (_, false, false, false) if branches.is_none() => Some(Request::Why { by_commits, file }),
-        (false, true, _, _) => Some(Request::WhySerializable {
-            real_time,
-            most_branches: branches_in(branches)?,
-            as_graph,
-            file,
-        }),
-        (_, false, _, _) | (true, true, _, _) => None,
     }
 }
 
@@ -311,14 +278,18 @@ fn request_named<'a>(name: &str, found: &ArgMatches<'a>) -> Option<Request<'a>>
     match name {
         "check" => {
             let file = found.get_str("FILE")?;
-            check_of(
+            let order = order_of(
                 by_commits,
                 is_serializable,
                 real_time,
                 shows_order,
                 branches,
+            )?;
+            Some(Request::Check {
+                order,
+                shows_order,
                 file,
-            )
+            })
         }
         "outcomes" => {
             let scripts = found.get_str("SCRIPTS")?;
@@ -331,14 +302,12 @@ fn request_named<'a>(name: &str, found: &ArgMatches<'a>) -> Option<Request<'a>>
         }
         "why" => {
             let file = found.get_str("FILE")?;
-            why_of(
-                by_commits,
-                is_serializable,
-                real_time,
+            let order = order_of(by_commits, is_serializable, real_time, as_graph, branches)?;
+            Some(Request::Why {
+                order,
                 as_graph,
-                branches,
                 file,
-            )
+            })
         }
         _ => None,
     }
