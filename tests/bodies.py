@@ -1,5 +1,5 @@
 #!/usr/bin/env python3
-"""bodies.py [--copies] [CRATE..]: tries each wrong body of crates/NAME/must-fail/bodies.md, of all crates by default.
+"""bodies.py [--copies] [--minutes N] [CRATE..]: tries each wrong body of crates/NAME/must-fail/bodies.md, of all crates by default.
 
 A wrong body passes if the prover refuses the function that it changes, with this body alone in this
 function. One check of a crate, in a copy, tries many bodies, since the contract of a function hides its body
@@ -7,7 +7,8 @@ from all others. The first body of a function changes the function. For each fur
 function once more, under another name, with the same proof. Bodies of a function that cannot stand twice,
 such as a method of a trait or one that the page names so, are tried in further checks (rounds). Refused means that a goal stays open. If
 the prover could not tell, or if it has no proof to look at, the body fails. --copies tests that each of those
-copies is proved if the body is not put into it.
+copies is proved if the body is not put into it. After N minutes no further check begins; the last line says how many
+bodies were then left.
 
 A body may be refused only because a proof names a goal that the edit has renamed. That shows little of the
 contract. The script lists these bodies. It allows at most MOST_BY_NAME of them, and none that
@@ -299,9 +300,9 @@ def without_bodies(crate, taken):
     return taken | {"texts": texts, "bodies": bodies}
 
 
-def try_crate(libraries, crate, only_copies=False):
+def try_crate(libraries, crate, only_copies=False, until=float("inf")):
     """Tries the bodies of a crate, or only copies without them. Gives the bodies with their outcomes, the number of
-    rounds, and the processor seconds."""
+    rounds, and the processor seconds. Begins no round after the time `until`: its bodies have no outcome."""
     bodies, results, seconds, number = bodies_of(crate), {}, 0.0, 0
     with tempfile.TemporaryDirectory(prefix="bodies-") as room:
         for part in ("src", "specs", "proofs"):
@@ -313,7 +314,7 @@ def try_crate(libraries, crate, only_copies=False):
         if only_copies:
             rounds = [without_bodies(crate, taken) for taken in rounds if taken["copies"]]
             bodies = [body for taken in rounds for body in taken["bodies"]]
-        while rounds:
+        while rounds and time.time() < until:
             found, used = try_round([*libraries.command(crate.name), root], crate, room, rounds.pop(0))
             results |= found
             seconds, number = seconds + used, number + 1
@@ -325,22 +326,30 @@ def try_crate(libraries, crate, only_copies=False):
             if len(found) > 1 and all(why.startswith("no verdict") for _, why in found.values()):
                 tried, half = list(found), len(found) // 2
                 rounds += rounds_of(crate, tried[:half]) + rounds_of(crate, tried[half:])
+        for body in [body for taken in rounds for body in taken["bodies"]]:
+            results.pop(body, None)
     return bodies, results, number, seconds
 
 
 def main(words):
-    only_copies, names = "--copies" in words, [word for word in words if word != "--copies"]
+    only_copies, until = "--copies" in words, float("inf")
+    if "--minutes" in words:
+        place = words.index("--minutes")
+        until = time.time() + 60 * float(words[place + 1])
+        words = words[:place] + words[place + 2 :]
+    names = [word for word in words if word != "--copies"]
     libraries, promises = Libraries(), (ROOT / "docs/PROMISES.md").read_text(encoding="utf-8")
     crates = [page.parents[1] for page in sorted((ROOT / "crates").glob("*/must-fail/bodies.md"))]
     crates = [crate for crate in crates if not names or crate.name in names]
     size = lambda crate: sum(file.stat().st_size for part in ("src", "proofs") for file in crate.glob(f"{part}/**/*.*t"))
-    passed, failed, by_name, seconds, begun = 0, 0, [], 0.0, time.time()
+    passed, failed, left, by_name, seconds, begun = 0, 0, 0, [], 0.0, time.time()
     with ThreadPoolExecutor(os.cpu_count()) as workers:
-        runs = {crate: workers.submit(try_crate, libraries, crate, only_copies) for crate in sorted(crates, key=size, reverse=True)}
+        runs = {crate: workers.submit(try_crate, libraries, crate, only_copies, until) for crate in sorted(crates, key=size, reverse=True)}
         for crate in crates:
             bodies, results, rounds, used = runs[crate].result()
             seconds += used
-            for body in bodies:
+            left += len(bodies) - len(results)
+            for body in results:
                 what, why = results[body]
                 if only_copies:
                     what = "proved" if why.startswith("proved") else "failed"
@@ -350,13 +359,14 @@ def main(words):
                     print(f"{crate.name}: {body.name}: refused only because a proof names what the edit changes: {why[:160]}")
                 elif what == "failed":
                     print(f"{crate.name}: {body.name}: NOT {'PROVED' if only_copies else 'REFUSED'}: {why}")
-            print(f"{crate.name}: {len(bodies)} bodies in {rounds} rounds, {used:.0f} processor seconds", flush=True)
+            print(f"{crate.name}: {len(results)} bodies in {rounds} rounds, {used:.0f} processor seconds", flush=True)
     promised = [body.name for body in by_name if f"`{body.name}`" in promises]
     if promised:
         print(f"docs/PROMISES.md names bodies that are refused only by name: {' '.join(promised)}")
     failed += len(promised) + (len(by_name) > MOST_BY_NAME)
     print(f"{len(by_name)} refused only by name (at most {MOST_BY_NAME} may be), {(time.time() - begun) / 60:.0f} minutes by the clock, {seconds / 60:.0f} processor minutes")
-    print(f"bodies: {passed} passed, {failed} failed")
+    not_run = f"; not run: {left} wrong bodies (no time left)" if left else ""
+    print(f"bodies: {passed} passed, {failed} failed{not_run}")
     return failed > 0
 
 
