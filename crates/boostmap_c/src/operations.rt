@@ -38,8 +38,8 @@ pub extern "C" fn boostmap_put(
     value: u64,
     word: &mut u64,
 ) -> u32
-    ensures { TellsReply (DoesOp (Op.Put key value) caller) map.old.held.map result word.old word.new
-        map.new.held.map }
+    ensures { TellsReply (DoesOp (Op.Put key value) caller) map.old.held.map result
+        word.old word.new map.new.held.map }
 {
     if !map.is_live() {
         return EMPTY;
@@ -67,8 +67,8 @@ pub extern "C" fn boostmap_put_if_absent(
     value: u64,
     word: &mut u64,
 ) -> u32
-    ensures { TellsReply (DoesOp (Op.PutIf key None value) caller) map.old.held.map result word.old word.new
-        map.new.held.map }
+    ensures { TellsReply (DoesOp (Op.PutIf key None value) caller) map.old.held.map result
+        word.old word.new map.new.held.map }
 {
     if !map.is_live() {
         return EMPTY;
@@ -97,8 +97,8 @@ pub extern "C" fn boostmap_put_if_equal(
     value: u64,
     word: &mut u64,
 ) -> u32
-    ensures { TellsReply (DoesOp (Op.PutIf key (Some expected) value) caller) map.old.held.map result word.old word.new
-        map.new.held.map }
+    ensures { TellsReply (DoesOp (Op.PutIf key (Some expected) value) caller) map.old.held.map
+        result word.old word.new map.new.held.map }
 {
     if !map.is_live() {
         return EMPTY;
@@ -121,8 +121,8 @@ pub extern "C" fn boostmap_put_if_equal(
 /// The cost of `boostmap_put`.
 #[unsafe(no_mangle)]
 pub extern "C" fn boostmap_take(map: &mut Handle, caller: u64, key: u64, word: &mut u64) -> u32
-    ensures { TellsReply (DoesOp (Op.Take key) caller) map.old.held.map result word.old word.new
-        map.new.held.map }
+    ensures { TellsReply (DoesOp (Op.Take key) caller) map.old.held.map result
+        word.old word.new map.new.held.map }
 {
     if !map.is_live() {
         return EMPTY;
@@ -143,8 +143,8 @@ pub extern "C" fn boostmap_take(map: &mut Handle, caller: u64, key: u64, word: &
 /// The cost of `boostmap_put`, without the memory for a node.
 #[unsafe(no_mangle)]
 pub extern "C" fn boostmap_get(map: &mut Handle, caller: u64, key: u64, word: &mut u64) -> u32
-    ensures { TellsReply (DoesOp (Op.Get key) caller) map.old.held.map result word.old word.new
-        map.new.held.map }
+    ensures { TellsReply (DoesOp (Op.Get key) caller) map.old.held.map result
+        word.old word.new map.new.held.map }
 {
     if !map.is_live() {
         return EMPTY;

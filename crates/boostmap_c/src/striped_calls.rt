@@ -130,8 +130,8 @@ pub extern "C" fn boostmap_striped_put_if_absent(
     value: u64,
     word: &mut u64,
 ) -> u32
-    ensures { TellsReply (Operates (Op.PutIf key None value)) caller.old.held.member result word.old word.new
-        caller.new.held.member }
+    ensures { TellsReply (Operates (Op.PutIf key None value)) caller.old.held.member result
+        word.old word.new caller.new.held.member }
 {
     if !caller.is_live() {
         return EMPTY;
@@ -160,8 +160,8 @@ pub extern "C" fn boostmap_striped_put_if_equal(
     value: u64,
     word: &mut u64,
 ) -> u32
-    ensures { TellsReply (Operates (Op.PutIf key (Some expected) value)) caller.old.held.member result word.old word.new
-        caller.new.held.member }
+    ensures { TellsReply (Operates (Op.PutIf key (Some expected) value)) caller.old.held.member
+        result word.old word.new caller.new.held.member }
 {
     if !caller.is_live() {
         return EMPTY;
@@ -210,7 +210,8 @@ pub extern "C" fn boostmap_striped_save(caller: &mut CallerHandle, word: &mut u6
 /// A step for each change that is taken back; takes no memory.
 #[unsafe(no_mangle)]
 pub extern "C" fn boostmap_striped_back(caller: &mut CallerHandle, level: u64) -> u32
-    ensures { TellsEnd (GoesBack level) goes_on caller.old.held.member result caller.new.held.member }
+    ensures { TellsEnd (GoesBack level) goes_on caller.old.held.member result
+        caller.new.held.member }
 {
     if !caller.is_live() {
         return EMPTY;

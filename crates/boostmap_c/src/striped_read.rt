@@ -59,8 +59,8 @@ pub extern "C" fn boostmap_striped_read(
     pairs: &mut [CPair],
     word: &mut u64,
 ) -> u32
-    ensures { TellsPairs ReadsAll caller.old.held.member result pairs.old pairs.new word.old word.new
-        caller.new.held.member }
+    ensures { TellsPairs ReadsAll caller.old.held.member result pairs.old pairs.new
+        word.old word.new caller.new.held.member }
 {
     if !caller.is_live() {
         return EMPTY;
@@ -93,8 +93,8 @@ pub extern "C" fn boostmap_striped_read_stripe(
     pairs: &mut [CPair],
     word: &mut u64,
 ) -> u32
-    ensures { TellsPairs (ReadsStripe key) caller.old.held.member result pairs.old pairs.new word.old word.new
-        caller.new.held.member }
+    ensures { TellsPairs (ReadsStripe key) caller.old.held.member result pairs.old pairs.new
+        word.old word.new caller.new.held.member }
 {
     if !caller.is_live() {
         return EMPTY;

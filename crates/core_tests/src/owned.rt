@@ -1,8 +1,8 @@
 //! Tests of the map with one owner: its table grows, its history is cut off, and a transaction goes
-//! back to a savepoint. Each of these tests is also run while memory is refused to some allocations:
-//! to one, to eight in a row, or to one and all later ones. `other_maps` of `striped_tests` plays the
-//! worked runs on this map, and its limits. Each function that gets a transaction ensures `Keeps`,
-//! because a closure that is passed to `transact` must ensure it.
+//! back to a savepoint. Each of these tests is also run while memory is refused to some
+//! allocations: to one, to eight in a row, or to one and all later ones. `other_maps` of
+//! `striped_tests` plays the worked runs on this map, and its limits. Each function that gets a
+//! transaction ensures `Keeps`, because a closure that is passed to `transact` must ensure it.
 ghost use Rattle.std.specs.Prelude.{◌≡◌};
 ghost use Rattle.owned_map.specs.Keeps.{Keeps};
 

@@ -23,10 +23,10 @@ use Rattle.judge_program.specs.declared.words.Request.{Request}
 use Rattle.judge_program.specs.declared.words.Request.TheVariants as requests
 
 -- A request of the program. `Check` judges the history file with this name by an order, and shows
--- the order if the flag is true and one was looked for. `Why` does what `Check` does, and says what leads
--- to the bad entry or to the reason, in lines or as a graph if the flag is true. `Watch` judges the
--- entries of standard input by these rules. `Outcomes` reads a script file and a history file, and
--- says what became of each script. `Help` and `Version` show the usage and the version.
+-- the order if the flag is true and one was looked for. `Why` does what `Check` does, and says what
+-- leads to the bad entry or to the reason, in lines or as a graph if the flag is true. `Watch`
+-- judges the entries of standard input by these rules. `Outcomes` reads a script file and a history
+-- file, and says what became of each script. `Help` and `Version` show the usage and the version.
 pub data Asked : Type 0 where
   Check : Order → Bool → Text → Asked
   Why : Order → Bool → Text → Asked

@@ -230,8 +230,8 @@ fn basis_in(by_commits: bool, word: Option<&str>) -> Option<Basis>
 
 /// Returns the order to judge a file by, given the flags and the word for the number of branches.
 /// `extra` is the flag to show the order or the graph. Returns `None` if two rules are asked for, if
-/// there is an extra, real time is to count or branches are counted, and no order is looked for, or if
-/// the word is no number.
+/// real time is to count, branches are counted or there is an extra, and no order is looked for, or
+/// if the word is no number.
 fn order_of(
     by_commits: bool,
     is_serializable: bool,

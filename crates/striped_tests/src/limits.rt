@@ -1,7 +1,7 @@
 //! Tests at the limits of the map: stripes, callers, keys, values, savepoints and changes. They
-//! also test the order of the pairs. `other_maps` plays some of the rows on other maps. Most rows are made by loops, up to a hundred thousand of them.
-//! By the contracts, any call may be refused memory. Here a call is refused only if its row says
-//! so.
+//! also test the order of the pairs. `other_maps` plays some of the rows on other maps. Most rows
+//! are made by loops, up to a hundred thousand of them. By the contracts, any call may be refused
+//! memory. Here a call is refused only if its row says so.
 use crate::calls::{Home, has_left, leaves, open, play, play_to_the_end};
 use crate::worked::{Ask, Map, NEW, Row, Told, must_be, play_run};
 use std::alloc::{AllocError, Global};
